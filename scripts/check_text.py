@@ -1,0 +1,65 @@
+#!/usr/bin/env python3
+"""Reads the repository's own text and fails on what must not stand in it.
+
+    scripts/check_text.py
+
+It prints each finding, or 'check_text: ok', and writes nothing. It looks for:
+- a label of a planning paper, such as a letter with a number: a rule is stated where it is used;
+- a path of one machine;
+- an .rt or .antt file outside of a crate's src/, specs/ and proofs/;
+- a clause of more than 100 columns.
+"""
+import os
+import re
+import subprocess
+import sys
+
+LABEL = re.compile(
+    r"(?<![\w.#-])(?:(?:document|paper) 0[1-4]\b|(?:T[1-5]\.[1-9]|[DRW][1-9][0-9]?b?|H[1-5])(?![\w.%]))"
+    r"|\b0[1-4] section"
+)
+MACHINE = re.compile(r"(?<![\w.])/(?:work|opt|tmp|root|home|farm)/")
+CLAUSE = re.compile(r"\s*(?:requires|ensures)\*?\b")
+CRATE = re.compile(r"crates/[a-z0-9_]+/(?:src|specs|proofs)/")
+WIDEST_CLAUSE = 100
+
+
+def names():
+    listed = subprocess.run(
+        ["git", "ls-files", "-co", "--exclude-standard"], capture_output=True, text=True, check=True
+    )
+    return [name for name in listed.stdout.splitlines() if os.path.isfile(name)]
+
+
+def findings(name, lines):
+    """The places of a file that must not stand, as (what, line number, line)."""
+    for number, line in enumerate(lines, 1):
+        if LABEL.search(line):
+            yield "names a label of a planning paper", number, line
+        if MACHINE.search(line):
+            yield "names a path of one machine", number, line
+        if name.endswith(".rt") and CLAUSE.match(line) and len(line) > WIDEST_CLAUSE:
+            yield f"has a clause of {len(line)} columns", number, line
+
+
+def main():
+    os.chdir(os.path.join(os.path.dirname(os.path.abspath(__file__)), ".."))
+    count = 0
+    for name in names():
+        if name.endswith((".rt", ".antt")) and not CRATE.match(name):
+            print(f"{name}: stands outside of a crate")
+            count += 1
+        if name.endswith((".csv", ".png", ".gz")):
+            continue
+        with open(name, encoding="utf-8", errors="replace") as file:
+            lines = file.read().splitlines()
+        for what, number, line in findings(name, lines):
+            print(f"{name}:{number}: {what}: {line.strip()[:80]}")
+            count += 1
+    if count == 0:
+        print("check_text: ok")
+    return 1 if count else 0
+
+
+if __name__ == "__main__":
+    sys.exit(main())
