@@ -1,0 +1,5 @@
+pub mod Counts
+pub mod Shelves
+pub mod MemShelves
+pub mod Sinks
+pub mod MemSinks

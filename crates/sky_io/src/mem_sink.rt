@@ -1,0 +1,96 @@
+//! A sink in memory whose calls fail where they are told to, and where its room ends.
+ghost use Rattle.std.specs.Prelude.{◌≡◌, ◌≤◌, ◌↔◌, ◌⊎◌, IfOk};
+ghost use Rattle.sky_io.specs.Sinks.{Wrote, Flushed};
+ghost use Rattle.sky_io.specs.MemSinks.{MemSinkState, sink_of, new_sink, IsListed, IsTooLong, after_put, after_flush, after_fault};
+
+use crate::Memory;
+use crate::calls::Calls;
+use crate::sink::{Put, Sink, fault};
+use std::alloc::Global;
+use std::marker::Model;
+
+/// Bytes in memory. It takes room for all of them when it is made and none later.
+#[derive(Drop)]
+pub struct MemSink {
+    bytes: Vec<u8>,
+    room: usize,
+    calls: Calls,
+    faults: u64,
+    dirty: bool,
+}
+
+impl Model for MemSink {
+    ghost use Rattle.std.specs.Prelude.{◌≤◌, vec_len, vec_capacity};
+    ghost use Rattle.sky_io.specs.MemSinks.{MemSinkState};
+
+    ghost Value = { MemSinkState };
+
+    ghost view = { λ s. record {
+      written = s.bytes.items;
+      room = s.room;
+      calls = s.calls.made;
+      failing = s.calls.failing.items;
+      faults = s.faults;
+      dirty = s.dirty;
+    } };
+
+    ghost invariant = { λ s. (vec_len s.bytes ≤ s.room) × (s.room ≤ vec_capacity s.bytes) };
+}
+
+impl MemSink {
+    /// A sink with room for `room` bytes, whose `put` and `flush_out`, numbered together from 1, fail where they are
+    /// listed.
+    pub fn new(alloc: Global, room: usize, failing: Vec<u64>) -> Result<MemSink, Memory>
+        ensures { IfOk result (λ sink. sink ≡ new_sink room failing.items) }
+    {
+        match Vec::with_capacity(alloc, room) {
+            Ok(bytes) => Ok(MemSink {
+                bytes,
+                room,
+                calls: Calls { made: 0, failing },
+                faults: 0,
+                dirty: false,
+            }),
+            Err(_) => Err(Memory),
+        }
+    }
+
+    /// The bytes written so far.
+    pub fn bytes(&self) -> &[u8]
+        ensures { result.now ≡ self.now.written }
+    {
+        self.bytes.as_slice()
+    }
+}
+
+impl Sink for MemSink {
+    ghost state = { sink_of };
+
+    /// Appends a piece, or nothing where it fails.
+    fn put(&mut self, piece: &[u8]) -> Put
+        ensures wrote { Wrote (sink_of self.old) (sink_of self.new) piece.now result }
+        ensures fails { (result ≡ Put.Failed) ↔ (IsListed self.old ⊎ IsTooLong self.old piece.now) }
+        ensures done { result ≡ Put.Done → self.new ≡ after_put self.old piece.now }
+        ensures failed { result ≡ Put.Failed → self.new ≡ after_fault self.old }
+    {
+        if self.calls.next_fails() || piece.len() > self.room - self.bytes.len() {
+            return fault(&mut self.faults);
+        }
+        self.bytes.extend_from_slice(piece).unwrap();
+        self.dirty = self.dirty || !piece.is_empty();
+        Put::Done
+    }
+
+    fn flush_out(&mut self) -> Put
+        ensures flushed { Flushed (sink_of self.old) (sink_of self.new) result }
+        ensures fails { (result ≡ Put.Failed) ↔ IsListed self.old }
+        ensures done { result ≡ Put.Done → self.new ≡ after_flush self.old }
+        ensures failed { result ≡ Put.Failed → self.new ≡ after_fault self.old }
+    {
+        if self.calls.next_fails() {
+            return fault(&mut self.faults);
+        }
+        self.dirty = false;
+        Put::Done
+    }
+}
