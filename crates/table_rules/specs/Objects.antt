@@ -1,0 +1,62 @@
+-- The object table: a flat list of rows, each with an id, a position and further values.
+use Rattle.std.specs.Prelude.{◌≡◌, ℕ, ◌+◌, ◌-◌, ◌^◌, ◌≤◌, Bool, true, ◌&&◌, List, length, All, AllPairs}
+use Rattle.std.specs.Prelude.{Option, None, Some, unwrap_or, slice_get, if◌then◌else◌, nat_le, ◌==◌}
+use Rattle.std.specs.Prelude.{ℤ, pos, negsuc, int_le, ◌≤ℤ◌, ◌<ℤ◌, IsTrue}
+use Rattle.std.specs.List.{list_all}
+use Rattle.std.specs.List.Sorted.{IsPermutation}
+use Rattle.sky_vector.specs.Points.{Point, is_admissible}
+
+-- A row: its id, its position, and its further values, of which None is NULL.
+pub record Obj : Type 0 where
+  pub id : ℤ
+  pub at : Point
+  pub further : List (Option ℤ)
+
+-- A catalogue: the names of the further columns, and the rows.
+pub record Catalogue : Type 0 where
+  pub names : List (List ℕ)
+  pub objects : List Obj
+
+-- the value in a column: objectId, x, y and z are the columns 0 to 3, and None is NULL
+abbrev pub cell : Obj → ℕ → Option ℤ
+cell o col =
+    if col == 0 then Some o.id
+    else if col == 1 then Some o.at.x
+    else if col == 2 then Some o.at.y
+    else if col == 3 then Some o.at.z
+    else unwrap_or (slice_get o.further (col - 4)) None
+
+-- the largest size of a value in a column
+abbrev pub column_bound : ℕ → ℤ
+column_bound col =
+    if col == 0 then pos (2 ^ 63 - 1)
+    else if nat_le col 3 then pos 268435472
+    else pos (2 ^ 50)
+
+-- a further value is NULL or within ±2^50
+abbrev pub is_further : Option ℤ → Bool
+is_further None = true
+is_further (Some z) = int_le (negsuc (2 ^ 50 - 1)) z && int_le z (pos (2 ^ 50))
+
+-- A row within the limits of its columns.
+pub record IsRow (o : Obj) : Type 0 where
+  pub id : pos 0 ≤ℤ o.id
+  pub at : IsTrue (is_admissible o.at)
+  pub further : IsTrue (list_all is_further o.further)
+  pub few : length o.further ≤ 12
+
+-- the ids ascend strictly, so no two rows have one
+abbrev pub IdsAscend : List Obj → Type 0
+IdsAscend objects = AllPairs (λ a b. a.id <ℤ b.id) objects
+
+-- Rows that are a table: at most 2^22, in strictly ascending id, each with a value for each further column.
+pub record IsCatalogue (c : Catalogue) : Type 0 where
+  pub few_names : length c.names ≤ 12
+  pub few : length c.objects ≤ 2 ^ 22
+  pub ascend : IdsAscend c.objects
+  pub wide : All (λ o. length o.further ≡ length c.names) c.objects
+
+-- The table of these rows: the same rows in strictly ascending id. Where an id repeats there is none.
+pub record IsTable (rows table : List Obj) : Type 0 where
+  pub same : IsPermutation rows table
+  pub ascend : IdsAscend table
