@@ -1,0 +1,11 @@
+pub mod Products
+pub mod Sides
+pub mod Walk
+pub mod Quarters
+pub mod Places
+pub mod OneWedge
+pub mod HalfTurn
+pub mod Fine
+pub mod Exactly
+pub mod Tests
+pub mod Bearings

@@ -1,0 +1,30 @@
+-- The meridian directions at which the wedges of a stripe begin: whole points on a square, without angles.
+-- That a stripe is cut into equal parts of longitude is Qserv's idea (SC 2011); the square in place of a circle is a
+-- rule of this repository.
+use Rattle.std.specs.Prelude.{ℕ, ℤ, pos, neg_ℤ, ◌+◌, ◌*◌, ◌-ℤ◌, ◌*ℤ◌, ◌≤ℤ◌, ◌<ℤ◌, nat_lt, if◌then◌else◌}
+use Rattle.sky_vector.specs.Plane.{plane_product}
+
+-- the point of the square of half side n that lies s steps of its perimeter from the middle of the right side, upwards
+unfoldable pub walk : ℕ → ℕ → ℤ × ℤ
+walk n s =
+    if nat_lt s n then (pos n, pos s)
+    else if nat_lt s (3 * n) then (pos (2 * n) -ℤ pos s, pos n)
+    else if nat_lt s (5 * n) then (neg_ℤ (pos n), pos (4 * n) -ℤ pos s)
+    else if nat_lt s (7 * n) then (pos s -ℤ pos (6 * n), neg_ℤ (pos n))
+    else (pos n, pos s -ℤ pos (8 * n))
+
+-- the direction at which wedge k of n begins: the perimeter is 8 n steps long, and a wedge takes 8 of them
+unfoldable pub heading : ℕ → ℕ → ℤ × ℤ
+heading n k = walk n (8 * k)
+
+-- how far the point (x, y) lies past a direction, which is their plane product: below 0 where it lies short of it
+abbrev pub past : ℤ × ℤ → ℤ → ℤ → ℤ
+past d x y = plane_product d.0 d.1 x y
+
+-- the point lies at or past the direction of wedge k, and short of the next one's
+abbrev pub LiesBetween : ℕ → ℕ → ℤ → ℤ → Type 0
+LiesBetween n k x y = (pos 0 ≤ℤ past (heading n k) x y) × (past (heading n (k + 1)) x y <ℤ pos 0)
+
+-- a direction, so many times as long
+abbrev pub scaled : ℕ → ℤ × ℤ → ℤ × ℤ
+scaled m d = (pos m *ℤ d.0, pos m *ℤ d.1)

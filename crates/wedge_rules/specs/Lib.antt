@@ -1,0 +1,4 @@
+pub mod Heading
+pub mod Wedge
+pub mod Laws
+pub mod Bearing
