@@ -1,0 +1,7 @@
+pub mod Zones
+pub mod Near
+pub mod Rows
+pub mod Sites
+pub mod InStripe
+pub mod OnlyPlace
+pub mod Accepted

@@ -1,0 +1,74 @@
+-- The partition of the sky: stripes by height, and in each stripe chunks by direction, numbered from 0 through the stripes
+-- upwards and in a stripe by their wedges. Stripes, chunks and subchunks are Qserv's (SC 2011).
+use Rattle.std.specs.Prelude.{ℕ, ◌-◌, ◌*◌, ℤ, pos, negsuc, List, [], ◌∷◌, map, min, nat_lt, if◌then◌else◌, unwrap_or}
+use Rattle.std.specs.List.{sum_by, reduce}
+
+-- A stripe: its lowest z, its chunks, the columns and rows of subchunks in each chunk, and the radius of its overlap.
+pub record Stripe : Type 0 where
+  pub z_low : ℤ
+  pub chunks : ℕ
+  pub columns : ℕ
+  pub rows : ℕ
+  pub overlap : ℕ
+
+-- A partition: its stripes, lowest first.
+pub record Partition : Type 0 where
+  pub stripes : List Stripe
+
+-- the lowest z of a position
+abbrev pub sky_bottom : ℤ
+sky_bottom = negsuc 268435471
+
+-- the first z above all positions
+abbrev pub sky_end : ℤ
+sky_end = pos 268435473
+
+-- where the stripe below these ones ends: at the next stripe's bound, and the last at the end of the sky
+abbrev pub floor_of : List Stripe → ℤ
+floor_of [] = sky_end
+floor_of (next ∷ rest) = next.z_low
+
+-- the number of chunks of these stripes
+abbrev pub chunks_in : List Stripe → ℕ
+chunks_in stripes = sum_by (λ s. s.chunks) stripes
+
+-- the number of chunks
+abbrev pub chunk_count : Partition → ℕ
+chunk_count g = chunks_in g.stripes
+
+-- Where a chunk stands: its stripe, the first z above it, and the chunk's wedge.
+pub record Site : Type 0 where
+  pub stripe : Stripe
+  pub end : ℤ
+  pub wedge : ℕ
+
+-- no chunk: a stripe without height above the sky
+abbrev pub nowhere : Site
+nowhere = record { stripe = record { z_low = sky_end; chunks = 0; columns = 0; rows = 0; overlap = 0 }; end = sky_end; wedge = 0 }
+
+-- where chunk c of these stripes stands, counted from their first one
+abbrev pub site_in : List Stripe → ℕ → Site
+site_in [] c = nowhere
+site_in (s ∷ rest) c =
+    if nat_lt c s.chunks then record { stripe = s; end = floor_of rest; wedge = c }
+    else site_in rest (c - s.chunks)
+
+-- where chunk c stands
+abbrev pub site_of : Partition → ℕ → Site
+site_of g c = site_in g.stripes c
+
+-- the stripe of a chunk
+abbrev pub stripe_of : Partition → ℕ → Stripe
+stripe_of g c = (site_of g c).stripe
+
+-- the number of subchunks of a chunk
+abbrev pub sub_count : Partition → ℕ → ℕ
+sub_count g c = (stripe_of g c).rows * (stripe_of g c).columns
+
+-- the overlap radius of a chunk: that of its stripe
+abbrev pub overlap_at : Partition → ℕ → ℕ
+overlap_at g c = (stripe_of g c).overlap
+
+-- the least overlap radius of all stripes
+abbrev pub least_overlap : Partition → ℕ
+least_overlap g = unwrap_or (reduce min (map (λ s. s.overlap) g.stripes)) 0

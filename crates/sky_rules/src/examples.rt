@@ -1,0 +1,72 @@
+//! Worked examples of sky texts and of places, computed by the checker.
+
+ghost use Rattle.std.specs.Prelude.{◌≡◌, ℕ, [], ◌∷◌, ◌++◌, Err, Ok, Some, codes, pos, true};
+ghost use Rattle.std.specs.List.{filter, range_with_len, repeat};
+ghost use Rattle.sky_rules.specs.Partition.{chunk_count, least_overlap, overlap_at, sub_count};
+ghost use Rattle.sky_rules.specs.Zones.{in_chunk, in_sub, near_chunk};
+ghost use Rattle.sky_rules.specs.SkyText.{is_room, judged_stripe, sky_of};
+ghost use Rattle.sky_rules.specs.Examples.{all_chunks, all_stripes, bottom_twice, eight, full_stripe, halves};
+ghost use Rattle.sky_rules.specs.Examples.{north, on_diagonal, on_meridian, one_more, own_overlaps, south};
+ghost use Rattle.sky_rules.specs.Examples.{two_chunks, two_stripes};
+ghost use Rattle.sky_rules.specs.declared.fault.SkyFault.TheVariants.{Count, Order, Overlap, Syntax, TooMany};
+
+/// Two stripes that share an overlap of 5, and two that have 5 and 2 of their own.
+#[tactic(auto, unfolding(crate::specs::SkyText::sky_of))]
+pub fn sky_of_two_stripes()
+    ensures shared { sky_of two_stripes ≡ Ok halves }
+    ensures own { sky_of own_overlaps ≡ Ok (record { stripes = south 5 ∷ north 2 ∷ [] }) }
+{}
+
+/// A fault on each of the first three lines.
+#[tactic(auto, unfolding(crate::specs::SkyText::sky_of))]
+pub fn sky_of_faulty_lines()
+    ensures version { sky_of (codes "version 3") ≡ Err (Syntax 1) }
+    ensures overlap { sky_of (codes "overlap 16777217") ≡ Err (Overlap 1) }
+    ensures count { sky_of two_chunks ≡ Err (Count 2) }
+    ensures order { sky_of bottom_twice ≡ Err (Order 3) }
+{}
+
+/// A text without its first line, and texts without a stripe: the fault stands behind the last line, notes counted.
+#[tactic(auto, unfolding(crate::specs::SkyText::sky_of))]
+pub fn sky_of_missing_lines()
+    ensures empty { sky_of [] ≡ Err (Syntax 1) }
+    ensures no_stripe { sky_of (codes "# sky\noverlap 5\n") ≡ Err (Syntax 3) }
+    ensures note_last { sky_of (codes "overlap 5\n\n# none") ≡ Err (Syntax 4) }
+{}
+
+/// Words are parted by exactly one space, and a carriage return at the very end stays.
+#[tactic(auto, unfolding(crate::specs::SkyText::sky_of))]
+pub fn sky_of_stray_bytes()
+    ensures spaces { sky_of (codes "overlap  5") ≡ Err (Syntax 1) }
+    ensures trailing { sky_of (codes "overlap 5 \n") ≡ Err (Syntax 1) }
+    ensures returns { sky_of (codes "overlap 5" ++ (13 ∷ [])) ≡ Err (Syntax 1) }
+{}
+
+/// The 257th stripe is too many, and so is a chunk more than 16,384; a stripe that fills the sky to both is not.
+pub fn stripes_too_many()
+    ensures stripes { judged_stripe 9 all_stripes (Some (one_more 1)) ≡ Err (TooMany 9) }
+    ensures chunks { judged_stripe 9 all_chunks (Some (one_more 1)) ≡ Err (TooMany 9) }
+    ensures fits { is_room (repeat 15 (full_stripe ∷ [])) (pos 1024) ≡ true }
+    ensures last { is_room (repeat 255 (south 5 ∷ [])) (pos 4) ≡ true }
+{}
+
+/// Eight chunks of four subchunks, and the overlaps of the two versions.
+pub fn counts()
+    ensures chunks { chunk_count halves ≡ 8 }
+    ensures subs { sub_count halves 7 ≡ 4 }
+    ensures least { least_overlap (record { stripes = south 5 ∷ north 2 ∷ [] }) ≡ 2 }
+    ensures upper { overlap_at (record { stripes = south 5 ∷ north 2 ∷ [] }) 4 ≡ 2 }
+{}
+
+/// The point on the diagonal is in chunk 4, in its second column; the second fine wedge begins there.
+#[tactic(auto, unfolding(wedge_rules::specs::Heading::heading, wedge_rules::specs::Heading::walk))]
+pub fn place_on_the_diagonal()
+    ensures chunks { filter (λ c. in_chunk halves c on_diagonal) eight ≡ 4 ∷ [] }
+    ensures subs { filter (λ s. in_sub halves 4 s on_diagonal) (range_with_len 0 4) ≡ 1 ∷ [] }
+{}
+
+/// Beside its own chunk 4, the point on the meridian is near chunks 0, 3 and 7.
+#[tactic(auto, unfolding(wedge_rules::specs::Heading::heading, wedge_rules::specs::Heading::walk))]
+pub fn near_chunks_of_the_meridian()
+    ensures { filter (λ c. near_chunk halves c on_meridian) eight ≡ 0 ∷ 3 ∷ 4 ∷ 7 ∷ [] }
+{}
