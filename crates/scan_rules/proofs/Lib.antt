@@ -1,0 +1,12 @@
+pub mod Lists
+pub mod Numbers
+pub mod Runs
+pub mod Serving
+pub mod Ring
+pub mod Scan
+pub mod Laps
+pub mod Lengths
+pub mod Ends
+pub mod Giving
+pub mod ChunkSets
+pub mod QuerySets

@@ -1,0 +1,42 @@
+-- Laws on states, and on how runs go on: by one line more, within a bound, and with the ends of queries kept.
+use Rattle.std.specs.Prelude.{◌≡◌, ℕ, ◌<◌, ◌≤◌, ◌^◌, [], ◌∷◌, ◌++◌, length, true, false, ◌↔◌}
+use Rattle.scan_rules.specs.declared.journal_line.JournalLine.{JournalLine}
+use Rattle.scan_rules.specs.Queries.{Journal, is_attached, is_running, is_done, QueryState, Running, Done, state_of}
+use Rattle.scan_rules.specs.Runs.{MayFollow, IsRun}
+
+-- a query runs exactly where that is its state, and so for a query that is done
+abbrev pub StatesTell : Type 0
+StatesTell =
+    (past : Journal) (q : ℕ)
+    → ((is_running past q ≡ true) ↔ (state_of past q ≡ Running))
+    × ((is_done past q ≡ true) ↔ (state_of past q ≡ Done))
+
+-- a journal without lines is a run
+abbrev pub NoLinesRun : Type 0
+NoLinesRun = (ring : ℕ) → IsRun ring []
+
+-- a front of a run is a run
+abbrev pub FrontsRun : Type 0
+FrontsRun = (ring : ℕ) (front rest : Journal) → IsRun ring (front ++ rest) → IsRun ring front
+
+-- a run goes on by each line that may follow
+abbrev pub RunsGoOn : Type 0
+RunsGoOn =
+    (ring : ℕ) (past : Journal) (line : JournalLine)
+    → IsRun ring past → MayFollow ring past line → IsRun ring (past ++ line ∷ [])
+
+-- a run over at most 16,384 chunks has fewer than 2^23 lines
+abbrev pub RunsAreShort : Type 0
+RunsAreShort = (ring : ℕ) (past : Journal) → ring ≤ 16384 → IsRun ring past → length past < 2 ^ 23
+
+-- the query was attached, does not run, and is in this state
+pub record HasEnded (past : Journal) (q : ℕ) (state : QueryState) : Type 0 where
+  pub attached : is_attached past q ≡ true
+  pub stopped : is_running past q ≡ false
+  pub state_is : state_of past q ≡ state
+
+-- a query that has ended stays in its state
+abbrev pub EndsStay : Type 0
+EndsStay =
+    (ring : ℕ) (front rest : Journal) (q : ℕ) (state : QueryState)
+    → IsRun ring (front ++ rest) → HasEnded front q state → HasEnded (front ++ rest) q state

@@ -1,0 +1,12 @@
+pub mod Numbers
+pub mod QuerySets
+pub mod QueryWords
+pub mod Lines
+pub mod Queries
+pub mod Scan
+pub mod Runs
+pub mod Serving
+pub mod Laps
+pub mod Ends
+pub mod Giving
+pub mod Examples

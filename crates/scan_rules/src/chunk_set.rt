@@ -1,0 +1,68 @@
+//! An ascending list of chunk numbers.
+ghost use Rattle.std.specs.Prelude.{◌≡◌, ◌<◌, List, [], ◌∷◌, ◌++◌, AllPairs, IfOk, IfSome, None, OnErr};
+ghost use Rattle.std.specs.List.{last_or};
+
+use sky_io::Memory;
+use std::alloc::Global;
+use std::marker::Model;
+
+/// A set of chunk numbers, from 0, as a strictly ascending list.
+#[derive(Drop)]
+pub struct ChunkSet {
+    chunks: Vec<u32>,
+}
+
+impl Model for ChunkSet {
+    ghost use Rattle.std.specs.Prelude.{ℕ, ◌<◌, List, AllPairs};
+
+    ghost Value = { List ℕ };
+
+    ghost view = { λ s. s.chunks.items };
+
+    ghost invariant = { λ s. AllPairs (λ a b. a < b) s.chunks.items };
+}
+
+impl ChunkSet {
+    /// A set without chunks. Takes no memory.
+    pub fn new(alloc: Global) -> ChunkSet
+        ensures { result ≡ [] }
+    {
+        ChunkSet {
+            chunks: Vec::new(alloc),
+        }
+    }
+
+    /// Appends a chunk above the last one. Takes memory; after `Err` the set is unchanged.
+    #[tactic(auto, using(crate::proofs::ChunkSets::ascending_push))]
+    pub fn push(&mut self, c: u32) -> Result<(), Memory>
+        requires above { IfSome (last_or None self.old) (λ last. last < c) }
+        ensures appended { IfOk result (λ _. self.new ≡ self.old ++ c ∷ []) }
+        ensures same { OnErr result (self.new ≡ self.old) }
+    {
+        if self.chunks.push(c).is_err() {
+            return Err(Memory);
+        }
+        Ok(())
+    }
+
+    /// The chunks, ascending. Takes no memory.
+    pub fn as_slice(&self) -> &[u32]
+        ensures items { result.now ≡ self.now }
+        ensures ascending { AllPairs (λ a b. a < b) result.now }
+    {
+        self.chunks.as_slice()
+    }
+}
+
+#[cfg(test)]
+mod tests {
+    use super::*;
+
+    #[test]
+    fn chunks_are_pushed_where_memory_is_ample(rt: HostRuntime) {
+        let mut chunks = ChunkSet::new(rt.alloc());
+        assert_eq!(rt; chunks.push(0), Ok(()));
+        assert_eq!(rt; chunks.push(16383), Ok(()));
+        assert_eq!(rt; chunks.as_slice(), [0, 16383].as_slice());
+    }
+}

@@ -1,0 +1,64 @@
+//! Laws of every run. A call here does nothing: its clause is the law.
+ghost use Rattle.scan_rules.specs.Serving.{ServedOnce, ServedOwnAlone, DoneServedAll, TakeServesAll};
+ghost use Rattle.scan_rules.specs.Laps.{LapServesAll, LapRepeatsNone};
+ghost use Rattle.scan_rules.specs.Ends.{StatesTell, NoLinesRun, FrontsRun, RunsGoOn, RunsAreShort, EndsStay};
+ghost use Rattle.scan_rules.specs.Giving.{GivenIsWanted, GivenByDeliversAlone, DeliverGives, TicketServes, InFlightIsNotGiven};
+
+/// However the seats take turns, a query is served each chunk at most once.
+pub fn a_query_is_served_each_chunk_at_most_once()
+    ensures { ServedOnce }
+{}
+
+/// A query is served only chunks of the list that it was attached with.
+pub fn a_query_is_served_its_own_chunks_alone()
+    ensures { ServedOwnAlone }
+{}
+
+/// A query that is done was served each chunk of its list, once.
+pub fn a_done_query_was_served_its_whole_list()
+    ensures { DoneServedAll }
+{}
+
+/// One take serves all running queries that want its chunk and were not served it.
+pub fn a_take_serves_every_query_that_needs_its_chunk()
+    ensures { TakeServesAll }
+{}
+
+/// As many takes as there are different wanted chunks serve a query its whole list, wherever on the ring it was
+/// attached; and up to the take of its last chunk no chunk is taken twice.
+pub fn one_lap_serves_a_query_its_whole_list()
+    ensures whole { LapServesAll }
+    ensures different { LapRepeatsNone }
+{}
+
+/// Runs are built line by line, and any front of one is a run.
+pub fn a_run_goes_on_by_each_line_that_may_follow()
+    ensures start { NoLinesRun }
+    ensures next { RunsGoOn }
+    ensures front { FrontsRun }
+{}
+
+/// A run over at most 16,384 chunks has fewer than 2^23 lines.
+pub fn a_run_has_fewer_than_two_to_the_23_lines()
+    ensures { RunsAreShort }
+{}
+
+/// A query runs exactly where its state is running, and is done exactly where its state is done.
+pub fn a_query_runs_where_its_state_says_so()
+    ensures { StatesTell }
+{}
+
+/// A query that is done, cancelled or spent stays so.
+pub fn a_query_that_has_ended_stays_as_it_is()
+    ensures { EndsStay }
+{}
+
+/// What is given to a query changes by Delivers alone: each gives the one chunk that was taken with its ticket, to the
+/// queries of that take, and none of them had it before.
+pub fn what_is_given_changes_by_delivers_alone()
+    ensures wanted { GivenIsWanted }
+    ensures same { GivenByDeliversAlone }
+    ensures more { DeliverGives }
+    ensures ticket { TicketServes }
+    ensures new { InFlightIsNotGiven }
+{}

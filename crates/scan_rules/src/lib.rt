@@ -1,0 +1,17 @@
+//! What a legal history of the shared scan is, with its laws.
+//!
+//! Callers see a journal as the list of its lines, oldest first. Each word on it is a filter or a count over that
+//! list (`specs/Queries.antt`, `specs/Scan.antt`); `specs/Runs.antt` says which line may follow and what a run is.
+//! Below: `sky_io` for want of memory. Above: the board keeps a run, and its callers rely on the laws of every run.
+//! No board, no threads and no work on chunks: a law is a function without a body whose clause is the law.
+#![tactic(auto)]
+
+pub mod chunk_set;
+pub mod examples;
+pub mod journal_line;
+pub mod laws;
+pub mod query_set;
+
+pub use chunk_set::ChunkSet;
+pub use journal_line::JournalLine;
+pub use query_set::QuerySet;

@@ -1,0 +1,95 @@
+//! A set of query numbers in four words.
+ghost use Rattle.std.specs.Prelude.{◌≡◌, ℕ, ◌<◌, ◌≤◌, List, [], ◌∷◌, ◌++◌, Contains, IfSome, None, IsTrue, ◌↔◌};
+ghost use Rattle.std.specs.List.{last_or};
+
+use std::marker::Model;
+
+/// A set of query numbers, 1 to 255, seen as their ascending list.
+#[derive(Clone, Copy, Drop)]
+pub struct QuerySet {
+    words: [u64; 4],
+}
+
+impl Model for QuerySet {
+    ghost use Rattle.std.specs.Prelude.{ℕ, List};
+
+    ghost Value = { List ℕ };
+
+    ghost use Rattle.scan_rules.specs.QuerySets.{set_queries, words_of, AreFourWords};
+    ghost use Rattle.std.proofs.Common.{ap};
+    ghost use Rattle.scan_rules.specs.QueryWords.{words_return};
+    ghost use Rattle.scan_rules.specs.declared.query_set.QuerySet.TheInside.{Inside};
+
+    ghost view = { λ s. set_queries s.words };
+
+    ghost invariant = { λ s. AreFourWords s.words };
+
+    ghost inverse = { λ queries. record { words = words_of queries } };
+
+    ghost inverse_ok = { λ s h. ap {B = Inside} (λ words. record { words = words }) (words_return s.words h) };
+}
+
+impl QuerySet {
+    /// A set without queries. Takes no memory.
+    pub fn new() -> QuerySet
+        ensures { result ≡ [] }
+    {
+        QuerySet { words: [0; 4] }
+    }
+
+    /// Appends a query above the last one. Takes no memory.
+    pub fn add(&mut self, q: u32)
+        requires from_1 { 1 ≤ q }
+        requires to_255 { q ≤ 255 }
+        requires above { IfSome (last_or None self.old) (λ last. last < q) }
+        ensures { self.new ≡ self.old ++ q ∷ [] }
+    {
+        self.words[(q / 64) as usize] |= 1 << (q % 64);
+    }
+
+    /// Whether the query is in the set. Takes no memory.
+    pub fn has(&self, q: u32) -> bool
+        ensures { IsTrue result ↔ Contains self.now q }
+    {
+        q < 256 && (self.words[(q / 64) as usize] >> (q % 64)) & 1 == 1
+    }
+}
+
+#[cfg(test)]
+mod tests {
+    use super::*;
+
+    #[test]
+    fn queries_at_the_ends_of_the_words_are_told_apart(rt: HostRuntime) {
+        let mut queries = QuerySet::new();
+        queries.add(1);
+        queries.add(63);
+        queries.add(64);
+        queries.add(127);
+        queries.add(128);
+        queries.add(255);
+        let copy = queries;
+        let cases = [
+            (0, false),
+            (1, true),
+            (2, false),
+            (62, false),
+            (63, true),
+            (64, true),
+            (65, false),
+            (126, false),
+            (127, true),
+            (128, true),
+            (129, false),
+            (191, false),
+            (192, false),
+            (254, false),
+            (255, true),
+            (256, false),
+            (319, false),
+        ];
+        for (q, want) in cases {
+            assert_eq!(rt; copy.has(q), want, "query {q}");
+        }
+    }
+}
