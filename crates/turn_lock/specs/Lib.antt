@@ -1,0 +1,6 @@
+pub mod Pasts
+pub mod Passes
+pub mod Rule
+pub mod Seats
+pub mod Steps
+pub mod Views
