@@ -1,0 +1,71 @@
+//! A row of the object table.
+ghost use Rattle.std.specs.Prelude.{◌≡◌, ℕ, ◌+◌, ◌<◌, ◌≤◌, ◌≤ℤ◌, pos, length, IsTrue};
+ghost use Rattle.std.specs.List.{list_all};
+ghost use Rattle.sky_vector.specs.Points.{is_admissible};
+ghost use Rattle.sky_vector.specs.Pos.{point};
+ghost use Rattle.table_rules.specs.Objects.{IsRow, cell, is_further};
+
+use sky_vector::Pos;
+use std::marker::Model;
+
+/// An id from 0, an admissible position, and further values, of which `None` is NULL.
+#[derive(Drop)]
+pub struct Row {
+    id: i64,
+    at: Pos,
+    further: Vec<Option<i64>>,
+}
+
+impl Model for Row {
+    ghost use Rattle.sky_vector.specs.Pos.{point};
+    ghost use Rattle.table_rules.specs.Objects.{Obj, IsRow};
+
+    ghost Value = { Obj };
+
+    ghost view = { λ r. record { id = r.id; at = point r.at; further = r.further.items } };
+
+    ghost invariant = { λ r. IsRow (record { id = r.id; at = point r.at; further = r.further.items }) };
+}
+
+impl Row {
+    /// The row of these parts, which it keeps. Takes no memory.
+    pub fn new(id: i64, at: Pos, further: Vec<Option<i64>>) -> Row
+        requires id { pos 0 ≤ℤ id }
+        requires admissible { IsTrue (is_admissible (point at)) }
+        requires further { IsTrue (list_all is_further further.items) }
+        requires few { length further.items ≤ 12 }
+        ensures { result ≡ record { id = id; at = point at; further = further.items } }
+    {
+        Row { id, at, further }
+    }
+
+    /// The id, from 0. Takes no memory.
+    pub fn id(&self) -> i64
+        ensures value { result ≡ self.now.id }
+        ensures limits { IsRow self.now }
+    {
+        self.id
+    }
+
+    /// The position, which is admissible. Takes no memory.
+    pub fn pos(&self) -> &Pos
+        ensures value { point result.now ≡ self.now.at }
+        ensures admissible { IsTrue (is_admissible (point result.now)) }
+    {
+        &self.at
+    }
+
+    /// The value in a column, which is counted from 0: `None` is NULL, and objectId, x, y and z have one. Takes no memory.
+    pub fn value(&self, col: u32) -> Option<i64>
+        requires { col < 4 + length self.now.further }
+        ensures { result ≡ cell self.now col }
+    {
+        match col {
+            0 => Some(self.id),
+            1 => Some(self.at.x),
+            2 => Some(self.at.y),
+            3 => Some(self.at.z),
+            _ => self.further[(col - 4) as usize],
+        }
+    }
+}

@@ -1,0 +1,91 @@
+//! What no clause says: that calls succeed with memory left, and what some rows are by hand.
+ghost use Rattle.std.specs.Prelude.{◌≡◌, pos, IsTrue, length};
+ghost use Rattle.sky_vector.specs.Points.{is_admissible};
+ghost use Rattle.sky_vector.specs.Pos.{point};
+
+use crate::{Row, Rows, Schema};
+use sky_vector::Pos;
+use std::alloc::Global;
+use std::test::Fail;
+
+// Where the first axis meets the sphere.
+fn place() -> Pos
+    ensures { IsTrue (is_admissible (point result)) }
+{
+    Pos::new(1 << 28, 0, 0).unwrap()
+}
+
+// A row with no further value.
+fn bare(alloc: Global, id: u32) -> Row
+    ensures id { result.id ≡ pos id }
+    ensures narrow { length result.further ≡ 0 }
+{
+    Row::new(i64::from(id), place(), Vec::new(alloc))
+}
+
+// The catalogue of three bare rows.
+fn of_three(alloc: Global, a: u32, b: u32, c: u32) -> Result<Option<Rows>, Fail> {
+    let rows = vec![in alloc; bare(alloc, a), bare(alloc, b), bare(alloc, c)]?;
+    Ok(Rows::in_order(Schema::new(alloc), rows))
+}
+
+// The ids of the rows, as they stand.
+fn ids_of(alloc: Global, rows: &Rows) -> Result<Vec<i64>, Fail> {
+    let mut ids = Vec::new(alloc);
+    for row in rows.as_slice() {
+        ids.push(row.id())?;
+    }
+    Ok(ids)
+}
+
+#[test]
+fn a_row_gives_its_values_and_null(rt: HostRuntime) -> Result<(), Fail> {
+    let further = vec![in rt.alloc(); Some(-1125899906842624), None]?;
+    let row = Row::new(9223372036854775807, place(), further);
+    assert_eq!(rt; row.value(0), Some(9223372036854775807));
+    assert_eq!(rt;
+        [row.value(1), row.value(2), row.value(3)],
+        [Some(268435456), Some(0), Some(0)]
+    );
+    assert_eq!(rt;
+        [row.value(4), row.value(5)],
+        [Some(-1125899906842624), None]
+    );
+    Ok(())
+}
+
+#[test]
+fn rows_in_any_order_come_by_id(rt: HostRuntime) -> Result<(), Fail> {
+    let alloc = rt.alloc();
+    for (a, b, c) in [(1, 3, 5), (5, 1, 3), (3, 5, 1), (5, 3, 1)] {
+        let Some(found) = of_three(alloc, a, b, c)? else {
+            panic!(rt; "{a} {b} {c}");
+        };
+        assert_eq!(rt;
+            ids_of(alloc, &found)?.as_slice(),
+            [1, 3, 5].as_slice(),
+            "{a} {b} {c}"
+        );
+    }
+    Ok(())
+}
+
+#[test]
+fn rows_with_one_id_are_no_catalogue(rt: HostRuntime) -> Result<(), Fail> {
+    let alloc = rt.alloc();
+    for (a, b, c) in [(1, 1, 5), (5, 1, 5), (0, 0, 0)] {
+        assert!(rt; of_three(alloc, a, b, c)?.is_none(), "{a} {b} {c}");
+    }
+    Ok(())
+}
+
+#[test]
+fn a_row_is_put_behind_the_others(rt: HostRuntime) -> Result<(), Fail> {
+    let alloc = rt.alloc();
+    let mut rows = Rows::new(alloc, Schema::new(alloc));
+    rows.push(bare(alloc, 0))?;
+    rows.push(bare(alloc, 7))?;
+    assert_eq!(rt; ids_of(alloc, &rows)?.as_slice(), [0, 7].as_slice());
+    assert_eq!(rt; rows.schema().width(), 4);
+    Ok(())
+}
