@@ -1,0 +1,10 @@
+pub mod Pieces
+pub mod LineSteps
+pub mod Fronts
+pub mod NarrowRows
+pub mod TableOf
+pub mod Heights
+pub mod Bounds
+pub mod Marks
+pub mod RowLines
+pub mod Blocks

@@ -1,0 +1,12 @@
+use Rattle.std.proofs.Common.{◌≡◌, ◌≤◌, ◌+◌, ◌^◌, length, drop}
+use Rattle.czar.specs.NarrowTranscript.{blocks}
+use Rattle.sky_io.proofs.Writes.{Under}
+use Rattle.czar.proofs.transcript.put_blocks.Given as goal
+
+abbrev pub invariant-loop-query : goal.invariant-loop-query
+invariant-loop-query g l = record {
+  number : l.number ≡ l.query-index + 1;
+  short : length l.queries ≤ 255;
+  few : length l.rows ≤ 2 ^ 22;
+  under : Under (g.K.Sink.state l.fn.sink) (g.K.Sink.state l.sink) (blocks l.rows l.chunks l.number (drop l.query-index l.queries)) (blocks l.rows l.chunks 1 l.queries);
+}

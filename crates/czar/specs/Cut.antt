@@ -1,0 +1,8 @@
+-- The pieces that a cutter has left.
+use Rattle.std.specs.Prelude.{ℕ, List, [], Option, None, Some}
+use Rattle.czar.specs.NarrowLines.{pieces}
+
+-- the pieces of what is left of the text, and none once all is cut
+abbrev pub left_of : ℕ → Option (List ℕ) → List (List ℕ)
+left_of by None = []
+left_of by (Some rest) = pieces by rest

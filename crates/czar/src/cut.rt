@@ -1,0 +1,70 @@
+//! The pieces of a text between equal bytes, cut off one by one.
+ghost use Rattle.std.specs.Prelude.{◌≡◌, [], ◌∷◌, IfNone, IfSome, ◌==◌, IsTrue, ◌↔◌};
+ghost use Rattle.std.specs.List.{position};
+ghost use Rattle.czar.specs.NarrowLines.{pieces};
+
+use std::marker::Model;
+
+/// What is left of a text, of which pieces are cut off in front.
+#[derive(Drop)]
+pub struct Cutter<'a> {
+    rest: Option<&'a [u8]>,
+    by: u8,
+}
+
+impl<'a> Model for Cutter<'a> {
+    ghost use Rattle.std.specs.Prelude.{ℕ, List};
+    ghost use Rattle.std.specs.Option.{option_copied};
+    ghost use Rattle.czar.specs.Cut.{left_of};
+
+    ghost Value = { List (List ℕ) };
+
+    ghost view = { λ c. left_of c.by (option_copied c.rest) };
+}
+
+/// Where the byte first stands, from 0.
+fn place_of(text: &[u8], by: u8) -> Option<usize>
+    ensures { result ≡ position (λ b. b == by) text.now }
+{
+    text.iter().position(|b| *b == by)
+}
+
+impl<'a> Cutter<'a> {
+    /// All pieces of the text. Takes no memory.
+    pub fn new(text: &'a [u8], by: u8) -> Cutter<'a>
+        ensures { result ≡ pieces by text.now }
+    {
+        Cutter {
+            rest: Some(text),
+            by,
+        }
+    }
+
+    /// Cuts off the first piece, or answers `None` where none is left. Takes no memory.
+    #[tactic(auto, using(crate::proofs::Pieces::piece_found, crate::proofs::Pieces::piece_last))]
+    pub fn next(&mut self) -> Option<&'a [u8]>
+        ensures none { IfNone result ((self.old ≡ []) × (self.new ≡ [])) }
+        ensures piece { IfSome result (λ piece. self.old ≡ piece.now ∷ self.new) }
+    {
+        let by = self.by;
+        let rest = self.rest?;
+        match place_of(rest, by) {
+            Some(at) => {
+                self.rest = Some(&rest[at + 1..]);
+                Some(&rest[..at])
+            }
+            None => {
+                self.rest = None;
+                Some(rest)
+            }
+        }
+    }
+
+    /// Whether no piece is left.
+    #[tactic(auto, using(crate::proofs::Pieces::some_piece))]
+    pub fn is_done(&self) -> bool
+        ensures { IsTrue result ↔ (self.now ≡ []) }
+    {
+        self.rest.is_none()
+    }
+}
