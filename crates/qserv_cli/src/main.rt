@@ -1,0 +1,66 @@
+//! Answers a script of queries over a sky plan and a catalogue, by the words of its command line.
+//!
+//! The top call `qserv` is generic over the shelf that holds the texts and the sink that takes the answers; its contract
+//! (`specs/Explained.antt`) says what each outcome means and which outcome must come.
+//! Below: `czar` reads the texts and writes the transcript, `sky_io` is the outside. Above: nothing, this is the program.
+//! No reading of a text, no SQL and no sky here: the order of the work, the outcomes, and what is told of them.
+#![tactic(auto)]
+
+mod inputs;
+mod outcome;
+#[cfg(test)]
+mod tests;
+mod top;
+mod words;
+
+use outcome::{Outcome, put_outcome, status};
+use sky_io::{ErrSink, FolderShelf, OpenGate, OutSink, Sink};
+use std::io::ErrorKind;
+use std::process::ExitCode;
+use std::rt::Env;
+use std::{env, io};
+use top::qserv;
+
+fn main(rt: HostRuntime) -> ExitCode {
+    let words = match words_of(&rt) {
+        Ok(words) => words,
+        Err(error) => return tell(&rt, &without_words(error), &[]),
+    };
+    let alloc = rt.alloc();
+    let mut shelf = FolderShelf::new(&rt, alloc);
+    let mut sink = OutSink::new(&rt);
+    let outcome = qserv(
+        &rt,
+        alloc,
+        words.as_slice(),
+        &mut shelf,
+        &mut sink,
+        &OpenGate,
+    );
+    tell(&rt, &outcome, words.as_slice())
+}
+
+// The words behind the program's own name. Words that aren't text are an error.
+fn words_of<R: Env + AllocGlobal>(rt: &R) -> io::Result<Vec<String>> {
+    let mut words = Vec::new(rt.alloc());
+    for word in env::args(rt)?.skip(1) {
+        words.push(word)?;
+    }
+    Ok(words)
+}
+
+// The outcome where the words could not be had.
+fn without_words(error: io::Error) -> Outcome {
+    match error.kind() {
+        ErrorKind::OutOfMemory => Outcome::Memory,
+        _ => Outcome::Usage,
+    }
+}
+
+// Writes the outcome's line on standard error, and gives its status whether or not that could be written.
+fn tell(rt: &HostRuntime, outcome: &Outcome, words: &[String]) -> ExitCode {
+    let mut sink = ErrSink::new(rt);
+    put_outcome(&mut sink, outcome, words);
+    sink.flush_out();
+    ExitCode::from(status(outcome))
+}
