@@ -1,13 +1,15 @@
-//! Numbers of a text: read from bytes, and written to a sink.
+//! Numbers and lines of a text: read from bytes, and numbers written to a sink.
 //!
 //! Callers see what is read by the definitions of `text_rules`, and what is written as bytes appended to the sink.
 //! Below: `text_rules` for what a number is, `sky_io` for the sink. Above: every reader and writer of a format.
 //! No files, and no memory: a text is a slice that the caller holds.
 #![tactic(auto)]
 
+pub mod lines;
 mod number;
 mod put;
 
+pub use lines::{Line, Lines, is_note};
 pub use number::{read_int, read_natural, read_whole};
 pub use put::{put_count, put_int};
 
