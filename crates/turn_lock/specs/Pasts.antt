@@ -15,7 +15,7 @@ abbrev pub longer : {E : Type 0} → List E → List E → List E
 longer xs ys = if nat_lt (length xs) (length ys) then ys else xs
 
 -- the past is what was seen, and at most one entry behind it, which carries this number
-pub record GrewByOne {E : Type 0} (seat_of : E → ℕ) (number : ℕ) (seen past : List E) : Type 0 where
+pub record GrewByAtMostOne {E : Type 0} (seat_of : E → ℕ) (number : ℕ) (seen past : List E) : Type 0 where
   pub more : List E
   pub grown : past ≡ seen ++ more
   pub few : length more ≤ 1

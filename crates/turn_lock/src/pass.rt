@@ -1,7 +1,7 @@
 //! The turn, held by a seat.
 ghost use Rattle.std.specs.Prelude.{◌≡◌, ◌+◌, ◌*◌, ◌<◌, ◌^◌, [], ◌∷◌, ◌++◌, length, All, true};
 ghost use Rattle.std.specs.Prelude.{IsSome, Some, None};
-ghost use Rattle.turn_lock.specs.Pasts.{GrewByOne};
+ghost use Rattle.turn_lock.specs.Pasts.{GrewByAtMostOne};
 ghost use Rattle.turn_lock.specs.Seats.{Knows, grown};
 ghost use Rattle.turn_lock.specs.Views.{adding, adding_fresh, leaving, ViewKnows};
 
@@ -42,7 +42,8 @@ impl<'a, T: Lineage> Pass<'a, T> {
     /// Puts the value back and gives the seat, which has seen the whole past then. Takes no memory.
     pub fn leave(self) -> Seat<T>
         requires root { T.root self.value ≡ self.seat.root }
-        requires past { GrewByOne T.seat_of self.seat.number self.seat.seen (T.past self.value) }
+        requires past { GrewByAtMostOne T.seat_of
+            self.seat.number self.seat.seen (T.past self.value) }
         requires short { length (T.past self.value) < 2 ^ 62 }
         ensures seat { result ≡ grown (T.past self.entry.value) self.entry.seat }
         ensures known { Knows T.seat_of result }
@@ -88,7 +89,7 @@ fn publish_said<T: Lineage, W: Said<T::Entry>>(
 fn publish<T: Lineage>(turn: &Turn<T>, inner: &mut Inner<T>, value: &T, word: u64)
     requires own { inner.old.table_id ≡ turn.now }
     requires holder { (inner.old.me.0.live ≡ true) × (inner.old.me.0.holds_turn ≡ true) }
-    requires past { GrewByOne T.seat_of inner.old.me.0.number inner.old.me.0.seen
+    requires past { GrewByAtMostOne T.seat_of inner.old.me.0.number inner.old.me.0.seen
         (T.past value.now) }
     requires word { word ≡ 2 * length (T.past value.now) + 1 }
     ensures own { inner.new.table_id ≡ inner.old.table_id }

@@ -2,7 +2,7 @@
 ghost use Rattle.std.specs.Prelude.{◌≡◌, ◌≢◌, ◌≤◌, ◌<◌, ◌^◌, [], length, vec_len};
 ghost use Rattle.std.specs.Thread.{IsSync};
 ghost use mathlib.Core.List.{IsPrefix};
-ghost use Rattle.turn_lock.specs.Pasts.{GrewByOne};
+ghost use Rattle.turn_lock.specs.Pasts.{GrewByAtMostOne};
 ghost use Rattle.turn_lock.specs.Seats.{Knows};
 
 use crate::{Seat, Turn};
@@ -49,7 +49,8 @@ impl Visits {
     // Adds a visit where there is room.
     fn visit(&mut self, number: u32)
         ensures place { self.new.place ≡ self.old.place }
-        ensures grew { GrewByOne (λ e. e) number self.old.entries.items self.new.entries.items }
+        ensures grew { GrewByAtMostOne (λ e. e)
+            number self.old.entries.items self.new.entries.items }
     {
         if self.entries.len() < 100 {
             let _ = self.entries.push(number);
