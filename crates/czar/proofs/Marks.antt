@@ -1,5 +1,6 @@
 -- Stripes that are marked, one for each row.
-use Rattle.std.proofs.Common.{◌≡◌, ℕ, ◌+◌, ◌<◌, ◌≤◌, Bool, true, false, ◌&&◌, ◌||◌, List, [], ◌∷◌, length, map, take, set, get_or, replicate}
+use Rattle.std.proofs.Common.{◌≡◌, ℕ, ◌+◌, ◌<◌, ◌≤◌, Bool, true, false, ◌&&◌, ◌||◌, List, [], ◌∷◌, length, map, take}
+use Rattle.std.proofs.Common.{set, get_or, replicate}
 use Rattle.std.proofs.Common.{ℤ, pos, ◌≤ℤ◌, ◌<ℤ◌, suc, zero, refl, sym, ap, arith, ◌∙◌, cond}
 use Rattle.std.specs.Prelude.{int_le, int_lt}
 use Rattle.std.specs.List.{AllWithin, count_by}
@@ -20,28 +21,35 @@ holds z stripe = int_le stripe.from z && int_lt z stripe.to
 abbrev pub filled_or : (Stripe → Bool) → ℤ → Stripe → Bool
 filled_or f z stripe = f stripe || holds z stripe
 
+-- a stripe whose bound is above the z does not hold it
 not_in_above : (from to z : ℤ) → z <ℤ from → holds z (record { from = from; to = to }) ≡ false
 not_in_above from to z h = grind (arith, ints)
 
+-- nor does one that ends at or below it
 not_in_below : (from to z : ℤ) → to ≤ℤ z → holds z (record { from = from; to = to }) ≡ false
 not_in_below from to z h = grind (arith, ints)
 
+-- one from its bound up to its end does
 is_in : (from to z : ℤ) → from ≤ℤ z → z <ℤ to → holds z (record { from = from; to = to }) ≡ true
 is_in from to z low high = grind (arith, ints)
 
+-- a test is the same with one that fails
 or_none : (a b : Bool) → b ≡ false → (a || b) ≡ a
 or_none true b h = refl
 or_none false b h = h
 
+-- and passes with one that passes
 or_some : (a b : Bool) → b ≡ true → (a || b) ≡ true
 or_some true b h = refl
 or_some false b h = h
 
+-- two lists with the same first mark and the same others
 same_cons : (a b : Bool) (as' bs : List Bool) → a ≡ b → as' ≡ bs → a ∷ as' ≡ b ∷ bs
 same_cons a b as' bs e es = rw (e, es) refl
 
 -- a z below all bounds marks none of their stripes
-none_marked : (f : Stripe → Bool) (z : ℤ) (lows : List ℤ) → AllWithin (λ low. z <ℤ low) lows 0 (length lows) → map (filled_or f z) (stripes lows) ≡ map f (stripes lows)
+none_marked : (f : Stripe → Bool) (z : ℤ) (lows : List ℤ) → AllWithin (λ low. z <ℤ low) lows 0 (length lows)
+    → map (filled_or f z) (stripes lows) ≡ map f (stripes lows)
 none_marked f z [] h = refl
 none_marked f z (low ∷ []) h =
     same_cons _ _ _ _ (or_none (f (record { from = low; to = pos 268435473 })) _ (not_in_above low (pos 268435473) z (h 0 z (omega arith) (omega arith)))) refl
@@ -64,26 +72,31 @@ one_marked f z (low ∷ next ∷ lows) (suc i) top within up_to behind =
     same_cons _ _ _ _ (or_none (f (record { from = low; to = next })) _ (not_in_below low next z (up_to 1 z (omega arith) (omega arith))))
     (one_marked f z (next ∷ lows) i top (omega arith) (λ k d from w. up_to (suc k) d (omega arith) (omega arith)) (λ k d from w. behind (suc k) d (omega arith) (omega arith)))
 
+-- tests that agree mark the same stripes
 same_map : (f g : Stripe → Bool) → ((s : Stripe) → f s ≡ g s) → (all : List Stripe) → map f all ≡ map g all
 same_map f g h [] = refl
 same_map f g h (s ∷ rest) = same_cons _ _ _ _ (h s) (same_map f g h rest)
 
+-- there are as many stripes as bounds
 pub length-stripes : (lows : List ℤ) → length (stripes lows) ≡ length lows
 length-stripes [] = refl
 length-stripes (low ∷ []) = refl
 length-stripes (low ∷ next ∷ lows) = ap suc (length-stripes (next ∷ lows))
 
+-- no row, no mark
 unmarked : (all : List Stripe) → replicate (length all) false ≡ map (is_filled []) all
 unmarked [] = refl
 unmarked (s ∷ rest) = same_cons _ _ _ _ refl (unmarked rest)
 
 -- before the first row no stripe is marked
-pub marks_start : (lows : List ℤ) (n : ℕ) → length lows ≤ n → take (length lows) (replicate n false) ≡ map (is_filled []) (stripes lows)
+pub marks_start : (lows : List ℤ) (n : ℕ) → length lows ≤ n
+    → take (length lows) (replicate n false) ≡ map (is_filled []) (stripes lows)
 marks_start lows n few = take-replicate (length lows) n false few ∙ (ap (λ k. replicate k false) (sym (length-stripes lows)) ∙ unmarked (stripes lows))
 
 -- a row marks its stripe
 pub marks_next : (lows : List ℤ) (rows : List Obj) (i : ℕ) (row : Obj) (marks : List Bool) (at : ℕ)
-    → take (length lows) marks ≡ map (is_filled (take i rows)) (stripes lows) → i < length rows → row ≡ get_or rows i row → IsStripeOf lows row.at.z at
+    → take (length lows) marks ≡ map (is_filled (take i rows)) (stripes lows) → i < length rows
+    → row ≡ get_or rows i row → IsStripeOf lows row.at.z at
     → take (length lows) (set marks at true) ≡ map (is_filled (take (i + 1) rows)) (stripes lows)
 marks_next lows rows i row marks at so_far low is held =
     let more : (s : Stripe) → filled_or (is_filled (take i rows)) row.at.z s ≡ is_filled (take (i + 1) rows) s =
@@ -93,10 +106,12 @@ marks_next lows rows i row marks at so_far low is held =
     ∙ (sym (one_marked (is_filled (take i rows)) row.at.z lows at held.top held.within held.up_to held.behind)
     ∙ same_map _ _ more (stripes lows)))
 
+-- the marks that a test makes are counted by the test
 count_map : (f : Stripe → Bool) (all : List Stripe) → count_by (λ mark. mark) (map f all) ≡ count_by f all
 count_map f [] = refl
 count_map f (s ∷ rest) = omega (arith, sum_by-cons (λ mark. cond mark 1 0) (f s) (map f rest), sum_by-cons (λ s. cond (f s) 1 0) s rest, count_map f rest)
 
 -- the marks count the stripes that hold a row
-pub marks_end : (lows : List ℤ) (rows : List Obj) (marks : List Bool) → marks ≡ map (is_filled rows) (stripes lows) → count_by (λ mark. mark) marks ≡ filled lows rows
+pub marks_end : (lows : List ℤ) (rows : List Obj) (marks : List Bool) → marks ≡ map (is_filled rows) (stripes lows)
+    → count_by (λ mark. mark) marks ≡ filled lows rows
 marks_end lows rows marks h = ap (λ ms. count_by (λ mark. mark) ms) h ∙ count_map (is_filled rows) (stripes lows)

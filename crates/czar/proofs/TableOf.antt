@@ -6,8 +6,10 @@ use Rattle.table_rules.specs.Objects.{Obj, Catalogue, IsTable}
 use Rattle.czar.specs.NarrowCatalogue.{IsTableOf, HasNoTable, narrow_rows}
 
 -- the catalogue of a text's rows is the text's, and where they have none the text has none
-pub table_or_none : (text : List ℕ) (rows : List Obj) (names : List (List ℕ)) (o : Option Catalogue) → Some rows ≡ narrow_rows text
-    → IfSome o (λ c. (c.names ≡ names) × IsTable rows c.objects) → IfNone o ((table : List Obj) → IsTable rows table → ⊥)
+pub table_or_none : (text : List ℕ) (rows : List Obj) (names : List (List ℕ)) (o : Option Catalogue)
+    → Some rows ≡ narrow_rows text
+    → IfSome o (λ c. (c.names ≡ names) × IsTable rows c.objects)
+    → IfNone o ((table : List Obj) → IsTable rows table → ⊥)
     → MatchOption o (HasNoTable text) (λ c. IsTableOf text c.objects)
 table_or_none text rows names (Some c) e found none = (rows, sym e, found.1)
 table_or_none text rows names None e found none = λ table is.
