@@ -1,5 +1,5 @@
 -- What an outcome says leaves no other outcome where the texts are as they are.
-use Rattle.std.proofs.Common.{◌≡◌, ℕ, ◌<◌, List, Option, None, Some, IsSome, refl, sym, subst, arith, ◌∙◌}
+use Rattle.std.proofs.Common.{◌≡◌, ℕ, ◌<◌, List, Option, None, Some, IsSome, refl, sym, subst, arith}
 use Rattle.sky_io.specs.Shelves.{times}
 use Rattle.sky_io.specs.Sinks.{Rose}
 use Rattle.czar.specs.NarrowRun.{Run}

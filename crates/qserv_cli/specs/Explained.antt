@@ -1,5 +1,5 @@
 -- What each outcome of the top call says, and which outcome must come.
-use Rattle.std.specs.Prelude.{◌≡◌, ◌<◌, ℕ, List, Option, None, Some, Bool, false, length, replicate}
+use Rattle.std.specs.Prelude.{◌≡◌, ◌<◌, ℕ, List, Option, None, Some, false, length, replicate}
 use Rattle.sky_io.specs.Shelves.{ShelfState, GrewBy, times}
 use Rattle.sky_io.specs.Sinks.{SinkState, Appended, AppendedPart, Rose}
 use Rattle.czar.specs.NarrowRun.{Run, text_of}

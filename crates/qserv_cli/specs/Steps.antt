@@ -1,5 +1,5 @@
 -- What each step of the top call says, from the fetch of one text to the writing of a run.
-use Rattle.std.specs.Prelude.{◌≡◌, ◌<◌, ℕ, List, Bool, false}
+use Rattle.std.specs.Prelude.{◌≡◌, ◌<◌, ℕ, List, false}
 use Rattle.sky_io.specs.Shelves.{ShelfState, GivesText, GrewBy, named_text, times}
 use Rattle.sky_io.specs.Sinks.{SinkState, Appended, AppendedPart, Rose}
 use Rattle.czar.specs.NarrowRun.{Run, text_of}

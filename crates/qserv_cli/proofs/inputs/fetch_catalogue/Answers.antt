@@ -1,4 +1,4 @@
-use Rattle.std.proofs.Common.{refl, sym, ◌∙◌}
+use Rattle.std.proofs.Common.{refl}
 use Rattle.qserv_cli.proofs.Cuts.{table_read, no_table_read}
 use Rattle.qserv_cli.proofs.inputs.fetch_catalogue.Goals as goal
 

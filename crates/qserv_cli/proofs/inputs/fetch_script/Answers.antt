@@ -1,4 +1,4 @@
-use Rattle.std.proofs.Common.{Some, None, refl, sym, ◌∙◌}
+use Rattle.std.proofs.Common.{Some, None, refl}
 use Rattle.qserv_cli.proofs.Cuts.{script_read}
 use Rattle.qserv_cli.proofs.inputs.fetch_script.Goals as goal
 

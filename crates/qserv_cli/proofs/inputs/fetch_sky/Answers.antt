@@ -1,4 +1,4 @@
-use Rattle.std.proofs.Common.{Some, None, refl, sym, ◌∙◌}
+use Rattle.std.proofs.Common.{Some, None, refl}
 use Rattle.qserv_cli.proofs.Cuts.{sky_read}
 use Rattle.qserv_cli.proofs.inputs.fetch_sky.Goals as goal
 
