@@ -1,0 +1,43 @@
+-- Where the tokens of a text stand in it, and which bytes write them.
+use Rattle.std.specs.Prelude.{◌≡◌, ℕ, ◌<◌, ◌≤◌, Bool, false, ◌&&◌, List, [], ◌∷◌, length, drop, slice_range, pos}
+use Rattle.std.specs.Prelude.{Option, None, Some, IsTrue}
+use Rattle.std.specs.List.{list_all}
+use Rattle.text_rules.specs.Numbers.{is_digit, value_after}
+use Rattle.sql_token.specs.declared.sign.Sign.{Sign}
+use Rattle.sql_token.specs.declared.token.Token.{Token}
+use Rattle.sql_token.specs.declared.token.TokenKind.{TokenKind}
+use Rattle.sql_token.specs.declared.token.TokenKind.TheVariants as kind
+use Rattle.sql_token.specs.Bytes.{is_blank, begins_word, continues_word}
+use Rattle.sql_token.specs.Keywords.{is_spelled, keyword_of}
+use Rattle.sql_token.specs.Signs.{long_sign, short_sign}
+
+-- the bytes are a word
+abbrev pub is_word : List ℕ → Bool
+is_word [] = false
+is_word (b ∷ bs) = begins_word b && list_all continues_word bs
+
+-- the sign that all these bytes write
+abbrev pub sign_of : List ℕ → Option Sign
+sign_of (a ∷ []) = short_sign a
+sign_of (a ∷ b ∷ []) = long_sign a b
+sign_of _ = None
+
+-- the bytes write a token of the kind
+abbrev pub IsWritten : TokenKind → List ℕ → Type 0
+IsWritten (kind.Keyword k) bytes = IsTrue (is_spelled bytes k)
+IsWritten kind.Name bytes = IsTrue (is_word bytes) × (keyword_of bytes ≡ None)
+IsWritten (kind.Int z) bytes = IsTrue (list_all is_digit bytes) × (z ≡ pos (value_after 0 bytes))
+IsWritten (kind.Sign s) bytes = sign_of bytes ≡ Some s
+
+-- The token is the first one from a place on: it stands behind blanks alone, and its bytes write it.
+pub record IsFirst (text : List ℕ) (place : ℕ) (t : Token) : Type 0 where
+  pub after : place ≤ t.span.from
+  pub blanks : IsTrue (list_all is_blank (slice_range text place t.span.from))
+  pub some : t.span.from < t.span.to
+  pub within : t.span.to ≤ length text
+  pub written : IsWritten t.kind (slice_range text t.span.from t.span.to)
+
+-- from a place on the text is these tokens one behind another, with blanks alone before, between and behind them
+abbrev pub StandFrom : List ℕ → ℕ → List Token → Type 0
+StandFrom text place [] = IsTrue (list_all is_blank (drop place text))
+StandFrom text place (t ∷ ts) = IsFirst text place t × StandFrom text t.span.to ts

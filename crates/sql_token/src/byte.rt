@@ -1,0 +1,51 @@
+//! The bytes of SQL text that are blanks, and those of which words and ints are made.
+ghost use Rattle.std.specs.Prelude.{◌≡◌, ◌≤◌, length};
+ghost use Rattle.std.specs.List.{prefix_len};
+ghost use Rattle.text_rules.specs.Numbers.{is_digit};
+ghost use Rattle.sql_token.specs.Bytes.{is_blank, begins_word, continues_word};
+
+fn is_blank(byte: u8) -> bool
+    ensures { result ≡ is_blank byte }
+{
+    byte == b' ' || byte == b'\t' || byte == b'\n' || byte == b'\r'
+}
+
+pub(crate) fn begins_word(byte: u8) -> bool
+    ensures { result ≡ begins_word byte }
+{
+    byte.is_ascii_alphabetic() || byte == b'_'
+}
+
+fn continues_word(byte: u8) -> bool
+    ensures { result ≡ continues_word byte }
+{
+    begins_word(byte) || byte.is_ascii_digit()
+}
+
+pub(crate) fn is_digit(byte: u8) -> bool
+    ensures { result ≡ is_digit byte }
+{
+    byte.is_ascii_digit()
+}
+
+// How many blanks stand at the front.
+pub(crate) fn blanks_len(text: &[u8]) -> usize
+    ensures blanks { result ≡ prefix_len is_blank text.now }
+    ensures within { result ≤ length text.now }
+{
+    text.iter().take_while(|b| is_blank(**b)).count()
+}
+
+// How many bytes the word at the front has.
+pub(crate) fn word_len(text: &[u8]) -> usize
+    ensures { result ≡ prefix_len continues_word text.now }
+{
+    text.iter().take_while(|b| continues_word(**b)).count()
+}
+
+// How many digits stand at the front.
+pub(crate) fn digits_len(text: &[u8]) -> usize
+    ensures { result ≡ prefix_len is_digit text.now }
+{
+    text.iter().take_while(|b| is_digit(**b)).count()
+}

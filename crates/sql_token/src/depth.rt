@@ -1,0 +1,49 @@
+//! How many brackets are open at a token.
+ghost use Rattle.std.specs.Prelude.{◌≡◌, ◌≤◌, true};
+ghost use Rattle.sql_token.specs.Tokens.{opens, closes, open_behind, too_deep};
+
+use crate::sign::Sign;
+use crate::token::{Token, TokenKind};
+
+const MOST_OPEN: u32 = 32;
+
+fn opens(token: &Token) -> bool
+    ensures { result ≡ opens token.now.kind }
+{
+    matches!(token.kind, TokenKind::Sign(Sign::Open))
+}
+
+fn closes(token: &Token) -> bool
+    ensures { result ≡ closes token.now.kind }
+{
+    matches!(token.kind, TokenKind::Sign(Sign::Close))
+}
+
+// How many brackets are open behind a token.
+fn open_behind(depth: u32, token: &Token) -> u32
+    requires { depth ≤ 2048 }
+    ensures { result ≡ open_behind depth token.now }
+{
+    if opens(token) {
+        depth + 1
+    } else if closes(token) {
+        depth.saturating_sub(1)
+    } else {
+        depth
+    }
+}
+
+/// The place of the first bracket with which 33 are open. Takes no memory.
+#[tactic(auto, unfolding(crate::specs::Tokens::too_deep))]
+pub(crate) fn too_deep(tokens: &[Token]) -> Option<u32>
+    ensures { result ≡ too_deep 0 tokens.now }
+{
+    let mut depth = 0;
+    for token in tokens {
+        if opens(token) && depth >= MOST_OPEN {
+            return Some(token.span.from);
+        }
+        depth = open_behind(depth, token);
+    }
+    None
+}

@@ -1,0 +1,24 @@
+//! The tokens of SQL text.
+//!
+//! Callers see the tokens of a text as a list, each with its kind and its span (`specs/Tokens.antt`).
+//! Below: `text_rules` for what digits write. Above: `sql_tree` and `sql_reader`, for which no text is left but names.
+//! No grammar: any row of tokens is accepted.
+#![tactic(auto)]
+
+mod byte;
+mod depth;
+pub mod examples;
+mod front;
+mod keyword;
+pub mod laws;
+mod scan;
+mod sign;
+#[cfg(test)]
+mod tests;
+mod token;
+mod tokens;
+
+pub use keyword::Keyword;
+pub use sign::Sign;
+pub use token::{Span, Token, TokenKind, TokenStop};
+pub use tokens::Tokens;

@@ -1,0 +1,70 @@
+//! The list of the tokens of a text.
+ghost use Rattle.std.specs.Prelude.{◌≡◌, ◌≤◌, ◌∷◌, [], ◌++◌, length, IfOk, IfErr, OnOk, Ok};
+ghost use Rattle.sql_token.specs.Answers.{StopsBy};
+ghost use Rattle.sql_token.specs.Tokens.{tokens_of};
+
+use crate::depth::too_deep;
+use crate::scan::scan;
+use crate::token::{Token, TokenStop};
+use std::alloc::Global;
+use std::marker::Model;
+
+const MOST_TOKENS: usize = 2048;
+
+/// Tokens in the order of their text.
+#[derive(Drop)]
+pub struct Tokens {
+    list: Vec<Token>,
+}
+
+impl Model for Tokens {
+    ghost use Rattle.std.specs.Prelude.{List};
+    ghost use Rattle.sql_token.specs.declared.token.Token.{Token};
+
+    ghost Value = { List Token };
+
+    ghost view = { λ t. t.list.items };
+}
+
+impl Tokens {
+    pub(crate) fn new(alloc: Global) -> Tokens
+        ensures { result ≡ [] }
+    {
+        Tokens {
+            list: Vec::new(alloc),
+        }
+    }
+
+    pub(crate) fn push(&mut self, token: Token) -> Result<(), TokenStop>
+        ensures ok { OnOk result (self.new ≡ self.old ++ token ∷ []) }
+        ensures err { IfErr result (λ why. why ≡ TokenStop.Memory) }
+    {
+        match self.list.push(token) {
+            Ok(()) => Ok(()),
+            Err(_) => Err(TokenStop::Memory),
+        }
+    }
+
+    /// The tokens of a text of at most 16,384 bytes, or its first fault. Want of memory may come in place of any answer.
+    pub fn read(alloc: Global, text: &[u8]) -> Result<Tokens, TokenStop>
+        requires { length text.now ≤ 16384 }
+        ensures tokens { IfOk result (λ tokens. tokens_of text.now ≡ Ok tokens) }
+        ensures fault { IfErr result (StopsBy (tokens_of text.now)) }
+    {
+        let tokens = scan(alloc, text)?;
+        if tokens.list.len() > MOST_TOKENS {
+            return Err(TokenStop::TooMany);
+        }
+        match too_deep(tokens.as_slice()) {
+            Some(place) => Err(TokenStop::Depth { place }),
+            None => Ok(tokens),
+        }
+    }
+
+    /// The tokens. Takes no memory.
+    pub fn as_slice(&self) -> &[Token]
+        ensures { result.now ≡ self.now }
+    {
+        self.list.as_slice()
+    }
+}
