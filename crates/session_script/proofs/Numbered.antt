@@ -1,0 +1,111 @@
+-- The numbers of a script's queries.
+use Rattle.std.proofs.Common.{◌≡◌, refl, sym, ap, ◌∙◌, subst, ℕ, zero, suc, ◌+◌, ◌-◌, ◌<◌, arith, Bool, true, false, cond, List, [], ◌∷◌, length, Option, None, Some, Result, Ok, Err, nat_lt, slice_get}
+use Rattle.std.specs.List.{slice_range}
+use Rattle.std.proofs.lemmas.Grind.{common_steps}
+use Rattle.text_rules.specs.Lines.{Line}
+use Rattle.sql_token.specs.declared.token.Span.{Span}
+use Rattle.session_script.specs.declared.fault.ScriptFault.{ScriptFault}
+use Rattle.session_script.specs.declared.fault.ScriptFault.TheVariants as fault
+use Rattle.session_script.specs.declared.saying.Saying.{Saying}
+use Rattle.session_script.specs.declared.saying.Saying.TheVariants.{Note, Cancels, Waits, Asks}
+use Rattle.session_script.specs.declared.step.Step.{Step}
+use Rattle.session_script.specs.declared.step.Step.TheVariants as step
+use Rattle.session_script.specs.Laws.{IsQuery, NumberedFrom}
+use Rattle.session_script.specs.Places.{placed_lines}
+use Rattle.session_script.specs.Scripts.{and_behind, is_query, part_of, put_before, queries_with, query_spans, query_text, said_by, script_of, span_at, step_of, step_said, steps_from}
+use Rattle.session_script.proofs.Judged.{no_line, one_line}
+
+-- one step may stand behind so many queries, before steps that are numbered behind it
+MayStand : ℕ → Step → Type 0
+MayStand queries s = (ss : List Step) → NumberedFrom (queries_with queries s) ss → NumberedFrom queries (s ∷ ss)
+
+same_step : (s t : Step) → ◌≡◌ {A = Result (Option Step) ScriptFault} (Ok (Some s)) (Ok (Some t)) → s ≡ t
+same_step s t e = cc e
+
+is_named : (queries n : ℕ) → is_query queries n ≡ true → IsQuery queries n
+is_named queries n is = grind (arith, common_steps)
+
+naming_stands : (queries : ℕ) (line : Line) (n : ℕ) (s t : Step) (b : Bool) → is_query queries n ≡ b
+    → (IsQuery queries n → MayStand queries s) → cond b (Ok (Some s)) (Err (fault.UnknownQuery line.number n)) ≡ Ok (Some t) → MayStand queries t
+naming_stands queries line n s t false is stands e = absurd (cc e)
+naming_stands queries line n s t true is stands e = subst (MayStand queries) (same_step s t e) (stands (is_named queries n is))
+
+cancel_stands : (queries n : ℕ) → IsQuery queries n → MayStand queries (step.Cancel n)
+unfolding MayStand
+cancel_stands queries n is ss more = (is, more)
+
+wait_stands : (queries n : ℕ) → IsQuery queries n → MayStand queries (step.Wait n)
+unfolding MayStand
+wait_stands queries n is ss more = (is, more)
+
+query_stands : (queries : ℕ) (span : Span) → MayStand queries (step.Query (queries + 1) span)
+unfolding MayStand
+query_stands queries span ss more = (refl, more)
+
+asking_stands : (queries place : ℕ) (line : Line) (t : Step) (b : Bool)
+    → cond b (Ok (Some (step.Query (queries + 1) (span_at place line)))) (Err (fault.TooManyQueries line.number)) ≡ Ok (Some t) → MayStand queries t
+asking_stands queries place line t false e = absurd (cc e)
+asking_stands queries place line t true e = subst (MayStand queries) (same_step _ t e) (query_stands queries (span_at place line))
+
+said_stands : (queries place : ℕ) (line : Line) (said : Saying) (t : Step) → step_said queries place line said ≡ Ok (Some t) → MayStand queries t
+said_stands queries place line Note t e = absurd (cc e)
+said_stands queries place line (Cancels n) t e = naming_stands queries line n (step.Cancel n) t (is_query queries n) refl (cancel_stands queries n) e
+said_stands queries place line (Waits n) t e = naming_stands queries line n (step.Wait n) t (is_query queries n) refl (wait_stands queries n) e
+said_stands queries place line Asks t e = asking_stands queries place line t (nat_lt queries 255) e
+
+long_stands : (queries place : ℕ) (line : Line) (t : Step) (b : Bool)
+    → cond b (Err (fault.LineTooLong line.number)) (step_said queries place line (said_by line.text)) ≡ Ok (Some t) → MayStand queries t
+long_stands queries place line t true e = absurd (cc e)
+long_stands queries place line t false e = said_stands queries place line (said_by line.text) t e
+
+put_numbered : (queries : ℕ) (s : Step) (ss : List Step) (more : Result (List Step) ScriptFault) → MayStand queries s
+    → ((rest : List Step) → more ≡ Ok rest → NumberedFrom (queries_with queries s) rest) → put_before s more ≡ Ok ss → NumberedFrom queries ss
+unfolding MayStand
+put_numbered queries s ss (Err why) stands numbered e = absurd (cc e)
+put_numbered queries s ss (Ok rest) stands numbered e =
+    let same : s ∷ rest ≡ ss = cc e in
+    subst (NumberedFrom queries) same (stands rest (numbered rest refl))
+
+line_numbered : (queries place : ℕ) (line : Line) (ls : List (ℕ × Line)) (ss : List Step) (spec : Result (Option Step) ScriptFault) → step_of queries place line ≡ spec
+    → ((q : ℕ) (rest : List Step) → steps_from q ls ≡ Ok rest → NumberedFrom q rest)
+    → and_behind queries spec (λ q. steps_from q ls) ≡ Ok ss → NumberedFrom queries ss
+line_numbered queries place line ls ss (Err why) is numbered e = absurd (cc e)
+line_numbered queries place line ls ss (Ok None) is numbered e = numbered queries ss e
+line_numbered queries place line ls ss (Ok (Some s)) is numbered e =
+    put_numbered queries s ss (steps_from (queries_with queries s) ls) (long_stands queries place line s (nat_lt 16384 (length line.text)) is) (numbered (queries_with queries s)) e
+
+steps_numbered : (queries : ℕ) (ls : List (ℕ × Line)) (ss : List Step) → steps_from queries ls ≡ Ok ss → NumberedFrom queries ss
+steps_numbered queries [] ss e =
+    let none : ◌≡◌ {A = Result (List Step) ScriptFault} (Ok []) (Ok ss) = sym (no_line queries) ∙ e in
+    let same : [] ≡ ss = cc none in
+    subst (NumberedFrom queries) same tt
+steps_numbered queries (l ∷ ls) ss e =
+    line_numbered queries l.0 l.1 ls ss (step_of queries l.0 l.1) refl (λ q rest f. steps_numbered q ls rest f) (sym (one_line queries l ls) ∙ e)
+
+pub script_numbered : (text : List ℕ) (ss : List Step) → script_of text ≡ Ok ss → NumberedFrom 0 ss
+script_numbered text ss e = steps_numbered 0 (placed_lines text) ss e
+
+-- the query's place among the queries is its number
+found_at : (queries : ℕ) (ss : List Step) (i n : ℕ) (span : Span) → NumberedFrom queries ss → slice_get ss i ≡ Some (step.Query n span)
+    → (queries < n) × (slice_get (query_spans ss) (n - queries - 1) ≡ Some span)
+found_at queries [] i n span numbered e = absurd (cc e)
+found_at queries (step.Query m other ∷ ss) zero n span numbered e =
+    let same : m ≡ n = cc e in
+    let own : other ≡ span = cc e in
+    let none : n - queries - 1 ≡ 0 = omega (arith, numbered.0, same) in
+    (omega (arith, numbered.0, same), ap (slice_get (other ∷ query_spans ss)) none ∙ ap Some own)
+found_at queries (step.Query m other ∷ ss) (suc i) n span numbered e =
+    let behind = found_at (queries + 1) ss i n span numbered.1 e in
+    let one : n - queries - 1 ≡ suc (n - (queries + 1) - 1) = omega (arith, behind.0) in
+    (omega (arith, behind.0), ap (slice_get (other ∷ query_spans ss)) one ∙ behind.1)
+found_at queries (step.Wait m ∷ ss) zero n span numbered e = absurd (cc e)
+found_at queries (step.Wait m ∷ ss) (suc i) n span numbered e = found_at queries ss i n span numbered.1 e
+found_at queries (step.Cancel m ∷ ss) zero n span numbered e = absurd (cc e)
+found_at queries (step.Cancel m ∷ ss) (suc i) n span numbered e = found_at queries ss i n span numbered.1 e
+
+pub own_text : (text : List ℕ) (ss : List Step) (i n : ℕ) (span : Span) → NumberedFrom 0 ss → slice_get ss i ≡ Some (step.Query n span)
+    → query_text ss text n ≡ slice_range text span.from span.to
+own_text text ss i n span numbered e =
+    let found = found_at 0 ss i n span numbered e in
+    let same : n - 0 - 1 ≡ n - 1 = omega arith in
+    ap (part_of text) (ap (slice_get (query_spans ss)) (sym same) ∙ found.1)

@@ -1,0 +1,20 @@
+-- What holds of the steps of every script, and of the places of every text's lines.
+use Rattle.std.specs.Prelude.{◌≡◌, ⊤, ℕ, ◌+◌, ◌≤◌, List, [], ◌∷◌, length, slice_range}
+use Rattle.text_rules.specs.Lines.{Line}
+use Rattle.session_script.specs.declared.step.Step.{Step}
+use Rattle.session_script.specs.declared.step.Step.TheVariants as step
+
+-- the number is that of one of so many queries
+abbrev pub IsQuery : ℕ → ℕ → Type 0
+IsQuery queries n = (1 ≤ n) × (n ≤ queries)
+
+-- behind so many queries the steps number the next ones in their order, and wait for and cancel earlier ones alone
+abbrev pub NumberedFrom : ℕ → List Step → Type 0
+NumberedFrom queries [] = ⊤
+NumberedFrom queries (step.Query n span ∷ ss) = (n ≡ queries + 1) × NumberedFrom (queries + 1) ss
+NumberedFrom queries (step.Wait n ∷ ss) = IsQuery queries n × NumberedFrom queries ss
+NumberedFrom queries (step.Cancel n ∷ ss) = IsQuery queries n × NumberedFrom queries ss
+
+-- the line's bytes stand in the text at its place
+abbrev pub StandsAt : List ℕ → ℕ × Line → Type 0
+StandsAt text l = slice_range text l.0 (l.0 + length l.1.text) ≡ l.1.text

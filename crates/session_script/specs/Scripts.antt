@@ -1,0 +1,114 @@
+-- The steps of a script, or its first fault.
+use Rattle.std.specs.Prelude.{ℕ, ◌+◌, ◌-◌, Bool, ◌&&◌, List, [], ◌∷◌, length, drop, codes, slice_get, slice_range}
+use Rattle.std.specs.Prelude.{Option, None, Some, Result, Ok, Err, if◌then◌else◌, nat_le, nat_lt, nat_eq}
+use Rattle.std.specs.List.{starts_with}
+use Rattle.text_rules.specs.Lines.{Line, is_note}
+use Rattle.text_rules.specs.Numbers.{natural}
+use Rattle.sql_token.specs.declared.token.Span.{Span}
+use Rattle.session_script.specs.declared.step.Step.{Step}
+use Rattle.session_script.specs.declared.step.Step.TheVariants as step
+use Rattle.session_script.specs.declared.saying.Saying.{Saying}
+use Rattle.session_script.specs.declared.saying.Saying.TheVariants.{Note, Cancels, Waits, Asks}
+use Rattle.session_script.specs.declared.fault.ScriptFault.{ScriptFault}
+use Rattle.session_script.specs.declared.fault.ScriptFault.TheVariants as fault
+use Rattle.session_script.specs.Places.{placed_lines}
+
+-- the number of 1 to 9 digits that is all that stands behind a word at the front
+abbrev pub number_behind : (word text : List ℕ) → Option ℕ
+number_behind word text =
+    if starts_with nat_eq text word then natural 9 (drop (length word) text) else None
+
+-- of the other lines, one that begins with `wait ` and a number is a wait, and any other is a query
+abbrev pub wait_or_query : Option ℕ → Saying
+wait_or_query (Some n) = Waits n
+wait_or_query None = Asks
+
+-- a line that begins with `cancel ` and a number is a cancel
+abbrev pub cancel_or_else : Option ℕ → Option ℕ → Saying
+cancel_or_else (Some n) wait = Cancels n
+cancel_or_else None wait = wait_or_query wait
+
+-- what a line says
+abbrev pub said_by : List ℕ → Saying
+said_by text =
+    if is_note text then Note
+    else cancel_or_else (number_behind (codes "cancel ") text) (number_behind (codes "wait ") text)
+
+-- a number is that of one of so many queries
+abbrev pub is_query : ℕ → ℕ → Bool
+is_query queries n = nat_le 1 n && nat_le n queries
+
+-- the step that names a query by its number, on a line behind so many queries
+abbrev pub naming : ℕ → Line → ℕ → Step → Result (Option Step) ScriptFault
+naming queries line n s =
+    if is_query queries n then Ok (Some s) else Err (fault.UnknownQuery line.number n)
+
+-- the span of a line that begins at a place
+abbrev pub span_at : ℕ → Line → Span
+span_at place line = record { from = place; to = place + length line.text }
+
+-- the step of the next query behind so many
+abbrev pub asking : ℕ → ℕ → Line → Result (Option Step) ScriptFault
+asking queries place line =
+    if nat_lt queries 255 then Ok (Some (step.Query (queries + 1) (span_at place line)))
+    else Err (fault.TooManyQueries line.number)
+
+-- the step of what a line says, and none of a note
+abbrev pub step_said : ℕ → ℕ → Line → Saying → Result (Option Step) ScriptFault
+step_said queries place line Note = Ok None
+step_said queries place line (Cancels n) = naming queries line n (step.Cancel n)
+step_said queries place line (Waits n) = naming queries line n (step.Wait n)
+step_said queries place line Asks = asking queries place line
+
+-- the step of a line that begins at a place, behind lines with so many queries
+abbrev pub step_of : ℕ → ℕ → Line → Result (Option Step) ScriptFault
+step_of queries place line =
+    if nat_lt 16384 (length line.text) then Err (fault.LineTooLong line.number)
+    else step_said queries place line (said_by line.text)
+
+-- how many queries there are up to a step
+abbrev pub queries_with : ℕ → Step → ℕ
+queries_with queries (step.Query n span) = queries + 1
+queries_with queries (step.Wait n) = queries
+queries_with queries (step.Cancel n) = queries
+
+-- a step before the steps behind it
+abbrev pub put_before : Step → Result (List Step) ScriptFault → Result (List Step) ScriptFault
+put_before s (Ok ss) = Ok (s ∷ ss)
+put_before s (Err why) = Err why
+
+-- the steps from a line on, of its own and of what follows, which is told how many queries there are before it
+abbrev pub and_behind : ℕ → Result (Option Step) ScriptFault → (ℕ → Result (List Step) ScriptFault)
+    → Result (List Step) ScriptFault
+and_behind queries (Ok None) more = more queries
+and_behind queries (Ok (Some s)) more = put_before s (more (queries_with queries s))
+and_behind queries (Err why) more = Err why
+
+-- the steps of these lines behind so many queries, or the first fault
+unfoldable pub steps_from : ℕ → List (ℕ × Line) → Result (List Step) ScriptFault
+steps_from queries [] = Ok []
+steps_from queries (l ∷ ls) = and_behind queries (step_of queries l.0 l.1) (λ q. steps_from q ls)
+
+-- the steps of a script in the order of its lines, or its first fault
+abbrev pub script_of : List ℕ → Result (List Step) ScriptFault
+script_of text = steps_from 0 (placed_lines text)
+
+-- the spans of the queries among steps
+abbrev pub query_spans : List Step → List Span
+query_spans [] = []
+query_spans (step.Query n span ∷ ss) = span ∷ query_spans ss
+query_spans (step.Wait n ∷ ss) = query_spans ss
+query_spans (step.Cancel n ∷ ss) = query_spans ss
+
+-- how many of the steps are queries
+abbrev pub query_count : List Step → ℕ
+query_count ss = length (query_spans ss)
+
+-- the part of a text that a span is
+abbrev pub part_of : List ℕ → Option Span → List ℕ
+part_of text None = []
+part_of text (Some span) = slice_range text span.from span.to
+
+-- the text of query k of a script, k from 1
+abbrev pub query_text : List Step → List ℕ → ℕ → List ℕ
+query_text steps text k = part_of text (slice_get (query_spans steps) (k - 1))

@@ -1,0 +1,78 @@
+//! The step that a line is, behind the lines before it.
+ghost use Rattle.std.specs.Prelude.{◌≡◌, ◌≤◌, ◌+◌, ◌^◌, length};
+ghost use Rattle.sky_text.specs.LineItems.{line_of};
+ghost use Rattle.session_script.specs.Scripts.{asking, naming, span_at, step_of};
+
+use crate::fault::ScriptFault;
+use crate::saying::{Saying, said_by};
+use crate::step::Step;
+use sky_text::Line;
+use sql_token::Span;
+
+const MOST_QUERIES: u32 = 255;
+
+const LONGEST_LINE: usize = 16384;
+
+// The step that names a query by its number.
+fn naming(
+    queries: u32,
+    line: &Line<'_>,
+    number: u32,
+    step: Step,
+) -> Result<Option<Step>, ScriptFault>
+    ensures { result ≡ naming queries (line_of line.now) number step }
+{
+    if 1 <= number && number <= queries {
+        Ok(Some(step))
+    } else {
+        Err(ScriptFault::UnknownQuery {
+            line: line.number,
+            number,
+        })
+    }
+}
+
+fn span_at(place: usize, line: &Line<'_>) -> Span
+    requires { place + length line.now.text.now ≤ 2 ^ 29 }
+    ensures { result ≡ span_at place (line_of line.now) }
+{
+    Span {
+        from: place as u32,
+        to: (place + line.text.len()) as u32,
+    }
+}
+
+// The step of the next query.
+fn asking(queries: u32, place: usize, line: &Line<'_>) -> Result<Option<Step>, ScriptFault>
+    requires { place + length line.now.text.now ≤ 2 ^ 29 }
+    ensures { result ≡ asking queries place (line_of line.now) }
+{
+    if queries < MOST_QUERIES {
+        Ok(Some(Step::Query {
+            number: queries + 1,
+            span: span_at(place, line),
+        }))
+    } else {
+        Err(ScriptFault::TooManyQueries { line: line.number })
+    }
+}
+
+/// The step of a line that begins at a place, behind lines with so many queries; `None` of a note. Takes no memory.
+pub(crate) fn step_of(
+    queries: u32,
+    place: usize,
+    line: &Line<'_>,
+) -> Result<Option<Step>, ScriptFault>
+    requires { place + length line.now.text.now ≤ 2 ^ 29 }
+    ensures { result ≡ step_of queries place (line_of line.now) }
+{
+    if line.text.len() > LONGEST_LINE {
+        return Err(ScriptFault::LineTooLong { line: line.number });
+    }
+    match said_by(line.text) {
+        Saying::Note => Ok(None),
+        Saying::Cancels(number) => naming(queries, line, number, Step::Cancel { number }),
+        Saying::Waits(number) => naming(queries, line, number, Step::Wait { number }),
+        Saying::Asks => asking(queries, place, line),
+    }
+}

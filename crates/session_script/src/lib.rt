@@ -1,0 +1,20 @@
+//! Scripts: a query, a wait or a cancel a line.
+//!
+//! Callers see a script as its text and its list of steps (`specs/Scripts.antt`).
+//! Below: `sky_text` for lines and numbers, `sql_token` for spans. Above: the czar goes through the steps.
+//! A query's text is not looked at here: whatever is no other step is a query.
+#![tactic(auto)]
+
+pub mod examples;
+mod fault;
+mod judge;
+pub mod laws;
+mod saying;
+mod script;
+mod step;
+#[cfg(test)]
+mod tests;
+
+pub use fault::ScriptFault;
+pub use script::Script;
+pub use step::Step;
