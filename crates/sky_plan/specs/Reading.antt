@@ -1,0 +1,60 @@
+-- What is left of a sky text while it is read.
+use Rattle.std.specs.Prelude.{◌≡◌, ℕ, ◌+◌, ◌==◌, nat_le, ℤ, pos, ◌+ℤ◌, int_le, Bool, ◌&&◌, not}
+use Rattle.std.specs.Prelude.{List, [], ◌∷◌, ◌++◌, length, Option, None, Some, Result, Ok, if◌then◌else◌}
+use Rattle.std.specs.List.{filter, slice_split}
+use Rattle.text_rules.specs.Lines.{Line, is_note}
+use Rattle.sky_io.specs.declared.Stop.{Stop}
+use Rattle.sky_io.specs.declared.Stop.TheVariants.{Memory, Bad}
+use Rattle.sky_rules.specs.SkyWords.{Version, shared, own}
+use Rattle.sky_rules.specs.Partition.{Stripe, Partition, sky_end}
+use Rattle.sky_rules.specs.SkyText.{sky_of_lines, stripes_with, unless_fault, whole_sky}
+use Rattle.sky_rules.specs.declared.fault.SkyFault.{SkyFault}
+
+-- of a call that stopped: what holds of its own fault; of want of memory nothing does
+abbrev pub IfBad : {F : Type 0} → Stop F → (F → Type 0) → Type 0
+IfBad Memory holds = Unit {0}
+IfBad (Bad fault) holds = holds fault
+
+-- The lines that are left of a text, and the number of the first of them.
+pub record LinesLeft : Type 0 where
+  pub lines : List Line
+  pub number : ℕ
+
+-- those of these lines that are no notes
+abbrev pub said_lines : List Line → List Line
+said_lines lines = filter (λ line. not (is_note line.text)) lines
+
+-- the number behind the text's last line
+abbrev pub behind : LinesLeft → ℕ
+behind left = left.number + length left.lines
+
+-- what these lines say, of which the first says the version
+abbrev pub sky_on : LinesLeft → Result Partition SkyFault
+sky_on left = sky_of_lines (behind left) (said_lines left.lines)
+
+-- what these lines say under that version, a stripe each
+abbrev pub sky_under : Version → LinesLeft → Result Partition SkyFault
+sky_under version left =
+    unless_fault (stripes_with version [] (said_lines left.lines)) (whole_sky (behind left))
+
+-- the words that are left of a line, and none once all is cut off
+abbrev pub words_left : Option (List ℕ) → List (List ℕ)
+words_left None = []
+words_left (Some text) = slice_split (λ b. b == 32) text
+
+-- the numbers, where they are at most five
+abbrev pub at_most_five : List ℤ → Option (List ℤ)
+at_most_five numbers = if nat_le (length numbers) 5 then Some numbers else None
+
+-- the version in which all stripes share this overlap, or each has its own
+abbrev pub version_of : Option ℤ → Version
+version_of None = own
+version_of (Some r) = shared r
+
+-- a stripe can begin at z above one that begins at `below`
+abbrev pub is_above : ℤ → ℤ → Bool
+is_above below z = int_le (below +ℤ pos 64) z && int_le (z +ℤ pos 64) sky_end
+
+-- the line's stripe, which it was judged to be, stands behind the others
+abbrev pub Adds : Result Stripe SkyFault → List Stripe → List Stripe → Type 0
+Adds judged old new = (stripe : Stripe) × (judged ≡ Ok stripe) × (new ≡ old ++ stripe ∷ [])

@@ -1,0 +1,224 @@
+//! The plan of the sky, and the place of a position in it.
+
+ghost use Rattle.std.specs.Prelude.{◌≡◌, ◌+◌, ◌^◌, ◌≤◌, ◌<◌, ◌≤ℤ◌, ◌<ℤ◌, IfOk, IsTrue, length, take};
+ghost use Rattle.sky_vector.specs.Points.{IsAdmissible};
+ghost use Rattle.sky_vector.specs.Pos.{point};
+ghost use Rattle.sky_rules.specs.Laws.{IsOnlyPlace};
+ghost use Rattle.sky_rules.specs.Limits.{IsSky, IsStripe};
+ghost use Rattle.sky_rules.specs.Partition.{chunk_count, chunks_in, least_overlap, overlap_at, site_of, sky_bottom, sky_end, sub_count};
+ghost use Rattle.sky_rules.specs.Zones.{in_chunk, in_sub, sub_zone_of, zone_of};
+ghost use Rattle.sky_plan.specs.Plans.{AreFirsts, HasChunk, stripe_numbered};
+ghost use Rattle.sky_plan.specs.Places.{IsOnlyChunk, SubHolds};
+ghost use Rattle.sky_plan.specs.Regions.{zone_shown};
+ghost use Rattle.sky_plan.specs.Sites.{SpansHeight, end_numbered, site_numbered};
+
+use crate::place::Place;
+use crate::region::Region;
+use crate::site::Site;
+use crate::stripe::Stripe;
+use sky_io::Memory;
+use sky_vector::Pos;
+use std::alloc::Global;
+use std::marker::Model;
+use wedge_rules::wedge_of;
+
+/// The first z above all positions.
+const SKY_END: i64 = 268435473;
+
+/// A partition of the sky within the limits: 1 to 256 stripes, lowest first, of at most 16,384 chunks in all.
+#[derive(Drop)]
+pub struct SkyPlan {
+    stripes: Vec<Stripe>,
+    /// The number of each stripe's first chunk.
+    firsts: Vec<u32>,
+    count: u32,
+}
+
+impl Model for SkyPlan {
+    ghost use Rattle.sky_rules.specs.Partition.{Partition};
+    ghost use Rattle.sky_plan.specs.Plans.{IsPlan};
+
+    ghost Value = { Partition };
+
+    ghost view = { λ p. record { stripes = p.stripes.items } };
+
+    ghost invariant = { λ p. IsPlan (record { stripes = p.stripes.items }) p.firsts.items p.count };
+}
+
+impl SkyPlan {
+    /// The plan of these stripes, lowest first. Takes memory for a number a stripe; where there is none, the stripes are
+    /// dropped.
+    pub fn of(alloc: Global, stripes: Vec<Stripe>) -> Result<SkyPlan, Memory>
+        requires { IsSky (record { stripes = stripes.items }) }
+        ensures { IfOk result (λ plan. plan ≡ record { stripes = stripes.items }) }
+    {
+        let mut firsts = Vec::new(alloc);
+        let mut count = 0;
+        for stripe in stripes.as_slice() {
+            if firsts.push(count).is_err() {
+                return Err(Memory);
+            }
+            count += stripe.chunks;
+        }
+        Ok(SkyPlan {
+            stripes,
+            firsts,
+            count,
+        })
+    }
+
+    /// The overlap radius of a chunk, in grid units, from 0 to 2^24. Takes no memory.
+    pub fn radius_of(&self, chunk: u32) -> u32
+        requires { chunk < chunk_count self.now }
+        ensures value { result ≡ overlap_at self.now chunk }
+        ensures most { result ≤ 2 ^ 24 }
+    {
+        self.site(chunk).radius()
+    }
+
+    /// The least overlap radius of all chunks. Takes no memory.
+    pub fn least_radius(&self) -> u32
+        ensures { result ≡ least_overlap self.now }
+    {
+        self.stripes
+            .iter()
+            .map(|stripe| stripe.overlap)
+            .min()
+            .unwrap_or(0)
+    }
+
+    /// The number of chunks, from 1 to 16,384. Takes no memory.
+    pub fn chunks(&self) -> u32
+        ensures count { result ≡ chunk_count self.now }
+        ensures limits { IsSky self.now }
+    {
+        self.count
+    }
+
+    /// The number of subchunks of a chunk, from 1 to 4,096. Takes no memory.
+    pub fn subs(&self, chunk: u32) -> u32
+        requires { chunk < chunk_count self.now }
+        ensures { result ≡ sub_count self.now chunk }
+    {
+        self.site(chunk).subs()
+    }
+
+    /// The bounds of a chunk. Takes no memory.
+    pub fn region(&self, chunk: u32) -> Region
+        requires { chunk < chunk_count self.now }
+        ensures { zone_shown result ≡ zone_of self.now chunk }
+    {
+        self.site(chunk).region()
+    }
+
+    /// The bounds of a subchunk. Takes no memory.
+    pub fn sub_region(&self, chunk: u32, sub: u32) -> Region
+        requires chunk { chunk < chunk_count self.now }
+        requires sub { sub < sub_count self.now chunk }
+        ensures { zone_shown result ≡ sub_zone_of self.now chunk sub }
+    {
+        self.site(chunk).sub_region(sub)
+    }
+
+    /// The chunk that holds an admissible position, and the subchunk of it that does. Takes no memory.
+    pub fn place_of(&self, p: &Pos) -> Place
+        requires { IsAdmissible (point p.now) }
+        ensures { IsOnlyPlace self.now result.chunk result.sub (point p.now) }
+    {
+        let number = self.stripe_at(p.z);
+        let stripe = self.stripe_numbered(number);
+        let fine = wedge_of(stripe.chunks * stripe.columns, p);
+        let wedge = fine / stripe.columns;
+        Place {
+            chunk: self.first_of(number) + wedge,
+            sub: self
+                .site_in(number, wedge)
+                .sub_at(p.z, fine % stripe.columns),
+        }
+    }
+
+    /// The number of the chunk that holds an admissible position. Takes no memory.
+    pub fn chunk_of(&self, p: &Pos) -> u32
+        requires { IsAdmissible (point p.now) }
+        ensures there { result < chunk_count self.now }
+        ensures holds { IsTrue (in_chunk self.now result (point p.now)) }
+        ensures only { IsOnlyChunk self.now result (point p.now) }
+    {
+        self.place_of(p).chunk
+    }
+
+    /// The number of the subchunk that holds an admissible position, in the chunk that holds it. Takes no memory.
+    pub fn sub_of(&self, p: &Pos) -> u32
+        requires { IsAdmissible (point p.now) }
+        ensures { SubHolds self.now result (point p.now) }
+    {
+        self.place_of(p).sub
+    }
+
+    /// Where a chunk stands.
+    fn site(&self, chunk: u32) -> Site
+        requires { chunk < chunk_count self.now }
+        ensures { result ≡ site_of self.now chunk }
+    {
+        let number = self.stripe_with(chunk);
+        self.site_in(number, chunk - self.first_of(number))
+    }
+
+    /// Where a wedge of the stripe with this number stands.
+    fn site_in(&self, number: usize, wedge: u32) -> Site
+        requires stripe { number < length self.now.stripes }
+        requires wedge { wedge < (stripe_numbered self.now number).chunks }
+        ensures { result ≡ site_numbered self.now number wedge }
+    {
+        Site::new(self.stripe_numbered(number), self.end_of(number), wedge)
+    }
+
+    /// The stripe with this number.
+    fn stripe_numbered(&self, number: usize) -> Stripe
+        requires { number < length self.now.stripes }
+        ensures value { result ≡ stripe_numbered self.now number }
+        ensures limits { IsStripe result }
+        ensures sky { IsSky self.now }
+    {
+        self.stripes[number]
+    }
+
+    /// The first z above the stripe with this number.
+    fn end_of(&self, number: usize) -> i64
+        requires { number < length self.now.stripes }
+        ensures { result ≡ end_numbered self.now number }
+    {
+        let stripes = self.stripes.as_slice();
+        if number + 1 < stripes.len() {
+            let next = &stripes[number + 1];
+            next.z_low
+        } else {
+            SKY_END
+        }
+    }
+
+    /// The number of the first chunk of the stripe with this number.
+    fn first_of(&self, number: usize) -> u32
+        requires { number < length self.now.stripes }
+        ensures { result ≡ chunks_in (take number self.now.stripes) }
+    {
+        self.firsts[number]
+    }
+
+    /// The number of the stripe that has the chunk, from 0.
+    fn stripe_with(&self, chunk: u32) -> usize
+        requires { chunk < chunk_count self.now }
+        ensures { HasChunk self.now result chunk }
+    {
+        self.firsts.partition_point(|first| *first <= chunk) - 1
+    }
+
+    /// The number of the stripe that has the height, from 0.
+    fn stripe_at(&self, z: i64) -> usize
+        requires bottom { sky_bottom ≤ℤ z }
+        requires end { z <ℤ sky_end }
+        ensures { SpansHeight self.now result z }
+    {
+        self.stripes.partition_point(|stripe| stripe.z_low <= z) - 1
+    }
+}

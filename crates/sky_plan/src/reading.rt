@@ -1,0 +1,104 @@
+//! Reads the plan of the sky from its text, in one pass over the lines.
+//!
+//! Each line that is no note is cut into its numbers (`numbers.rt`), which say a version or a stripe (`said.rt`); a
+//! stripe is judged by itself and by those before it (`stripes.rt`), and the first fault ends the reading.
+ghost use Rattle.std.specs.Prelude.{◌≡◌, ◌≤◌, ◌^◌, [], Ok, Err, IfOk, IfErr, length};
+ghost use Rattle.sky_rules.specs.SkyText.{judged_version, sky_of};
+ghost use Rattle.sky_rules.specs.Limits.{IsSky};
+ghost use Rattle.sky_rules.specs.SkyWords.{version_on};
+ghost use Rattle.sky_plan.specs.Reading.{IfBad, sky_on, sky_under};
+
+mod lines;
+mod numbers;
+mod said;
+mod stripes;
+#[cfg(test)]
+mod tests;
+
+use crate::plan::SkyPlan;
+use crate::reading::lines::PlanLines;
+use crate::reading::said::{Version, version_on};
+use crate::reading::stripes::{Stripes, is_overlap};
+use sky_io::{Memory, Stop};
+use sky_rules::SkyFault;
+use std::alloc::Global;
+
+impl SkyPlan {
+    /// The plan that a sky text of at most 2^29 bytes says, or its first fault. Takes memory for the stripes; where there
+    /// is none, nothing is kept.
+    #[tactic(auto, using(crate::proofs::SkyLines::sky_of_text, crate::proofs::SkyLines::text_within))]
+    pub fn read(alloc: Global, text: &[u8]) -> Result<SkyPlan, Stop<SkyFault>>
+        requires { length text.now ≤ 2 ^ 29 }
+        ensures ok { IfOk result (λ plan. sky_of text.now ≡ Ok plan) }
+        ensures bad { IfErr result (λ stop. IfBad stop (λ fault. sky_of text.now ≡ Err fault)) }
+    {
+        match stripes_of(alloc, PlanLines::new(text)) {
+            Ok(stripes) => plan_of(alloc, stripes),
+            Err(stop) => Err(stop),
+        }
+    }
+}
+
+/// The plan of the stripes.
+fn plan_of(alloc: Global, stripes: Stripes) -> Result<SkyPlan, Stop<SkyFault>>
+    requires { IsSky (record { stripes = stripes }) }
+    ensures ok { IfOk result (λ plan. plan ≡ record { stripes = stripes }) }
+    ensures bad { IfErr result (λ stop. stop ≡ Stop.Memory) }
+{
+    match SkyPlan::of(alloc, stripes.into_vec()) {
+        Ok(plan) => Ok(plan),
+        Err(Memory) => Err(Stop::Memory),
+    }
+}
+
+/// The stripes on the lines of a text.
+fn stripes_of(alloc: Global, mut lines: PlanLines<'_>) -> Result<Stripes, Stop<SkyFault>>
+    ensures ok { IfOk result (λ stripes. sky_on lines.entry ≡ Ok (record { stripes = stripes })) }
+    ensures bad { IfErr result (λ stop. IfBad stop (λ fault. sky_on lines.entry ≡ Err fault)) }
+{
+    let Some(first) = lines.next() else {
+        return Err(Stop::Bad(SkyFault::Syntax {
+            line: lines.number(),
+        }));
+    };
+    match judged_version(first.number, first.text) {
+        Ok(version) => stripes_under(alloc, &version, lines),
+        Err(fault) => Err(Stop::Bad(fault)),
+    }
+}
+
+/// The version on the first line, or its fault.
+fn judged_version(number: u32, text: &[u8]) -> Result<Version, SkyFault>
+    ensures { result ≡ judged_version number (version_on text.now) }
+{
+    let Some(version) = version_on(text) else {
+        return Err(SkyFault::Syntax { line: number });
+    };
+    match version.shared {
+        Some(r) if !is_overlap(r) => Err(SkyFault::Overlap { line: number }),
+        _ => Ok(version),
+    }
+}
+
+/// The stripes on the lines behind the first, of which there is at least one.
+fn stripes_under(
+    alloc: Global,
+    version: &Version,
+    mut lines: PlanLines<'_>,
+) -> Result<Stripes, Stop<SkyFault>>
+    ensures ok { IfOk result (λ stripes.
+        sky_under version.now lines.entry ≡ Ok (record { stripes = stripes })) }
+    ensures bad { IfErr result (λ stop. IfBad stop (λ fault.
+        sky_under version.now lines.entry ≡ Err fault)) }
+{
+    let mut stripes = Stripes::new(alloc);
+    while let Some(line) = lines.next() {
+        stripes.add(version, line.number, line.text)?;
+    }
+    if stripes.is_empty() {
+        return Err(Stop::Bad(SkyFault::Syntax {
+            line: lines.number(),
+        }));
+    }
+    Ok(stripes)
+}

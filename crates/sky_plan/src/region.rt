@@ -1,0 +1,55 @@
+//! A part of the sky, by its bounds.
+
+ghost use Rattle.std.specs.Prelude.{◌≡◌, ◌+◌, ◌≤◌, ◌<◌, ◌≤ℤ◌, ◌<ℤ◌};
+ghost use Rattle.sky_rules.specs.Partition.{sky_bottom, sky_end};
+ghost use Rattle.sky_rules.specs.Zones.{sides_of, wedge_zone};
+
+use crate::direction::direction;
+use sky_vector::Dir;
+
+/// The positions from `z_low` to `z_high` that lie at or past the first side and short of the second. Without sides it
+/// goes all round.
+#[derive(Clone, Copy, Debug)]
+pub struct Region {
+    pub z_low: i64,
+    pub z_high: i64,
+    pub sides: Option<(Dir, Dir)>,
+    /// Whether positions with x = y = 0 belong to it.
+    pub axis: bool,
+    pub ghost low_in_sky: { sky_bottom ≤ℤ z_low },
+    pub ghost high_in_sky: { z_high <ℤ sky_end },
+}
+
+impl Region {
+    ghost use Rattle.sky_plan.specs.Regions.{sides_shown, zone_shown};
+
+    /// The region of a wedge, of 1 to 65,536 wedges, from `z_low` up to and without `end`.
+    pub(crate) fn of_wedge(wedges: u32, wedge: u32, z_low: i64, end: i64) -> Region
+        requires few { wedges ≤ 65536 }
+        requires there { wedge < wedges }
+        requires low { sky_bottom ≤ℤ z_low }
+        requires low_end { sky_bottom ≤ℤ end }
+        requires high_end { end ≤ℤ sky_end }
+        ensures { zone_shown result ≡ wedge_zone wedges wedge z_low end }
+    {
+        Region {
+            z_low,
+            z_high: end - 1,
+            sides: Region::sides(wedges, wedge),
+            axis: wedge == 0,
+        }
+    }
+
+    /// The sides of a wedge; a single wedge has none.
+    fn sides(wedges: u32, wedge: u32) -> Option<(Dir, Dir)>
+        requires few { wedges ≤ 65536 }
+        requires there { wedge < wedges }
+        ensures { sides_shown result ≡ sides_of wedges wedge }
+    {
+        if wedges == 1 {
+            None
+        } else {
+            Some((direction(wedges, wedge), direction(wedges, wedge + 1)))
+        }
+    }
+}

@@ -1,0 +1,113 @@
+//! Where a chunk stands in the sky, and the parts of it.
+
+ghost use Rattle.std.specs.Prelude.{◌≡◌, ◌+◌, ◌*◌, ◌/◌, ◌%◌, ◌^◌, ◌≤◌, ◌<◌, ◌≤ℤ◌, ◌<ℤ◌};
+ghost use Rattle.sky_rules.specs.Zones.{chunk_zone, height_of, row_start, sub_zone};
+ghost use Rattle.sky_plan.specs.Regions.{zone_shown};
+ghost use Rattle.sky_plan.specs.Sites.{HasHeight, IsPlaced};
+
+use crate::region::Region;
+use crate::stripe::Stripe;
+use std::marker::Model;
+
+/// A chunk's stripe, the first z above it, and the chunk's wedge.
+#[derive(Drop)]
+pub(crate) struct Site {
+    stripe: Stripe,
+    end: i64,
+    wedge: u32,
+}
+
+impl Model for Site {
+    ghost use Rattle.sky_rules.specs.Partition.{Site as SiteShown};
+    ghost use Rattle.sky_plan.specs.Sites.{IsPlaced};
+
+    ghost Value = { SiteShown };
+
+    ghost view = { λ s. record { stripe = s.stripe; end = s.end; wedge = s.wedge } };
+
+    ghost invariant = { λ s. IsPlaced (record { stripe = s.stripe; end = s.end; wedge = s.wedge }) };
+}
+
+impl Site {
+    /// The site of a wedge of a stripe.
+    pub(crate) fn new(stripe: Stripe, end: i64, wedge: u32) -> Site
+        requires { IsPlaced (record { stripe = stripe; end = end; wedge = wedge }) }
+        ensures { result ≡ record { stripe = stripe; end = end; wedge = wedge } }
+    {
+        Site { stripe, end, wedge }
+    }
+
+    /// The overlap radius.
+    pub(crate) fn radius(&self) -> u32
+        ensures value { result ≡ self.now.stripe.overlap }
+        ensures most { result ≤ 2 ^ 24 }
+    {
+        self.stripe.overlap
+    }
+
+    /// The number of subchunks, at most 4,096.
+    pub(crate) fn subs(&self) -> u32
+        ensures { result ≡ self.now.stripe.rows * self.now.stripe.columns }
+    {
+        self.stripe.rows * self.stripe.columns
+    }
+
+    /// The region of the chunk.
+    pub(crate) fn region(&self) -> Region
+        ensures { zone_shown result ≡ chunk_zone self.now }
+    {
+        Region::of_wedge(self.stripe.chunks, self.wedge, self.stripe.z_low, self.end)
+    }
+
+    /// The region of a subchunk.
+    pub(crate) fn sub_region(&self, sub: u32) -> Region
+        requires { sub < self.now.stripe.rows * self.now.stripe.columns }
+        ensures { zone_shown result ≡ sub_zone self.now sub }
+    {
+        let row = sub / self.stripe.columns;
+        let fine = self.wedge * self.stripe.columns + sub % self.stripe.columns;
+        let wedges = self.stripe.chunks * self.stripe.columns;
+        Region::of_wedge(wedges, fine, self.row_start(row), self.row_start(row + 1))
+    }
+
+    /// The subchunk that has a height and a column.
+    pub(crate) fn sub_at(&self, z: i64, column: u32) -> u32
+        requires low { self.now.stripe.z_low ≤ℤ z }
+        requires high { z <ℤ self.now.end }
+        requires column { column < self.now.stripe.columns }
+        ensures there { result < self.now.stripe.rows * self.now.stripe.columns }
+        ensures row { HasHeight self.now (result / self.now.stripe.columns) z }
+        ensures column { result % self.now.stripe.columns ≡ column }
+    {
+        self.row_of(z) * self.stripe.columns + column
+    }
+
+    /// The row of subchunks that has a height.
+    fn row_of(&self, z: i64) -> u32
+        requires low { self.now.stripe.z_low ≤ℤ z }
+        requires high { z <ℤ self.now.end }
+        ensures { HasHeight self.now result z }
+    {
+        let above = (z - self.stripe.z_low).unsigned_abs();
+        let rows = u64::from(self.stripe.rows);
+        (((above + 1) * rows - 1) / self.height()) as u32
+    }
+
+    /// Where a row of subchunks begins; the one behind the last begins where the stripe ends.
+    fn row_start(&self, row: u32) -> i64
+        requires { row ≤ self.now.stripe.rows }
+        ensures { result ≡ row_start self.now row }
+    {
+        let above = u64::from(row) * self.height() / u64::from(self.stripe.rows);
+        self.stripe.z_low + above as i64
+    }
+
+    /// The height of the stripe.
+    fn height(&self) -> u64
+        ensures value { result ≡ height_of self.now }
+        ensures some { 64 ≤ result }
+        ensures most { result ≤ 536870945 }
+    {
+        (self.end - self.stripe.z_low).unsigned_abs()
+    }
+}

@@ -1,0 +1,47 @@
+//! A stripe of the sky: where it begins, and how it is cut.
+
+ghost use Rattle.std.specs.Prelude.{◌≡◌};
+
+use std::marker::Model;
+
+/// The positions from a height up to the next stripe, cut into chunks by direction, and each chunk into subchunks.
+#[derive(Clone, Copy, Debug)]
+pub struct Stripe {
+    pub(crate) z_low: i64,
+    pub(crate) chunks: u32,
+    pub(crate) columns: u32,
+    pub(crate) rows: u32,
+    pub(crate) overlap: u32,
+}
+
+impl Model for Stripe {
+    ghost use Rattle.sky_rules.specs.Partition.{Stripe as StripeShown};
+
+    ghost Value = { StripeShown };
+
+    ghost view = { λ s. record { z_low = s.z_low; chunks = s.chunks; columns = s.columns; rows = s.rows; overlap = s.overlap } };
+
+    ghost inverse = { λ s. record { z_low = s.z_low; chunks = s.chunks; columns = s.columns; rows = s.rows; overlap = s.overlap } };
+}
+
+impl Stripe {
+    /// The stripe that begins at a height, with so many chunks, columns and rows of subchunks in each, and an overlap
+    /// radius in grid units. Takes no memory.
+    pub fn new(z_low: i64, chunks: u32, columns: u32, rows: u32, overlap: u32) -> Stripe
+        ensures { result ≡ record {
+          z_low = z_low;
+          chunks = chunks;
+          columns = columns;
+          rows = rows;
+          overlap = overlap;
+        } }
+    {
+        Stripe {
+            z_low,
+            chunks,
+            columns,
+            rows,
+            overlap,
+        }
+    }
+}
