@@ -7,7 +7,8 @@ It prints each finding, or 'check_text: ok', and writes nothing. It looks for:
 - a label of a planning paper, such as a letter with a number: a rule is stated where it is used;
 - a path of one machine;
 - an .rt or .antt file outside of a crate's src/, specs/ and proofs/;
-- a clause of more than 100 columns.
+- a clause of more than 100 columns;
+- a must-fail edit that docs/PROOFS.md doesn't name beside a claim.
 """
 import os
 import re
@@ -42,10 +43,22 @@ def findings(name, lines):
             yield f"has a clause of {len(line)} columns", number, line
 
 
+def unnamed_edits(listed):
+    """The must-fail edits that the table of claims doesn't name."""
+    with open("docs/PROOFS.md", encoding="utf-8") as file:
+        claims = file.read()
+    edits = [name for name in listed if "/must-fail/" in name]
+    return [name for name in edits if f"`{os.path.basename(name)[: -len('.edit')]}`" not in claims]
+
+
 def main():
     os.chdir(os.path.join(os.path.dirname(os.path.abspath(__file__)), ".."))
     count = 0
-    for name in names():
+    listed = names()
+    for name in unnamed_edits(listed):
+        print(f"{name}: docs/PROOFS.md doesn't name it")
+        count += 1
+    for name in listed:
         if name.endswith((".rt", ".antt")) and not CRATE.match(name):
             print(f"{name}: stands outside of a crate")
             count += 1
