@@ -19,7 +19,7 @@ LABEL = re.compile(
     r"(?<![\w.#-])(?:(?:document|paper) 0[1-4]\b|(?:T[1-5]\.[1-9]|[DRW][1-9][0-9]?b?|H[1-5])(?![\w.%]))"
     r"|\b0[1-4] section"
 )
-MACHINE = re.compile(r"(?<![\w.])/(?:work|opt|tmp|root|home|farm)/")
+MACHINE = re.compile(r"(?<![\w.])/(?:work|opt|tmp|root|home)/")
 CLAUSE = re.compile(r"\s*(?:requires|ensures)\*?\b")
 CRATE = re.compile(r"crates/[a-z0-9_]+/(?:src|specs|proofs)/")
 WIDEST_CLAUSE = 100
