@@ -1,6 +1,6 @@
 //! Worked histories, computed by the checker. A call here does nothing: its clauses are what the definitions give.
 ghost use Rattle.std.specs.Prelude.{◌≡◌, List, [], ◌∷◌, ◌++◌, Some, None, take, true};
-ghost use Rattle.scan_rules.specs.declared.journal_line.JournalLine.TheVariants.{Attach, Deliver, Cancel, Collect};
+ghost use Rattle.scan_rules.specs.declared.journal_line.JournalLine.TheVariants.{Attach, Take, Deliver, Cancel, Collect};
 ghost use Rattle.scan_rules.specs.Queries.{given, is_closed, state_of, Fresh, Running, Done, Cancelled, Spent};
 ghost use Rattle.scan_rules.specs.Scan.{place, next_chunk, takers, running_count};
 ghost use Rattle.scan_rules.specs.Runs.{MayFollow, IsRun};
@@ -85,6 +85,15 @@ pub fn some_lines_may_not_follow()
     ensures gone { MayFollow 8 (take 9 late_query) (Collect 0 1) → ⊥ }
     ensures not_yet { MayFollow 8 (take 5 late_query) (Collect 0 1) → ⊥ }
     ensures late { MayFollow 8 (take 6 late_query) (Cancel 0 1) → ⊥ }
+{}
+
+/// What is no take: of the first of two queries that need the chunk alone, of a query that was served the chunk before
+/// the scan went round, and of a chunk that is not the next one.
+#[tactic(auto, unfolding(crate::specs::Numbers::below))]
+pub fn some_takes_may_not_follow()
+    ensures first { MayFollow 8 (take 3 late_query) (Take 2 1 4 (1 ∷ [])) → ⊥ }
+    ensures twice { MayFollow 8 (take 6 late_query) (Take 1 2 0 (1 ∷ 2 ∷ [])) → ⊥ }
+    ensures next { MayFollow 8 (take 3 late_query) (Take 2 1 0 (2 ∷ [])) → ⊥ }
 {}
 
 /// At most 64 queries run at once, and a cancelled one makes room.
