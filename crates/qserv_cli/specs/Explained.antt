@@ -37,13 +37,14 @@ AllFetched shown = shown.shelf_new.failed ≡ shown.shelf_old.failed
 abbrev pub AllAnswered : Run → List EndKind → Type 0
 AllAnswered run ends = ends ≡ replicate (length run.ranges) Answered
 
--- All was written and sent: exactly the transcript of the run of the named texts.
+-- All was written and sent, and nothing has failed: exactly the transcript of the run of the named texts.
 pub record IsDone (names : Names) (shown : Shown) (ends : List EndKind) : Type 0 where
   pub run : Run
   pub texts : IfTold shown.shelf_old.texts (λ texts. IsRunOfNamed names texts run)
   pub fetched : AllFetched shown
   pub answered : AllAnswered run ends
   pub written : Appended shown.sink_old.written (text_of run) shown.sink_new.written
+  pub calm : shown.sink_new.faults ≡ shown.sink_old.faults
   pub sent : shown.sink_new.held ≡ false
 
 -- The sink failed: its count rose, and a front of that transcript was written.
@@ -77,7 +78,7 @@ ExplainedOf names shown Usage = ⊥
 ExplainedOf names shown (NotBuilt which) = IsNotBuilt names shown which
 ExplainedOf names shown (ShelfFault which) = IsShelfFault names shown which
 ExplainedOf names shown (SinkFault ends) = IsSinkFault names shown ends
-ExplainedOf names shown Memory = IsUntouched shown
+ExplainedOf names shown Memory = AllFetched shown × IsUntouched shown
 
 -- what an outcome says: where the words are no form it is Usage, and neither shelf nor sink was touched
 abbrev pub Explained : Option Names → Shown → Outcome → Type 0

@@ -24,7 +24,7 @@ pub record HasFailed (name : List ℕ) (old new : ShelfState) : Type 0 where
 -- why a text was not given: it could not be fetched, or memory was wanting
 abbrev pub IsFetchFault : List ℕ → Which → ShelfState → ShelfState → Outcome → Type 0
 IsFetchFault name which old new (ShelfFault named) = (named ≡ which) × HasFailed name old new
-IsFetchFault name which old new Memory = Unit {0}
+IsFetchFault name which old new Memory = new ≡ old
 IsFetchFault name which old new _ = ⊥
 
 -- Something holds of the texts, where they are told, and the shelf is as it was.
@@ -40,7 +40,7 @@ OfNamed name Holds texts = Holds (named_text name texts)
 abbrev pub IsStopAt : List ℕ → Which → (List ℕ → Type 0) → ShelfState → ShelfState → Outcome → Type 0
 IsStopAt name which IsUnread old new (NotBuilt named) = (named ≡ which) × IsRead (OfNamed name IsUnread) old new
 IsStopAt name which IsUnread old new (ShelfFault named) = (named ≡ which) × HasFailed name old new
-IsStopAt name which IsUnread old new Memory = Unit {0}
+IsStopAt name which IsUnread old new Memory = new ≡ old
 IsStopAt name which IsUnread old new _ = ⊥
 
 -- the outcome is explained by the shelf alone: over any sink that nothing was done to
@@ -51,6 +51,7 @@ IsExplainedByShelf names old new outcome = (sink : SinkState) → ExplainedOf na
 pub record IsSent (run : Run) (ends : List EndKind) (old new : SinkState) : Type 0 where
   pub answered : AllAnswered run ends
   pub written : Appended old.written (text_of run) new.written
+  pub calm : new.faults ≡ old.faults
   pub sent : new.held ≡ false
 
 -- The sink failed, with a front of the transcript written.

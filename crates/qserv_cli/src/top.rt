@@ -14,7 +14,7 @@ use std::sync::Wait;
 use std::thread::Threads;
 
 /// Does what the words ask: fetches the texts from the shelf, answers the script, and writes the transcript to the sink.
-/// All answers are made before the first byte is written, and writing takes no memory. Takes memory for the texts and
+/// All texts are accepted before the first byte is written, and writing takes no memory. Takes memory for the texts and
 /// the table. With no workers, as the forms have it so far, it starts no thread and passes no gate.
 pub fn qserv<R: Threads + Wait + Sync, S: Shelf, K: Sink, G: Gate>(
     _rt: &R,

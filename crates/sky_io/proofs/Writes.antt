@@ -37,6 +37,7 @@ appended_nothing (Some bytes) = ap Some (sym (append-nil bytes))
 pub wrote_nothing : (old : SinkState) → Wrote old old [] Done
 wrote_nothing old = record {
   done = λ _. appended_nothing old.written;
+  calm = λ _. refl;
   part = λ e. absurd (cc e);
   cause = λ e. absurd (cc e);
   later = omega arith;
@@ -46,6 +47,7 @@ wrote_nothing old = record {
 pub wrote_two : (old mid new : SinkState) (p q : List ℕ) (r : Put) → Wrote old mid p Done → Wrote mid new q r → Wrote old new (p ++ q) r
 wrote_two old mid new p q r first second = record {
   done = λ e. appended_two old.written mid.written new.written p q (first.done refl) (second.done e);
+  calm = λ e. second.calm e ∙ first.calm refl;
   part = λ e. part_two old.written mid.written new.written p q (first.done refl) (second.part e);
   cause = λ e. let rose = second.cause e in omega (arith, rose, first.later);
   later = omega (arith, first.later, second.later);
@@ -55,6 +57,7 @@ wrote_two old mid new p q r first second = record {
 pub wrote_one : (old new : SinkState) (p q : List ℕ) → Wrote old new p Failed → Wrote old new (p ++ q) Failed
 wrote_one old new p q first = record {
   done = λ e. absurd (cc e);
+  calm = λ e. absurd (cc e);
   part = λ e. part_one old.written new.written p q (first.part refl);
   cause = λ e. first.cause refl;
   later = first.later;

@@ -49,9 +49,10 @@ pub record Fetched (old new : ShelfState) (name : List ℕ) (limit : ℕ) (into 
   pub texts : new.texts ≡ old.texts
   -- no other name's count of failures moves
   pub grew : GrewBy name old.failed new.failed
-  -- at Done the bytes are those of the named text, and nothing has failed
+  -- at Done the bytes are those of the named text
   pub done : result ≡ Done → GivesText old.texts name limit into
-  pub still : result ≡ Done → new.failed ≡ old.failed
+  -- no failure is counted but that of an answer that says so
+  pub still : result ≢ Failed → new.failed ≡ old.failed
   -- told or not, they are at most one more than the limit
   pub short : result ≡ Done → length into ≤ limit + 1
   -- a failure is counted under this name

@@ -23,10 +23,11 @@ Appended old piece new = new ≡ option_map (λ bytes. bytes ++ piece) old
 abbrev pub AppendedPart : Option (List ℕ) → List ℕ → Option (List ℕ) → Type 0
 AppendedPart old piece new = (n : ℕ) × (n ≤ length piece) × Appended old (take n piece) new
 
--- The one clause of each call that writes: at Done all of the text was appended; at Failed a front of it was, and the
--- count of faults rose; the count never falls.
+-- The one clause of each call that writes: at Done all of the text was appended, and nothing has failed; at Failed a front
+-- of it was appended, and the count of faults rose; the count never falls.
 pub record Wrote (old new : SinkState) (text : List ℕ) (result : Put) : Type 0 where
   pub done : result ≡ Done → Appended old.written text new.written
+  pub calm : result ≡ Done → new.faults ≡ old.faults
   pub part : result ≡ Failed → AppendedPart old.written text new.written
   pub cause : result ≡ Failed → Rose old.faults new.faults
   pub later : old.faults ≤ new.faults
@@ -35,6 +36,7 @@ pub record Wrote (old new : SinkState) (text : List ℕ) (result : Put) : Type 0
 pub record Flushed (old new : SinkState) (result : Put) : Type 0 where
   pub same : new.written ≡ old.written
   pub sent : result ≡ Done → new.held ≡ false
+  pub calm : result ≡ Done → new.faults ≡ old.faults
   pub cause : result ≡ Failed → Rose old.faults new.faults
   pub later : old.faults ≤ new.faults
 

@@ -8,7 +8,7 @@ ghost use Rattle.sky_io.specs.Shelves.{has_name, named_text, names_of, pairs_of,
 pub enum Fetch {
     /// The text was given.
     Done,
-    /// The text cannot be had, and its name counts one failure more.
+    /// The text cannot be had, and the count of its name has risen.
     Failed,
     /// Memory was wanting, and no failure is counted.
     Memory,

@@ -8,7 +8,7 @@ ghost use Rattle.sky_io.specs.Sinks.{Wrote, Flushed, SinkState};
 pub enum Put {
     /// All was taken.
     Done,
-    /// The sink failed, and counts one fault more.
+    /// The sink failed, and its count of faults has risen.
     Failed,
 }
 
