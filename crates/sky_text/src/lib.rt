@@ -5,10 +5,12 @@
 //! No files, and no memory: a text is a slice that the caller holds.
 #![tactic(auto)]
 
+mod decimal4;
 pub mod lines;
 mod number;
 mod put;
 
+pub use decimal4::put_decimal4;
 pub use lines::{Line, Lines, is_note};
 pub use number::{read_int, read_natural, read_whole};
 pub use put::{put_count, put_int};

@@ -1,5 +1,5 @@
 //! Numbers worked out by hand, as a text writes them.
-use crate::{put_count, put_int, read_int, read_natural};
+use crate::{put_count, put_decimal4, put_int, read_int, read_natural};
 use sky_io::{MemSink, Put};
 use std::test::Fail;
 
@@ -47,5 +47,21 @@ fn numbers_are_written_in_decimal(rt: HostRuntime) -> Result<(), Fail> {
     assert_eq!(rt; put_count(&mut sink, 18446744073709551615), Put::Done);
     let want = b"-170141183460469231731687303715884105728018446744073709551615";
     assert_eq!(rt; sink.bytes(), want.as_slice());
+    Ok(())
+}
+
+#[test]
+fn four_decimals_are_written_with_their_zeros(rt: HostRuntime) -> Result<(), Fail> {
+    for (scaled, want) in [
+        (-3333, "-0.3333"),
+        (0, "0.0000"),
+        (-1, "-0.0001"),
+        (350000, "35.0000"),
+        (10007, "1.0007"),
+    ] {
+        let mut sink = MemSink::new(rt.alloc(), 20, Vec::new(rt.alloc()))?;
+        assert_eq!(rt; put_decimal4(&mut sink, scaled), Put::Done, "{want}");
+        assert_eq!(rt; sink.bytes(), want.as_bytes(), "{want}");
+    }
     Ok(())
 }

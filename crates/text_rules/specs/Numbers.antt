@@ -1,7 +1,9 @@
 -- Numbers as a text writes them: decimal digits, with a minus in front where they are negative.
-use Rattle.std.specs.Prelude.{ℕ, ◌+◌, ◌-◌, ◌*◌, Bool, ◌&&◌, List, [], ◌∷◌, length}
-use Rattle.std.specs.Prelude.{Option, None, Some, option_map, if◌then◌else◌, nat_le, nat_lt, ◌==◌, ℤ, pos, neg_ℤ}
+use Rattle.std.specs.Prelude.{ℕ, suc, ◌+◌, ◌-◌, ◌*◌, ◌/◌, ◌%◌, Bool, ◌&&◌, List, [], ◌∷◌, ◌++◌, length}
+use Rattle.std.specs.Prelude.{Option, None, Some, option_map, if◌then◌else◌, nat_le, nat_lt, ◌==◌}
+use Rattle.std.specs.Prelude.{ℤ, pos, negsuc, neg_ℤ}
 use Rattle.std.specs.List.{list_all}
+use Rattle.std.specs.Fmt.{decimal}
 
 -- a byte is one of 0 to 9
 abbrev pub is_digit : ℕ → Bool
@@ -30,3 +32,16 @@ whole_number most (b ∷ bs) =
 -- the number of a sky plan or of a catalogue's field: an optional minus and 1 to 19 digits
 abbrev pub int_of : List ℕ → Option ℤ
 int_of bs = whole_number 19 bs
+
+-- a number below 10,000 in exactly four digits
+abbrev pub four_digits : ℕ → List ℕ
+four_digits n = (48 + n / 1000) ∷ (48 + n / 100 % 10) ∷ (48 + n / 10 % 10) ∷ (48 + n % 10) ∷ []
+
+-- so many ten-thousandths: the whole part, a point, and four digits
+abbrev pub ten_thousandths : ℕ → List ℕ
+ten_thousandths n = decimal (n / 10000) ++ (46 ∷ four_digits (n % 10000))
+
+-- a number of ten-thousandths with four decimals, and a minus in front where it is negative
+abbrev pub four_decimals : ℤ → List ℕ
+four_decimals (pos n) = ten_thousandths n
+four_decimals (negsuc n) = 45 ∷ ten_thousandths (suc n)

@@ -1,7 +1,8 @@
-//! Worked examples of lines, computed by the checker.
+//! Worked examples of lines and numbers, computed by the checker.
 
-ghost use Rattle.std.specs.Prelude.{◌≡◌, [], ◌∷◌, ◌++◌, codes, false, true};
+ghost use Rattle.std.specs.Prelude.{◌≡◌, [], ◌∷◌, ◌++◌, codes, false, true, pos, negsuc};
 ghost use Rattle.text_rules.specs.Lines.{is_note, lines_of};
+ghost use Rattle.text_rules.specs.Numbers.{four_decimals};
 
 /// A carriage return before a line feed is dropped, an empty line is one, and a last line without its line feed keeps its
 /// carriage return.
@@ -23,4 +24,12 @@ pub fn notes()
     ensures empty { is_note [] ≡ true }
     ensures hash { is_note (codes "# sky") ≡ true }
     ensures later { is_note (codes " # sky") ≡ false }
+{}
+
+/// A mean of -1, 0 and 0 is -0.3333, and the four digits keep their zeros.
+pub fn decimals()
+    ensures third { four_decimals (negsuc 3332) ≡ codes "-0.3333" }
+    ensures nothing { four_decimals (pos 0) ≡ codes "0.0000" }
+    ensures zeros { four_decimals (pos 350007) ≡ codes "35.0007" }
+    ensures least { four_decimals (negsuc 0) ≡ codes "-0.0001" }
 {}
