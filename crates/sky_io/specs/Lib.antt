@@ -3,3 +3,4 @@ pub mod Shelves
 pub mod MemShelves
 pub mod Sinks
 pub mod MemSinks
+pub mod Stops
