@@ -1,1 +1,6 @@
 pub mod Objects
+pub mod Names
+pub mod Ordered
+pub mod Records
+pub mod Laws
+pub mod Examples

@@ -1,5 +1,5 @@
 -- The object table: a flat list of rows, each with an id, a position and further values.
-use Rattle.std.specs.Prelude.{◌≡◌, ℕ, ◌+◌, ◌-◌, ◌^◌, ◌≤◌, Bool, true, ◌&&◌, List, length, All, AllPairs}
+use Rattle.std.specs.Prelude.{◌≡◌, ℕ, ◌-◌, ◌^◌, ◌≤◌, Bool, true, ◌&&◌, List, length, All, AllPairs}
 use Rattle.std.specs.Prelude.{Option, None, Some, unwrap_or, slice_get, if◌then◌else◌, nat_le, ◌==◌}
 use Rattle.std.specs.Prelude.{ℤ, pos, negsuc, int_le, ◌≤ℤ◌, ◌<ℤ◌, IsTrue}
 use Rattle.std.specs.List.{list_all}
@@ -41,6 +41,7 @@ is_further (Some z) = int_le (negsuc (2 ^ 50 - 1)) z && int_le z (pos (2 ^ 50))
 -- A row within the limits of its columns.
 pub record IsRow (o : Obj) : Type 0 where
   pub id : pos 0 ≤ℤ o.id
+  pub most : o.id ≤ℤ pos (2 ^ 63 - 1)
   pub at : IsTrue (is_admissible o.at)
   pub further : IsTrue (list_all is_further o.further)
   pub few : length o.further ≤ 12

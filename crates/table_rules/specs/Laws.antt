@@ -1,0 +1,26 @@
+-- Laws of accepted catalogues and of tables in ascending id.
+use Rattle.std.specs.Prelude.{◌≡◌, ℕ, List, ◌∷◌, map, All, Ok}
+use Rattle.std.specs.List.Sorted.{IsPermutation}
+use Rattle.table_rules.specs.Objects.{Obj, Catalogue, IsRow, IsCatalogue, IsTable}
+use Rattle.table_rules.specs.Ordered.{by_id, AreApart}
+use Rattle.table_rules.specs.Records.{catalogue_of_records, row_of}
+
+-- what records are accepted as is a catalogue, and each of its rows is within the limits
+abbrev pub AcceptedIsCatalogue : Type 0
+AcceptedIsCatalogue =
+    (records : List (List (List ℕ))) (c : Catalogue) → catalogue_of_records records ≡ Ok c
+    → IsCatalogue c × All IsRow c.objects
+
+-- the rows of an accepted catalogue are those of its data rows, each once
+abbrev pub ObjectsAreTheDataRows : Type 0
+ObjectsAreTheDataRows =
+    (header : List (List ℕ)) (rows : List (List (List ℕ))) (c : Catalogue)
+    → catalogue_of_records (header ∷ rows) ≡ Ok c → IsPermutation (map row_of rows) c.objects
+
+-- rows no two of which have one id are, in ascending id, their table
+abbrev pub ApartHaveATable : Type 0
+ApartHaveATable = (rows : List Obj) → AreApart rows → IsTable rows (by_id rows)
+
+-- rows have no other table
+abbrev pub OneTable : Type 0
+OneTable = (rows table : List Obj) → IsTable rows table → table ≡ by_id rows

@@ -1,0 +1,38 @@
+-- The names of the columns of the object table.
+use Rattle.std.specs.Prelude.{ℕ, Bool, false, not, ◌&&◌, ◌||◌, ◌==◌, List, [], ◌∷◌, ◌++◌, length, codes, Option, nat_le, nat_lt}
+use Rattle.std.specs.Char.{is_ascii_alphabetic, is_ascii_digit}
+use Rattle.std.specs.List.{list_all, list_any, position}
+use Rattle.std.specs.Str.{byte, bytes_eq}
+
+-- a name begins with the byte: it is a letter of ASCII or an underscore
+abbrev pub begins_name : ℕ → Bool
+begins_name b = is_ascii_alphabetic b || (b == byte "_")
+
+-- a name goes on with the byte: it is a letter, an underscore or a digit
+abbrev pub continues_name : ℕ → Bool
+continues_name b = begins_name b || is_ascii_digit b
+
+-- the text has a first byte, and a name begins with it
+abbrev pub begins_as_a_name : List ℕ → Bool
+begins_as_a_name [] = false
+begins_as_a_name (b ∷ bs) = begins_name b
+
+-- the text is a name: a letter or an underscore, then letters, digits and underscores, 1 to 32 bytes in all
+abbrev pub is_name : List ℕ → Bool
+is_name text = begins_as_a_name text && list_all continues_name text && nat_le (length text) 32
+
+-- the names of the columns that every catalogue has
+abbrev pub first_names : List (List ℕ)
+first_names = codes "objectId" ∷ codes "x" ∷ codes "y" ∷ codes "z" ∷ []
+
+-- the names of all columns, in their order, where these are those of the further ones
+abbrev pub column_names : List (List ℕ) → List (List ℕ)
+column_names names = first_names ++ names
+
+-- one more column behind these can have the text as its name: it is a name and none of theirs, and they are fewer than 16
+abbrev pub can_follow : List (List ℕ) → List ℕ → Bool
+can_follow columns text = nat_lt (length columns) 16 && is_name text && not (list_any (bytes_eq text) columns)
+
+-- the number of the column with this name, from 0, and None where none has it
+abbrev pub column_of : List (List ℕ) → List ℕ → Option ℕ
+column_of names name = position (bytes_eq name) (column_names names)

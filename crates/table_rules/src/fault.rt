@@ -1,0 +1,30 @@
+//! What may be wrong with a catalogue.
+
+use thiserror::Error;
+
+/// The first fault of a catalogue. Data rows and fields are numbered from 1.
+#[derive(Clone, Copy, Debug, PartialEq, Eq, Error)]
+pub enum LoadFault {
+    /// The header's field isn't the name that it has to be: one of the first four is another, a further one is no name, is
+    /// there already or is the 17th, or one of the first four is missing.
+    #[error("wrong header")]
+    Header { field: u32 },
+    /// The row has `count` fields, and the header another number.
+    #[error("wrong number of fields")]
+    FieldCount { row: u32, count: u32 },
+    /// The field isn't a number, and isn't an empty field past the fourth.
+    #[error("not a number")]
+    Number { row: u32, field: u32 },
+    /// The field is a number out of the range of its column.
+    #[error("number out of range")]
+    Range { row: u32, field: u32, value: i128 },
+    /// The row's position isn't admissible: it is too far from the sphere.
+    #[error("position off the sphere")]
+    Length { row: u32 },
+    /// An earlier row has the id.
+    #[error("id there already")]
+    Repeated { row: u32, id: i64 },
+    /// There are more than 2^22 rows.
+    #[error("too many rows")]
+    TooManyRows,
+}
