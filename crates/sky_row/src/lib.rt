@@ -5,6 +5,7 @@
 //! No chunks, no text and no SQL: a name is bytes, and a value is a whole number or NULL.
 #![tactic(auto)]
 
+mod name;
 mod order;
 mod row;
 mod rows;
@@ -12,7 +13,7 @@ mod schema;
 
 pub use row::Row;
 pub use rows::Rows;
-pub use schema::Schema;
+pub use schema::{BadName, Schema};
 
 #[cfg(test)]
 mod tests;

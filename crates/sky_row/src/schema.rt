@@ -1,7 +1,13 @@
 //! The columns of a catalogue: objectId, x, y and z, then the further ones by name.
-ghost use Rattle.std.specs.Prelude.{◌≡◌, ◌+◌, ◌≤◌, length, []};
+ghost use Rattle.std.specs.Prelude.{◌≡◌, ◌+◌, ◌≤◌, length, [], ◌∷◌, ◌++◌, true, false, IfErr, OnErr, OnOk, nat_lt, not};
+ghost use Rattle.std.specs.List.{list_any};
+ghost use Rattle.std.specs.Str.{bytes_eq};
+ghost use Rattle.sky_io.specs.Stops.{IfBad};
+ghost use Rattle.table_rules.specs.Names.{can_follow, column_names, column_of};
 ghost use Rattle.table_rules.specs.Objects.{column_bound};
 
+use crate::name::{first_column, further_column, is_name};
+use sky_io::Stop;
 use std::alloc::Global;
 use std::marker::Model;
 
@@ -13,6 +19,10 @@ const COORDINATE_MOST: i128 = 268435472;
 
 /// The largest size of a further value.
 const FURTHER_MOST: i128 = 1 << 50;
+
+/// Why a column can't be added: its name isn't a name, is there already, or 12 further columns are there.
+#[derive(Clone, Copy, Debug, PartialEq, Eq)]
+pub struct BadName;
 
 /// The columns of a catalogue, of which at most 12 are further ones.
 #[derive(Drop)]
@@ -37,6 +47,59 @@ impl Schema {
     {
         Schema {
             names: Vec::new(alloc),
+        }
+    }
+
+    /// Puts a further column behind the others. Takes memory for its name. After an error the columns are what they were.
+    pub fn push(&mut self, name: &[u8]) -> Result<(), Stop<BadName>>
+        ensures ok { OnOk result (self.new ≡ self.old ++ name.now ∷ []) }
+        ensures fits { OnOk result (can_follow (column_names self.old) name.now ≡ true) }
+        ensures bad { IfErr result (λ stop.
+            IfBad stop (λ _. can_follow (column_names self.old) name.now ≡ false)) }
+        ensures err { OnErr result (self.new ≡ self.old) }
+    {
+        if !self.can_follow(name) {
+            return Err(Stop::Bad(BadName));
+        }
+        let Ok(copy) = Vec::from_slice(*self.names.allocator(), name) else {
+            return Err(Stop::Memory);
+        };
+        match self.names.push(copy) {
+            Ok(()) => Ok(()),
+            Err(_) => Err(Stop::Memory),
+        }
+    }
+
+    /// Whether one more column can have the name.
+    fn can_follow(&self, name: &[u8]) -> bool
+        ensures { result ≡ can_follow (column_names self.now) name.now }
+    {
+        self.has_room() && is_name(name) && self.is_free(name)
+    }
+
+    /// Whether fewer than 12 further columns are there.
+    fn has_room(&self) -> bool
+        ensures { result ≡ nat_lt (length (column_names self.now)) 16 }
+    {
+        self.names.len() < 12
+    }
+
+    /// Whether no column has the name.
+    #[tactic(auto, using(crate::proofs::Columns::free_by_place))]
+    fn is_free(&self, name: &[u8]) -> bool
+        ensures { result ≡ not (list_any (bytes_eq name.now) (column_names self.now)) }
+    {
+        self.column(name).is_none()
+    }
+
+    /// The number of the column with the name, from 0, or `None` where none has it. Takes no memory.
+    #[tactic(auto, using(crate::proofs::Columns::column_first, crate::proofs::Columns::column_behind))]
+    pub fn column(&self, name: &[u8]) -> Option<u32>
+        ensures { result ≡ column_of self.now name.now }
+    {
+        match first_column(name) {
+            Some(col) => Some(col),
+            None => further_column(self.names.as_slice(), name),
         }
     }
 

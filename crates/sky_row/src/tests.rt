@@ -89,3 +89,42 @@ fn a_row_is_put_behind_the_others(rt: HostRuntime) -> Result<(), Fail> {
     assert_eq!(rt; rows.schema().width(), 4);
     Ok(())
 }
+
+#[test]
+fn a_new_name_becomes_the_next_column(rt: HostRuntime) -> Result<(), Fail> {
+    let mut schema = Schema::new(rt.alloc());
+    for (name, joins) in [
+        ("flux", true),
+        ("Flux", true),
+        ("_9", true),
+        ("flux", false),
+        ("objectId", false),
+        ("9a", false),
+        ("", false),
+        ("a b", false),
+    ] {
+        assert_eq!(rt; schema.push(name.as_bytes()).is_ok(), joins, "{name}");
+    }
+    for (name, column) in [
+        ("objectId", Some(0)),
+        ("z", Some(3)),
+        ("flux", Some(4)),
+        ("_9", Some(6)),
+        ("mag", None),
+    ] {
+        assert_eq!(rt; schema.column(name.as_bytes()), column, "{name}");
+    }
+    assert_eq!(rt; schema.width(), 7);
+    Ok(())
+}
+
+#[test]
+fn there_are_twelve_further_columns_at_most(rt: HostRuntime) -> Result<(), Fail> {
+    let mut schema = Schema::new(rt.alloc());
+    for name in ["a", "b", "c", "d", "e", "f", "g", "h", "i", "j", "k", "l"] {
+        assert!(rt; schema.push(name.as_bytes()).is_ok(), "{name}");
+    }
+    assert!(rt; schema.push(b"m").is_err());
+    assert_eq!(rt; schema.width(), 16);
+    Ok(())
+}
