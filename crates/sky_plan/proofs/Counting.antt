@@ -3,7 +3,7 @@ use Rattle.std.proofs.Common.{◌≡◌, ℕ, ◌+◌, ◌<◌, ◌≤◌, ◌�
 use Rattle.std.proofs.lemmas.Bool.{cases_lt}
 use Rattle.std.proofs.lemmas.List.{take_all, get_or_append_left, get_or_push}
 use Rattle.std.proofs.lemmas.List.Sums.{sum_by_more}
-use Rattle.sky_rules.specs.Partition.{Stripe, Partition, chunks_in}
+use Rattle.sky_rules.specs.Partition.{Stripe, Partition, chunks_in, greatest_overlap}
 use Rattle.sky_rules.specs.Limits.{IsSky}
 use Rattle.sky_plan.specs.Plans.{IsPlan}
 use Rattle.sky_plan.proofs.Stripes.{chunks_within}
@@ -47,9 +47,11 @@ count_fits stripes k firsts n d h few is =
     let now = is.count in omega (arith, more, within, now, few)
 
 -- when all stripes are counted, the counts are those of a plan
-pub all_counted : (g : Partition) (firsts : List ℕ) (count : ℕ) → IsSky g → IsCounted g.stripes (length g.stripes) firsts count → IsPlan g firsts count
-all_counted g firsts n sky is = record {
+pub all_counted : (g : Partition) (firsts : List ℕ) (count most : ℕ) → IsSky g → most ≡ greatest_overlap g
+    → IsCounted g.stripes (length g.stripes) firsts count → IsPlan g firsts count most
+all_counted g firsts n most sky widest is = record {
   sky = sky;
   firsts = record { all = is.all; each = is.each };
   count = is.count ∙ subst (λ (stripes : List Stripe). chunks_in (take (length g.stripes) g.stripes) ≡ chunks_in stripes) (take_all (length g.stripes) g.stripes (omega arith)) refl;
+  greatest = widest;
 }

@@ -3,6 +3,7 @@ pub mod RowOf
 pub mod Stripes
 pub mod Searches
 pub mod Counting
+pub mod Greatest
 pub mod Places
 pub mod Halves
 mod LineCounts

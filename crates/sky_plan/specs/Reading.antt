@@ -3,17 +3,10 @@ use Rattle.std.specs.Prelude.{◌≡◌, ℕ, ◌+◌, ◌==◌, nat_le, ℤ, po
 use Rattle.std.specs.Prelude.{List, [], ◌∷◌, ◌++◌, length, Option, None, Some, Result, Ok, if◌then◌else◌}
 use Rattle.std.specs.List.{filter, slice_split}
 use Rattle.text_rules.specs.Lines.{Line, is_note}
-use Rattle.sky_io.specs.declared.Stop.{Stop}
-use Rattle.sky_io.specs.declared.Stop.TheVariants.{Memory, Bad}
 use Rattle.sky_rules.specs.SkyWords.{Version, shared, own}
 use Rattle.sky_rules.specs.Partition.{Stripe, Partition, sky_end}
 use Rattle.sky_rules.specs.SkyText.{sky_of_lines, stripes_with, unless_fault, whole_sky}
 use Rattle.sky_rules.specs.declared.fault.SkyFault.{SkyFault}
-
--- of a call that stopped: what holds of its own fault; of want of memory nothing does
-abbrev pub IfBad : {F : Type 0} → Stop F → (F → Type 0) → Type 0
-IfBad Memory holds = Unit {0}
-IfBad (Bad fault) holds = holds fault
 
 -- The lines that are left of a text, and the number of the first of them.
 pub record LinesLeft : Type 0 where

@@ -5,9 +5,10 @@ ghost use Rattle.sky_vector.specs.Points.{IsAdmissible};
 ghost use Rattle.sky_vector.specs.Pos.{point};
 ghost use Rattle.sky_rules.specs.Laws.{IsOnlyPlace};
 ghost use Rattle.sky_rules.specs.Limits.{IsSky, IsStripe};
-ghost use Rattle.sky_rules.specs.Partition.{chunk_count, chunks_in, least_overlap, overlap_at, site_of, sky_bottom, sky_end, sub_count};
+ghost use Rattle.sky_rules.specs.Partition.{chunk_count, chunks_in, greatest_overlap, least_overlap};
+ghost use Rattle.sky_rules.specs.Partition.{overlap_at, site_of, sky_bottom, sky_end, sub_count};
 ghost use Rattle.sky_rules.specs.Zones.{in_chunk, in_sub, sub_zone_of, zone_of};
-ghost use Rattle.sky_plan.specs.Plans.{AreFirsts, HasChunk, stripe_numbered};
+ghost use Rattle.sky_plan.specs.Plans.{AreFirsts, CoversOverlaps, HasChunk, stripe_numbered};
 ghost use Rattle.sky_plan.specs.Places.{IsOnlyChunk, SubHolds};
 ghost use Rattle.sky_plan.specs.Regions.{zone_shown};
 ghost use Rattle.sky_plan.specs.Sites.{SpansHeight, end_numbered, site_numbered};
@@ -25,6 +26,17 @@ use wedge_rules::wedge_of;
 /// The first z above all positions.
 const SKY_END: i64 = 268435473;
 
+/// The greatest overlap radius of these stripes.
+fn greatest_of(stripes: &[Stripe]) -> u32
+    ensures { result ≡ greatest_overlap (record { stripes = stripes.now }) }
+{
+    stripes
+        .iter()
+        .map(|stripe| stripe.overlap)
+        .max()
+        .unwrap_or(0)
+}
+
 /// A partition of the sky within the limits: 1 to 256 stripes, lowest first, of at most 16,384 chunks in all.
 #[derive(Drop)]
 pub struct SkyPlan {
@@ -32,6 +44,8 @@ pub struct SkyPlan {
     /// The number of each stripe's first chunk.
     firsts: Vec<u32>,
     count: u32,
+    /// The greatest overlap radius of all stripes.
+    greatest: u32,
 }
 
 impl Model for SkyPlan {
@@ -42,7 +56,7 @@ impl Model for SkyPlan {
 
     ghost view = { λ p. record { stripes = p.stripes.items } };
 
-    ghost invariant = { λ p. IsPlan (record { stripes = p.stripes.items }) p.firsts.items p.count };
+    ghost invariant = { λ p. IsPlan (record { stripes = p.stripes.items }) p.firsts.items p.count p.greatest };
 }
 
 impl SkyPlan {
@@ -60,10 +74,12 @@ impl SkyPlan {
             }
             count += stripe.chunks;
         }
+        let greatest = greatest_of(stripes.as_slice());
         Ok(SkyPlan {
             stripes,
             firsts,
             count,
+            greatest,
         })
     }
 
@@ -85,6 +101,23 @@ impl SkyPlan {
             .map(|stripe| stripe.overlap)
             .min()
             .unwrap_or(0)
+    }
+
+    /// The greatest overlap radius of all chunks, at most 2^24. Takes no memory.
+    pub fn greatest_radius(&self) -> u32
+        ensures value { result ≡ greatest_overlap self.now }
+        ensures covers { CoversOverlaps self.now result }
+        ensures most { result ≤ 2 ^ 24 }
+        ensures limits { IsSky self.now }
+    {
+        self.greatest
+    }
+
+    /// The number of stripes, from 1 to 256. Takes no memory.
+    pub fn stripes(&self) -> usize
+        ensures { result ≡ length self.now.stripes }
+    {
+        self.stripes.len()
     }
 
     /// The number of chunks, from 1 to 16,384. Takes no memory.
@@ -173,8 +206,8 @@ impl SkyPlan {
         Site::new(self.stripe_numbered(number), self.end_of(number), wedge)
     }
 
-    /// The stripe with this number.
-    fn stripe_numbered(&self, number: usize) -> Stripe
+    /// The stripe with this number, from 0, lowest first. Takes no memory.
+    pub fn stripe_numbered(&self, number: usize) -> Stripe
         requires { number < length self.now.stripes }
         ensures value { result ≡ stripe_numbered self.now number }
         ensures limits { IsStripe result }
@@ -197,8 +230,8 @@ impl SkyPlan {
         }
     }
 
-    /// The number of the first chunk of the stripe with this number.
-    fn first_of(&self, number: usize) -> u32
+    /// The number of the first chunk of the stripe with this number. Takes no memory.
+    pub fn first_of(&self, number: usize) -> u32
         requires { number < length self.now.stripes }
         ensures { result ≡ chunks_in (take number self.now.stripes) }
     {
@@ -213,8 +246,8 @@ impl SkyPlan {
         self.firsts.partition_point(|first| *first <= chunk) - 1
     }
 
-    /// The number of the stripe that has the height, from 0.
-    fn stripe_at(&self, z: i64) -> usize
+    /// The number of the stripe that has the height, from 0. Takes no memory.
+    pub fn stripe_at(&self, z: i64) -> usize
         requires bottom { sky_bottom ≤ℤ z }
         requires end { z <ℤ sky_end }
         ensures { SpansHeight self.now result z }

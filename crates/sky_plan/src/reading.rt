@@ -6,7 +6,8 @@ ghost use Rattle.std.specs.Prelude.{◌≡◌, ◌≤◌, ◌^◌, [], Ok, Err, 
 ghost use Rattle.sky_rules.specs.SkyText.{judged_version, sky_of};
 ghost use Rattle.sky_rules.specs.Limits.{IsSky};
 ghost use Rattle.sky_rules.specs.SkyWords.{version_on};
-ghost use Rattle.sky_plan.specs.Reading.{IfBad, sky_on, sky_under};
+ghost use Rattle.sky_io.specs.Stops.{IfBad};
+ghost use Rattle.sky_plan.specs.Reading.{sky_on, sky_under};
 
 mod lines;
 mod numbers;

@@ -44,4 +44,18 @@ impl Stripe {
             overlap,
         }
     }
+
+    /// The number of chunks. Takes no memory.
+    pub fn chunks(&self) -> u32
+        ensures { result ≡ self.now.chunks }
+    {
+        self.chunks
+    }
+
+    /// The overlap radius, in grid units. Takes no memory.
+    pub fn overlap(&self) -> u32
+        ensures { result ≡ self.now.overlap }
+    {
+        self.overlap
+    }
 }

@@ -1,6 +1,6 @@
 -- The partition of the sky: stripes by height, and in each stripe chunks by direction, numbered from 0 through the stripes
 -- upwards and in a stripe by their wedges. Stripes, chunks and subchunks are Qserv's (SC 2011).
-use Rattle.std.specs.Prelude.{ℕ, ◌-◌, ◌*◌, ℤ, pos, negsuc, List, [], ◌∷◌, map, min, nat_lt, if◌then◌else◌, unwrap_or}
+use Rattle.std.specs.Prelude.{ℕ, ◌-◌, ◌*◌, ℤ, pos, negsuc, List, [], ◌∷◌, map, min, max, nat_lt, if◌then◌else◌, unwrap_or}
 use Rattle.std.specs.List.{sum_by, reduce}
 
 -- A stripe: its lowest z, its chunks, the columns and rows of subchunks in each chunk, and the radius of its overlap.
@@ -72,3 +72,7 @@ overlap_at g c = (stripe_of g c).overlap
 -- the least overlap radius of all stripes
 abbrev pub least_overlap : Partition → ℕ
 least_overlap g = unwrap_or (reduce min (map (λ s. s.overlap) g.stripes)) 0
+
+-- the greatest overlap radius of all stripes
+abbrev pub greatest_overlap : Partition → ℕ
+greatest_overlap g = unwrap_or (reduce max (map (λ s. s.overlap) g.stripes)) 0

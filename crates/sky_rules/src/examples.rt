@@ -2,7 +2,7 @@
 
 ghost use Rattle.std.specs.Prelude.{◌≡◌, ℕ, [], ◌∷◌, ◌++◌, Err, Ok, Some, codes, pos, true};
 ghost use Rattle.std.specs.List.{filter, range_with_len, repeat};
-ghost use Rattle.sky_rules.specs.Partition.{chunk_count, least_overlap, overlap_at, sub_count};
+ghost use Rattle.sky_rules.specs.Partition.{chunk_count, greatest_overlap, least_overlap, overlap_at, sub_count};
 ghost use Rattle.sky_rules.specs.Zones.{in_chunk, in_sub, near_chunk};
 ghost use Rattle.sky_rules.specs.SkyText.{is_room, judged_stripe, sky_of};
 ghost use Rattle.sky_rules.specs.Examples.{all_chunks, all_stripes, bottom_twice, eight, full_stripe, halves};
@@ -55,6 +55,7 @@ pub fn counts()
     ensures chunks { chunk_count halves ≡ 8 }
     ensures subs { sub_count halves 7 ≡ 4 }
     ensures least { least_overlap (record { stripes = south 5 ∷ north 2 ∷ [] }) ≡ 2 }
+    ensures greatest { greatest_overlap (record { stripes = south 2 ∷ north 5 ∷ [] }) ≡ 5 }
     ensures upper { overlap_at (record { stripes = south 5 ∷ north 2 ∷ [] }) 4 ≡ 2 }
 {}
 

@@ -6,7 +6,8 @@ ghost use Rattle.sky_rules.specs.Partition.{chunks_in};
 ghost use Rattle.sky_rules.specs.SkyText.{is_cut, is_from, is_in_order, is_overlap, is_room};
 ghost use Rattle.sky_rules.specs.SkyText.{judged_stripe, stripe_said};
 ghost use Rattle.sky_rules.specs.SkyWords.{said_on};
-ghost use Rattle.sky_plan.specs.Reading.{Adds, IfBad, is_above};
+ghost use Rattle.sky_io.specs.Stops.{IfBad};
+ghost use Rattle.sky_plan.specs.Reading.{Adds, is_above};
 
 use crate::reading::said::{Said, Version, said_on};
 use crate::stripe::Stripe;
