@@ -1,0 +1,4 @@
+pub mod Overlaps
+pub mod Windows
+pub mod Heights
+pub mod Laws

@@ -1,0 +1,28 @@
+-- The chunks that need a point as overlap.
+use Rattle.std.specs.Prelude.{◌≡◌, ℕ, ◌-◌, List, ◌++◌, Bool, ◌&&◌, not, IsTrue}
+use Rattle.std.specs.List.{filter, range_with_len}
+use Rattle.sky_vector.specs.Points.{Point}
+use Rattle.sky_rules.specs.Partition.{Partition, chunk_count}
+use Rattle.sky_rules.specs.Zones.{in_chunk, near_chunk}
+use Rattle.sky_plan.specs.Places.{IsOnlyChunk}
+
+-- the point is in the full overlap of the chunk: near it, and not in it
+abbrev pub in_full_overlap : Partition → ℕ → Point → Bool
+in_full_overlap g c p = near_chunk g c p && not (in_chunk g c p)
+
+-- the chunks whose full overlap holds the point, lowest first
+abbrev pub near_others : Partition → Point → List ℕ
+near_others g p = filter (λ c. in_full_overlap g c p) (range_with_len 0 (chunk_count g))
+
+-- those of them from chunk a up to and without chunk b
+abbrev pub others_between : Partition → Point → ℕ → ℕ → List ℕ
+others_between g p a b = filter (λ c. in_full_overlap g c p) (range_with_len a (b - a))
+
+-- the old list stands in front of the new one
+abbrev pub Begins : List ℕ → List ℕ → Type 0
+Begins old new = (more : List ℕ) × (new ≡ old ++ more)
+
+-- The chunk holds the point, and no other chunk does.
+pub record IsOwn (g : Partition) (own : ℕ) (p : Point) : Type 0 where
+  pub holds : IsTrue (in_chunk g own p)
+  pub only : IsOnlyChunk g own p

@@ -1,0 +1,20 @@
+//! Near regions and overlap: which chunks and subchunks a position is near, and which chunks need it as overlap.
+//!
+//! Callers see a near region as the test of `sky_rules`, and the chunks that need a position as a list of their numbers
+//! (`specs/Overlaps.antt`).
+//! Below: `sky_plan` for bounds and places. Above: the tables of each chunk, and the near-neighbour join.
+//! No rows and no tables: one position at a time.
+#![tactic(auto)]
+
+mod chunks;
+pub mod examples;
+pub mod laws;
+mod near;
+mod stripes;
+mod wedges;
+
+pub use chunks::{near_chunks, push_near_chunks};
+pub use near::{in_near, in_near_sub};
+
+#[cfg(test)]
+mod tests;
