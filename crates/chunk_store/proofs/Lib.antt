@@ -1,0 +1,5 @@
+pub mod Ranges
+pub mod Merging
+pub mod Pushing
+pub mod Filled
+pub mod Subs

@@ -1,0 +1,5 @@
+pub mod Survey
+pub mod Places
+pub mod Lists
+pub mod Merged
+pub mod Examples

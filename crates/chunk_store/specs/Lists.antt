@@ -1,0 +1,52 @@
+-- The lists of places that a store keeps, one for each chunk.
+use Rattle.std.specs.Prelude.{◌≡◌, ℕ, ◌<◌, ◌==◌, Bool, true, false, List, [], ◌∷◌, ◌++◌, if◌then◌else◌, length, get_or}
+use Rattle.std.specs.Prelude.{slice_get, filter, map}
+use Rattle.std.specs.List.{range_with_len}
+use Rattle.table_rules.specs.Objects.{Obj, Catalogue}
+use Rattle.sky_rules.specs.Limits.{IsSky}
+use Rattle.sky_rules.specs.Partition.{Partition, chunk_count}
+use Rattle.sky_rules.specs.Zones.{in_chunk}
+use Rattle.overlap_tables.specs.Overlaps.{in_full_overlap}
+use Rattle.chunk_store.specs.Places.{passes, filled_chunks}
+
+-- the list has an element
+abbrev pub has_some : List ℕ → Bool
+has_some [] = false
+has_some (place ∷ rest) = true
+
+-- the number alone where the answer is yes, and else nothing
+abbrev pub kept_if : Bool → ℕ → List ℕ
+kept_if is n = if is then n ∷ [] else []
+
+-- the place, as often as the chunk is among these
+abbrev pub as_often : ℕ → ℕ → List ℕ → List ℕ
+as_often place c chunks = map (λ d. place) (filter (λ d. d == c) chunks)
+
+-- The place was put behind the lists of these chunks.
+pub record Pushed (chunks : List ℕ) (place : ℕ) (old new : List (List ℕ)) : Type 0 where
+  pub same : length new ≡ length old
+  pub each : (c : ℕ) → c < length old → get_or new c [] ≡ get_or old c [] ++ as_often place c chunks
+
+-- the places below n of the objects that pass the test
+abbrev pub places_below : ℕ → (Obj → Bool) → List Obj → List ℕ
+places_below n test objects = filter (λ i. passes test (slice_get objects i)) (range_with_len 0 n)
+
+-- The lists of so many chunks, each of the places below n whose object passes the chunk's test.
+pub record AreLists (test : ℕ → Obj → Bool) (count : ℕ) (objects : List Obj) (n : ℕ) (lists : List (List ℕ)) : Type 0 where
+  pub all : length lists ≡ count
+  pub each : (c : ℕ) → c < count → get_or lists c [] ≡ places_below n (test c) objects
+
+-- the test of a chunk's own rows
+abbrev pub own_test : Partition → ℕ → Obj → Bool
+own_test g c o = in_chunk g c o.at
+
+-- the test of a chunk's full overlap
+abbrev pub overlap_test : Partition → ℕ → Obj → Bool
+overlap_test g c o = in_full_overlap g c o.at
+
+-- What a store keeps beside the plan and the rows: each list is the one that is meant.
+pub record IsStored (g : Partition) (table : Catalogue) (rows near : List (List ℕ)) (kept : List ℕ) : Type 0 where
+  pub sky : IsSky g
+  pub own : AreLists (own_test g) (chunk_count g) table.objects (length table.objects) rows
+  pub overlap : AreLists (overlap_test g) (chunk_count g) table.objects (length table.objects) near
+  pub filled : kept ≡ filled_chunks g table.objects

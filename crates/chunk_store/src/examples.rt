@@ -1,0 +1,39 @@
+//! Worked examples of the definitions, as functions that do nothing: each ensures an equation.
+
+ghost use Rattle.std.specs.Prelude.{◌≡◌, [], ◌∷◌, length};
+ghost use Rattle.sky_rules.specs.Examples.{halves};
+ghost use Rattle.chunk_store.specs.Examples.{six_rows, two_overlaps};
+ghost use Rattle.chunk_store.specs.Places.{chunk_rows, filled_chunks, full_overlap_rows, sub_overlap_rows, sub_rows};
+
+/// Three of the eight chunks hold a row.
+#[tactic(auto, unfolding(wedge_rules::specs::Heading::heading, wedge_rules::specs::Heading::walk))]
+pub fn chunks_that_hold_a_row()
+    ensures { filled_chunks halves six_rows ≡ 0 ∷ 4 ∷ 7 ∷ [] }
+{}
+
+/// The rows of those chunks and of their overlaps, where all overlaps are 5.
+#[tactic(auto, unfolding(wedge_rules::specs::Heading::heading, wedge_rules::specs::Heading::walk))]
+pub fn rows_and_overlaps()
+    ensures below { chunk_rows halves six_rows 0 ≡ 4 ∷ [] }
+    ensures below_near { length (full_overlap_rows halves six_rows 0) ≡ 4 }
+    ensures above { chunk_rows halves six_rows 4 ≡ 0 ∷ 1 ∷ 2 ∷ 5 ∷ [] }
+    ensures above_near { full_overlap_rows halves six_rows 4 ≡ 3 ∷ 4 ∷ [] }
+    ensures last { chunk_rows halves six_rows 7 ≡ 3 ∷ [] }
+    ensures last_near { length (full_overlap_rows halves six_rows 7) ≡ 5 }
+{}
+
+/// With an overlap of 2 in the north, row 4 is three units west of chunk 4, and too far from it.
+#[tactic(auto, unfolding(wedge_rules::specs::Heading::heading, wedge_rules::specs::Heading::walk))]
+pub fn overlaps_of_each_stripe()
+    ensures south { length (full_overlap_rows two_overlaps six_rows 0) ≡ 4 }
+    ensures north { length (full_overlap_rows two_overlaps six_rows 4) ≡ 1 }
+    ensures last { length (full_overlap_rows two_overlaps six_rows 7) ≡ 4 }
+{}
+
+/// The first subchunk of chunk 4 holds three of its rows, and needs two of the chunk's overlap; the fourth row, at the pole,
+/// is far from it.
+#[tactic(auto, unfolding(wedge_rules::specs::Heading::heading, wedge_rules::specs::Heading::walk))]
+pub fn rows_of_a_subchunk()
+    ensures rows { sub_rows halves six_rows 4 0 ≡ 0 ∷ 1 ∷ 2 ∷ [] }
+    ensures overlap { sub_overlap_rows halves six_rows 4 0 ≡ 3 ∷ 4 ∷ [] }
+{}

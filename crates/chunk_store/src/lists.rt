@@ -1,0 +1,130 @@
+//! A list of places for each chunk.
+
+ghost use Rattle.std.specs.Prelude.{◌≡◌, ◌<◌, ◌≤◌, ◌^◌, [], ◌∷◌, ◌++◌, IfOk, OnOk, All, length, get_or, replicate, filter, map};
+ghost use Rattle.std.specs.List.{range_with_len};
+ghost use Rattle.chunk_store.specs.Lists.{Pushed, has_some, kept_if};
+
+use sky_io::Memory;
+use std::alloc::Global;
+use std::marker::Model;
+
+/// Whether the list has an element.
+fn has_some(list: &[u32]) -> bool
+    ensures { result ≡ has_some list.now }
+{
+    !list.is_empty()
+}
+
+/// Puts the number behind the list.
+fn push(list: &mut Vec<u32>, number: u32) -> Result<(), Memory>
+    ensures { OnOk result (list.new.items ≡ list.old.items ++ number ∷ []) }
+{
+    match list.push(number) {
+        Ok(()) => Ok(()),
+        Err(_) => Err(Memory),
+    }
+}
+
+/// Puts the number behind the list, where the answer is yes.
+pub(crate) fn push_if(list: &mut Vec<u32>, is: bool, number: u32) -> Result<(), Memory>
+    ensures { OnOk result (list.new.items ≡ list.old.items ++ kept_if is number) }
+{
+    if is { push(list, number) } else { Ok(()) }
+}
+
+/// A list of places for each chunk.
+#[derive(Drop)]
+pub(crate) struct Lists {
+    lists: Vec<Vec<u32>>,
+}
+
+impl Model for Lists {
+    ghost use Rattle.std.specs.Prelude.{ℕ, List, map, ◌≤◌, ◌^◌, length};
+
+    ghost Value = { List (List ℕ) };
+
+    ghost view = { λ l. map (λ places. places.items) l.lists.items };
+
+    ghost invariant = { λ l. length l.lists.items ≤ 2 ^ 14 };
+}
+
+/// Puts an empty list behind the others.
+fn push_empty(alloc: Global, lists: &mut Vec<Vec<u32>>) -> Result<(), Memory>
+    ensures { OnOk result (map (λ l. l.items) lists.new.items
+        ≡ map (λ l. l.items) lists.old.items ++ [] ∷ []) }
+{
+    match lists.push(Vec::new(alloc)) {
+        Ok(()) => Ok(()),
+        Err(_) => Err(Memory),
+    }
+}
+
+/// So many empty lists.
+fn empty_lists(alloc: Global, count: u32) -> Result<Vec<Vec<u32>>, Memory>
+    ensures { IfOk result (λ lists. map (λ l. l.items) lists.items ≡ replicate count []) }
+{
+    let mut lists = Vec::new(alloc);
+    for chunk in 0..count {
+        push_empty(alloc, &mut lists)?;
+    }
+    Ok(lists)
+}
+
+impl Lists {
+    /// So many empty lists, at most 16,384.
+    pub(crate) fn empty(alloc: Global, count: u32) -> Result<Lists, Memory>
+        requires { count ≤ 2 ^ 14 }
+        ensures { IfOk result (λ lists. lists ≡ replicate count []) }
+    {
+        Ok(Lists {
+            lists: empty_lists(alloc, count)?,
+        })
+    }
+
+    /// How many lists there are.
+    pub(crate) fn len(&self) -> u32
+        ensures { result ≡ length self.now }
+    {
+        self.lists.len() as u32
+    }
+
+    /// The list of a chunk.
+    pub(crate) fn of(&self, chunk: u32) -> &[u32]
+        requires { chunk < length self.now }
+        ensures { result.now ≡ get_or self.now chunk [] }
+    {
+        self.lists[chunk as usize].as_slice()
+    }
+
+    /// Puts the place behind a chunk's list.
+    pub(crate) fn push(&mut self, chunk: u32, place: u32) -> Result<(), Memory>
+        requires { chunk < length self.old }
+        ensures { OnOk result (Pushed (chunk ∷ []) place self.old self.new) }
+    {
+        push(&mut self.lists[chunk as usize], place)?;
+        Ok(())
+    }
+
+    /// Puts the place behind the list of each of the chunks.
+    pub(crate) fn push_all(&mut self, chunks: &[u32], place: u32) -> Result<(), Memory>
+        requires { All (λ chunk. chunk < length self.old) chunks.now }
+        ensures { OnOk result (Pushed chunks.now place self.old self.new) }
+    {
+        for chunk in chunks {
+            self.push(*chunk, place)?;
+        }
+        Ok(())
+    }
+
+    /// The chunks, ascending, whose list has an element.
+    pub(crate) fn filled(&self, alloc: Global) -> Result<Vec<u32>, Memory>
+        ensures { IfOk result (λ filled. filled.items
+            ≡ filter (λ c. has_some (get_or self.now c [])) (range_with_len 0 (length self.now))) }
+    {
+        let mut filled = Vec::new(alloc);
+        for chunk in 0..self.len() {
+            push_if(&mut filled, has_some(self.of(chunk)), chunk)?;
+        }
+        Ok(filled)
+    }
+}

@@ -1,0 +1,60 @@
+//! Whether a subchunk holds a row, and whether it needs it beside its own.
+
+ghost use Rattle.std.specs.Prelude.{◌≡◌, ◌<◌, ◌&&◌, ◌==◌, not};
+ghost use Rattle.sky_vector.specs.Points.{IsAdmissible};
+ghost use Rattle.sky_vector.specs.Pos.{point};
+ghost use Rattle.sky_rules.specs.Partition.{chunk_count, sub_count};
+ghost use Rattle.sky_rules.specs.Zones.{in_sub, near_sub};
+
+use overlap_tables::in_near_sub;
+use sky_plan::{Place, SkyPlan};
+use sky_row::Row;
+use sky_vector::Pos;
+
+/// Whether the place is this subchunk of this chunk.
+fn is_place(place: &Place, chunk: u32, sub: u32) -> bool
+    ensures { result ≡ (place.now.chunk == chunk && place.now.sub == sub) }
+{
+    place.chunk == chunk && place.sub == sub
+}
+
+/// Whether the subchunk holds the position.
+#[tactic(auto, using(crate::proofs::Subs::is_place))]
+fn is_in(plan: &SkyPlan, chunk: u32, sub: u32, p: &Pos) -> bool
+    requires chunk { chunk < chunk_count plan.now }
+    requires sub { sub < sub_count plan.now chunk }
+    requires admissible { IsAdmissible (point p.now) }
+    ensures { result ≡ in_sub plan.now chunk sub (point p.now) }
+{
+    is_place(&plan.place_of(p), chunk, sub)
+}
+
+/// Whether the position is in the subchunk's near region and not in the subchunk.
+fn is_near(plan: &SkyPlan, chunk: u32, sub: u32, p: &Pos) -> bool
+    requires chunk { chunk < chunk_count plan.now }
+    requires sub { sub < sub_count plan.now chunk }
+    requires admissible { IsAdmissible (point p.now) }
+    ensures { result ≡ (near_sub plan.now chunk sub (point p.now)
+        && not (in_sub plan.now chunk sub (point p.now))) }
+{
+    in_near_sub(plan, chunk, sub, p) && !is_in(plan, chunk, sub, p)
+}
+
+/// Whether the subchunk holds the row.
+pub(crate) fn holds(plan: &SkyPlan, chunk: u32, sub: u32, row: &Row) -> bool
+    requires chunk { chunk < chunk_count plan.now }
+    requires sub { sub < sub_count plan.now chunk }
+    ensures { result ≡ in_sub plan.now chunk sub row.now.at }
+{
+    is_in(plan, chunk, sub, row.pos())
+}
+
+/// Whether the row is in the subchunk's near region and not in the subchunk.
+pub(crate) fn is_beside(plan: &SkyPlan, chunk: u32, sub: u32, row: &Row) -> bool
+    requires chunk { chunk < chunk_count plan.now }
+    requires sub { sub < sub_count plan.now chunk }
+    ensures { result ≡ (near_sub plan.now chunk sub row.now.at
+        && not (in_sub plan.now chunk sub row.now.at)) }
+{
+    is_near(plan, chunk, sub, row.pos())
+}
