@@ -1,0 +1,5 @@
+pub mod Catalogue
+pub mod Standing
+pub mod Parts
+pub mod Judged
+pub mod Gathered

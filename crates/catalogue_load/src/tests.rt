@@ -1,0 +1,172 @@
+//! What no clause says: that catalogues are read with memory left; and what `csv` makes of odd texts.
+use crate::{LoadFault, load};
+use sky_io::{Memory, Stop};
+use std::alloc::Global;
+use std::test::Fail;
+
+/// The longest catalogue, in bytes; no text here is longer.
+const LIMIT: usize = 1 << 29;
+
+// The first fault of a text, or `None` where it is accepted.
+fn fault_of(alloc: Global, text: &[u8]) -> Result<Option<LoadFault>, Memory> {
+    if text.len() > LIMIT {
+        return Err(Memory);
+    }
+    match load(alloc, text) {
+        Ok(_) => Ok(None),
+        Err(Stop::Bad(fault)) => Ok(Some(fault)),
+        Err(Stop::Memory) => Err(Memory),
+    }
+}
+
+// The first fault of these rows under the header of the first four columns.
+fn fault_under(alloc: Global, rows: &[u8]) -> Result<Option<LoadFault>, Fail> {
+    let mut text = Vec::from_slice(alloc, b"objectId,x,y,z\n")?;
+    text.extend_from_slice(rows)?;
+    Ok(fault_of(alloc, text.as_slice())?)
+}
+
+#[test]
+fn rows_come_in_ascending_id(rt: HostRuntime) -> Result<(), Fail> {
+    let alloc = rt.alloc();
+    let text =
+        b"objectId,x,y,z,flux,_k\n7,268435456,0,0,,1125899906842624\n3,0,0,-268435456,-5,0\n";
+    let rows = load(alloc, text)?;
+    assert_eq!(rt; rows.len(), 2);
+    assert_eq!(rt; rows.schema().column(b"_k"), Some(5));
+    let [first, second] = rows.as_slice() else {
+        panic!(rt; "not two rows");
+    };
+    assert_eq!(rt; [first.id(), second.id()], [3, 7]);
+    assert_eq!(rt; first.value(3), Some(-268435456));
+    assert_eq!(rt; second.value(3), Some(0));
+    Ok(())
+}
+
+#[test]
+fn each_fault_is_told_where_it_is(rt: HostRuntime) -> Result<(), Fail> {
+    let alloc = rt.alloc();
+    for (rows, fault) in [
+        (
+            b"1,268435456,0,0\n1,0,0,268435456\n".as_slice(),
+            Some(LoadFault::Repeated { row: 2, id: 1 }),
+        ),
+        (b"1,268435439,0,0\n", Some(LoadFault::Length { row: 1 })),
+        (
+            b"1,268435473,0,0\n",
+            Some(LoadFault::Range {
+                row: 1,
+                field: 2,
+                value: 268435473,
+            }),
+        ),
+        (
+            b"1,268435456,0\n",
+            Some(LoadFault::FieldCount { row: 1, count: 3 }),
+        ),
+        (b"1,+5,0,0\n", Some(LoadFault::Number { row: 1, field: 2 })),
+        (b"1,\"268435456\",0,0", None),
+        (
+            b"-1,268435456,0,0",
+            Some(LoadFault::Range {
+                row: 1,
+                field: 1,
+                value: -1,
+            }),
+        ),
+        (
+            b"9223372036854775808,268435456,0,0",
+            Some(LoadFault::Range {
+                row: 1,
+                field: 1,
+                value: 9223372036854775808,
+            }),
+        ),
+    ] {
+        assert_eq!(rt; fault_under(alloc, rows)?, fault, "{rows:?}");
+    }
+    Ok(())
+}
+
+#[test]
+fn odd_texts_are_the_records_that_csv_makes_of_them(rt: HostRuntime) -> Result<(), Fail> {
+    let alloc = rt.alloc();
+    for (text, fault) in [
+        (b"".as_slice(), Some(LoadFault::Header { field: 1 })),
+        (b"\xEF\xBB\xBFobjectId,x,y,z", None),
+        (
+            b"\"objectId\",x,y,z\r1,268435456,0,0\r2,268435456,0,0",
+            None,
+        ),
+        (b"\n\r\nobjectId,x,y,z\r\n\n1,268435456,0,0\r\n\n", None),
+        (
+            b"objectId,x,y,z\n\"12\"3,268435456,0,0\n123,268435456,0,0",
+            Some(LoadFault::Repeated { row: 2, id: 123 }),
+        ),
+        (
+            b"objectId,x,y,z\n\"\"\n",
+            Some(LoadFault::FieldCount { row: 1, count: 1 }),
+        ),
+        (
+            b"objectId,x,y,z\n  \n",
+            Some(LoadFault::FieldCount { row: 1, count: 1 }),
+        ),
+        (
+            b"objectId,x,y,z\n1,\"268435456,0,0\n2,268435456,0,0\n",
+            Some(LoadFault::FieldCount { row: 1, count: 2 }),
+        ),
+        (
+            b"objectId,x,y,z\n1,268435456,0,\0\n",
+            Some(LoadFault::Number { row: 1, field: 4 }),
+        ),
+        (
+            b"objectId,x,y,z,f\0\n",
+            Some(LoadFault::Header { field: 5 }),
+        ),
+        (b"objectId,x,y,z,f\n1,268435456,0,0,\"\"\n", None),
+        (
+            b"objectId,x,y,z,\"a\"\"b\"\n",
+            Some(LoadFault::Header { field: 5 }),
+        ),
+        (b" objectId,x,y,z\n", Some(LoadFault::Header { field: 1 })),
+    ] {
+        assert_eq!(rt; fault_of(alloc, text)?, fault, "{text:?}");
+    }
+    Ok(())
+}
+
+// What a text that is cut behind its first `cut` bytes has as its first fault, by hand.
+fn fault_of_a_cut(cut: usize) -> Option<LoadFault> {
+    match cut {
+        0..=7 => Some(LoadFault::Header { field: 1 }),
+        8..=9 => Some(LoadFault::Header { field: 2 }),
+        10..=11 => Some(LoadFault::Header { field: 3 }),
+        12..=13 => Some(LoadFault::Header { field: 4 }),
+        15 => Some(LoadFault::Header { field: 5 }),
+        21 => Some(LoadFault::FieldCount { row: 1, count: 1 }),
+        22..=31 => Some(LoadFault::FieldCount { row: 1, count: 2 }),
+        32..=33 => Some(LoadFault::FieldCount { row: 1, count: 3 }),
+        34..=35 => Some(LoadFault::FieldCount { row: 1, count: 4 }),
+        38 => Some(LoadFault::FieldCount { row: 2, count: 1 }),
+        39..=40 => Some(LoadFault::FieldCount { row: 2, count: 2 }),
+        41..=42 => Some(LoadFault::FieldCount { row: 2, count: 3 }),
+        43..=53 => Some(LoadFault::FieldCount { row: 2, count: 4 }),
+        55 => Some(LoadFault::Number { row: 2, field: 5 }),
+        _ => None,
+    }
+}
+
+#[test]
+fn a_text_can_be_cut_at_each_byte(rt: HostRuntime) -> Result<(), Fail> {
+    let alloc = rt.alloc();
+    let text = b"objectId,x,y,z,flux\n7,268435456,0,0,\n3,0,0,-268435456,-5\n".as_slice();
+    assert_eq!(rt; text.len(), 57);
+    for cut in 0..=57 {
+        assert_eq!(rt;
+            fault_of(alloc, &text[..cut])?,
+            fault_of_a_cut(cut),
+            "{cut}"
+        );
+    }
+    Ok(())
+}

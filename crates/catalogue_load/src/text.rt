@@ -1,0 +1,88 @@
+//! The catalogue of a text: its header, then its rows record by record, then the rows in order.
+ghost use Rattle.std.specs.Prelude.{◌≡◌, ◌+◌, ◌≤◌, ◌^◌, ℕ, List, [], length, IfErr, IfOk, Ok, Err};
+ghost use Rattle.sky_io.specs.Stops.{IfBad};
+ghost use Rattle.table_rules.specs.Records.{data_faults, judged};
+ghost use Rattle.catalogue_load.specs.Catalogue.{catalogue_of, catalogue_with};
+ghost use Rattle.catalogue_load.specs.Judged.{rows_behind};
+ghost use Rattle.catalogue_load.specs.Standing.{HasLeft, StillGives};
+
+use crate::gathered::Gathered;
+use crate::header::read_header;
+use crate::reading::{read_next, reader_of};
+use csv::{ByteRecord, Reader};
+use sky_io::Stop;
+use sky_row::{Rows, Schema};
+use std::alloc::Global;
+use table_rules::LoadFault;
+
+/// The rows of the records that the reader has left, behind none.
+fn read_rest(
+    alloc: Global,
+    mut reader: Reader<&[u8]>,
+    mut fields: ByteRecord,
+    mut gathered: Gathered,
+) -> Result<Gathered, Stop<LoadFault>>
+    requires none { gathered.objects ≡ [] }
+    requires gives { HasLeft reader }
+    ensures names { IfOk result (λ all. all.names ≡ gathered.names) }
+    ensures ok { IfOk result (λ all. (rest : List (List (List ℕ))) → StillGives reader.entry rest
+        → rows_behind (4 + length gathered.names) [] rest ≡ Ok all.objects) }
+    ensures bad { IfErr result (λ stop. IfBad stop (λ fault.
+        (rest : List (List (List ℕ))) → StillGives reader.entry rest
+        → rows_behind (4 + length gathered.names) [] rest ≡ Err fault)) }
+{
+    for turn in 0..u64::MAX {
+        let Ok(found) = read_next(&mut reader, &mut fields) else {
+            return Err(Stop::Memory);
+        };
+        if !found {
+            return Ok(gathered);
+        }
+        if let Err(stop) = gathered.add(alloc, &fields) {
+            return Err(stop);
+        }
+    }
+    Err(Stop::Memory)
+}
+
+/// The catalogue with these columns, whose rows are the records that the reader has left.
+fn rows_under(
+    alloc: Global,
+    schema: Schema,
+    reader: Reader<&[u8]>,
+    fields: ByteRecord,
+) -> Result<Rows, Stop<LoadFault>>
+    requires few { length schema ≤ 12 }
+    requires gives { HasLeft reader }
+    ensures ok { IfOk result (λ rows. (rest : List (List (List ℕ))) → StillGives reader.entry rest
+        → judged (data_faults (4 + length schema) rest) (catalogue_with schema rest) ≡ Ok rows) }
+    ensures bad { IfErr result (λ stop. IfBad stop (λ fault.
+        (rest : List (List (List ℕ))) → StillGives reader.entry rest
+        → judged (data_faults (4 + length schema) rest) (catalogue_with schema rest) ≡ Err fault)) }
+{
+    match read_rest(alloc, reader, fields, Gathered::new(alloc, schema)) {
+        Ok(gathered) => Ok(gathered.into_rows()),
+        Err(stop) => Err(stop),
+    }
+}
+
+/// Reads a catalogue from a text of at most 2^29 bytes: its rows in ascending id, or its first fault. Takes memory for the
+/// rows and their ids; after an error nothing is kept.
+pub fn load(alloc: Global, text: &[u8]) -> Result<Rows, Stop<LoadFault>>
+    requires { length text.now ≤ 2 ^ 29 }
+    ensures ok { IfOk result (λ rows. catalogue_of text.now ≡ Ok rows) }
+    ensures bad { IfErr result (λ stop. IfBad stop (λ fault. catalogue_of text.now ≡ Err fault)) }
+{
+    let mut reader = reader_of(alloc, text);
+    let mut fields = ByteRecord::new(alloc);
+    let Ok(found) = read_next(&mut reader, &mut fields) else {
+        return Err(Stop::Memory);
+    };
+    if !found {
+        return Err(Stop::Bad(LoadFault::Header { field: 1 }));
+    }
+    match read_header(alloc, &fields) {
+        Ok(schema) => rows_under(alloc, schema, reader, fields),
+        Err(stop) => Err(stop),
+    }
+}
