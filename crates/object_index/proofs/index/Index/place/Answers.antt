@@ -1,0 +1,16 @@
+use Rattle.std.proofs.Common.{rules, w64, FitsSigned}
+use Rattle.std.proofs.lemmas.Int.{to_z-of_z}
+use Rattle.object_index.proofs.Entries.{found, missing}
+use Rattle.object_index.proofs.index.Index.place.Goals as goal
+
+pub returns-in-Some-clause-found : goal.returns-in-Some-clause-found
+returns-in-Some-clause-found c =
+    let fits : FitsSigned w64 c.args.id = search rules in
+    let named = simp (to_z-of_z w64 c.args.id fits) at c.in-Some.ensures.key in
+    rw c.self.view_is at (found c.self.inside.chunks.entries c.in-Some.row c.args.id c.in-Some.field-0-1.now c.in-Some.chunk.now named c.in-Some.ensures.entry)
+
+pub returns-in-None-clause-none : goal.returns-in-None-clause-none
+returns-in-None-clause-none c =
+    let fits : FitsSigned w64 c.args.id = search rules in
+    let none = simp (to_z-of_z w64 c.args.id fits) at c.in-None.ensures.value in
+    rw c.self.view_is at (missing c.self.inside.chunks.entries c.args.id none)

@@ -1,0 +1,64 @@
+//! An index of the rows of a catalogue by their ids.
+ghost use Rattle.std.specs.Prelude.{◌≡◌, ◌≤◌, ◌^◌, List, false, length, IfNone, IfOk, IfSome};
+ghost use Rattle.sky_rules.specs.Partition.{Partition};
+ghost use Rattle.table_rules.specs.Objects.{Obj};
+ghost use Rattle.table_rules.specs.Ordered.{has_id};
+ghost use Rattle.object_index.specs.Indexes.{IsIndexOf, IsPlaceOf};
+
+use crate::place::Place;
+use indexmap::IndexMap;
+use sky_io::Memory;
+use sky_plan::SkyPlan;
+use sky_row::Rows;
+use std::alloc::Global;
+use std::marker::Model;
+
+/// The chunk of each row of a catalogue, by its id.
+#[derive(Drop)]
+pub struct Index {
+    /// In the order of the rows, so that an entry's number is its row's.
+    chunks: IndexMap<i64, u32>,
+}
+
+impl Model for Index {
+    ghost use Rattle.std.specs.Prelude.{List, ℕ, ℤ, length, ◌≤◌, ◌^◌};
+
+    ghost Value = { List (ℤ × ℕ) };
+
+    ghost view = { λ x. x.chunks.entries };
+
+    ghost invariant = { λ x. length x.chunks.entries ≤ 2 ^ 22 };
+}
+
+impl Index {
+    /// The index of the rows over the plan. Takes memory for an entry a row.
+    pub fn build(alloc: Global, plan: &SkyPlan, rows: &Rows) -> Result<Index, Memory>
+        ensures { IfOk result (λ index. IsIndexOf plan.now rows.now.objects index) }
+    {
+        let Ok(mut chunks) = IndexMap::with_capacity(alloc, rows.len() as usize) else {
+            return Err(Memory);
+        };
+        for row in rows.as_slice() {
+            let Ok(_) = chunks.insert(row.id(), plan.chunk_of(row.pos())) else {
+                return Err(Memory);
+            };
+        }
+        Ok(Index { chunks })
+    }
+
+    /// The place of the row with the id, or `None` where no row has it. Takes no memory.
+    pub fn place(&self, id: i64) -> Option<Place>
+        ensures found { IfSome result (λ place. (g : Partition) (rows : List Obj)
+            → IsIndexOf g rows self.now → IsPlaceOf g rows id place.chunk place.row) }
+        ensures none { IfNone result ((g : Partition) (rows : List Obj)
+            → IsIndexOf g rows self.now → has_id rows id ≡ false) }
+    {
+        match self.chunks.get_full(&id) {
+            Some((row, _, chunk)) => Some(Place {
+                chunk: *chunk,
+                row: row as u32,
+            }),
+            None => None,
+        }
+    }
+}
