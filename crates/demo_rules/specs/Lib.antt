@@ -1,0 +1,4 @@
+pub mod Draws
+pub mod DemoRows
+pub mod DemoTexts
+pub mod Examples
