@@ -1,0 +1,41 @@
+-- Scripts of worked examples, and what is known of their queries.
+use Rattle.std.specs.Prelude.{ℕ, true, false, List, [], ◌∷◌}
+use Rattle.session_script.specs.declared.step.Step.{Step}
+use Rattle.session_script.specs.declared.step.Step.TheVariants as step
+use Rattle.session_rules.specs.Ends.{Judged}
+
+-- a query that has chunks to be scanned and is not refused
+abbrev pub plain : Judged
+plain = record { early = false; total = false; idle = false }
+
+-- a query that is refused for its grammar
+abbrev pub faulty : Judged
+faulty = record { early = true; total = false; idle = false }
+
+-- a query whose total is out of range
+abbrev pub too_large : Judged
+too_large = record { early = false; total = true; idle = false }
+
+-- a query whose plan has no chunk
+abbrev pub nowhere : Judged
+nowhere = record { early = false; total = false; idle = true }
+
+-- the step of query k; where its line stands plays no part
+abbrev pub query : ℕ → Step
+query k = step.Query k (record { from = 0; to = 0 })
+
+-- three queries, then a cancel of the second and a wait for the first
+abbrev pub cancel_second : List Step
+cancel_second = query 1 ∷ query 2 ∷ query 3 ∷ step.Cancel 2 ∷ step.Wait 1 ∷ []
+
+-- the same with the wait before the cancel
+abbrev pub wait_first : List Step
+wait_first = query 1 ∷ query 2 ∷ query 3 ∷ step.Wait 1 ∷ step.Cancel 2 ∷ []
+
+-- the second query is waited for before it is cancelled
+abbrev pub cancel_late : List Step
+cancel_late = query 1 ∷ query 2 ∷ query 3 ∷ step.Wait 2 ∷ step.Cancel 2 ∷ []
+
+-- three plain queries
+abbrev pub three_plain : List Judged
+three_plain = plain ∷ plain ∷ plain ∷ []

@@ -1,0 +1,11 @@
+//! What a session may do with a script: how its queries may end.
+//!
+//! Callers see the ends as a list, and a query as what is known of it before it runs (`specs/Ends.antt`).
+//! Below: `session_script` for the steps of a script. Above: nothing yet.
+//! No session is run here: definitions, and worked examples that the checker computes.
+#![tactic(auto)]
+
+pub mod end;
+pub mod examples;
+
+pub use end::{EndKind, Ends};
