@@ -1,0 +1,3 @@
+pub mod CondParts
+pub mod Lists
+pub mod Parts

@@ -1,0 +1,9 @@
+use Rattle.std.proofs.Common.{◌≡◌, map, take, length}
+use Rattle.sql_tree.specs.Bare.{bare_col}
+use Rattle.sql_tree.proofs.same_query.same_group.Given as goal
+
+abbrev pub invariant-loop-at : goal.invariant-loop-at
+invariant-loop-at l = record {
+  lengths : length l.a ≡ length l.b;
+  same : map bare_col (take l.at l.a) ≡ map bare_col (take l.at l.b);
+}

@@ -1,0 +1,48 @@
+//! Expressions: sums of products of factors.
+
+use crate::name::Col;
+use sqlite_items::{Boxed, Items};
+
+/// A sum or difference of products, taken from the left.
+#[cycle(expr)]
+#[derive(Drop)]
+pub struct Expr {
+    pub first: Prod,
+    pub rest: Items<Signed>,
+}
+
+/// A further product of a sum, and whether it is taken away.
+#[cycle(expr)]
+#[derive(Drop)]
+pub struct Signed {
+    pub minus: bool,
+    pub prod: Prod,
+}
+
+/// A product of factors.
+#[cycle(expr)]
+#[derive(Drop)]
+pub struct Prod {
+    pub first: Factor,
+    pub rest: Items<Factor>,
+}
+
+/// An atom, and whether a minus stands before it.
+#[cycle(expr)]
+#[derive(Drop)]
+pub struct Factor {
+    pub minus: bool,
+    pub atom: Atom,
+}
+
+/// What an expression is made of.
+#[cycle(expr)]
+#[derive(Drop)]
+pub enum Atom {
+    /// A whole number from 0 to 2^63 - 1.
+    Int(i64),
+    /// A column.
+    Col(Col),
+    /// An expression in brackets.
+    Bracket(Boxed<Expr>),
+}

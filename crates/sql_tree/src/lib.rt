@@ -1,0 +1,22 @@
+//! The tree of a written query.
+//!
+//! Callers see a tree as plain data: a list for each `Items`, a value for each `Boxed`. Names and the words that a fault may
+//! point at keep their span; `same` looks past spans (`specs/Bare.antt`).
+//! Below: `sql_token` for spans, `sqlite_items` for lists that contracts see as lists. Above: `sql_rules`, which says what text
+//! spells a tree, and every crate that reads or writes one.
+//! No grammar and no meaning.
+#![tactic(auto)]
+
+pub mod cond;
+pub mod expr;
+pub mod name;
+pub mod query;
+mod same_cond;
+mod same_expr;
+mod same_query;
+
+pub use cond::{AreaKind, Cmp, Cond, Conj, IntList, Neg, Pred, SignedInt};
+pub use expr::{Atom, Expr, Factor, Prod, Signed};
+pub use name::{Col, Name};
+pub use query::{Item, ItemKind, ItemList, OrderBy, Query, Selection, TableRef};
+pub use same_query::same;
