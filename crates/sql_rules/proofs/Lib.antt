@@ -1,0 +1,12 @@
+pub mod Nesting
+pub mod Opened
+pub mod Tokens
+pub mod Found
+pub mod FoundQuery
+pub mod Again
+pub mod AgainConds
+pub mod Within
+pub mod Depth
+pub mod AgainQuery
+pub mod Law
+pub mod PrintOpened

@@ -1,0 +1,14 @@
+pub mod Pieces
+pub mod Marks
+pub mod Spelling
+pub mod Queries
+pub mod Readers
+pub mod ReadExprs
+pub mod ReadConds
+pub mod ReadQueries
+pub mod Trees
+pub mod PrintedExprs
+pub mod PrintedConds
+pub mod Printed
+pub mod Laws
+pub mod Examples
