@@ -1,0 +1,21 @@
+-- Functions of an expression, as items.
+use Rattle.sql_token.specs.declared.sign.Sign.TheVariants as sign
+use Rattle.sql_tree.specs.declared.expr.Expr.{Expr}
+use Rattle.sql_tree.specs.declared.query.ItemKind.{ItemKind}
+use Rattle.sql_tree.specs.declared.query.ItemKind.TheVariants as what
+use Rattle.sql_rules.specs.Pieces.{Glyph}
+use Rattle.sql_rules.specs.Readers.{Reader, ◌>>=◌, mark_at}
+use Rattle.sql_reader.specs.declared.items.Call.{Call}
+use Rattle.sql_reader.specs.declared.items.Call.TheVariants as call
+
+-- the item that a function of an expression is
+abbrev pub kind_by : Call → Expr → ItemKind
+kind_by call.Count = what.CountOf
+kind_by call.Sum = what.Sum
+kind_by call.Min = what.Min
+kind_by call.Max = what.Max
+kind_by call.Avg = what.Avg
+
+-- what follows the word of a function: an opening bracket, and what stands in it
+abbrev pub called_at : Reader ItemKind → Reader ItemKind
+called_at inner ts = mark_at (Glyph sign.Open) ts >>= λ _ us. inner us

@@ -1,0 +1,21 @@
+//! The reader of SQL: a text becomes its one tree, or its first fault.
+//!
+//! Callers see one call, `read`, which answers what `sql_rules` defines as the tree of a text (`tree_of`).
+//! Below: `sql_token` for tokens, `sql_rules` for the grammar. Above: the session reads its queries.
+//! No schema and no meaning: a name is read as it is written, known or not.
+#![tactic(auto)]
+
+mod ahead;
+mod clauses;
+mod conds;
+mod exprs;
+mod items;
+mod preds;
+mod query;
+#[cfg(test)]
+mod tests;
+
+pub use query::read;
+
+/// How many expressions may stand one in another: an outermost one, and one in each of 32 brackets.
+pub(crate) const MOST_LEVELS: u32 = 33;
