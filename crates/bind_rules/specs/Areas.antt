@@ -1,0 +1,46 @@
+-- An area test with its centre and its directions.
+use Rattle.std.specs.Prelude.{◌≡◌, ℤ, pos, negsuc, int_le, Bool, true, false, refl, List, [], ◌∷◌, Option, None, Some}
+use Rattle.std.proofs.lemmas.Float.{T_from_true}
+use Rattle.sky_vector.specs.Points.{IsWithin}
+use Rattle.sky_vector.specs.declared.direction.Dir.{Dir}
+use Rattle.sky_vector.specs.declared.position.Pos.{Pos}
+use Rattle.sql_bound.specs.declared.area.AreaTest.{AreaTest}
+use Rattle.sql_bound.specs.declared.area.AreaTest.TheVariants as test
+use Rattle.sql_tree.specs.declared.cond.AreaKind.{AreaKind}
+use Rattle.sql_tree.specs.declared.cond.AreaKind.TheVariants as area
+
+-- what follows of a test, where it is met
+abbrev pub where_met : {A : Type 0} (b : Bool) → (b ≡ true → Option A) → Option A
+where_met true f = f refl
+where_met false f = None
+
+-- what follows of a value, where there is one
+abbrev pub where_some : {A B : Type 0} → Option A → (A → Option B) → Option B
+where_some (Some x) f = f x
+where_some None f = None
+
+-- the part is within ±2^29
+abbrev pub within : (z : ℤ) → Option (IsWithin z)
+within z =
+    where_met (int_le (negsuc 536870911) z) (λ low. where_met (int_le z (pos 536870912)) (λ high.
+    Some (record { le = T_from_true _ low }, record { le = T_from_true _ high })))
+
+-- the position of these coordinates
+abbrev pub pos_of : ℤ → ℤ → ℤ → Option Pos
+pos_of x y z =
+    where_some (within x) (λ a. where_some (within y) (λ b. where_some (within z) (λ c.
+    Some (record { x = x; y = y; z = z; x_within = a; y_within = b; z_within = c }))))
+
+-- the direction of these parts
+abbrev pub dir_of : ℤ → ℤ → Option Dir
+dir_of dx dy =
+    where_some (within dx) (λ a. where_some (within dy) (λ b.
+    Some (record { dx = dx; dy = dy; dx_within = a; dy_within = b })))
+
+-- the test of a function with these arguments, where they are as many as it takes and within their limits
+abbrev pub area_test : AreaKind → List ℤ → Option AreaTest
+area_test area.Band (lo ∷ hi ∷ []) = Some (test.Band lo hi)
+area_test area.Cap (x ∷ y ∷ z ∷ n ∷ []) = where_some (pos_of x y z) (λ centre. Some (test.Cap centre n))
+area_test area.Boxed (lo ∷ hi ∷ ax ∷ ay ∷ bx ∷ by ∷ []) =
+    where_some (dir_of ax ay) (λ a. where_some (dir_of bx by) (λ b. Some (test.Boxed lo hi a b)))
+area_test _ _ = None

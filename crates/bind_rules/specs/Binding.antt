@@ -1,0 +1,128 @@
+-- What a query comes to over a schema: the bound query, or its first fault.
+use Rattle.std.specs.Prelude.{ℕ, ◌+◌, ℤ, pos, ◌-ℤ◌, Bool, true, false, if◌then◌else◌, List, [], ◌∷◌, ◌++◌, map}
+use Rattle.std.specs.Prelude.{Option, None, Some, Result, Ok, Err}
+use Rattle.std.specs.List.{flat_map}
+use Rattle.std.specs.Option.{option_map}
+use Rattle.sql_bound.specs.declared.expr.BoundAtom.TheVariants as batom
+use Rattle.sql_bound.specs.declared.expr.BoundExpr.{BoundExpr, roll-BoundExpr}
+use Rattle.sql_bound.specs.declared.expr.BoundFactor.{roll-BoundFactor}
+use Rattle.sql_bound.specs.declared.expr.BoundProd.{roll-BoundProd}
+use Rattle.sql_bound.specs.declared.query.Bound.{Bound}
+use Rattle.sql_bound.specs.declared.query.BoundItem.{BoundItem}
+use Rattle.sql_bound.specs.declared.query.BoundItem.TheVariants as item
+use Rattle.sql_bound.specs.declared.query.BoundKey.{BoundKey}
+use Rattle.sql_bound.specs.declared.query.BoundKey.TheVariants as bkey
+use Rattle.sql_bound.specs.declared.query.BoundOrder.{BoundOrder}
+use Rattle.sql_bound.specs.declared.query.Shape.{Shape}
+use Rattle.sql_bound.specs.declared.query.Shape.TheVariants as shape
+use Rattle.sql_tree.specs.declared.cond.Cond.{Cond}
+use Rattle.sql_tree.specs.declared.name.Col.{Col}
+use Rattle.sql_tree.specs.declared.query.ItemKind.{ItemKind}
+use Rattle.sql_tree.specs.declared.query.ItemKind.TheVariants as what
+use Rattle.sql_tree.specs.declared.query.OrderBy.{OrderBy}
+use Rattle.sql_tree.specs.declared.query.Query.{Query}
+use Rattle.sql_tree.specs.declared.query.Selection.{Selection}
+use Rattle.sql_tree.specs.declared.query.Selection.TheVariants as selection
+use Rattle.sql_rules.specs.declared.fault.BindFault.{BindFault}
+use Rattle.bind_rules.specs.Bounds.{Scope, bound_col, bound_expr}
+use Rattle.bind_rules.specs.Conjuncts.{conjuncts}
+use Rattle.bind_rules.specs.Checks.{alias_place, bind_fault}
+use Rattle.bind_rules.specs.Columns.{all_names, is_join}
+use Rattle.bind_rules.specs.Names.{is_grouped}
+use Rattle.bind_rules.specs.Tops.{Test, Chord, tests_in}
+use Rattle.sql_bound.specs.declared.cond.BoundCond.{BoundCond}
+use Rattle.bind_rules.specs.IdTests.{areas_by, ids_by}
+
+-- ---- items
+
+-- the expression that is one column
+abbrev pub just_column : Bool → ℕ → BoundExpr
+just_column second col = roll-BoundExpr (record {
+  first = roll-BoundProd (record {
+    first = roll-BoundFactor (record { minus = false; atom = batom.Col (record { second = second; col = col }) });
+    rest = [];
+  });
+  rest = [];
+})
+
+-- all columns of a table
+abbrev pub columns_from : Bool → ℕ → List (List ℕ) → List BoundItem
+columns_from second at [] = []
+columns_from second at (n ∷ ns) = item.Plain (just_column second at) ∷ columns_from second (at + 1) ns
+
+-- a star: all columns of the first table, then in a join all of the second
+abbrev pub star_items : List (List ℕ) → Bool → List BoundItem
+star_items names join =
+    columns_from false 0 (all_names names) ++ (if join then columns_from true 0 (all_names names) else [])
+
+-- the bound item
+abbrev pub bound_item : Scope → ItemKind → BoundItem
+bound_item s (what.Plain e) = item.Plain (bound_expr s e)
+bound_item s what.Count = item.Count
+bound_item s (what.CountOf e) = item.CountOf (bound_expr s e)
+bound_item s (what.Sum e) = item.Sum (bound_expr s e)
+bound_item s (what.Min e) = item.Min (bound_expr s e)
+bound_item s (what.Max e) = item.Max (bound_expr s e)
+bound_item s (what.Avg e) = item.Avg (bound_expr s e)
+
+-- the bound items
+abbrev pub bound_items : Scope → Query → Selection → List BoundItem
+bound_items s q (selection.Star span) = star_items s.names (is_join q)
+bound_items s q (selection.List l) = map (λ i. bound_item s i.what) (l.first ∷ l.rest)
+
+-- ---- the shape and the order
+
+-- the largest squared chord that a chord test accepts
+abbrev pub chord_limit : Test → List ℤ
+chord_limit (Chord left right true n) = (n -ℤ pos 1) ∷ []
+chord_limit (Chord left right false n) = n ∷ []
+chord_limit _ = []
+
+-- the first, where there is one
+abbrev pub first_or : ℤ → List ℤ → ℤ
+first_or z [] = z
+first_or z (n ∷ ns) = n
+
+-- pairs up to the limit of the one chord test, groups, or rows
+abbrev pub bound_shape : Scope → Query → Shape
+bound_shape s q =
+    if is_join q then shape.Pairs (first_or (pos 0) (flat_map (λ f. chord_limit f.test) (tests_in q.cond)))
+    else if is_grouped q then shape.Groups (map (bound_col s) q.group)
+    else shape.Rows
+
+-- an alias goes before a column
+abbrev pub key_by : Scope → Col → Option ℕ → BoundKey
+key_by s c (Some place) = bkey.Item place
+key_by s c None = bkey.Column (bound_col s c)
+
+-- the bound order
+abbrev pub bound_order : Scope → Query → OrderBy → BoundOrder
+bound_order s q o = record { key = key_by s o.key (alias_place q o.key); down = o.down }
+
+-- the conjuncts of WHERE
+abbrev pub conds_in : Scope → Option Cond → List BoundCond
+conds_in s None = []
+conds_in s (Some c) = conjuncts s c
+
+-- ---- the query
+
+-- the bound query of a query without a fault
+unfoldable pub bound_query : Scope → Query → Bound
+bound_query s q = record {
+  shape = bound_shape s q;
+  items = bound_items s q q.items;
+  conds = conds_in s q.cond;
+  areas = flat_map (λ f. areas_by f.test) (tests_in q.cond);
+  ids = flat_map (λ f. ids_by s f.test f.top) (tests_in q.cond);
+  order = option_map (bound_order s q) q.order;
+  limit = q.limit;
+}
+
+-- the fault, or else the query
+abbrev pub by_fault : Option BindFault → Bound → Result Bound BindFault
+by_fault (Some f) b = Err f
+by_fault None b = Ok b
+
+-- what a query comes to over the schema of these further columns
+unfoldable pub bound_of : List (List ℕ) → Query → Result Bound BindFault
+bound_of names q = by_fault (bind_fault names q) (bound_query (record { names = names; second = q.second }) q)

@@ -1,0 +1,73 @@
+-- Written expressions with their columns in place of names.
+use Rattle.std.specs.Prelude.{ℕ, Bool, false, unwrap_or, List}
+use Rattle.std.specs.Prelude.{Option, Some}
+use Rattle.std.specs.Str.{bytes_eq}
+use Rattle.sql_bound.specs.declared.cond.Cmp.{Cmp as BoundCmp}
+use Rattle.sql_bound.specs.declared.cond.Cmp.TheVariants as op
+use Rattle.sql_bound.specs.declared.expr.BoundAtom.{BoundAtom}
+use Rattle.sql_bound.specs.declared.expr.BoundAtom.TheVariants as batom
+use Rattle.sql_bound.specs.declared.expr.BoundCol.{BoundCol}
+use Rattle.sql_bound.specs.declared.expr.BoundExpr.{BoundExpr, roll-BoundExpr}
+use Rattle.sql_bound.specs.declared.expr.BoundFactor.{BoundFactor, roll-BoundFactor}
+use Rattle.sql_bound.specs.declared.expr.BoundProd.{BoundProd, roll-BoundProd}
+use Rattle.sql_bound.specs.declared.expr.BoundSigned.{BoundSigned, roll-BoundSigned}
+use Rattle.sql_tree.specs.declared.cond.Cmp.{Cmp}
+use Rattle.sql_tree.specs.declared.cond.Cmp.TheVariants as cmp
+use Rattle.sql_tree.specs.declared.expr.Atom.TheFolds.{fold-Expr}
+use Rattle.sql_tree.specs.declared.expr.Atom.TheOpen.{Atom-F, Expr-F, Factor-F, Prod-F, Signed-F}
+use Rattle.sql_tree.specs.declared.expr.Expr.{Expr}
+use Rattle.sql_tree.specs.declared.name.Col.{Col}
+use Rattle.sql_tree.specs.declared.name.Name.{Name}
+use Rattle.sql_tree.specs.declared.query.TableRef.{TableRef}
+use Rattle.bind_rules.specs.Columns.{column_of, qualifier}
+
+-- What a query's names are read by: the further columns, and the second table of a join.
+pub record Scope : Type 0 where
+  pub names : List (List ℕ)
+  pub second : Option TableRef
+
+-- the qualifier is that of the second table
+abbrev pub is_second : Option TableRef → Option Name → Bool
+is_second (Some t) (Some n) = bytes_eq n.text (qualifier t)
+is_second _ _ = false
+
+-- the column that is meant; a name that the schema does not have, which is refused, counts as 0
+abbrev pub bound_col : Scope → Col → BoundCol
+bound_col s c = record { second = is_second s.second c.table; col = unwrap_or (column_of s.names c.name.text) 0 }
+
+-- the bound atom, of what it holds
+abbrev pub bound_atom_step : Scope → Atom-F BoundAtom BoundExpr BoundFactor BoundProd BoundSigned → BoundAtom
+bound_atom_step s (Atom-F.Int n) = batom.Int n
+bound_atom_step s (Atom-F.Col c) = batom.Col (bound_col s c)
+bound_atom_step s (Atom-F.Bracket e) = batom.Bracket e
+
+-- the bound sum, of its parts
+abbrev pub bound_expr_step : Expr-F BoundAtom BoundExpr BoundFactor BoundProd BoundSigned → BoundExpr
+bound_expr_step e = roll-BoundExpr (record { first = e.first; rest = e.rest })
+
+-- the bound factor, of its atom
+abbrev pub bound_factor_step : Factor-F BoundAtom BoundExpr BoundFactor BoundProd BoundSigned → BoundFactor
+bound_factor_step f = roll-BoundFactor (record { minus = f.minus; atom = f.atom })
+
+-- the bound product, of its factors
+abbrev pub bound_prod_step : Prod-F BoundAtom BoundExpr BoundFactor BoundProd BoundSigned → BoundProd
+bound_prod_step p = roll-BoundProd (record { first = p.first; rest = p.rest })
+
+-- the bound further product
+abbrev pub bound_signed_step : Signed-F BoundAtom BoundExpr BoundFactor BoundProd BoundSigned → BoundSigned
+bound_signed_step p = roll-BoundSigned (record { minus = p.minus; prod = p.prod })
+
+-- the bound expression
+unfoldable pub bound_expr : Scope → Expr → BoundExpr
+bound_expr s =
+    fold-Expr BoundAtom BoundExpr BoundFactor BoundProd BoundSigned (bound_atom_step s) bound_expr_step
+    bound_factor_step bound_prod_step bound_signed_step
+
+-- the same comparison
+abbrev pub bound_op : Cmp → BoundCmp
+bound_op cmp.Equal = op.Eq
+bound_op cmp.Differs = op.Ne
+bound_op cmp.Less = op.Lt
+bound_op cmp.AtMost = op.Le
+bound_op cmp.More = op.Gt
+bound_op cmp.AtLeast = op.Ge

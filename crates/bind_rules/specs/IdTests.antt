@@ -1,0 +1,73 @@
+-- The area tests and the id tests of WHERE.
+use Rattle.std.specs.Prelude.{ℤ, Bool, true, false, ◌&&◌, not, if◌then◌else◌, List, [], ◌∷◌}
+use Rattle.std.specs.Prelude.{Option, None, Some, nat_eq}
+use Rattle.sql_bound.specs.declared.area.AreaTest.{AreaTest}
+use Rattle.sql_tree.specs.declared.expr.Atom.TheFolds.{fold-Expr}
+use Rattle.sql_tree.specs.declared.expr.Atom.TheOpen.{Atom-F, Factor-F}
+use Rattle.sql_tree.specs.declared.expr.Expr.{Expr}
+use Rattle.sql_tree.specs.declared.name.Col.{Col}
+use Rattle.bind_rules.specs.Areas.{area_test}
+use Rattle.bind_rules.specs.Bounds.{Scope, bound_col}
+use Rattle.bind_rules.specs.Conjuncts.{listed}
+use Rattle.bind_rules.specs.Forms.{values_of}
+use Rattle.bind_rules.specs.Tops.{Test, Area, Equals, Listed}
+
+-- ---- an expression that is one column or one int alone
+
+-- A column, or an int.
+pub data Lone : Type 0 where
+  LoneCol : Col → Lone
+  LoneInt : ℤ → Lone
+
+-- a column or an int, where an expression is one
+abbrev pub Alone : Type 0
+Alone = Option Lone
+
+-- the first, where nothing follows it
+abbrev pub first_alone : {A : Type 0} → Alone → List A → Alone
+first_alone x [] = x
+first_alone x (y ∷ ys) = None
+
+-- an atom that is no bracket
+abbrev pub lone_at_atom : Atom-F Alone Alone Alone Alone Alone → Alone
+lone_at_atom (Atom-F.Int n) = Some (LoneInt n)
+lone_at_atom (Atom-F.Col c) = Some (LoneCol c)
+lone_at_atom (Atom-F.Bracket e) = None
+
+-- a factor without a minus
+abbrev pub lone_at_factor : Factor-F Alone Alone Alone Alone Alone → Alone
+lone_at_factor f = if f.minus then None else f.atom
+
+-- the column or the int that an expression is, without brackets and minus
+unfoldable pub lone_of : Expr → Alone
+lone_of =
+    fold-Expr Alone Alone Alone Alone Alone lone_at_atom (λ e. first_alone e.first e.rest) lone_at_factor
+    (λ p. first_alone p.first p.rest) (λ s. s.prod)
+
+-- ---- id tests and area tests
+
+-- it is the id of the first table
+abbrev pub is_first_id : Scope → Alone → Bool
+is_first_id s (Some (LoneCol c)) = not (bound_col s c).second && nat_eq (bound_col s c).col 0
+is_first_id s _ = false
+
+-- the int that it is
+abbrev pub int_of : Alone → List ℤ
+int_of (Some (LoneInt n)) = n ∷ []
+int_of _ = []
+
+-- the ids, where the left side is the id of the first table
+abbrev pub ids_if : Bool → List ℤ → List (List ℤ)
+ids_if true (n ∷ ns) = (n ∷ ns) ∷ []
+ids_if _ _ = []
+
+-- the ids of a test that is a conjunct at the top
+abbrev pub ids_by : Scope → Test → Bool → List (List ℤ)
+ids_by s (Equals left right) top = ids_if (top && is_first_id s (lone_of left)) (int_of (lone_of right))
+ids_by s (Listed value list) top = ids_if (top && is_first_id s (lone_of value)) (values_of list)
+ids_by s _ top = []
+
+-- the area test
+abbrev pub areas_by : Test → List AreaTest
+areas_by (Area kind span args) = listed (area_test kind (values_of args))
+areas_by _ = []

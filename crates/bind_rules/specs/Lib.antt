@@ -1,0 +1,14 @@
+pub mod Columns
+pub mod Mentions
+pub mod Tops
+pub mod Widths
+pub mod Names
+pub mod Forms
+pub mod Checks
+pub mod Areas
+pub mod Bounds
+pub mod Conjuncts
+pub mod IdTests
+pub mod Binding
+pub mod Examples
+pub mod BoundExamples

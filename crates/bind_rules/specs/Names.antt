@@ -1,0 +1,75 @@
+-- Names that are not known, and what a grouping does not tell.
+use Rattle.std.specs.Prelude.{ℕ, Bool, true, false, ◌&&◌, ◌||◌, not, if◌then◌else◌}
+use Rattle.std.specs.Prelude.{List, [], ◌∷◌, Option, None, Some, codes}
+use Rattle.std.specs.List.{list_any, find, flat_map}
+use Rattle.std.specs.Option.{option_map}
+use Rattle.std.specs.Str.{bytes_eq}
+use Rattle.sql_token.specs.declared.token.Span.{Span}
+use Rattle.sql_tree.specs.declared.name.Col.{Col}
+use Rattle.sql_tree.specs.declared.query.ItemKind.{ItemKind}
+use Rattle.sql_tree.specs.declared.query.ItemKind.TheVariants as what
+use Rattle.sql_tree.specs.declared.query.Query.{Query}
+use Rattle.sql_tree.specs.declared.query.Selection.{Selection}
+use Rattle.sql_tree.specs.declared.query.Selection.TheVariants as selection
+use Rattle.sql_tree.specs.declared.query.TableRef.{TableRef}
+use Rattle.sql_tree.specs.Spans.{col_span}
+use Rattle.sql_rules.specs.declared.fault.BindFault.{BindFault}
+use Rattle.sql_rules.specs.declared.fault.BindFault.TheVariants as fault
+use Rattle.bind_rules.specs.Columns.{tables, is_join, is_qualifier, is_known, is_same_column}
+use Rattle.bind_rules.specs.Mentions.{Mention, Column, Table, Side, mentions_of, columns_of, items_of}
+
+-- ---- a name that is not known
+
+-- the mention is of nothing that is there
+abbrev pub is_unknown : List (List ℕ) → List TableRef → Mention → Bool
+is_unknown names ts (Column c) = not (is_known names ts c)
+is_unknown names ts (Table n) = not (bytes_eq n.text (codes "Object"))
+is_unknown names ts (Side n) = not (is_qualifier ts n.text)
+
+-- where a mention stands
+abbrev pub span_of : Mention → Span
+span_of (Column c) = col_span c
+span_of (Table n) = n.span
+span_of (Side n) = n.span
+
+-- the first name that is not known
+unfoldable pub unknown_name : List (List ℕ) → Query → Option BindFault
+unknown_name names q =
+    option_map (λ m. fault.UnknownName (span_of m)) (find (is_unknown names (tables q)) (mentions_of q))
+
+-- ---- a grouping
+
+-- the item is an aggregate
+abbrev pub is_aggregate : ItemKind → Bool
+is_aggregate (what.Plain e) = false
+is_aggregate _ = true
+
+-- the query has a GROUP BY
+abbrev pub has_keys : List Col → Bool
+has_keys [] = false
+has_keys (c ∷ cs) = true
+
+-- the query has an aggregate or a GROUP BY
+abbrev pub is_grouped : Query → Bool
+is_grouped q = list_any (λ i. is_aggregate i.what) (items_of q.items) || has_keys q.group
+
+-- the columns of an item that stand outside of an aggregate
+abbrev pub plain_columns : ItemKind → List Col
+plain_columns (what.Plain e) = columns_of e
+plain_columns _ = []
+
+-- the column is among the GROUP BY columns
+abbrev pub is_key : Query → Col → Bool
+is_key q c = list_any (is_same_column c) q.group
+
+-- the first place of the items that a grouping does not tell
+abbrev pub untold : Query → Selection → Option Span
+untold q (selection.Star span) = Some span
+untold q (selection.List l) =
+    option_map col_span
+    (find (λ c. not (is_key q c)) (flat_map (λ i. plain_columns i.what) (items_of (selection.List l))))
+
+-- the first place that a grouping does not tell
+unfoldable pub not_grouped : Query → Option BindFault
+not_grouped q =
+    if not (is_join q) && is_grouped q then option_map fault.NotGrouped (untold q q.items) else None

@@ -1,0 +1,90 @@
+//! Worked examples of the checks, as functions that do nothing: each ensures what the checker computes.
+
+ghost use Rattle.std.specs.Prelude.{◌≡◌, codes, Some};
+ghost use Rattle.bind_rules.specs.BoundExamples.{all_in_a_cap, bound_text, cap_text, groups_of_two};
+ghost use Rattle.bind_rules.specs.BoundExamples.{groups_text, one_id, one_id_text, strict_pairs, strict_pairs_text};
+ghost use Rattle.bind_rules.specs.Examples.{Binds, Refused, judged, span};
+ghost use Rattle.sql_rules.specs.declared.fault.BindFault.TheVariants.{AreaForm, JoinForm, NotGrouped, OrderName};
+ghost use Rattle.sql_rules.specs.declared.fault.BindFault.TheVariants.{TooWide, UnknownName};
+
+/// A column that the schema does not have comes before a table that is not there.
+pub fn unknown_names()
+    ensures column { judged (codes "SELECT mag FROM Foo") ≡ Refused (UnknownName (span 7 10)) }
+    ensures table { judged (codes "SELECT x FROM Foo") ≡ Refused (UnknownName (span 14 17)) }
+    ensures qualifier { judged (codes "SELECT Object . x FROM Object o")
+        ≡ Refused (UnknownName (span 7 17)) }
+    ensures key { judged (codes "SELECT x FROM Object GROUP BY x,mag")
+        ≡ Refused (UnknownName (span 32 35)) }
+{}
+
+/// A column that is no key, and a star, where there is an aggregate or a GROUP BY.
+pub fn not_grouped()
+    ensures column { judged (codes "SELECT flux,COUNT(*) FROM Object")
+        ≡ Refused (NotGrouped (span 7 11)) }
+    ensures star { judged (codes "SELECT * FROM Object GROUP BY x")
+        ≡ Refused (NotGrouped (span 7 8)) }
+    ensures qualified { judged (codes "SELECT Object.g,MAX(flux) FROM Object GROUP BY g") ≡ Binds }
+{}
+
+/// A join has two aliases and one chord test of both at the top, where brackets may stand around it.
+pub fn join_forms()
+    ensures brackets { judged (codes "SELECT a.x FROM Object a,Object b WHERE (chord2(b,a)<4)")
+        ≡ Binds }
+    ensures negated { judged (codes "SELECT a.x FROM Object a,Object b WHERE NOT chord2(a,b)<4")
+        ≡ Refused JoinForm }
+    ensures itself { judged (codes "SELECT a.x FROM Object a,Object b WHERE chord2(a,a)<4")
+        ≡ Refused JoinForm }
+    ensures one_table { judged (codes "SELECT x FROM Object WHERE chord2(Object,Object)<4")
+        ≡ Refused JoinForm }
+    ensures grouped { judged (codes "SELECT COUNT(*) FROM Object a,Object b WHERE chord2(a,b)<4")
+        ≡ Refused JoinForm }
+    ensures unqualified { judged (codes "SELECT x FROM Object a,Object b WHERE chord2(a,b)<4")
+        ≡ Refused JoinForm }
+{}
+
+/// An area test stands at the top, with as many arguments as it takes, and a box turns to the left.
+pub fn area_forms()
+    ensures negated { judged (codes "SELECT x FROM Object WHERE NOT area_band(1,2)")
+        ≡ Refused (AreaForm (span 31 40)) }
+    ensures arguments { judged (codes "SELECT x FROM Object WHERE area_band(1)")
+        ≡ Refused (AreaForm (span 27 36)) }
+    ensures right_turn { judged (codes "SELECT x FROM Object WHERE area_box(0,1,0,1,1,0)")
+        ≡ Refused (AreaForm (span 27 35)) }
+    ensures left_turn { judged (codes "SELECT x FROM Object WHERE area_box(0,1,1,0,0,1)") ≡ Binds }
+{}
+
+/// Each front of a product counts.
+pub fn too_wide()
+    ensures product { judged (codes "SELECT objectId*flux FROM Object") ≡ Refused TooWide }
+    ensures front { judged (codes "SELECT flux*flux*flux*0 FROM Object") ≡ Refused TooWide }
+    ensures zero_first { judged (codes "SELECT 0*flux*flux*flux FROM Object") ≡ Binds }
+{}
+
+/// The order key is an alias or a column, of a grouping one of its keys.
+pub fn order_keys()
+    ensures unknown { judged (codes "SELECT x FROM Object ORDER BY mag")
+        ≡ Refused (OrderName (span 30 33)) }
+    ensures alias { judged (codes "SELECT x AS mag FROM Object ORDER BY mag") ≡ Binds }
+    ensures no_key { judged (codes "SELECT g,COUNT(*) FROM Object GROUP BY g ORDER BY x")
+        ≡ Refused (OrderName (span 50 51)) }
+{}
+
+/// An equation with the id is a filter and an id test; an order key is an alias before it is a column.
+pub fn bound_to_rows()
+    ensures { bound_text one_id_text ≡ Some one_id }
+{}
+
+/// A strict chord test is a limit one smaller; an id of the second table is no id test.
+pub fn bound_to_pairs()
+    ensures { bound_text strict_pairs_text ≡ Some strict_pairs }
+{}
+
+/// A grouping with an id list and a band.
+pub fn bound_to_groups()
+    ensures { bound_text groups_text ≡ Some groups_of_two }
+{}
+
+/// A star is all columns, and a cap has its centre.
+pub fn bound_to_all_columns()
+    ensures { bound_text cap_text ≡ Some all_in_a_cap }
+{}

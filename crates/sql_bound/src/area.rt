@@ -1,0 +1,24 @@
+//! Tests that the chunk choice goes by: areas of the sky, and lists of ids.
+
+use sky_vector::{Dir, Pos};
+use sqlite_items::Items;
+
+/// A part of the sky that a query asks for.
+#[derive(Clone, Copy, Debug, PartialEq, Eq)]
+pub enum AreaTest {
+    /// The heights from `lo` to `hi`.
+    Band { lo: i64, hi: i64 },
+    /// What is no farther from the centre than the root of n, for n in squared grid units, from 0 to 2^62.
+    Cap { centre: Pos, n: i64 },
+    /// The heights from `lo` to `hi` between the directions a and b, b less than half a turn to the left of a.
+    Boxed { lo: i64, hi: i64, a: Dir, b: Dir },
+}
+
+/// The area tests of a query, in their order.
+pub type Areas = Items<AreaTest>;
+
+/// The ids of one id test.
+pub type Ids = Items<i64>;
+
+/// The id tests of a query, in their order.
+pub type IdTests = Items<Ids>;

@@ -1,0 +1,72 @@
+//! Conditions on a row or on a pair of rows, as they are written, without spans.
+
+use crate::area::AreaTest;
+use crate::expr::BoundExpr;
+use sqlite_items::{Boxed, Items};
+
+/// How two values are compared.
+#[derive(Clone, Copy, Debug, PartialEq, Eq)]
+pub enum Cmp {
+    Eq,
+    Ne,
+    Lt,
+    Le,
+    Gt,
+    Ge,
+}
+
+/// A disjunction: what is joined by OR.
+#[cycle(cond)]
+#[derive(Drop)]
+pub struct BoundAny {
+    pub first: BoundAll,
+    pub rest: Items<BoundAll>,
+}
+
+/// A conjunction: what is joined by AND.
+#[cycle(cond)]
+#[derive(Drop)]
+pub struct BoundAll {
+    pub first: BoundCond,
+    pub rest: Items<BoundCond>,
+}
+
+/// A predicate, or with `not` its negation.
+#[cycle(cond)]
+#[derive(Drop)]
+pub struct BoundCond {
+    pub not: bool,
+    pub pred: BoundPred,
+}
+
+/// A test. Its own `not` is that of NOT BETWEEN, NOT IN and IS NOT NULL. There is no test of a chord: the one chord
+/// test of a join is its limit.
+#[cycle(cond)]
+#[derive(Drop)]
+pub enum BoundPred {
+    Bracket(Boxed<BoundAny>),
+    Compare {
+        left: BoundExpr,
+        op: Cmp,
+        right: BoundExpr,
+    },
+    Between {
+        not: bool,
+        value: BoundExpr,
+        low: BoundExpr,
+        high: BoundExpr,
+    },
+    Among {
+        not: bool,
+        value: BoundExpr,
+        list: Items<i64>,
+    },
+    IsNull {
+        not: bool,
+        value: BoundExpr,
+    },
+    Area(AreaTest),
+}
+
+/// Conditions that all have to hold.
+pub type BoundConds = Items<BoundCond>;

@@ -1,0 +1,63 @@
+//! A bound query.
+
+use crate::area::{Areas, IdTests};
+use crate::cond::BoundConds;
+use crate::expr::{BoundCol, BoundExpr};
+use sqlite_items::Items;
+
+/// Columns, in their order.
+pub type ColList = Items<BoundCol>;
+
+/// What a query goes over.
+#[derive(Drop)]
+pub enum Shape {
+    /// The rows of the table.
+    Rows,
+    /// The ordered pairs of rows whose squared chord is at most the limit, which is -1 where no pair is asked for.
+    Pairs { limit: i64 },
+    /// The groups of rows with equal keys; with no keys there is one group.
+    Groups { keys: ColList },
+}
+
+/// An item of a query: an expression of a row, a pair or a group's keys, or an aggregate of a group. `Count` counts the
+/// rows, and the others look at those where their expression is not NULL.
+#[derive(Drop)]
+pub enum BoundItem {
+    Plain(BoundExpr),
+    Count,
+    CountOf(BoundExpr),
+    Sum(BoundExpr),
+    Min(BoundExpr),
+    Max(BoundExpr),
+    Avg(BoundExpr),
+}
+
+/// The items of a query, in their order.
+pub type BoundItems = Items<BoundItem>;
+
+/// What a query is ordered by: the item at a place, from 0, or a column.
+#[derive(Clone, Copy, Debug, PartialEq, Eq)]
+pub enum BoundKey {
+    Item(u32),
+    Column(BoundCol),
+}
+
+/// An order: its key, and whether it goes down.
+#[derive(Clone, Copy, Debug, PartialEq, Eq)]
+pub struct BoundOrder {
+    pub key: BoundKey,
+    pub down: bool,
+}
+
+/// A bound query. `conds` are the conjuncts of WHERE that stand at its top, but for a join's chord test, which is the
+/// limit of its shape; the area tests and the id tests are among them, and again in `areas` and `ids`.
+#[derive(Drop)]
+pub struct Bound {
+    pub shape: Shape,
+    pub items: BoundItems,
+    pub conds: BoundConds,
+    pub areas: Areas,
+    pub ids: IdTests,
+    pub order: Option<BoundOrder>,
+    pub limit: Option<i64>,
+}
