@@ -1,0 +1,5 @@
+pub mod Parts
+pub mod Trees
+pub mod Negation
+pub mod Within
+pub mod Cells

@@ -1,0 +1,10 @@
+pub mod Terms
+pub mod Formulas
+pub mod Values
+pub mod Areas
+pub mod Truth
+pub mod Widths
+pub mod Sound
+pub mod Tested
+pub mod Laws
+pub mod Examples

@@ -1,0 +1,58 @@
+//! Worked examples of values and of conditions, computed by the checker.
+
+ghost use Rattle.std.specs.Prelude.{◌≡◌, ◌^◌, [], ◌∷◌, None, Some, false, negsuc, pos, true};
+ghost use Rattle.sql_bound.specs.Trees.{both, either};
+ghost use Rattle.sql_bound.specs.declared.area.AreaTest.TheVariants.{Band, Boxed, Cap};
+ghost use Rattle.value_rules.specs.Examples.{column, east, faint_or_second, flux, flux_times_id, id_times_flux, ids_in};
+ghost use Rattle.value_rules.specs.Examples.{ids_that_meet, is_bright, middle_box, is_second, is_third, no_flux, north};
+ghost use Rattle.value_rules.specs.Examples.{on_meridian, product_of, second, some_without_flux, third, zero_first};
+ghost use Rattle.value_rules.specs.Examples.{zero_last};
+ghost use Rattle.value_rules.specs.Sound.{has_col, is_sound_expr};
+ghost use Rattle.value_rules.specs.Truth.{truth_of};
+ghost use Rattle.value_rules.specs.Values.{value_of};
+ghost use Rattle.value_rules.specs.Widths.{widest_of, width_of};
+
+/// `NOT flux>20 OR objectId=2`: the second row is kept for its id, and the fourth, without flux, is unknown and goes.
+pub fn unknown_is_not_kept()
+    ensures { ids_that_meet faint_or_second some_without_flux ≡ pos 1 ∷ pos 2 ∷ pos 5 ∷ [] }
+{}
+
+/// `flux IS NULL` is true where there is no flux, and false elsewhere.
+pub fn rows_without_flux()
+    ensures { ids_that_meet no_flux some_without_flux ≡ pos 2 ∷ pos 4 ∷ [] }
+{}
+
+/// On a row without flux a comparison of it is unknown; AND with a false part is false, OR with a true part is true.
+pub fn truths_without_flux()
+    ensures alone { truth_of is_bright second ≡ None }
+    ensures and_true { truth_of (both is_bright is_second) second ≡ None }
+    ensures and_false { truth_of (both is_bright is_third) second ≡ Some false }
+    ensures or_true { truth_of (either is_bright is_second) second ≡ Some true }
+    ensures or_false { truth_of (either is_bright is_third) second ≡ None }
+{}
+
+/// What is computed of NULL is NULL.
+pub fn values_of_rows()
+    ensures there { value_of flux_times_id third ≡ Some (pos 89) }
+    ensures null { value_of flux_times_id second ≡ None }
+{}
+
+/// Each front of a product counts: `a*a*a*0` is too wide, and `0*a*a*a` is not; an id times a further column is.
+pub fn widths_of_products()
+    ensures wide { widest_of zero_last ≡ 2 ^ 150 }
+    ensures narrow { widest_of zero_first ≡ 2 ^ 50 }
+    ensures itself { width_of zero_last ≡ 0 }
+    ensures refused { is_sound_expr (has_col 5 false) id_times_flux ≡ false }
+    ensures most { is_sound_expr (has_col 5 false) (product_of (column 4) (column 4 ∷ [])) ≡ true }
+    ensures absent { is_sound_expr (has_col 4 false) flux ≡ false }
+{}
+
+/// A band and a box hold their borders, and a cap what is exactly as far as it goes.
+pub fn areas_hold_their_borders()
+    ensures band { ids_in (Band (negsuc 0) (pos 4)) ≡ pos 1 ∷ pos 2 ∷ pos 3 ∷ pos 4 ∷ pos 5 ∷ [] }
+    ensures turned { ids_in (Band (pos 4) (negsuc 0)) ≡ [] }
+    ensures cap { ids_in (Cap on_meridian (pos 9)) ≡ pos 1 ∷ pos 2 ∷ pos 4 ∷ pos 5 ∷ [] }
+    ensures smaller { ids_in (Cap on_meridian (pos 8)) ≡ pos 1 ∷ pos 5 ∷ [] }
+    ensures sides { ids_in middle_box ≡ pos 1 ∷ pos 2 ∷ pos 3 ∷ pos 5 ∷ [] }
+    ensures axis { ids_in (Boxed (pos 1000) (pos 268435472) east north) ≡ [] }
+{}
