@@ -1,0 +1,64 @@
+-- Laws of pieces: they join over disjoint sets of chunks, in any order, and finish as the answer.
+use Rattle.std.specs.Prelude.{◌≡◌, ℕ, true, false, List, [], ◌++◌, Option}
+use Rattle.table_rules.specs.Objects.{Obj, IdsAscend}
+use Rattle.sky_rules.specs.Partition.{Partition}
+use Rattle.sql_bound.specs.declared.query.Bound.{Bound}
+use Rattle.sql_bound.specs.declared.query.Shape.{Shape}
+use Rattle.sql_bound.specs.declared.query.Shape.TheVariants.{Rows, Pairs, Groups}
+use Rattle.value_rules.specs.Sound.{IsSound}
+use Rattle.answer_rules.specs.declared.rewritten.ChunkItem.{ChunkItem}
+use Rattle.answer_rules.specs.declared.rewritten.ChunkQuery.{ChunkQuery}
+use Rattle.answer_rules.specs.Answers.{answer_in}
+use Rattle.answer_rules.specs.Finish.{finished}
+use Rattle.answer_rules.specs.Parts.{gathered}
+use Rattle.answer_rules.specs.Picks.{is_among}
+use Rattle.answer_rules.specs.Pieces.{PieceView, OfRows, OfGroups, PieceFor}
+use Rattle.answer_rules.specs.Rows.{limit_of}
+use Rattle.answer_rules.specs.Rewriting.{chunk_query_of, merge_plan_of}
+
+-- no chunk is in both sets
+abbrev pub AreDisjoint : List ℕ → List ℕ → Type 0
+AreDisjoint B B' = (c : ℕ) → is_among B c ≡ true → is_among B' c ≡ false
+
+-- the sets have the same chunks
+abbrev pub AreSame : List ℕ → List ℕ → Type 0
+AreSame B B' = (c : ℕ) → is_among B c ≡ is_among B' c
+
+-- two pieces joined: the rows of one behind those of the other, or parts of groups added up
+abbrev pub joined_views : List ChunkItem → PieceView → PieceView → PieceView
+joined_views items (OfRows pushed rows) (OfRows pushed' rows') = OfRows pushed (rows ++ rows')
+joined_views items (OfRows pushed rows) (OfGroups parts') = OfRows pushed rows
+joined_views items (OfGroups parts) (OfRows pushed' rows') = OfGroups parts
+joined_views items (OfGroups parts) (OfGroups parts') = OfGroups (gathered items (parts ++ parts'))
+
+-- pieces over disjoint sets of chunks, joined, stand for both sets
+abbrev pub PiecesJoin : Type 0
+PiecesJoin =
+    (g : Partition) (table : List Obj) (cq : ChunkQuery) (B B' : List ℕ) (mine other : PieceView) → AreDisjoint B B'
+    → PieceFor g table cq B mine → PieceFor g table cq B' other
+    → PieceFor g table cq (B ++ B') (joined_views cq.items mine other)
+
+-- a piece stands for the chunks of a set, in whatever order they are listed
+abbrev pub PieceIsForASet : Type 0
+PieceIsForASet =
+    (g : Partition) (table : List Obj) (cq : ChunkQuery) (B B' : List ℕ) (view : PieceView) → AreSame B B'
+    → PieceFor g table cq B view → PieceFor g table cq B' view
+
+-- an empty piece: no rows with the limit of the chunk query, or no parts
+abbrev pub empty_view : Shape → Option ℕ → PieceView
+empty_view Rows pushed = OfRows pushed []
+empty_view (Pairs limit) pushed = OfRows pushed []
+empty_view (Groups keys) pushed = OfGroups []
+
+-- an empty piece stands for no chunks
+abbrev pub EmptyPiece : Type 0
+EmptyPiece =
+    (g : Partition) (table : List Obj) (cq : ChunkQuery)
+    → PieceFor g table cq [] (empty_view cq.shape (limit_of cq.limit))
+
+-- a piece of a query's chunk query finishes as the query's answer over the chunks that it stands for
+abbrev pub PieceFinishes : Type 0
+PieceFinishes =
+    (columns : ℕ) (g : Partition) (table : List Obj) (q : Bound) (B : List ℕ) (view : PieceView)
+    → IsSound columns q → IdsAscend table → PieceFor g table (chunk_query_of q) B view
+    → finished (merge_plan_of q) view ≡ answer_in g table q B

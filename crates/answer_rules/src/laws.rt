@@ -1,0 +1,70 @@
+//! Laws of orders, of pieces and of answers, as functions that do nothing: a caller has what they ensure.
+
+ghost use Rattle.answer_rules.specs.Coverage.{AnswerIsFlat, FoundInOne, PlanCovers};
+ghost use Rattle.answer_rules.specs.Laws.{EndLaw, JoinLaw, OnlyOrder, RanksAreKeys, SublistLaw};
+ghost use Rattle.answer_rules.specs.PlaceLaws.{ChunkIsTheOne, LiesInOne, LiesSomewhere};
+ghost use Rattle.answer_rules.specs.PieceLaws.{EmptyPiece, PieceFinishes, PieceIsForASet, PiecesJoin};
+
+/// Ranks compare as keys do: NULL before every number, all turned round where the order goes down.
+#[tactic(auto, using(crate::proofs::Totals::ranks_are_keys))]
+pub fn ranks_are_keys()
+    ensures { RanksAreKeys }
+{}
+
+/// A list that ascends and has the same elements, no two of which tie, is the list in order.
+pub fn only_order<X: Ord>()
+    ensures { OnlyOrder X.cmp }
+{}
+
+/// What two parts keep, both together keep; at the end the first of what is kept are the first of all, and what is kept
+/// is a sublist of all.
+pub fn parts_keep<X: Ord>()
+    ensures join { JoinLaw X.cmp }
+    ensures end { EndLaw X.cmp }
+    ensures sublist { SublistLaw X.cmp }
+{}
+
+/// Pieces over disjoint sets of chunks, joined, stand for both sets.
+#[tactic(auto, using(crate::proofs::Joining::pieces_join))]
+pub fn pieces_join()
+    ensures { PiecesJoin }
+{}
+
+/// A piece stands for the chunks of a set, in whatever order they are listed; an empty piece stands for none.
+pub fn pieces_of_sets()
+    ensures same { PieceIsForASet }
+    ensures empty { EmptyPiece }
+{}
+
+/// A piece of a query's chunk query finishes as the query's answer over the chunks that it stands for, its first total
+/// out of range included.
+#[tactic(auto, using(crate::proofs::Finishing::piece_finishes))]
+pub fn piece_finishes()
+    ensures { PieceFinishes }
+{}
+
+/// A chunk holds a point exactly where it is the point's chunk; a set of one chunk holds what the chunk holds, and the
+/// set of all chunks everything.
+pub fn chunks_hold_their_points()
+    ensures exact { ChunkIsTheOne }
+    ensures one { LiesInOne }
+    ensures all { LiesSomewhere }
+{}
+
+/// The answer over all chunks is the answer over the flat table: a partition takes nothing from it and adds nothing.
+#[tactic(auto, using(crate::proofs::Covering::answer_is_flat))]
+pub fn answer_is_flat()
+    ensures { AnswerIsFlat }
+{}
+
+/// In one chunk a query finds what meets its conditions and whose first row the chunk holds.
+#[tactic(auto, using(crate::proofs::Covering::found_in_one))]
+pub fn found_in_one()
+    ensures { FoundInOne }
+{}
+
+/// The law of coverage: over its plan a query answers what it answers over the whole table.
+#[tactic(auto, using(crate::proofs::Covering::plan_covers))]
+pub fn plan_covers()
+    ensures { PlanCovers }
+{}
