@@ -2,10 +2,5 @@ pub mod Places
 pub mod Pieces
 pub mod LineSteps
 pub mod Fronts
-pub mod NarrowRows
-pub mod TableOf
-pub mod Bounds
-pub mod Heights
-pub mod Marks
 pub mod RowLines
 pub mod Blocks

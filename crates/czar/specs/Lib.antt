@@ -1,11 +1,8 @@
 pub mod NarrowLines
-pub mod NarrowSky
-pub mod NarrowCatalogue
 pub mod NarrowScript
 pub mod NarrowTranscript
 pub mod NarrowRun
 pub mod Cut
 pub mod Each
-pub mod StripeOf
 pub mod Counted
 pub mod Examples

@@ -1,25 +1,23 @@
-//! The front end of the engine: three narrow texts are read, and the transcript of their queries is written.
+//! The front end of the engine: the world that queries are asked of, and the transcript of the queries of a script.
 //!
-//! Callers see a `Plain` as its `Run` and what is written as its `text_of` (`specs/NarrowRun.antt`).
-//! Below: `sky_text` for numbers, `sky_row` for the table, `sky_io` for the sink. Above: the program's top call.
-//! No chunks but whole stripes, no SQL but one form of query, and no file: texts are slices that the caller holds.
+//! Callers see a `World` as its survey, a `Plain` as its `Run` and what is written as its `text_of` (`specs/NarrowRun.antt`).
+//! Below: `chunk_store` for the rows of each chunk, `object_index` for ids, `sky_text` for numbers, `sky_io` for the sink.
+//! Above: the program's top call.
+//! No SQL but one form of query, and no file: texts are slices that the caller holds.
 #![tactic(auto)]
 
-mod catalogue;
 mod cut;
 mod each;
 pub mod examples;
-mod filled;
 mod reading;
 mod run;
 mod script;
-mod sky;
 #[cfg(test)]
 mod tests;
 mod transcript;
+mod world;
 
-pub use catalogue::read_catalogue;
 pub use reading::plain;
 pub use run::{Plain, Unbuilt, put_plain};
 pub use script::{Queries, read_script};
-pub use sky::{Stripes, read_sky};
+pub use world::World;

@@ -1,37 +1,21 @@
-//! Reads the three texts of a run.
-ghost use Rattle.std.specs.Prelude.{IfOk, IfErr};
+//! Reads the script of a run.
+ghost use Rattle.std.specs.Prelude.{IfErr, IfOk};
 ghost use Rattle.czar.specs.NarrowRun.{IsRunOf, IsUnbuilt};
 
-use crate::catalogue::read_catalogue;
 use crate::run::{Plain, Unbuilt};
 use crate::script::read_script;
-use crate::sky::read_sky;
+use crate::world::World;
 use sky_io::Stop;
 use std::alloc::Global;
 
-/// The run of three texts, or the first of them, in this order, that isn't narrow. Takes memory for
-/// the stripes, the rows and the queries.
-pub fn plain(alloc: Global, sky: &[u8], csv: &[u8], script: &[u8]) -> Result<Plain, Stop<Unbuilt>>
-    ensures ok { IfOk result (λ run. IsRunOf sky.now csv.now script.now run) }
-    ensures bad { IfErr result (λ stop. IsUnbuilt sky.now csv.now script.now stop) }
+/// The run of a script over a world, or that the script isn't narrow. Takes memory for the queries.
+pub fn plain<'w>(alloc: Global, world: &'w World, script: &[u8]) -> Result<Plain<'w>, Stop<Unbuilt>>
+    ensures ok { IfOk result (λ run. IsRunOf world.now.store script.now run) }
+    ensures bad { IfErr result (λ stop. IsUnbuilt script.now stop) }
 {
-    let Ok(stripes) = read_sky(alloc, sky) else {
-        return Err(Stop::Memory);
-    };
-    let Some(stripes) = stripes else {
-        return Err(Stop::Bad(Unbuilt::Sky));
-    };
-    let Ok(rows) = read_catalogue(alloc, csv) else {
-        return Err(Stop::Memory);
-    };
-    let Some(rows) = rows else {
-        return Err(Stop::Bad(Unbuilt::Catalogue));
-    };
-    let Ok(queries) = read_script(alloc, script) else {
-        return Err(Stop::Memory);
-    };
-    let Some(queries) = queries else {
-        return Err(Stop::Bad(Unbuilt::Script));
-    };
-    Ok(Plain::new(stripes, rows, queries))
+    match read_script(alloc, script) {
+        Ok(Some(queries)) => Ok(Plain::new(world, queries)),
+        Ok(None) => Err(Stop::Bad(Unbuilt::Script)),
+        Err(_) => Err(Stop::Memory),
+    }
 }

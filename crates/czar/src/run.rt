@@ -1,57 +1,41 @@
-//! A run over narrow texts, and its transcript.
+//! A run of the queries of a narrow script, and its transcript.
 ghost use Rattle.std.specs.Prelude.{◌≡◌, ◌≤◌, length};
 ghost use Rattle.sky_io.specs.Sinks.{Wrote};
 ghost use Rattle.czar.specs.NarrowRun.{text_of};
 
-use crate::filled::filled_count;
 use crate::script::Queries;
-use crate::sky::Stripes;
 use crate::transcript::put_blocks;
+use crate::world::World;
 use sky_io::{Put, Sink};
-use sky_row::Rows;
 use std::marker::Model;
 
-/// Which text isn't narrow.
+/// Which text isn't built: it is in no form that is answered so far.
 #[derive(Clone, Copy, Debug, PartialEq, Eq)]
 pub enum Unbuilt {
-    Sky,
-    Catalogue,
     Script,
 }
 
-/// The stripes, the table and the queries of narrow texts, and how many stripes hold a row.
+/// The queries of a narrow script, over a world.
 #[derive(Drop)]
-pub struct Plain {
-    stripes: Stripes,
-    rows: Rows,
+pub struct Plain<'w> {
+    world: &'w World,
     queries: Queries,
-    chunks: u64,
 }
 
-impl Model for Plain {
-    ghost use Rattle.std.specs.Prelude.{◌≡◌};
-    ghost use Rattle.czar.specs.NarrowTranscript.{filled};
+impl<'w> Model for Plain<'w> {
     ghost use Rattle.czar.specs.NarrowRun.{Run};
 
     ghost Value = { Run };
 
-    ghost view = { λ p. record { lows = p.stripes; table = p.rows.objects; ranges = p.queries } };
-
-    ghost invariant = { λ p. p.chunks ≡ filled p.stripes p.rows.objects };
+    ghost view = { λ p. record { survey = p.world.now.store; ranges = p.queries } };
 }
 
-impl Plain {
-    /// The run of these parts, which it keeps. Takes no memory.
-    pub fn new(stripes: Stripes, rows: Rows, queries: Queries) -> Plain
-        ensures { result ≡ record { lows = stripes; table = rows.objects; ranges = queries } }
+impl<'w> Plain<'w> {
+    /// The run of these queries over the world. Takes no memory.
+    pub fn new(world: &'w World, queries: Queries) -> Plain<'w>
+        ensures { result ≡ record { survey = world.now.store; ranges = queries } }
     {
-        let chunks = filled_count(stripes.as_slice(), rows.as_slice());
-        Plain {
-            stripes,
-            rows,
-            queries,
-            chunks,
-        }
+        Plain { world, queries }
     }
 
     /// How many queries there are, at most 255. Takes no memory.
@@ -64,9 +48,15 @@ impl Plain {
 }
 
 /// Writes the transcript of the run. Takes no memory.
-pub fn put_plain<K: Sink>(sink: &mut K, run: &Plain) -> Put
+pub fn put_plain<K: Sink>(sink: &mut K, run: &Plain<'_>) -> Put
     ensures { Wrote (K.state sink.old) (K.state sink.new) (text_of run.now) result }
 {
-    let rows = run.rows.as_slice();
-    put_blocks(sink, rows, run.chunks, run.queries.as_slice())
+    let store = &run.world.store;
+    let chunks = store.filled().len() as u64;
+    put_blocks(
+        sink,
+        store.rows().as_slice(),
+        chunks,
+        run.queries.as_slice(),
+    )
 }

@@ -1,17 +1,24 @@
--- What each outcome of the top call says, and which outcome must come.
+-- What each outcome of the top call says.
 use Rattle.std.specs.Prelude.{◌≡◌, ◌<◌, ℕ, List, Option, None, Some, false, length, replicate}
 use Rattle.sky_io.specs.Shelves.{ShelfState, GrewBy, times}
 use Rattle.sky_io.specs.Sinks.{SinkState, Appended, AppendedPart, Rose}
-use Rattle.czar.specs.NarrowRun.{Run, text_of}
+use Rattle.sky_rules.specs.declared.fault.SkyFault.{SkyFault}
+use Rattle.table_rules.specs.declared.fault.LoadFault.{LoadFault}
+use Rattle.chunk_store.specs.Survey.{Survey}
+use Rattle.answer_text.specs.Report.{report}
+use Rattle.czar.specs.NarrowScript.{Range, narrow_script}
+use Rattle.czar.specs.NarrowTranscript.{transcript}
 use Rattle.qserv_cli.specs.Words.{Names}
 use Rattle.qserv_cli.specs.Outcomes.{name_of}
-use Rattle.qserv_cli.specs.Reached.{IfTold, IsNarrow, IsNotNarrow, AreEarlierNarrow, AreStill, IsRunOfNamed}
+use Rattle.qserv_cli.specs.Reached.{Texts, IfTold, text_at, Job, IsJobOf, HasText, AreEarlierAccepted}
+use Rattle.qserv_cli.specs.Reached.{IsSkyFault, IsCatalogueFault, IsLong}
 use Rattle.qserv_cli.specs.declared.outcome.Which.{Which}
-use Rattle.qserv_cli.specs.declared.outcome.Which.TheVariants.{Script}
+use Rattle.qserv_cli.specs.declared.outcome.Which.TheVariants.{Sky, Catalogue, Script}
 use Rattle.qserv_cli.specs.declared.outcome.EndKind.{EndKind}
 use Rattle.qserv_cli.specs.declared.outcome.EndKind.TheVariants.{Answered}
 use Rattle.qserv_cli.specs.declared.outcome.Outcome.{Outcome}
-use Rattle.qserv_cli.specs.declared.outcome.Outcome.TheVariants.{Done, Usage, NotBuilt, ShelfFault, SinkFault, Memory}
+use Rattle.qserv_cli.specs.declared.outcome.Outcome.TheVariants.{Done, Usage, BadSky, BadCatalogue, NotBuilt, TooLong}
+use Rattle.qserv_cli.specs.declared.outcome.Outcome.TheVariants.{ShelfFault, SinkFault, Memory}
 
 -- What shelf and sink show before and after the call.
 pub record Shown : Type 0 where
@@ -33,39 +40,66 @@ IsUntouched shown = shown.sink_new ≡ shown.sink_old
 abbrev pub AllFetched : Shown → Type 0
 AllFetched shown = shown.shelf_new.failed ≡ shown.shelf_old.failed
 
--- each query of the run has its answer
-abbrev pub AllAnswered : Run → List EndKind → Type 0
-AllAnswered run ends = ends ≡ replicate (length run.ranges) Answered
+-- what is written of a survey: its report where there are no queries to be answered, and else their transcript
+abbrev pub text_for : Survey → Option (List Range) → List ℕ
+text_for survey None = report survey.plan survey.rows.objects
+text_for survey (Some ranges) = transcript survey ranges
 
--- All was written and sent, and nothing has failed: exactly the transcript of the run of the named texts.
+-- what is written for a job
+abbrev pub text_of_job : Job → List ℕ
+text_of_job job = text_for job.survey job.ranges
+
+-- how many queries there are
+abbrev pub queries_in : Option (List Range) → ℕ
+queries_in None = 0
+queries_in (Some ranges) = length ranges
+
+-- each query of the job has its answer
+abbrev pub AllAnswered : Job → List EndKind → Type 0
+AllAnswered job ends = ends ≡ replicate (queries_in job.ranges) Answered
+
+-- All was written and sent, and nothing has failed: exactly the text of the job of the named texts.
 pub record IsDone (names : Names) (shown : Shown) (ends : List EndKind) : Type 0 where
-  pub run : Run
-  pub texts : IfTold shown.shelf_old.texts (λ texts. IsRunOfNamed names texts run)
+  pub job : Job
+  pub texts : IfTold shown.shelf_old.texts (λ texts. IsJobOf names texts job)
   pub fetched : AllFetched shown
-  pub answered : AllAnswered run ends
-  pub written : Appended shown.sink_old.written (text_of run) shown.sink_new.written
+  pub answered : AllAnswered job ends
+  pub written : Appended shown.sink_old.written (text_of_job job) shown.sink_new.written
   pub calm : shown.sink_new.faults ≡ shown.sink_old.faults
   pub sent : shown.sink_new.held ≡ false
 
--- The sink failed: its count rose, and a front of that transcript was written.
+-- The sink failed: its count rose, and a front of that text was written.
 pub record IsSinkFault (names : Names) (shown : Shown) (ends : List EndKind) : Type 0 where
-  pub run : Run
-  pub texts : IfTold shown.shelf_old.texts (λ texts. IsRunOfNamed names texts run)
+  pub job : Job
+  pub texts : IfTold shown.shelf_old.texts (λ texts. IsJobOf names texts job)
   pub fetched : AllFetched shown
-  pub answered : AllAnswered run ends
-  pub written : AppendedPart shown.sink_old.written (text_of run) shown.sink_new.written
+  pub answered : AllAnswered job ends
+  pub written : AppendedPart shown.sink_old.written (text_of_job job) shown.sink_new.written
   pub cause : Rose shown.sink_old.faults shown.sink_new.faults
 
--- A text isn't narrow: it was reached, each earlier one being narrow and no fetch having failed.
-pub record IsNotBuilt (names : Names) (shown : Shown) (which : Which) : Type 0 where
-  pub earlier : IfTold shown.shelf_old.texts (λ texts. AreEarlierNarrow names texts which)
-  pub refused : IfTold shown.shelf_old.texts (λ texts. IsNotNarrow names texts which)
+-- A text is refused, for something that holds of it: it was reached, each earlier one being accepted and no fetch having
+-- failed, and nothing was written.
+pub record IsRefused (names : Names) (shown : Shown) (which : Which) (Why : List ℕ → Type 0) : Type 0 where
+  pub has : HasText names which
+  pub earlier : IfTold shown.shelf_old.texts (λ texts. AreEarlierAccepted names texts which)
+  pub why : IfTold shown.shelf_old.texts (λ texts. Why (text_at names texts which))
   pub fetched : AllFetched shown
   pub untouched : IsUntouched shown
 
--- The shelf failed at a text: the count of that very name rose and no other's, each earlier text being narrow.
+-- the text is no script that is answered so far
+abbrev pub IsUnbuilt : Names → Shown → Which → Type 0
+IsUnbuilt names shown Script = IsRefused names shown Script (λ text. narrow_script text ≡ None)
+IsUnbuilt names shown _ = ⊥
+
+-- the text is longer than its limit; of a script that isn't told
+abbrev pub IsTooLong : Names → Shown → Which → Type 0
+IsTooLong names shown Script = ⊥
+IsTooLong names shown which = IsRefused names shown which (IsLong which)
+
+-- The shelf failed at a text: the count of that very name rose and no other's, each earlier text being accepted.
 pub record IsShelfFault (names : Names) (shown : Shown) (which : Which) : Type 0 where
-  pub earlier : IfTold shown.shelf_old.texts (λ texts. AreEarlierNarrow names texts which)
+  pub has : HasText names which
+  pub earlier : IfTold shown.shelf_old.texts (λ texts. AreEarlierAccepted names texts which)
   pub grew : GrewBy (name_of names which) shown.shelf_old.failed shown.shelf_new.failed
   pub cause :
       times (name_of names which) shown.shelf_old.failed < times (name_of names which) shown.shelf_new.failed
@@ -75,7 +109,10 @@ pub record IsShelfFault (names : Names) (shown : Shown) (which : Which) : Type 0
 abbrev pub ExplainedOf : Names → Shown → Outcome → Type 0
 ExplainedOf names shown (Done ends) = IsDone names shown ends
 ExplainedOf names shown Usage = ⊥
-ExplainedOf names shown (NotBuilt which) = IsNotBuilt names shown which
+ExplainedOf names shown (BadSky fault) = IsRefused names shown Sky (λ text. IsSkyFault text fault)
+ExplainedOf names shown (BadCatalogue fault) = IsRefused names shown Catalogue (λ text. IsCatalogueFault text fault)
+ExplainedOf names shown (NotBuilt which) = IsUnbuilt names shown which
+ExplainedOf names shown (TooLong which) = IsTooLong names shown which
 ExplainedOf names shown (ShelfFault which) = IsShelfFault names shown which
 ExplainedOf names shown (SinkFault ends) = IsSinkFault names shown ends
 ExplainedOf names shown Memory = AllFetched shown × IsUntouched shown
@@ -85,32 +122,3 @@ abbrev pub Explained : Option Names → Shown → Outcome → Type 0
 Explained None shown outcome =
     (outcome ≡ Usage) × (shown.shelf_new ≡ shown.shelf_old) × IsUntouched shown
 Explained (Some names) shown outcome = ExplainedOf names shown outcome
-
--- the outcome is that this text isn't narrow, or want of memory
-abbrev pub IsNotBuiltOrMemory : Which → Outcome → Type 0
-IsNotBuiltOrMemory which (NotBuilt named) = named ≡ which
-IsNotBuiltOrMemory which Memory = Unit {0}
-IsNotBuiltOrMemory which _ = ⊥
-
--- the outcome is Done, or want of memory
-abbrev pub IsDoneOrMemory : Outcome → Type 0
-IsDoneOrMemory (Done ends) = Unit {0}
-IsDoneOrMemory Memory = Unit {0}
-IsDoneOrMemory _ = ⊥
-
--- Which outcome must come over these texts.
-pub record Completes (names : Names) (shown : Shown) (outcome : Outcome) (texts : List (List ℕ × List ℕ)) : Type 0 where
-  -- a text that is reached and isn't narrow is the answer
-  pub refused :
-      (which : Which) → AreEarlierNarrow names texts which → IsNotNarrow names texts which →
-      AreStill names shown.shelf_old.failed shown.shelf_new.failed which → IsNotBuiltOrMemory which outcome
-  -- all being narrow, and nothing having failed, the work is done
-  pub done :
-      AreEarlierNarrow names texts Script → IsNarrow names texts Script →
-      AreStill names shown.shelf_old.failed shown.shelf_new.failed Script →
-      (Rose shown.sink_old.faults shown.sink_new.faults → ⊥) → IsDoneOrMemory outcome
-
--- the same, where the words are a form and the shelf tells its texts
-abbrev pub Complete : Option Names → Shown → Outcome → Type 0
-Complete None shown outcome = Unit {0}
-Complete (Some names) shown outcome = IfTold shown.shelf_old.texts (Completes names shown outcome)

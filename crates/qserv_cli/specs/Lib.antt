@@ -1,6 +1,9 @@
 pub mod Words
 pub mod TextNames
+pub mod FaultLines
 pub mod Outcomes
 pub mod Reached
 pub mod Explained
+pub mod Completes
 pub mod Steps
+pub mod Inputs

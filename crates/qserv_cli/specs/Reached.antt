@@ -1,36 +1,85 @@
 -- Which of the named texts is reached: they are fetched and judged one by one, sky, catalogue, script.
-use Rattle.std.specs.Prelude.{◌≡◌, ℕ, List, Option, None, Some, IsSome}
+use Rattle.std.specs.Prelude.{◌≡◌, ℕ, ◌^◌, ◌≤◌, ◌<◌, List, length, Option, None, Some, IsSome, Ok, Err}
 use Rattle.sky_io.specs.Shelves.{named_text, times}
-use Rattle.czar.specs.NarrowSky.{narrow_sky}
-use Rattle.czar.specs.NarrowCatalogue.{HasTable, HasNoTable}
-use Rattle.czar.specs.NarrowScript.{narrow_script}
-use Rattle.czar.specs.NarrowRun.{Run, IsRunOf}
+use Rattle.sky_rules.specs.Partition.{Partition}
+use Rattle.sky_rules.specs.SkyText.{sky_of}
+use Rattle.sky_rules.specs.declared.fault.SkyFault.{SkyFault}
+use Rattle.table_rules.specs.Objects.{Catalogue as Table}
+use Rattle.table_rules.specs.declared.fault.LoadFault.{LoadFault}
+use Rattle.catalogue_load.specs.Catalogue.{catalogue_of}
+use Rattle.chunk_store.specs.Survey.{Survey}
+use Rattle.czar.specs.NarrowScript.{Range, narrow_script}
 use Rattle.qserv_cli.specs.Words.{Names}
+use Rattle.qserv_cli.specs.Outcomes.{name_of}
 use Rattle.qserv_cli.specs.declared.outcome.Which.{Which}
 use Rattle.qserv_cli.specs.declared.outcome.Which.TheVariants.{Sky, Catalogue, Script}
 
+-- the texts that a shelf tells, by their names
+abbrev pub Texts : Type 0
+Texts = List (List ℕ × List ℕ)
+
 -- a fact of the texts, where the shelf tells them
-abbrev pub IfTold : Option (List (List ℕ × List ℕ)) → (List (List ℕ × List ℕ) → Type 0) → Type 0
+abbrev pub IfTold : Option Texts → (Texts → Type 0) → Type 0
 IfTold None P = Unit {0}
 IfTold (Some texts) P = P texts
 
--- the named text is narrow
-abbrev pub IsNarrow : Names → List (List ℕ × List ℕ) → Which → Type 0
-IsNarrow names texts Sky = IsSome (narrow_sky (named_text names.sky texts))
-IsNarrow names texts Catalogue = HasTable (named_text names.catalogue texts)
-IsNarrow names texts Script = IsSome (narrow_script (named_text names.script texts))
+-- the text of a name of the form
+abbrev pub text_at : Names → Texts → Which → List ℕ
+text_at names texts which = named_text (name_of names which) texts
 
--- the named text isn't narrow
-abbrev pub IsNotNarrow : Names → List (List ℕ × List ℕ) → Which → Type 0
-IsNotNarrow names texts Sky = narrow_sky (named_text names.sky texts) ≡ None
-IsNotNarrow names texts Catalogue = HasNoTable (named_text names.catalogue texts)
-IsNotNarrow names texts Script = narrow_script (named_text names.script texts) ≡ None
+-- the longest text of its kind, in bytes
+abbrev pub limit_of : Which → ℕ
+limit_of Sky = 2 ^ 16
+limit_of Catalogue = 2 ^ 29
+limit_of Script = 2 ^ 23
 
--- each text before this one is narrow
-abbrev pub AreEarlierNarrow : Names → List (List ℕ × List ℕ) → Which → Type 0
-AreEarlierNarrow names texts Sky = Unit {0}
-AreEarlierNarrow names texts Catalogue = IsNarrow names texts Sky
-AreEarlierNarrow names texts Script = IsNarrow names texts Sky × IsNarrow names texts Catalogue
+-- the text is accepted as this plan of the sky
+abbrev pub IsSkyOf : List ℕ → Partition → Type 0
+IsSkyOf text plan = (length text ≤ 2 ^ 16) × (sky_of text ≡ Ok plan)
+
+-- the text is within its limit, and has this first fault
+abbrev pub IsSkyFault : List ℕ → SkyFault → Type 0
+IsSkyFault text fault = (length text ≤ 2 ^ 16) × (sky_of text ≡ Err fault)
+
+-- the text is accepted as this catalogue
+abbrev pub IsCatalogueOf : List ℕ → Table → Type 0
+IsCatalogueOf text table = (length text ≤ 2 ^ 29) × (catalogue_of text ≡ Ok table)
+
+-- the text is within its limit, and has this first fault
+abbrev pub IsCatalogueFault : List ℕ → LoadFault → Type 0
+IsCatalogueFault text fault = (length text ≤ 2 ^ 29) × (catalogue_of text ≡ Err fault)
+
+-- the text is longer than its limit
+abbrev pub IsLong : Which → List ℕ → Type 0
+IsLong which text = limit_of which < length text
+
+-- the text is accepted
+abbrev pub IsAccepted : Which → List ℕ → Type 0
+IsAccepted Sky text = (plan : Partition) × IsSkyOf text plan
+IsAccepted Catalogue text = (table : Table) × IsCatalogueOf text table
+IsAccepted Script text = IsSome (narrow_script text)
+
+-- each text before this one is accepted
+abbrev pub AreEarlierAccepted : Names → Texts → Which → Type 0
+AreEarlierAccepted names texts Sky = Unit {0}
+AreEarlierAccepted names texts Catalogue = IsAccepted Sky (text_at names texts Sky)
+AreEarlierAccepted names texts Script =
+    IsAccepted Sky (text_at names texts Sky) × IsAccepted Catalogue (text_at names texts Catalogue)
+
+-- the form has the text
+abbrev pub HasText : Names → Which → Type 0
+HasText names Sky = Unit {0}
+HasText names Catalogue = Unit {0}
+HasText names Script = IsSome names.script
+
+-- the last text of the form
+abbrev pub last_in : Option (List ℕ) → Which
+last_in None = Catalogue
+last_in (Some script) = Script
+
+-- the last text of the form
+abbrev pub last_of : Names → Which
+last_of names = last_in names.script
 
 -- the count of a name's failures is what it was
 abbrev pub IsStill : List ℕ → List (List ℕ) → List (List ℕ) → Type 0
@@ -41,9 +90,20 @@ abbrev pub AreStill : Names → List (List ℕ) → List (List ℕ) → Which �
 AreStill names old new Sky = IsStill names.sky old new
 AreStill names old new Catalogue = IsStill names.sky old new × IsStill names.catalogue old new
 AreStill names old new Script =
-    IsStill names.sky old new × IsStill names.catalogue old new × IsStill names.script old new
+    IsStill names.sky old new × IsStill names.catalogue old new × IsStill (name_of names Script) old new
 
--- this is the run of the named texts
-abbrev pub IsRunOfNamed : Names → List (List ℕ × List ℕ) → Run → Type 0
-IsRunOfNamed names texts run =
-    IsRunOf (named_text names.sky texts) (named_text names.catalogue texts) (named_text names.script texts) run
+-- the ranges are those of the script, where the form has one
+abbrev pub AreRangesOf : Option (List ℕ) → Texts → Option (List Range) → Type 0
+AreRangesOf None texts ranges = ranges ≡ None
+AreRangesOf (Some name) texts ranges = (narrow_script (named_text name texts) ≡ ranges) × IsSome ranges
+
+-- What a form asks for: a survey, and the queries where it has a script.
+pub record Job : Type 0 where
+  pub survey : Survey
+  pub ranges : Option (List Range)
+
+-- This is the job of the named texts, which are accepted.
+pub record IsJobOf (names : Names) (texts : Texts) (job : Job) : Type 0 where
+  pub plan : IsSkyOf (text_at names texts Sky) job.survey.plan
+  pub rows : IsCatalogueOf (text_at names texts Catalogue) job.survey.rows
+  pub ranges : AreRangesOf names.script texts job.ranges

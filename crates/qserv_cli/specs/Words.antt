@@ -6,14 +6,14 @@ use Rattle.std.specs.Str.{bytes_eq}
 use Rattle.std.specs.declared.alloc.Global.{Global}
 use Rattle.text_rules.specs.Numbers.{natural}
 
--- The names of the three texts of a form.
+-- The names of the texts of a form: the form `load` has no script.
 pub record Names : Type 0 where
   pub sky : List ℕ
   pub catalogue : List ℕ
-  pub script : List ℕ
+  pub script : Option (List ℕ)
 
--- the names of three texts
-abbrev pub names_from : (sky catalogue script : List ℕ) → Names
+-- the names of these texts
+abbrev pub names_from : (sky catalogue : List ℕ) → Option (List ℕ) → Names
 names_from sky catalogue script = record { sky = sky; catalogue = catalogue; script = script }
 
 -- a number is there and is 0
@@ -21,11 +21,14 @@ abbrev pub is_zero : Option ℕ → Bool
 is_zero None = false
 is_zero (Some n) = n == 0
 
--- the names of the form `query SKY CSV SCRIPT WORKERS`, where WORKERS is 1 to 10 digits of value 0; None of all other words
+-- the names of the forms `load SKY CSV` and `query SKY CSV SCRIPT WORKERS`, where WORKERS is 1 to 10 digits of value 0; None
+-- of all other words
 abbrev pub form_of : List (List ℕ) → Option Names
+form_of (word ∷ sky ∷ catalogue ∷ []) =
+    if bytes_eq word (codes "load") then Some (names_from sky catalogue None) else None
 form_of (word ∷ sky ∷ catalogue ∷ script ∷ workers ∷ []) =
     if bytes_eq word (codes "query") && is_zero (natural 10 workers)
-    then Some (names_from sky catalogue script)
+    then Some (names_from sky catalogue (Some script))
     else None
 form_of _ = None
 

@@ -6,19 +6,24 @@
 //! No reading of a text, no SQL and no sky here: the order of the work, the outcomes, and what is told of them.
 #![tactic(auto)]
 
+mod fault_lines;
 mod inputs;
 mod outcome;
 #[cfg(test)]
 mod tests;
+#[cfg(test)]
+mod text_tests;
+mod told;
 mod top;
 mod words;
 
-use outcome::{Outcome, put_outcome, status};
+use outcome::{Outcome, status};
 use sky_io::{ErrSink, FolderShelf, OpenGate, OutSink, Sink};
 use std::io::ErrorKind;
 use std::process::ExitCode;
 use std::rt::Env;
 use std::{env, io};
+use told::put_outcome;
 use top::qserv;
 
 fn main(rt: HostRuntime) -> ExitCode {

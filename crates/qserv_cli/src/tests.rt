@@ -1,6 +1,7 @@
 //! What no clause says: that the top call ends with its work done where memory is left, over worked examples, and what
 //! each fault of the outside comes to.
-use crate::outcome::{EndKind, Ends, Outcome, Which, put_outcome, status};
+use crate::outcome::{EndKind, Ends, Outcome, Which, status};
+use crate::told::put_outcome;
 use crate::top::qserv;
 use sky_io::{MemShelf, MemSink, OpenGate, PlainShelf, Shelf};
 use std::alloc::Global;
@@ -8,14 +9,14 @@ use std::sync::Wait;
 use std::test::Fail;
 use std::thread::Threads;
 
-const SKY: &str = "overlap 5\nstripe -268435472 1 1 1\nstripe 0 1 1 1\n";
+const SKY: &str = "overlap 5\nstripe -268435472 4 2 2\nstripe 0 4 2 2\n";
 
 const CATALOGUE: &str =
     "objectId,x,y,z\n1,268435456,0,0\n2,268435456,3,0\n3,268435456,0,4\n4,268435456,-3,0\n5,268435456,0,-1\n6,0,0,268435456\n";
 
 const RANGE: &str = "SELECT objectId FROM Object WHERE z BETWEEN -1 AND 4\n";
 
-const ANSWER: &str = "query 1\nobjectId\n1\n2\n3\n4\n5\n5 rows, 2 chunks\n";
+const ANSWER: &str = "query 1\nobjectId\n1\n2\n3\n4\n5\n5 rows, 3 chunks\n";
 
 const USAGE: &str =
     "usage: qserv load SKY CSV; query SKY CSV SCRIPT WORKERS; explain SKY CSV SCRIPT; demo COUNT SEED WORKERS\n";
@@ -84,13 +85,13 @@ fn each_query_gives_the_ids_of_its_range_of_z(rt: HostRuntime) -> Result<(), Fai
         (
             "SELECT objectId FROM Object WHERE z BETWEEN 5 AND 4\n",
             Some(1),
-            "query 1\nobjectId\n0 rows, 2 chunks\n",
+            "query 1\nobjectId\n0 rows, 3 chunks\n",
             "",
         ),
         (
             "SELECT objectId FROM Object WHERE z BETWEEN 4 AND 4\nSELECT objectId FROM Object WHERE z BETWEEN 5 AND 268435472\n",
             Some(2),
-            "query 1\nobjectId\n3\n1 rows, 2 chunks\nquery 2\nobjectId\n6\n1 rows, 2 chunks\n",
+            "query 1\nobjectId\n3\n1 rows, 3 chunks\nquery 2\nobjectId\n6\n1 rows, 3 chunks\n",
             "",
         ),
         ("", Some(0), "", ""),
@@ -205,9 +206,8 @@ fn each_outcome_has_its_line(rt: HostRuntime) -> Result<(), Fail> {
     for (outcome, line) in [
         (done, ""),
         (Outcome::Usage, USAGE),
-        (not_built(Which::Sky), "north: not built\n"),
-        (not_built(Which::Catalogue), "stars: not built\n"),
         (not_built(Which::Script), "two ranges: not built\n"),
+        (too_long(Which::Catalogue), "stars: too long\n"),
         (unread(Which::Sky), "north: cannot be read\n"),
         (unread(Which::Script), "two ranges: cannot be read\n"),
         (torn, "output failed\n"),
@@ -221,6 +221,10 @@ fn each_outcome_has_its_line(rt: HostRuntime) -> Result<(), Fail> {
 
 fn not_built(which: Which) -> Outcome {
     Outcome::NotBuilt { which }
+}
+
+fn too_long(which: Which) -> Outcome {
+    Outcome::TooLong { which }
 }
 
 fn unread(which: Which) -> Outcome {

@@ -1,21 +1,26 @@
-//! The top call: words, then the three texts, then the writing.
-ghost use Rattle.std.specs.Prelude.{◌≡◌, ◌↔◌, None};
+//! The top call: words, then the texts, then the work, then the writing.
+ghost use Rattle.std.specs.Prelude.{◌≡◌, ◌↔◌, IfOk, None, Some};
+ghost use Rattle.std.specs.Option.{option_copied};
 ghost use Rattle.qserv_cli.specs.Words.{form_of, bytes_of, names_from};
-ghost use Rattle.qserv_cli.specs.Explained.{Complete, Explained, ExplainedOf, shown};
-ghost use Rattle.qserv_cli.specs.Steps.{IsWritten};
+ghost use Rattle.qserv_cli.specs.Explained.{Explained, ExplainedOf, shown};
+ghost use Rattle.qserv_cli.specs.Completes.{Complete};
+ghost use Rattle.qserv_cli.specs.Inputs.{job_of};
+ghost use Rattle.qserv_cli.specs.Steps.{IsFlushed, IsWritten};
 
-use crate::inputs::fetch_run;
+use crate::inputs::{Inputs, fetch_inputs};
 use crate::outcome::{Ends, Outcome};
 use crate::words::{TextNames, text_names};
-use czar::{Plain, put_plain};
+use answer_text::put_report;
+use czar::{Plain, Queries, World, put_plain};
 use sky_io::{Gate, Put, Shelf, Sink};
 use std::alloc::Global;
 use std::sync::Wait;
 use std::thread::Threads;
 
-/// Does what the words ask: fetches the texts from the shelf, answers the script, and writes the transcript to the sink.
-/// All texts are accepted before the first byte is written, and writing takes no memory. Takes memory for the texts and
-/// the table. With no workers, as the forms have it so far, it starts no thread and passes no gate.
+/// Does what the words ask: fetches the texts from the shelf, answers the script or reports how the rows lie in the chunks,
+/// and writes to the sink. All texts are accepted before the first byte is written, and writing takes no memory. Takes
+/// memory for the texts, the rows and their chunks. With no workers, as the forms have it so far, it starts no thread and
+/// passes no gate.
 pub fn qserv<R: Threads + Wait + Sync, S: Shelf, K: Sink, G: Gate>(
     _rt: &R,
     alloc: Global,
@@ -40,40 +45,92 @@ pub fn qserv<R: Threads + Wait + Sync, S: Shelf, K: Sink, G: Gate>(
                 catalogue,
                 script,
             },
-        ) => run_query(alloc, sky, catalogue, script, shelf, sink),
+        ) => run_form(alloc, sky, catalogue, script, shelf, sink),
     }
 }
 
-// Answers the form `query` with these names.
-fn run_query<S: Shelf, K: Sink>(
+// Does the work of a form with these names.
+fn run_form<S: Shelf, K: Sink>(
     alloc: Global,
     sky: &str,
     catalogue: &str,
-    script: &str,
+    script: Option<&str>,
     shelf: &mut S,
     sink: &mut K,
 ) -> Outcome
-    ensures { ExplainedOf (names_from sky.now catalogue.now script.now)
+    ensures { ExplainedOf (names_from sky.now catalogue.now (option_copied script.entry))
         (shown (S.state shelf.old) (S.state shelf.new) (K.state sink.old) (K.state sink.new))
         result }
 {
-    match fetch_run(alloc, shelf, sky, catalogue, script) {
-        Ok(run) => write_run(alloc, &run, sink),
+    match fetch_inputs(alloc, shelf, sky, catalogue, script) {
+        Ok(inputs) => do_job(alloc, inputs, sink),
         Err(outcome) => outcome,
     }
 }
 
+// Makes the world of the inputs, and writes what they ask for.
+fn do_job<K: Sink>(alloc: Global, inputs: Inputs, sink: &mut K) -> Outcome
+    ensures { IsWritten (job_of inputs) (K.state sink.old) (K.state sink.new) result }
+{
+    let Inputs {
+        plan,
+        rows,
+        queries,
+    } = inputs;
+    match World::build(alloc, plan, rows) {
+        Ok(world) => write_job(alloc, &world, queries, sink),
+        Err(_) => Outcome::Memory,
+    }
+}
+
+// Writes the report, or the transcript of the queries.
+fn write_job<K: Sink>(
+    alloc: Global,
+    world: &World,
+    queries: Option<Queries>,
+    sink: &mut K,
+) -> Outcome
+    ensures { IsWritten (record { survey = world.now.store; ranges = queries })
+        (K.state sink.old) (K.state sink.new) result }
+{
+    match queries {
+        None => write_report(alloc, world, sink),
+        Some(queries) => write_run(alloc, &Plain::new(world, queries), sink),
+    }
+}
+
+// Writes the report of the world and sends it.
+fn write_report<K: Sink>(alloc: Global, world: &World, sink: &mut K) -> Outcome
+    ensures { IsWritten (record { survey = world.now.store; ranges = None })
+        (K.state sink.old) (K.state sink.new) result }
+{
+    let Ok(ends) = Ends::answered(alloc, 0) else {
+        return Outcome::Memory;
+    };
+    match put_report(sink, 0, &world.store, b"") {
+        Put::Failed => Outcome::SinkFault { ends },
+        Put::Done => send(sink, ends),
+    }
+}
+
 // Writes the transcript of a run and sends it. The ends are made before the first byte is written.
-fn write_run<K: Sink>(alloc: Global, run: &Plain, sink: &mut K) -> Outcome
-    ensures { IsWritten run.now (K.state sink.old) (K.state sink.new) result }
+fn write_run<K: Sink>(alloc: Global, run: &Plain<'_>, sink: &mut K) -> Outcome
+    ensures { IsWritten (record { survey = run.now.survey; ranges = Some run.now.ranges })
+        (K.state sink.old) (K.state sink.new) result }
 {
     let Ok(ends) = Ends::answered(alloc, run.queries()) else {
         return Outcome::Memory;
     };
     match put_plain(sink, run) {
-        Put::Failed => return Outcome::SinkFault { ends },
-        Put::Done => {}
+        Put::Failed => Outcome::SinkFault { ends },
+        Put::Done => send(sink, ends),
     }
+}
+
+// Sends what is held back, once all is written.
+fn send<K: Sink>(sink: &mut K, ends: Ends) -> Outcome
+    ensures { IsFlushed ends (K.state sink.old) (K.state sink.new) result }
+{
     match sink.flush_out() {
         Put::Failed => Outcome::SinkFault { ends },
         Put::Done => Outcome::Done { ends },

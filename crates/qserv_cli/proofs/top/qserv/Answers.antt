@@ -6,6 +6,6 @@ use Rattle.qserv_cli.proofs.top.qserv.Goals as goal
 pub returns-in-Some-clause-complete : goal.returns-in-Some-clause-complete
 returns-in-Some-clause-complete g c =
     completes (form_of (bytes_of c.args.words.now))
-    (shown (g.S.Shelf.state c.args.shelf.now) (g.S.Shelf.state c.run_query.new.shelf)
-    (g.K.Sink.state c.args.sink.now) (g.K.Sink.state c.run_query.new.sink))
-    c.run_query.result (rw c.in-Some.ensures.names c.run_query.ensures)
+    (shown (g.S.Shelf.state c.args.shelf.now) (g.S.Shelf.state c.run_form.new.shelf)
+    (g.K.Sink.state c.args.sink.now) (g.K.Sink.state c.run_form.new.sink))
+    c.run_form.result (rw c.in-Some.ensures.names c.run_form.ensures)

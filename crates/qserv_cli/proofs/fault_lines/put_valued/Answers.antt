@@ -1,0 +1,8 @@
+use Rattle.std.proofs.Common.{codes}
+use Rattle.std.specs.Fmt.{signed_decimal}
+use Rattle.sky_io.proofs.Writes.{wrote_one, wrote_two}
+use Rattle.qserv_cli.specs.FaultLines.{place}
+use Rattle.qserv_cli.proofs.fault_lines.put_valued.Goals as goal
+
+pub returns-in-Done : goal.returns-in-Done
+returns-in-Done g c = wrote_two _ _ _ (c.args.before.now) _ _ c.in-Done.ensures c.put_last.ensures

@@ -1,0 +1,43 @@
+-- Which outcome of the top call must come.
+use Rattle.std.specs.Prelude.{◌≡◌, ℕ, List, Option, None, Some}
+use Rattle.sky_io.specs.Sinks.{Rose}
+use Rattle.qserv_cli.specs.Words.{Names}
+use Rattle.qserv_cli.specs.Reached.{Texts, IfTold, text_at, IsAccepted, HasText, AreEarlierAccepted, AreStill, last_of}
+use Rattle.qserv_cli.specs.Explained.{Shown}
+use Rattle.qserv_cli.specs.declared.outcome.Which.{Which}
+use Rattle.qserv_cli.specs.declared.outcome.Which.TheVariants.{Sky, Catalogue, Script}
+use Rattle.qserv_cli.specs.declared.outcome.Outcome.{Outcome}
+use Rattle.qserv_cli.specs.declared.outcome.Outcome.TheVariants.{Done, BadSky, BadCatalogue, NotBuilt, TooLong, Memory}
+
+-- the outcome refuses this text, or is want of memory
+abbrev pub IsRefusalOrMemory : Which → Outcome → Type 0
+IsRefusalOrMemory which (BadSky fault) = which ≡ Sky
+IsRefusalOrMemory which (BadCatalogue fault) = which ≡ Catalogue
+IsRefusalOrMemory which (NotBuilt named) = named ≡ which
+IsRefusalOrMemory which (TooLong named) = named ≡ which
+IsRefusalOrMemory which Memory = Unit {0}
+IsRefusalOrMemory which _ = ⊥
+
+-- the outcome is Done, or want of memory
+abbrev pub IsDoneOrMemory : Outcome → Type 0
+IsDoneOrMemory (Done ends) = Unit {0}
+IsDoneOrMemory Memory = Unit {0}
+IsDoneOrMemory _ = ⊥
+
+-- Which outcome must come over these texts.
+pub record Completes (names : Names) (shown : Shown) (outcome : Outcome) (texts : Texts) : Type 0 where
+  -- a text that is reached and isn't accepted is refused
+  pub refused :
+      (which : Which) → HasText names which → AreEarlierAccepted names texts which →
+      (IsAccepted which (text_at names texts which) → ⊥) →
+      AreStill names shown.shelf_old.failed shown.shelf_new.failed which → IsRefusalOrMemory which outcome
+  -- all being accepted, and nothing having failed, the work is done
+  pub done :
+      AreEarlierAccepted names texts (last_of names) → IsAccepted (last_of names) (text_at names texts (last_of names)) →
+      AreStill names shown.shelf_old.failed shown.shelf_new.failed (last_of names) →
+      (Rose shown.sink_old.faults shown.sink_new.faults → ⊥) → IsDoneOrMemory outcome
+
+-- the same, where the words are a form and the shelf tells its texts
+abbrev pub Complete : Option Names → Shown → Outcome → Type 0
+Complete None shown outcome = Unit {0}
+Complete (Some names) shown outcome = IfTold shown.shelf_old.texts (Completes names shown outcome)

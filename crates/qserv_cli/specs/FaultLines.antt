@@ -1,0 +1,42 @@
+-- The lines that tell the fault of a text: the place, then the thing, then the value.
+use Rattle.std.specs.Prelude.{ℕ, ℤ, List, ◌++◌, codes}
+use Rattle.std.specs.Fmt.{decimal, signed_decimal}
+use Rattle.sky_rules.specs.declared.fault.SkyFault.{SkyFault}
+use Rattle.sky_rules.specs.declared.fault.SkyFault.TheVariants as sky
+use Rattle.table_rules.specs.declared.fault.LoadFault.{LoadFault}
+use Rattle.table_rules.specs.declared.fault.LoadFault.TheVariants as load
+
+-- a thing with its number
+abbrev pub place : List ℕ → ℕ → List ℕ
+place thing n = thing ++ decimal n
+
+-- a thing with its number, and what is said of it
+abbrev pub numbered : List ℕ → ℕ → List ℕ → List ℕ
+numbered thing n behind = place thing n ++ behind
+
+-- what a value is, and the value at the line's end
+abbrev pub valued : List ℕ → ℤ → List ℕ
+valued before value = before ++ (signed_decimal value ++ codes "\n")
+
+-- the line of a sky text's fault
+abbrev pub sky_line : SkyFault → List ℕ
+sky_line (sky.Syntax line) = numbered (codes "sky line ") line (codes ": syntax\n")
+sky_line (sky.Overlap line) = numbered (codes "sky line ") line (codes ": overlap\n")
+sky_line (sky.Order line) = numbered (codes "sky line ") line (codes ": order\n")
+sky_line (sky.Count line) = numbered (codes "sky line ") line (codes ": count\n")
+sky_line (sky.TooMany line) = numbered (codes "sky line ") line (codes ": too many\n")
+
+-- the place of a data row's fault, and what is said of it
+abbrev pub row_line : ℕ → List ℕ → List ℕ
+row_line row behind = numbered (codes "catalogue row ") row behind
+
+-- the line of a catalogue's fault
+abbrev pub catalogue_line : LoadFault → List ℕ
+catalogue_line (load.Header field) = numbered (codes "catalogue header: field ") field (codes "\n")
+catalogue_line (load.FieldCount row count) = row_line row (numbered (codes ": ") count (codes " fields\n"))
+catalogue_line (load.Number row field) = row_line row (numbered (codes ": field ") field (codes " is not a number\n"))
+catalogue_line (load.Range row field value) =
+    row_line row (numbered (codes ": field ") field (valued (codes " out of range: ") value))
+catalogue_line (load.Length row) = row_line row (codes ": length\n")
+catalogue_line (load.Repeated row id) = row_line row (valued (codes ": repeated id ") id)
+catalogue_line load.TooManyRows = codes "catalogue: too many rows\n"
