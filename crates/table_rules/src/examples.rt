@@ -23,12 +23,14 @@ pub fn faults_of_a_row()
         ≡ Err (Number 1 3) }
 {}
 
-/// Of two rows of one id the second is the fault, and an earlier row's fault goes before it.
+/// Of two rows of one id the second is the fault, and an earlier row's fault goes before it, whatever its column.
 pub fn first_of_the_rows()
     ensures repeated { under_four (meridian ∷ pole ∷ []) ≡ Err (Repeated 2 (pos 1)) }
     ensures later { under_four (meridian ∷ lower_id ∷ pole ∷ (codes "1" ∷ []) ∷ [])
         ≡ Err (Repeated 3 (pos 1)) }
     ensures earlier { under_four ((codes "1" ∷ []) ∷ meridian ∷ pole ∷ []) ≡ Err (FieldCount 1 1) }
+    ensures row { under_four (four (codes "1") (codes "+5") (codes "0") (codes "0")
+        ∷ four (codes "x") (codes "0") (codes "0") (codes "0") ∷ []) ≡ Err (Number 1 2) }
 {}
 
 /// No record, a header that is cut, and names that no further column can have.
