@@ -6,9 +6,9 @@ use Rattle.sky_vector.specs.Points.{Point}
 use Rattle.wedge_rules.specs.Wedge.{InWedge}
 use Rattle.wedge_rules.proofs.Exactly.{exactly_one_wedge, exactly_one_fine_wedge, fine_lies_in_its_wedge}
 use Rattle.sky_rules.specs.Partition.{Stripe, Site}
-use Rattle.sky_rules.specs.Zones.{chunk_zone, sub_zone, fine_zone, height_of, row_start, in_zone}
+use Rattle.sky_rules.specs.Bounds.{chunk_bounds, sub_bounds, fine_bounds, height_of, row_start, in_bounds}
 use Rattle.sky_rules.specs.Limits.{IsStripe}
-use Rattle.sky_rules.proofs.Zones.{holds_from, holds_to, wedge_from, wedge_to}
+use Rattle.sky_rules.proofs.Bounds.{holds_from, holds_to, wedge_from, wedge_to}
 use Rattle.sky_rules.proofs.Rows.{start, start_up, start_end, row_at, one_row, row_below, column_below, number_below}
 use Rattle.sky_rules.proofs.Sites.{IsSite}
 
@@ -31,19 +31,19 @@ pub record HoldsFine (site : Site) (t j : ℕ) (p : Point) : Type 0 where
   pub high : p.z <ℤ row_start site (t + 1)
   pub wedge : InWedge (site.stripe.chunks * site.stripe.columns) (site.wedge * site.stripe.columns + j) p.x p.y
 
--- the zone gives that
-pub fine_from : (site : Site) (t j : ℕ) (p : Point) → IsSite site → j < site.stripe.columns → in_zone (fine_zone site t j) p ≡ true → HoldsFine site t j p
+-- the bounds gives that
+pub fine_from : (site : Site) (t j : ℕ) (p : Point) → IsSite site → j < site.stripe.columns → in_bounds (fine_bounds site t j) p ≡ true → HoldsFine site t j p
 fine_from site t j p is h held =
-    let zone = holds_from (fine_zone site t j) p held in
-    let high = zone.high in record {
-      low = zone.low;
+    let bounds = holds_from (fine_bounds site t j) p held in
+    let high = bounds.high in record {
+      low = bounds.low;
       high = omega (arith, ints, high);
-      wedge = wedge_from _ _ (row_start site t) (row_start site (t + 1)) p is.stripe.fine (fine_below site j is h) zone;
+      wedge = wedge_from _ _ (row_start site t) (row_start site (t + 1)) p is.stripe.fine (fine_below site j is h) bounds;
     }
 
--- that gives the zone
-pub fine_to : (site : Site) (t j : ℕ) (p : Point) → IsSite site → j < site.stripe.columns → HoldsFine site t j p → in_zone (fine_zone site t j) p ≡ true
-fine_to site t j p is h held = holds_to (fine_zone site t j) p (wedge_to _ _ (row_start site t) (row_start site (t + 1)) p is.stripe.fine (fine_below site j is h) held.low held.high held.wedge)
+-- that gives the bounds
+pub fine_to : (site : Site) (t j : ℕ) (p : Point) → IsSite site → j < site.stripe.columns → HoldsFine site t j p → in_bounds (fine_bounds site t j) p ≡ true
+fine_to site t j p is h held = holds_to (fine_bounds site t j) p (wedge_to _ _ (row_start site t) (row_start site (t + 1)) p is.stripe.fine (fine_below site j is h) held.low held.high held.wedge)
 
 -- what a chunk holds: its stripe's height, and its wedge
 pub record HoldsChunk (site : Site) (p : Point) : Type 0 where
@@ -51,19 +51,19 @@ pub record HoldsChunk (site : Site) (p : Point) : Type 0 where
   pub high : p.z <ℤ site.end
   pub wedge : InWedge site.stripe.chunks site.wedge p.x p.y
 
--- the zone gives that
-pub chunk_from : (site : Site) (p : Point) → IsSite site → in_zone (chunk_zone site) p ≡ true → HoldsChunk site p
+-- the bounds gives that
+pub chunk_from : (site : Site) (p : Point) → IsSite site → in_bounds (chunk_bounds site) p ≡ true → HoldsChunk site p
 chunk_from site p is held =
-    let zone = holds_from (chunk_zone site) p held in
-    let high = zone.high in record {
-      low = zone.low;
+    let bounds = holds_from (chunk_bounds site) p held in
+    let high = bounds.high in record {
+      low = bounds.low;
       high = omega (arith, ints, high);
-      wedge = wedge_from _ _ site.stripe.z_low site.end p is.stripe.chunks is.wedge zone;
+      wedge = wedge_from _ _ site.stripe.z_low site.end p is.stripe.chunks is.wedge bounds;
     }
 
--- that gives the zone
-pub chunk_to : (site : Site) (p : Point) → IsSite site → HoldsChunk site p → in_zone (chunk_zone site) p ≡ true
-chunk_to site p is held = holds_to (chunk_zone site) p (wedge_to _ _ site.stripe.z_low site.end p is.stripe.chunks is.wedge held.low held.high held.wedge)
+-- that gives the bounds
+pub chunk_to : (site : Site) (p : Point) → IsSite site → HoldsChunk site p → in_bounds (chunk_bounds site) p ≡ true
+chunk_to site p is held = holds_to (chunk_bounds site) p (wedge_to _ _ site.stripe.z_low site.end p is.stripe.chunks is.wedge held.low held.high held.wedge)
 
 -- what a substripe and column hold, the chunk holds
 fine_in_chunk : (site : Site) (t j : ℕ) (p : Point) → IsSite site → t < site.stripe.rows → j < site.stripe.columns → HoldsFine site t j p → HoldsChunk site p
@@ -83,7 +83,7 @@ fine_in_chunk site t j p is ht hj held =
 
 -- what a subchunk holds, its chunk holds
 pub sub_in_chunk : (site : Site) (s : ℕ) (p : Point) → IsSite site → s < site.stripe.rows * site.stripe.columns
-    → in_zone (sub_zone site s) p ≡ true → HoldsChunk site p
+    → in_bounds (sub_bounds site s) p ≡ true → HoldsChunk site p
 sub_in_chunk site s p is h held =
     let some = is.stripe.some_columns in
     let t = s / site.stripe.columns in
@@ -99,10 +99,10 @@ site_at s end w = record { stripe = s; end = end; wedge = w }
 pub record OnlyIn (s : Stripe) (end : ℤ) (w i : ℕ) (p : Point) : Type 0 where
   pub chunk_there : w < s.chunks
   pub sub_there : i < s.rows * s.columns
-  pub in_its_chunk : in_zone (chunk_zone (site_at s end w)) p ≡ true
-  pub in_its_sub : in_zone (sub_zone (site_at s end w) i) p ≡ true
-  pub no_other_chunk : (v : ℕ) → v < s.chunks → in_zone (chunk_zone (site_at s end v)) p ≡ true → v ≡ w
-  pub no_other_sub : (v k : ℕ) → v < s.chunks → k < s.rows * s.columns → in_zone (sub_zone (site_at s end v) k) p ≡ true → (v ≡ w) × (k ≡ i)
+  pub in_its_chunk : in_bounds (chunk_bounds (site_at s end w)) p ≡ true
+  pub in_its_sub : in_bounds (sub_bounds (site_at s end w) i) p ≡ true
+  pub no_other_chunk : (v : ℕ) → v < s.chunks → in_bounds (chunk_bounds (site_at s end v)) p ≡ true → v ≡ w
+  pub no_other_sub : (v k : ℕ) → v < s.chunks → k < s.rows * s.columns → in_bounds (sub_bounds (site_at s end v) k) p ≡ true → (v ≡ w) × (k ≡ i)
 
 -- a stripe within the limits, and its end
 pub record IsEnded (s : Stripe) (end : ℤ) : Type 0 where
@@ -127,14 +127,14 @@ parts_of s columns t j e f =
     let whole = div-add-mod' s columns in
     let rows : s / columns * columns ≡ t * columns = ap (λ n. n * columns) e in omega (arith, whole, rows, f)
 
--- the zone of a subchunk whose number is that of a row and a column
+-- the bounds of a subchunk whose number is that of a row and a column
 pub sub_at : (site : Site) (t j : ℕ) (p : Point) → j < site.stripe.columns
-    → in_zone (fine_zone site t j) p ≡ true → in_zone (sub_zone site (t * site.stripe.columns + j)) p ≡ true
+    → in_bounds (fine_bounds site t j) p ≡ true → in_bounds (sub_bounds site (t * site.stripe.columns + j)) p ≡ true
 sub_at site t j p h held =
     let row = div-mul-add t site.stripe.columns j h in
     let column = mod-mul-add t site.stripe.columns j h in
-    subst (λ n. in_zone (fine_zone site n ((t * site.stripe.columns + j) % site.stripe.columns)) p ≡ true) (sym row)
-    (subst (λ n. in_zone (fine_zone site t n) p ≡ true) (sym column) held)
+    subst (λ n. in_bounds (fine_bounds site n ((t * site.stripe.columns + j) % site.stripe.columns)) p ≡ true) (sym row)
+    (subst (λ n. in_bounds (fine_bounds site t n) p ≡ true) (sym column) held)
 
 -- each point of a stripe's height has its only place there
 pub only_in : (s : Stripe) (end : ℤ) (p : Point) → IsEnded s end → s.z_low ≤ℤ p.z → p.z <ℤ end → (w : ℕ) × ((i : ℕ) × OnlyIn s end w i p)
@@ -159,7 +159,7 @@ only_in s end p is lo hi =
     let low = row.2 in
     let high = row.3 in
     let held : HoldsFine site t j p = record { low = omega (arith, ints, above, low); high = omega (arith, ints, above, high); wedge = fine.5 } in
-    let only_chunk : (v : ℕ) → v < s.chunks → in_zone (chunk_zone (site_at s end v)) p ≡ true → v ≡ w = λ v hv in_v.
+    let only_chunk : (v : ℕ) → v < s.chunks → in_bounds (chunk_bounds (site_at s end v)) p ≡ true → v ≡ w = λ v hv in_v.
     let mine = one.3 w hw fine.4 in
     let other = one.3 v hv (chunk_from (site_at s end v) p (site_ended s end v is hv) in_v).wedge in omega (arith, mine, other) in (
       w,
@@ -184,7 +184,7 @@ only_in s end p is lo hi =
 -- a row and a fine wedge that hold a point name its chunk and its subchunk
 pub place_by_parts : (s : Stripe) (end : ℤ) (w t j : ℕ) (p : Point) → IsEnded s end → w < s.chunks → t < s.rows → j < s.columns
     → HoldsFine (site_at s end w) t j p
-    → (in_zone (chunk_zone (site_at s end w)) p ≡ true) × (in_zone (sub_zone (site_at s end w) (t * s.columns + j)) p ≡ true)
+    → (in_bounds (chunk_bounds (site_at s end w)) p ≡ true) × (in_bounds (sub_bounds (site_at s end w) (t * s.columns + j)) p ≡ true)
 place_by_parts s end w t j p is hw ht hj held =
     let site = site_at s end w in
     let good = site_ended s end w is hw in

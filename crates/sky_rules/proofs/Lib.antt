@@ -1,4 +1,4 @@
-pub mod Zones
+pub mod Bounds
 pub mod Near
 pub mod Rows
 pub mod Sites

@@ -1,4 +1,4 @@
--- What is no farther than a radius from a point of a zone is in the zone's near region for that radius.
+-- What is no farther than a radius from a point of a part of the sky is in the part's near region for that radius.
 use Rattle.std.proofs.Common.{◌≡◌, ℕ, ℤ, pos, ◌+ℤ◌, ◌-ℤ◌, ◌*ℤ◌, ◌≤ℤ◌, arith, refl, inl, inr, Bool, true, false, cond, int_le, int_lt, ◌&&◌, ◌||◌, Option, None, Some}
 use Rattle.std.proofs.lemmas.Bool.{and_parts, and_from, or_left, or_right}
 use Rattle.std.proofs.lemmas.Int.{ints}
@@ -10,8 +10,8 @@ use Rattle.wedge_rules.specs.Heading.{past}
 use Rattle.wedge_rules.proofs.Products.{int_cases, product_above}
 use Rattle.wedge_rules.proofs.Tests.{le_from, le_to, lt_from, lt_to, eq_from}
 use Rattle.wedge_rules.proofs.Fine.{past_axis}
-use Rattle.sky_rules.specs.Zones.{Zone, in_sides, near_sides, near_side, near_zone, is_on_axis}
-use Rattle.sky_rules.proofs.Zones.{Holds}
+use Rattle.sky_rules.specs.Bounds.{Bounds, in_sides, near_sides, near_side, near_bounds, is_on_axis}
+use Rattle.sky_rules.proofs.Bounds.{Holds}
 
 -- the next one at differences
 square_over_of : (a a' r r' : ℕ) → square (of a a') ≡ square (of r r') +ℤ (((of a a' -ℤ of r r') *ℤ of a a') +ℤ (of r r' *ℤ (of a a' -ℤ of r r')))
@@ -83,15 +83,15 @@ apart a b r up_r h k =
     let one = below_root (a -ℤ b) r up_r h in
     let other = below_root (b -ℤ a) r up_r k in (omega (arith, ints, one), omega (arith, ints, other))
 
--- what is no farther than r from a point of a zone is in its near region for r
-pub near_from : (r : ℕ) (zone : Zone) (u v : Point) → Holds zone u → chord_squared u v ≤ℤ square (pos r) → near_zone r zone v ≡ true
-near_from r zone u v held c =
+-- what is no farther than r from a point of a part of the sky is in its near region for r
+pub near_from : (r : ℕ) (bounds : Bounds) (u v : Point) → Holds bounds u → chord_squared u v ≤ℤ square (pos r) → near_bounds r bounds v ≡ true
+near_from r bounds u v held c =
     let back = same_chord u v in
     let turned : chord_squared v u ≤ℤ square (pos r) = omega (arith, ints, back, c) in
     let z : ((u.z -ℤ pos r) ≤ℤ v.z) × (v.z ≤ℤ (u.z +ℤ pos r)) = apart u.z v.z (pos r) (omega (arith, ints)) (height_near u v (square (pos r)) c) (height_near v u (square (pos r)) turned) in
     let low = held.low in
     let high = held.high in
-    let above = le_to (zone.z_low -ℤ pos r) v.z (omega (arith, ints, z.0, low)) in
-    let below = le_to v.z (zone.z_high +ℤ pos r) (omega (arith, ints, z.1, high)) in
+    let above = le_to (bounds.z_low -ℤ pos r) v.z (omega (arith, ints, z.0, low)) in
+    let below = le_to v.z (bounds.z_high +ℤ pos r) (omega (arith, ints, z.1, high)) in
     and_from _ _ (and_from _ _ above below)
-    (sides_near r zone.sides zone.axis u v held.sides c)
+    (sides_near r bounds.sides bounds.axis u v held.sides c)

@@ -10,10 +10,10 @@ use Rattle.sky_vector.proofs.Signed.{square_up}
 use Rattle.wedge_rules.proofs.Products.{int_cases, neg_mul, mul_neg}
 use Rattle.wedge_rules.proofs.Tests.{le_from}
 use Rattle.sky_rules.specs.Partition.{Stripe, Partition, Site, floor_of, sky_end, sky_bottom, chunks_in, site_in}
-use Rattle.sky_rules.specs.Zones.{chunk_zone, sub_zone, in_zone}
+use Rattle.sky_rules.specs.Bounds.{chunk_bounds, sub_bounds, in_bounds}
 use Rattle.sky_rules.specs.Limits.{IsStripe, IsSky, AreHigh}
 use Rattle.sky_rules.specs.Laws.{ExactlyOnePlace, SubLiesInItsChunk, NearEnough}
-use Rattle.sky_rules.proofs.Zones.{holds_from}
+use Rattle.sky_rules.proofs.Bounds.{holds_from}
 use Rattle.sky_rules.proofs.Near.{below_root, near_from}
 use Rattle.sky_rules.proofs.Sites.{site_here, site_later, site_is, site_above, chunks_more}
 use Rattle.sky_rules.proofs.InStripe.{OnlyIn, only_in, HoldsChunk, chunk_from, chunk_to, sub_in_chunk}
@@ -26,10 +26,10 @@ subs_at site = site.stripe.rows * site.stripe.columns
 pub record OnlyAmong (stripes : List Stripe) (c i : ℕ) (p : Point) : Type 0 where
   pub chunk_there : c < chunks_in stripes
   pub sub_there : i < subs_at (site_in stripes c)
-  pub in_its_chunk : in_zone (chunk_zone (site_in stripes c)) p ≡ true
-  pub in_its_sub : in_zone (sub_zone (site_in stripes c) i) p ≡ true
-  pub no_other_chunk : (d : ℕ) → d < chunks_in stripes → in_zone (chunk_zone (site_in stripes d)) p ≡ true → d ≡ c
-  pub no_other_sub : (d k : ℕ) → d < chunks_in stripes → k < subs_at (site_in stripes d) → in_zone (sub_zone (site_in stripes d) k) p ≡ true → (d ≡ c) × (k ≡ i)
+  pub in_its_chunk : in_bounds (chunk_bounds (site_in stripes c)) p ≡ true
+  pub in_its_sub : in_bounds (sub_bounds (site_in stripes c) i) p ≡ true
+  pub no_other_chunk : (d : ℕ) → d < chunks_in stripes → in_bounds (chunk_bounds (site_in stripes d)) p ≡ true → d ≡ c
+  pub no_other_sub : (d k : ℕ) → d < chunks_in stripes → k < subs_at (site_in stripes d) → in_bounds (sub_bounds (site_in stripes d) k) p ≡ true → (d ≡ c) × (k ≡ i)
 
 -- a list of stripes within the limits
 pub record AreStripes (stripes : List Stripe) : Type 0 where
@@ -49,12 +49,12 @@ not_below stripes c p are h held =
 
 -- what a subchunk of the stripes holds, its chunk holds
 pub chunk_holds : (stripes : List Stripe) (c k : ℕ) (p : Point) → AreStripes stripes → c < chunks_in stripes → k < subs_at (site_in stripes c)
-    → in_zone (sub_zone (site_in stripes c) k) p ≡ true → HoldsChunk (site_in stripes c) p
+    → in_bounds (sub_bounds (site_in stripes c) k) p ≡ true → HoldsChunk (site_in stripes c) p
 chunk_holds stripes c k p are h hk held = sub_in_chunk (site_in stripes c) k p (site_is stripes c are.high are.each h) hk held
 
 -- what a chunk of the stripes holds, as facts
 chunk_held : (stripes : List Stripe) (c : ℕ) (p : Point) → AreStripes stripes → c < chunks_in stripes
-    → in_zone (chunk_zone (site_in stripes c)) p ≡ true → HoldsChunk (site_in stripes c) p
+    → in_bounds (chunk_bounds (site_in stripes c)) p ≡ true → HoldsChunk (site_in stripes c) p
 chunk_held stripes c p are h held = chunk_from (site_in stripes c) p (site_is stripes c are.high are.each h) held
 
 -- a chunk that holds a point below the second stripe is one of the first
@@ -86,14 +86,14 @@ among_first s rest w i p are low o =
     let there = o.chunk_there in record {
       chunk_there = omega (arith, there, all);
       sub_there = subst (λ (site : Site). i < subs_at site) (sym (here w there)) o.sub_there;
-      in_its_chunk = subst (λ (site : Site). in_zone (chunk_zone site) p ≡ true) (sym (here w there)) o.in_its_chunk;
-      in_its_sub = subst (λ (site : Site). in_zone (sub_zone site i) p ≡ true) (sym (here w there)) o.in_its_sub;
+      in_its_chunk = subst (λ (site : Site). in_bounds (chunk_bounds site) p ≡ true) (sym (here w there)) o.in_its_chunk;
+      in_its_sub = subst (λ (site : Site). in_bounds (sub_bounds site i) p ≡ true) (sym (here w there)) o.in_its_sub;
       no_other_chunk = λ d hd held.
           let hf = in_first s rest d p are hd low (chunk_held (s ∷ rest) d p are hd held) in
-          o.no_other_chunk d hf (subst (λ (site : Site). in_zone (chunk_zone site) p ≡ true) (here d hf) held);
+          o.no_other_chunk d hf (subst (λ (site : Site). in_bounds (chunk_bounds site) p ≡ true) (here d hf) held);
       no_other_sub = λ d k hd hk held.
           let hf = in_first s rest d p are hd low (chunk_holds (s ∷ rest) d k p are hd hk held) in
-          o.no_other_sub d k hf (subst (λ (site : Site). k < subs_at site) (here d hf) hk) (subst (λ (site : Site). in_zone (sub_zone site k) p ≡ true) (here d hf) held);
+          o.no_other_sub d k hf (subst (λ (site : Site). k < subs_at site) (here d hf) hk) (subst (λ (site : Site). in_bounds (sub_bounds site k) p ≡ true) (here d hf) held);
     }
 
 -- the site of a chunk behind the first stripe
@@ -111,16 +111,16 @@ among_rest s rest c i p are up o =
     let there = o.chunk_there in record {
       chunk_there = omega (arith, there, all);
       sub_there = subst (λ (site : Site). i < subs_at site) (sym behind) o.sub_there;
-      in_its_chunk = subst (λ (site : Site). in_zone (chunk_zone site) p ≡ true) (sym behind) o.in_its_chunk;
-      in_its_sub = subst (λ (site : Site). in_zone (sub_zone site i) p ≡ true) (sym behind) o.in_its_sub;
+      in_its_chunk = subst (λ (site : Site). in_bounds (chunk_bounds site) p ≡ true) (sym behind) o.in_its_chunk;
+      in_its_sub = subst (λ (site : Site). in_bounds (sub_bounds site i) p ≡ true) (sym behind) o.in_its_sub;
       no_other_chunk = λ d hd held.
           let hr = in_rest s rest d p up (chunk_held (s ∷ rest) d p are hd held) in
-          let same = o.no_other_chunk (d - s.chunks) (omega (arith, hd, hr, all)) (subst (λ (site : Site). in_zone (chunk_zone site) p ≡ true) (later d hr) held) in
+          let same = o.no_other_chunk (d - s.chunks) (omega (arith, hd, hr, all)) (subst (λ (site : Site). in_bounds (chunk_bounds site) p ≡ true) (later d hr) held) in
           omega (arith, same, hr);
       no_other_sub = λ d k hd hk held.
           let hr = in_rest s rest d p up (chunk_holds (s ∷ rest) d k p are hd hk held) in
           let same = o.no_other_sub (d - s.chunks) k (omega (arith, hd, hr, all)) (subst (λ (site : Site). k < subs_at site) (later d hr) hk)
-          (subst (λ (site : Site). in_zone (sub_zone site k) p ≡ true) (later d hr) held) in
+          (subst (λ (site : Site). in_bounds (sub_bounds site k) p ≡ true) (later d hr) held) in
           let first = same.0 in (omega (arith, first, hr), same.1);
     }
 
@@ -191,6 +191,6 @@ pub near_enough : NearEnough
 near_enough g c s u v sky hc hs held near =
     let chunk = sub_lies_in_its_chunk g c s u sky hc hs held in
     let site = site_in g.stripes c in (
-      near_from site.stripe.overlap (sub_zone site s) u v (holds_from (sub_zone site s) u held) near,
-      near_from site.stripe.overlap (chunk_zone site) u v (holds_from (chunk_zone site) u chunk) near,
+      near_from site.stripe.overlap (sub_bounds site s) u v (holds_from (sub_bounds site s) u held) near,
+      near_from site.stripe.overlap (chunk_bounds site) u v (holds_from (chunk_bounds site) u chunk) near,
     )

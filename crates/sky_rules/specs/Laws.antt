@@ -2,7 +2,7 @@
 use Rattle.std.specs.Prelude.{◌≡◌, ℕ, ◌+◌, ◌-◌, ◌*◌, ◌/◌, ◌<◌, ◌≤◌, ◌≤ℤ◌, pos, List, IsTrue, Ok}
 use Rattle.sky_vector.specs.Points.{Point, IsAdmissible, chord_squared, square}
 use Rattle.sky_rules.specs.Partition.{Partition, chunk_count, sub_count, overlap_at}
-use Rattle.sky_rules.specs.Zones.{in_chunk, in_sub, near_chunk, near_sub}
+use Rattle.sky_rules.specs.Bounds.{in_chunk, in_sub, near_chunk, near_sub}
 use Rattle.sky_rules.specs.Limits.{IsSky}
 use Rattle.sky_rules.specs.SkyText.{sky_of}
 

@@ -1,5 +1,5 @@
 pub mod Partition
-pub mod Zones
+pub mod Bounds
 pub mod SkyWords
 pub mod SkyText
 pub mod Limits

@@ -3,7 +3,7 @@
 ghost use Rattle.std.specs.Prelude.{◌≡◌, ℕ, [], ◌∷◌, ◌++◌, Err, Ok, Some, codes, pos, true};
 ghost use Rattle.std.specs.List.{filter, range_with_len, repeat};
 ghost use Rattle.sky_rules.specs.Partition.{chunk_count, greatest_overlap, least_overlap, overlap_at, sub_count};
-ghost use Rattle.sky_rules.specs.Zones.{in_chunk, in_sub, near_chunk};
+ghost use Rattle.sky_rules.specs.Bounds.{in_chunk, in_sub, near_chunk};
 ghost use Rattle.sky_rules.specs.SkyText.{is_room, judged_stripe, sky_of};
 ghost use Rattle.sky_rules.specs.Examples.{all_chunks, all_stripes, bottom_twice, eight, full_stripe, halves};
 ghost use Rattle.sky_rules.specs.Examples.{north, on_diagonal, on_meridian, one_more, own_overlaps, south};

@@ -1,4 +1,4 @@
--- Zones as facts, and the sides of a zone as a wedge.
+-- Bounds as facts, and two sides as a wedge.
 use Rattle.std.proofs.Common.{◌≡◌, ℕ, ℤ, pos, ◌+◌, ◌<◌, ◌≤ℤ◌, ◌<ℤ◌, arith, refl, sym, ◌∙◌, Bool, true, false, cond, nat_eq, ◌&&◌, int_le, int_lt, eqb-true, eq-eqb, None, Some}
 use Rattle.std.proofs.lemmas.Bool.{and_parts, and_from}
 use Rattle.std.proofs.lemmas.Int.{ints}
@@ -6,24 +6,24 @@ use Rattle.sky_vector.specs.Points.{Point}
 use Rattle.wedge_rules.specs.Heading.{heading, past}
 use Rattle.wedge_rules.specs.Wedge.{IsWedgeCount, InWedge, in_wedge}
 use Rattle.wedge_rules.proofs.Tests.{le_from, le_to, test_is_the_fact}
-use Rattle.sky_rules.specs.Zones.{Zone, sides_of, wedge_zone, in_sides, in_zone, is_on_axis}
+use Rattle.sky_rules.specs.Bounds.{Bounds, sides_of, wedge_bounds, in_sides, in_bounds, is_on_axis}
 
--- a zone holds a point: its z, and its direction
-pub record Holds (zone : Zone) (p : Point) : Type 0 where
-  pub low : zone.z_low ≤ℤ p.z
-  pub high : p.z ≤ℤ zone.z_high
-  pub sides : in_sides zone.sides zone.axis p ≡ true
+-- a part of the sky holds a point: its z, and its direction
+pub record Holds (bounds : Bounds) (p : Point) : Type 0 where
+  pub low : bounds.z_low ≤ℤ p.z
+  pub high : p.z ≤ℤ bounds.z_high
+  pub sides : in_sides bounds.sides bounds.axis p ≡ true
 
 -- the test gives the fact
-pub holds_from : (zone : Zone) (p : Point) → in_zone zone p ≡ true → Holds zone p
-holds_from zone p h =
+pub holds_from : (bounds : Bounds) (p : Point) → in_bounds bounds p ≡ true → Holds bounds p
+holds_from bounds p h =
     let all = and_parts _ _ h in
     let z = and_parts _ _ all.0 in
     record { low = le_from _ _ z.0; high = le_from _ _ z.1; sides = all.1 }
 
 -- the fact gives the test
-pub holds_to : (zone : Zone) (p : Point) → Holds zone p → in_zone zone p ≡ true
-holds_to zone p h = and_from _ _ (and_from _ _ (le_to _ _ h.low) (le_to _ _ h.high)) h.sides
+pub holds_to : (bounds : Bounds) (p : Point) → Holds bounds p → in_bounds bounds p ≡ true
+holds_to bounds p h = and_from _ _ (and_from _ _ (le_to _ _ h.low) (le_to _ _ h.high)) h.sides
 
 -- the test of the sides is the test of the wedge, by whether there is one wedge alone
 sides_step : (n k : ℕ) (p : Point) (b : Bool) → nat_eq n 1 ≡ b → k < n
@@ -37,12 +37,12 @@ pub sides_wedge : (n k : ℕ) (p : Point) → k < n → in_sides (sides_of n k) 
 unfolding in_wedge
 sides_wedge n k p h = sides_step n k p (nat_eq n 1) refl h
 
--- what a zone of a wedge holds, its wedge does
-pub wedge_from : (n k : ℕ) (low end : ℤ) (p : Point) → IsWedgeCount n → k < n → Holds (wedge_zone n k low end) p → InWedge n k p.x p.y
+-- what lies within the bounds of a wedge, its wedge holds
+pub wedge_from : (n k : ℕ) (low end : ℤ) (p : Point) → IsWedgeCount n → k < n → Holds (wedge_bounds n k low end) p → InWedge n k p.x p.y
 wedge_from n k low end p count h held = (test_is_the_fact n k p.x p.y count).0 (sym (sides_wedge n k p h) ∙ held.sides)
 
--- what a wedge holds, its zone does, at the right height
-pub wedge_to : (n k : ℕ) (low end : ℤ) (p : Point) → IsWedgeCount n → k < n → low ≤ℤ p.z → p.z <ℤ end → InWedge n k p.x p.y → Holds (wedge_zone n k low end) p
+-- what a wedge holds, its bounds does, at the right height
+pub wedge_to : (n k : ℕ) (low end : ℤ) (p : Point) → IsWedgeCount n → k < n → low ≤ℤ p.z → p.z <ℤ end → InWedge n k p.x p.y → Holds (wedge_bounds n k low end) p
 wedge_to n k low end p count h lo hi w = record {
   low = lo;
   high = omega (arith, ints, hi);

@@ -9,9 +9,9 @@ use Rattle.sky_vector.specs.Plane.{is_near_line}
 use Rattle.wedge_rules.specs.Heading.{heading, past}
 use Rattle.sky_rules.specs.Partition.{Partition, Site, site_of, overlap_at}
 
--- A part of the sky: its lowest and its highest z, its two side directions where it does not go all round, and whether the
--- axis x = y = 0 belongs to it.
-pub record Zone : Type 0 where
+-- The bounds of a part of the sky: its lowest and its highest z, its two side directions where it does not go all round,
+-- and whether the axis x = y = 0 belongs to it.
+pub record Bounds : Type 0 where
   pub z_low : ℤ
   pub z_high : ℤ
   pub sides : Option ((ℤ × ℤ) × (ℤ × ℤ))
@@ -21,13 +21,13 @@ pub record Zone : Type 0 where
 abbrev pub sides_of : ℕ → ℕ → Option ((ℤ × ℤ) × (ℤ × ℤ))
 sides_of n k = if nat_eq n 1 then None else Some (heading n k, heading n (k + 1))
 
--- the zone of wedge k of n, from z_low up to and without `end`; the axis belongs to wedge 0
-abbrev pub wedge_zone : ℕ → ℕ → ℤ → ℤ → Zone
-wedge_zone n k z_low end = record { z_low = z_low; z_high = end -ℤ pos 1; sides = sides_of n k; axis = nat_eq k 0 }
+-- the bounds of wedge k of n, from z_low up to and without `end`; the axis belongs to wedge 0
+abbrev pub wedge_bounds : ℕ → ℕ → ℤ → ℤ → Bounds
+wedge_bounds n k z_low end = record { z_low = z_low; z_high = end -ℤ pos 1; sides = sides_of n k; axis = nat_eq k 0 }
 
--- the zone of the chunk at a site
-abbrev pub chunk_zone : Site → Zone
-chunk_zone site = wedge_zone site.stripe.chunks site.wedge site.stripe.z_low site.end
+-- the bounds of the chunk at a site
+abbrev pub chunk_bounds : Site → Bounds
+chunk_bounds site = wedge_bounds site.stripe.chunks site.wedge site.stripe.z_low site.end
 
 -- the height of a site's stripe
 abbrev pub height_of : Site → ℕ
@@ -37,38 +37,38 @@ height_of site = nat_abs (site.end -ℤ site.stripe.z_low)
 abbrev pub row_start : Site → ℕ → ℤ
 row_start site t = site.stripe.z_low +ℤ pos (t * height_of site / site.stripe.rows)
 
--- the zone of substripe t and column j at a site: with M columns, column j of wedge w is fine wedge w * M + j
-abbrev pub fine_zone : Site → ℕ → ℕ → Zone
-fine_zone site t j =
-    wedge_zone (site.stripe.chunks * site.stripe.columns) (site.wedge * site.stripe.columns + j)
+-- the bounds of substripe t and column j at a site: with M columns, column j of wedge w is fine wedge w * M + j
+abbrev pub fine_bounds : Site → ℕ → ℕ → Bounds
+fine_bounds site t j =
+    wedge_bounds (site.stripe.chunks * site.stripe.columns) (site.wedge * site.stripe.columns + j)
     (row_start site t) (row_start site (t + 1))
 
--- the zone of subchunk s at a site: with M columns, s is t * M + j
-abbrev pub sub_zone : Site → ℕ → Zone
-sub_zone site s = fine_zone site (s / site.stripe.columns) (s % site.stripe.columns)
+-- the bounds of subchunk s at a site: with M columns, s is t * M + j
+abbrev pub sub_bounds : Site → ℕ → Bounds
+sub_bounds site s = fine_bounds site (s / site.stripe.columns) (s % site.stripe.columns)
 
--- the zone of chunk c
-abbrev pub zone_of : Partition → ℕ → Zone
-zone_of g c = chunk_zone (site_of g c)
+-- the bounds of chunk c
+abbrev pub bounds_of : Partition → ℕ → Bounds
+bounds_of g c = chunk_bounds (site_of g c)
 
--- the zone of subchunk s of chunk c
-abbrev pub sub_zone_of : Partition → ℕ → ℕ → Zone
-sub_zone_of g c s = sub_zone (site_of g c) s
+-- the bounds of subchunk s of chunk c
+abbrev pub sub_bounds_of : Partition → ℕ → ℕ → Bounds
+sub_bounds_of g c s = sub_bounds (site_of g c) s
 
 -- the point is on the axis
 abbrev pub is_on_axis : Point → Bool
 is_on_axis p = int_eq p.x (pos 0) && int_eq p.y (pos 0)
 
--- the point is at or past the first side and short of the second; on the axis the zone itself tells
+-- the point is at or past the first side and short of the second; on the axis the bounds tell
 abbrev pub in_sides : Option ((ℤ × ℤ) × (ℤ × ℤ)) → Bool → Point → Bool
 in_sides None axis p = true
 in_sides (Some sides) axis p =
     if is_on_axis p then axis
     else int_le (pos 0) (past sides.0 p.x p.y) && int_lt (past sides.1 p.x p.y) (pos 0)
 
--- the zone holds the point
-abbrev pub in_zone : Zone → Point → Bool
-in_zone zone p = int_le zone.z_low p.z && int_le p.z zone.z_high && in_sides zone.sides zone.axis p
+-- the point lies within the bounds
+abbrev pub in_bounds : Bounds → Point → Bool
+in_bounds bounds p = int_le bounds.z_low p.z && int_le p.z bounds.z_high && in_sides bounds.sides bounds.axis p
 
 -- the point is no farther than r from the line of a side, compared as squares
 abbrev pub near_side : ℕ → ℤ × ℤ → Point → Bool
@@ -81,23 +81,23 @@ near_sides r (Some sides) p =
     (int_le (pos 0) (past sides.0 p.x p.y) || near_side r sides.0 p)
     && (int_lt (past sides.1 p.x p.y) (pos 0) || near_side r sides.1 p)
 
--- the point is in the near region of the zone for the radius r: the points of the zone and those near it
-abbrev pub near_zone : ℕ → Zone → Point → Bool
-near_zone r zone p =
-    int_le (zone.z_low -ℤ pos r) p.z && int_le p.z (zone.z_high +ℤ pos r) && near_sides r zone.sides p
+-- the point is in the near region for the radius r: the points within the bounds and those near them
+abbrev pub near_bounds : ℕ → Bounds → Point → Bool
+near_bounds r bounds p =
+    int_le (bounds.z_low -ℤ pos r) p.z && int_le p.z (bounds.z_high +ℤ pos r) && near_sides r bounds.sides p
 
 -- the chunk holds the point
 abbrev pub in_chunk : Partition → ℕ → Point → Bool
-in_chunk g c p = in_zone (zone_of g c) p
+in_chunk g c p = in_bounds (bounds_of g c) p
 
 -- subchunk s of chunk c holds the point
 abbrev pub in_sub : Partition → ℕ → ℕ → Point → Bool
-in_sub g c s p = in_zone (sub_zone_of g c s) p
+in_sub g c s p = in_bounds (sub_bounds_of g c s) p
 
 -- the point is in the near region of the chunk, for the overlap of the chunk's stripe
 abbrev pub near_chunk : Partition → ℕ → Point → Bool
-near_chunk g c p = near_zone (overlap_at g c) (zone_of g c) p
+near_chunk g c p = near_bounds (overlap_at g c) (bounds_of g c) p
 
 -- the point is in the near region of subchunk s of chunk c, for the overlap of the chunk's stripe
 abbrev pub near_sub : Partition → ℕ → ℕ → Point → Bool
-near_sub g c s p = near_zone (overlap_at g c) (sub_zone_of g c s) p
+near_sub g c s p = near_bounds (overlap_at g c) (sub_bounds_of g c s) p
