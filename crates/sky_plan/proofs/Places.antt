@@ -10,13 +10,13 @@ use Rattle.wedge_rules.specs.Wedge.{InWedge}
 use Rattle.wedge_rules.proofs.Products.{neg_mul, mul_neg}
 use Rattle.wedge_rules.proofs.Tests.{le_from}
 use Rattle.sky_rules.specs.Partition.{Site, Partition, sky_bottom, sky_end, chunks_in, chunk_count, sub_count}
-use Rattle.sky_rules.specs.Zones.{in_zone, in_sub, sub_zone, row_start}
+use Rattle.sky_rules.specs.Bounds.{in_bounds, in_sub, sub_bounds, row_start}
 use Rattle.sky_rules.specs.Limits.{IsSky}
 use Rattle.sky_rules.specs.Laws.{IsOnlyPlace}
 use Rattle.sky_rules.proofs.Near.{below_root}
 use Rattle.sky_rules.proofs.OnlyPlace.{exactly_one_place}
 use Rattle.sky_rules.proofs.Rows.{column_below, number_below}
-use Rattle.sky_rules.proofs.Zones.{holds_to, wedge_to}
+use Rattle.sky_rules.proofs.Bounds.{holds_to, wedge_to}
 use Rattle.sky_plan.specs.Plans.{stripe_numbered}
 use Rattle.sky_plan.specs.Sites.{IsPlaced, HasHeight, site_numbered}
 use Rattle.sky_plan.proofs.Stripes.{placed_at, chunk_at, counted_at}
@@ -51,14 +51,14 @@ only_place g p c s sky ok hc hs held =
 -- the subchunk of a row that has the point's height and a column that has its direction holds the point
 sub_holds : (site : Site) (s : ℕ) (p : Point) → IsPlaced site → HasHeight site (s / site.stripe.columns) p.z
     → InWedge (site.stripe.chunks * site.stripe.columns) (site.wedge * site.stripe.columns + s % site.stripe.columns) p.x p.y
-    → in_zone (sub_zone site s) p ≡ true
+    → in_bounds (sub_bounds site s) p ≡ true
 sub_holds site s p is row held =
     let m = site.stripe.columns in
     let t = s / m in
     let j = s % m in
     let column : j < m = column_below s m is.stripe.some_columns in
     let fine = number_below site.wedge j site.stripe.chunks m is.wedge column in
-    holds_to (sub_zone site s) p (wedge_to (site.stripe.chunks * m) (site.wedge * m + j) (row_start site t) (row_start site (t + 1)) p is.stripe.fine fine row.low row.high held)
+    holds_to (sub_bounds site s) p (wedge_to (site.stripe.chunks * m) (site.wedge * m + j) (row_start site t) (row_start site (t + 1)) p is.stripe.fine fine row.low row.high held)
 
 -- the place of a point by its stripe, its fine wedge and its row
 pub place_found : (g : Partition) (n fine s : ℕ) (p : Point) → IsSky g → IsAdmissible p → n < length g.stripes
@@ -79,7 +79,7 @@ place_found g n fine s p sky ok hn hw held hs row column =
     let held_here = sub_holds site s p (placed_at g n w sky hn hw) row inside in
     only_place g p (chunks_in (take n g.stripes) + w) s sky ok (counted_at g n w hn hw)
     (subst (λ (at : Site). s < at.stripe.rows * at.stripe.columns) (sym there) hs)
-    (subst (λ (at : Site). in_zone (sub_zone at s) p ≡ true) (sym there) held_here)
+    (subst (λ (at : Site). in_bounds (sub_bounds at s) p ≡ true) (sym there) held_here)
 
 -- what the parts of a place's computation show, by its stripe's counts, its first chunk and its site
 abbrev pub Shows : (g : Partition) (p : Point) (fine s chunks columns first : ℕ) → Site → Type 0

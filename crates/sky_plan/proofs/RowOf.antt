@@ -5,7 +5,7 @@ use Rattle.std.proofs.lemmas.Int.{ints}
 use Rattle.std.proofs.lemmas.Nat.{le-div, div_below, div-mul-add}
 use Rattle.wedge_rules.proofs.Products.{times_le}
 use Rattle.sky_rules.specs.Partition.{Site, sky_bottom, sky_end}
-use Rattle.sky_rules.specs.Zones.{height_of, row_start}
+use Rattle.sky_rules.specs.Bounds.{height_of, row_start}
 use Rattle.sky_rules.proofs.Rows.{start, start_up, start_end}
 use Rattle.sky_plan.proofs.Headings.{kept}
 use Rattle.sky_plan.specs.Sites.{IsPlaced, HasHeight}

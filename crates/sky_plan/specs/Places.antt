@@ -2,7 +2,7 @@
 use Rattle.std.specs.Prelude.{◌≡◌, ℕ, ◌<◌, IsTrue}
 use Rattle.sky_vector.specs.Points.{Point}
 use Rattle.sky_rules.specs.Partition.{Partition, chunk_count, sub_count}
-use Rattle.sky_rules.specs.Zones.{in_chunk, in_sub}
+use Rattle.sky_rules.specs.Bounds.{in_chunk, in_sub}
 
 -- no other chunk holds the point
 abbrev pub IsOnlyChunk : Partition → ℕ → Point → Type 0

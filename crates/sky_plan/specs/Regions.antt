@@ -1,7 +1,7 @@
--- The zone that a region stands for.
+-- The bounds that a region stands for.
 use Rattle.std.specs.Prelude.{ℤ, Option, option_map}
 use Rattle.sky_vector.specs.declared.direction.Dir.{Dir}
-use Rattle.sky_rules.specs.Zones.{Zone}
+use Rattle.sky_rules.specs.Bounds.{Bounds}
 use Rattle.sky_plan.specs.declared.region.Region.{Region}
 
 -- the point that a direction leads to
@@ -12,6 +12,6 @@ direction_shown d = (d.dx, d.dy)
 abbrev pub sides_shown : Option (Dir × Dir) → Option ((ℤ × ℤ) × (ℤ × ℤ))
 sides_shown sides = option_map (λ pair. (direction_shown pair.0, direction_shown pair.1)) sides
 
--- the zone that a region stands for
-abbrev pub zone_shown : Region → Zone
-zone_shown r = record { z_low = r.z_low; z_high = r.z_high; sides = sides_shown r.sides; axis = r.axis }
+-- the bounds that a region stands for
+abbrev pub bounds_shown : Region → Bounds
+bounds_shown r = record { z_low = r.z_low; z_high = r.z_high; sides = sides_shown r.sides; axis = r.axis }

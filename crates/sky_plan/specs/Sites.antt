@@ -2,7 +2,7 @@
 use Rattle.std.specs.Prelude.{ℕ, ◌+◌, ◌<◌, ℤ, pos, ◌+ℤ◌, ◌≤ℤ◌, ◌<ℤ◌, drop, length}
 use Rattle.sky_rules.specs.Partition.{Partition, Site, sky_bottom, sky_end, floor_of}
 use Rattle.sky_rules.specs.Limits.{IsStripe}
-use Rattle.sky_rules.specs.Zones.{row_start}
+use Rattle.sky_rules.specs.Bounds.{row_start}
 use Rattle.sky_plan.specs.Plans.{stripe_numbered}
 
 -- A site within the limits: at least 64 high, inside the sky, and of a wedge that its stripe has.

@@ -7,16 +7,16 @@ ghost use Rattle.sky_rules.specs.Laws.{IsOnlyPlace};
 ghost use Rattle.sky_rules.specs.Limits.{IsSky, IsStripe};
 ghost use Rattle.sky_rules.specs.Partition.{chunk_count, chunks_in, greatest_overlap, least_overlap};
 ghost use Rattle.sky_rules.specs.Partition.{overlap_at, site_of, sky_bottom, sky_end, sub_count};
-ghost use Rattle.sky_rules.specs.Zones.{in_chunk, in_sub, sub_zone_of, zone_of};
+ghost use Rattle.sky_rules.specs.Bounds.{in_chunk, in_sub, sub_bounds_of, bounds_of};
 ghost use Rattle.sky_plan.specs.Plans.{AreFirsts, CoversOverlaps, HasChunk, stripe_numbered};
 ghost use Rattle.sky_plan.specs.Places.{IsOnlyChunk, SubHolds};
-ghost use Rattle.sky_plan.specs.Regions.{zone_shown};
+ghost use Rattle.sky_plan.specs.Regions.{bounds_shown};
 ghost use Rattle.sky_plan.specs.Sites.{SpansHeight, end_numbered, site_numbered};
 
-use crate::place::Place;
 use crate::region::Region;
 use crate::site::Site;
 use crate::stripe::Stripe;
+use crate::sub_place::SubPlace;
 use sky_io::Memory;
 use sky_vector::Pos;
 use std::alloc::Global;
@@ -139,7 +139,7 @@ impl SkyPlan {
     /// The bounds of a chunk. Takes no memory.
     pub fn region(&self, chunk: u32) -> Region
         requires { chunk < chunk_count self.now }
-        ensures { zone_shown result ≡ zone_of self.now chunk }
+        ensures { bounds_shown result ≡ bounds_of self.now chunk }
     {
         self.site(chunk).region()
     }
@@ -148,13 +148,13 @@ impl SkyPlan {
     pub fn sub_region(&self, chunk: u32, sub: u32) -> Region
         requires chunk { chunk < chunk_count self.now }
         requires sub { sub < sub_count self.now chunk }
-        ensures { zone_shown result ≡ sub_zone_of self.now chunk sub }
+        ensures { bounds_shown result ≡ sub_bounds_of self.now chunk sub }
     {
         self.site(chunk).sub_region(sub)
     }
 
     /// The chunk that holds an admissible position, and the subchunk of it that does. Takes no memory.
-    pub fn place_of(&self, p: &Pos) -> Place
+    pub fn place_of(&self, p: &Pos) -> SubPlace
         requires { IsAdmissible (point p.now) }
         ensures { IsOnlyPlace self.now result.chunk result.sub (point p.now) }
     {
@@ -162,7 +162,7 @@ impl SkyPlan {
         let stripe = self.stripe_numbered(number);
         let fine = wedge_of(stripe.chunks * stripe.columns, p);
         let wedge = fine / stripe.columns;
-        Place {
+        SubPlace {
             chunk: self.first_of(number) + wedge,
             sub: self
                 .site_in(number, wedge)

@@ -2,7 +2,7 @@
 
 ghost use Rattle.std.specs.Prelude.{◌≡◌, ◌+◌, ◌≤◌, ◌<◌, ◌≤ℤ◌, ◌<ℤ◌};
 ghost use Rattle.sky_rules.specs.Partition.{sky_bottom, sky_end};
-ghost use Rattle.sky_rules.specs.Zones.{sides_of, wedge_zone};
+ghost use Rattle.sky_rules.specs.Bounds.{sides_of, wedge_bounds};
 
 use crate::direction::direction;
 use sky_vector::Dir;
@@ -21,7 +21,7 @@ pub struct Region {
 }
 
 impl Region {
-    ghost use Rattle.sky_plan.specs.Regions.{sides_shown, zone_shown};
+    ghost use Rattle.sky_plan.specs.Regions.{sides_shown, bounds_shown};
 
     /// The region of a wedge, of 1 to 65,536 wedges, from `z_low` up to and without `end`.
     pub(crate) fn of_wedge(wedges: u32, wedge: u32, z_low: i64, end: i64) -> Region
@@ -30,7 +30,7 @@ impl Region {
         requires low { sky_bottom ≤ℤ z_low }
         requires low_end { sky_bottom ≤ℤ end }
         requires high_end { end ≤ℤ sky_end }
-        ensures { zone_shown result ≡ wedge_zone wedges wedge z_low end }
+        ensures { bounds_shown result ≡ wedge_bounds wedges wedge z_low end }
     {
         Region {
             z_low,

@@ -1,8 +1,8 @@
 //! Where a chunk stands in the sky, and the parts of it.
 
 ghost use Rattle.std.specs.Prelude.{◌≡◌, ◌+◌, ◌*◌, ◌/◌, ◌%◌, ◌^◌, ◌≤◌, ◌<◌, ◌≤ℤ◌, ◌<ℤ◌};
-ghost use Rattle.sky_rules.specs.Zones.{chunk_zone, height_of, row_start, sub_zone};
-ghost use Rattle.sky_plan.specs.Regions.{zone_shown};
+ghost use Rattle.sky_rules.specs.Bounds.{chunk_bounds, height_of, row_start, sub_bounds};
+ghost use Rattle.sky_plan.specs.Regions.{bounds_shown};
 ghost use Rattle.sky_plan.specs.Sites.{HasHeight, IsPlaced};
 
 use crate::region::Region;
@@ -54,7 +54,7 @@ impl Site {
 
     /// The region of the chunk.
     pub(crate) fn region(&self) -> Region
-        ensures { zone_shown result ≡ chunk_zone self.now }
+        ensures { bounds_shown result ≡ chunk_bounds self.now }
     {
         Region::of_wedge(self.stripe.chunks, self.wedge, self.stripe.z_low, self.end)
     }
@@ -62,7 +62,7 @@ impl Site {
     /// The region of a subchunk.
     pub(crate) fn sub_region(&self, sub: u32) -> Region
         requires { sub < self.now.stripe.rows * self.now.stripe.columns }
-        ensures { zone_shown result ≡ sub_zone self.now sub }
+        ensures { bounds_shown result ≡ sub_bounds self.now sub }
     {
         let row = sub / self.stripe.columns;
         let fine = self.wedge * self.stripe.columns + sub % self.stripe.columns;
