@@ -7,7 +7,7 @@ use Rattle.std.proofs.lemmas.List.{drop_all}
 use Rattle.sky_vector.specs.Points.{Point}
 use Rattle.sky_rules.specs.Partition.{Stripe, Site, Partition, chunk_count, chunks_in, floor_of, site_in, site_of, sky_end}
 use Rattle.sky_rules.specs.Limits.{IsSky, AreHigh}
-use Rattle.sky_rules.specs.Zones.{Zone, chunk_zone, near_chunk, near_sides, near_zone, sides_of, in_chunk}
+use Rattle.sky_rules.specs.Bounds.{Bounds, chunk_bounds, near_chunk, near_sides, near_bounds, sides_of, in_chunk}
 use Rattle.sky_rules.proofs.Sites.{site_is, site_above, site_here, site_later, chunks_more}
 use Rattle.sky_plan.specs.Plans.{CoversOverlaps, stripe_numbered}
 use Rattle.sky_plan.specs.Sites.{SpansHeight, site_numbered}
@@ -25,20 +25,20 @@ and_none false = refl
 not_needed : (near held : Bool) → near ≡ false → near && not held ≡ false
 not_needed near held e = rw e refl
 
--- a point apart from both sides of a zone is not near it
-zone_apart : (r : ℕ) (zone : Zone) (p : Point) → near_sides r zone.sides p ≡ false → near_zone r zone p ≡ false
-zone_apart r zone p e =
-    ap (λ b. (int_le (zone.z_low -ℤ pos r) p.z && int_le p.z (zone.z_high +ℤ pos r)) && b) e
-    ∙ and_none (int_le (zone.z_low -ℤ pos r) p.z && int_le p.z (zone.z_high +ℤ pos r))
+-- a point apart from both sides of a part of the sky is not near it
+bounds_apart : (r : ℕ) (bounds : Bounds) (p : Point) → near_sides r bounds.sides p ≡ false → near_bounds r bounds p ≡ false
+bounds_apart r bounds p e =
+    ap (λ b. (int_le (bounds.z_low -ℤ pos r) p.z && int_le p.z (bounds.z_high +ℤ pos r)) && b) e
+    ∙ and_none (int_le (bounds.z_low -ℤ pos r) p.z && int_le p.z (bounds.z_high +ℤ pos r))
 
 -- a chunk of a stripe does not need a point that is not near its wedge
 pub wedge_apart : (g : Partition) (i k : ℕ) (p : Point) → i < length g.stripes → k < (stripe_numbered g i).chunks
     → near_sides (stripe_numbered g i).overlap (sides_of (stripe_numbered g i).chunks k) p ≡ false
     → in_full_overlap g (chunks_in (take i g.stripes) + k) p ≡ false
 wedge_apart g i k p hi hk e =
-    let at = zone_apart (stripe_numbered g i).overlap (chunk_zone (site_numbered g i k)) p e in
+    let at = bounds_apart (stripe_numbered g i).overlap (chunk_bounds (site_numbered g i k)) p e in
     not_needed (near_chunk g (chunks_in (take i g.stripes) + k) p) (in_chunk g (chunks_in (take i g.stripes) + k) p)
-    (subst (λ (site : Site). near_zone site.stripe.overlap (chunk_zone site) p ≡ false) (sym (chunk_at g i k hi hk)) at)
+    (subst (λ (site : Site). near_bounds site.stripe.overlap (chunk_bounds site) p ≡ false) (sym (chunk_at g i k hi hk)) at)
 
 -- the chunks of a stripe end where those of the next begin
 pub stripe_ends : (g : Partition) (i : ℕ) → i < length g.stripes
@@ -56,14 +56,14 @@ stripe_within g i h =
 le_not : (a b : ℤ) → b <ℤ a → int_le a b ≡ false
 le_not a b h = grind (arith, ints)
 
--- a point too high for a zone is not near it
-too_high : (r : ℕ) (zone : Zone) (p : Point) → (zone.z_high +ℤ pos r) <ℤ p.z → near_zone r zone p ≡ false
-too_high r zone p h =
-    rw (le_not p.z (zone.z_high +ℤ pos r) h, and_none (int_le (zone.z_low -ℤ pos r) p.z)) refl
+-- a point too high for a part of the sky is not near it
+too_high : (r : ℕ) (bounds : Bounds) (p : Point) → (bounds.z_high +ℤ pos r) <ℤ p.z → near_bounds r bounds p ≡ false
+too_high r bounds p h =
+    rw (le_not p.z (bounds.z_high +ℤ pos r) h, and_none (int_le (bounds.z_low -ℤ pos r) p.z)) refl
 
 -- nor is one too low
-too_low : (r : ℕ) (zone : Zone) (p : Point) → p.z <ℤ (zone.z_low -ℤ pos r) → near_zone r zone p ≡ false
-too_low r zone p h = rw (le_not (zone.z_low -ℤ pos r) p.z h) refl
+too_low : (r : ℕ) (bounds : Bounds) (p : Point) → p.z <ℤ (bounds.z_low -ℤ pos r) → near_bounds r bounds p ≡ false
+too_low r bounds p h = rw (le_not (bounds.z_low -ℤ pos r) p.z h) refl
 
 -- a chunk of the stripes before stripe i ends no higher than stripe i begins
 ends_below : (stripes : List Stripe) (i c : ℕ) → AreHigh stripes → c < chunks_in (take i stripes) → (site_in stripes c).end ≤ℤ floor_of (drop i stripes)
@@ -113,7 +113,7 @@ below_apart g i c reach low p sky covers spans down hc h =
     let bottom = sky.bottom in
     let clear = down site.end (omega (arith, ints, tall, up, bottom)) (omega (arith, ints, ends, at, from)) in
     let most = covers c hc in
-    not_needed (near_chunk g c p) (in_chunk g c p) (too_high site.stripe.overlap (chunk_zone site) p (omega (arith, ints, clear, most)))
+    not_needed (near_chunk g c p) (in_chunk g c p) (too_high site.stripe.overlap (chunk_bounds site) p (omega (arith, ints, clear, most)))
 
 -- nor does one above the stripe that has the highest
 pub above_apart : (g : Partition) (i c reach : ℕ) (high : ℤ) (p : Point) → IsSky g → CoversOverlaps g reach → SpansHeight g i high
@@ -127,7 +127,7 @@ above_apart g i c reach high p sky covers spans up hc h =
     let top = end_in_sky g.stripes c sky.high in
     let clear = up site.stripe.z_low (omega (arith, ints, tall, top)) (omega (arith, ints, begins, to)) in
     let most = covers c hc in
-    not_needed (near_chunk g c p) (in_chunk g c p) (too_low site.stripe.overlap (chunk_zone site) p (omega (arith, ints, clear, most)))
+    not_needed (near_chunk g c p) (in_chunk g c p) (too_low site.stripe.overlap (chunk_bounds site) p (omega (arith, ints, clear, most)))
 
 -- a lower height is not in a higher stripe
 pub spans_up : (g : Partition) (i j : ℕ) (low high : ℤ) → IsSky g → SpansHeight g i low → SpansHeight g j high → low ≤ℤ high → i ≤ j

@@ -6,3 +6,4 @@ pub mod Windows
 pub mod Runs
 pub mod InStripe
 pub mod Listed
+pub mod Fronts

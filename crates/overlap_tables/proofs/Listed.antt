@@ -6,7 +6,7 @@ use Rattle.std.proofs.lemmas.List.Elements.{All-contains, All-filter, filter_pas
 use Rattle.std.proofs.lemmas.List.FromFn.{get_or-range_with_len, length-range_with_len}
 use Rattle.std.proofs.lemmas.List.Kept.{AllPairs-filter}
 use Rattle.sky_rules.specs.Partition.{chunk_count}
-use Rattle.sky_rules.specs.Zones.{in_chunk, near_chunk}
+use Rattle.sky_rules.specs.Bounds.{in_chunk, near_chunk}
 use Rattle.sky_rules.proofs.OnlyPlace.{near_enough}
 use Rattle.overlap_tables.specs.Overlaps.{in_full_overlap}
 use Rattle.overlap_tables.specs.Laws.{OverlapIsEnough, OthersAscend, OthersNeedIt}

@@ -2,7 +2,7 @@
 use Rattle.std.proofs.Common.{◌≡◌, ℕ, ◌<◌, refl, sym, ◌∙◌, Bool, true, false, nat_eq, ◌&&◌, not, eqb-true, eq-eqb, subst}
 use Rattle.sky_vector.specs.Points.{Point}
 use Rattle.sky_rules.specs.Partition.{Partition, chunk_count}
-use Rattle.sky_rules.specs.Zones.{in_chunk, near_chunk}
+use Rattle.sky_rules.specs.Bounds.{in_chunk, near_chunk}
 use Rattle.overlap_tables.specs.Overlaps.{IsOwn, in_full_overlap}
 
 own_by : (g : Partition) (own c : ℕ) (p : Point) (a b : Bool) → IsOwn g own p → c < chunk_count g → in_chunk g c p ≡ a → nat_eq c own ≡ b → a ≡ b

@@ -5,7 +5,7 @@ use Rattle.std.proofs.lemmas.Bool.{cases_lt}
 use Rattle.sky_vector.specs.Points.{Point}
 use Rattle.wedge_rules.specs.Heading.{heading}
 use Rattle.wedge_rules.specs.Wedge.{InWedge}
-use Rattle.sky_rules.specs.Zones.{near_side, near_sides, sides_of}
+use Rattle.sky_rules.specs.Bounds.{near_side, near_sides, sides_of}
 use Rattle.overlap_tables.specs.Windows.{side_back, side_on, IsNarrow, straight, round, IsBetween, inside, behind_first, before_second, IsWindow, IsLeftOut, below, then, later, above, AreCandidates, IsGap, gap_below_opposite, gap_before, gap_after, gap_above_opposite, gap_round_after, gap_round_before, CoverWay}
 use Rattle.overlap_tables.proofs.Turns.{direct}
 use Rattle.overlap_tables.proofs.Windows.{gap_not_near}

@@ -15,7 +15,7 @@ use Rattle.wedge_rules.proofs.Quarters.{SignAt}
 use Rattle.wedge_rules.proofs.OneWedge.{IsStep, here, round as round_step, is_step, holds_between, only_at, step_end}
 use Rattle.wedge_rules.proofs.Fine.{past_axis}
 use Rattle.wedge_rules.proofs.Exactly.{exactly_one_wedge}
-use Rattle.sky_rules.specs.Zones.{near_side, near_sides, sides_of}
+use Rattle.sky_rules.specs.Bounds.{near_side, near_sides, sides_of}
 use Rattle.overlap_tables.specs.Windows.{IsNarrow, straight, round, IsBetween, inside, behind_first, before_second, IsWindow, IsGap, gap_below_opposite, gap_before, gap_after, gap_above_opposite, gap_round_after, gap_round_before}
 use Rattle.overlap_tables.proofs.FarLines.{far_outside}
 use Rattle.overlap_tables.proofs.Turns.{IsBeyond, opposite_below, before, after, opposite_above, round_after, round_before, direct, beyond_alike}

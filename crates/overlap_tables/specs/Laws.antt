@@ -4,7 +4,7 @@ use Rattle.std.specs.List.{AllPairs, Contains}
 use Rattle.sky_vector.specs.Points.{Point, chord_squared, square}
 use Rattle.sky_rules.specs.Partition.{Partition, chunk_count, overlap_at, sub_count}
 use Rattle.sky_rules.specs.Limits.{IsSky}
-use Rattle.sky_rules.specs.Zones.{in_chunk, in_sub, near_chunk, near_sub}
+use Rattle.sky_rules.specs.Bounds.{in_chunk, in_sub, near_chunk, near_sub}
 use Rattle.overlap_tables.specs.Overlaps.{in_full_overlap, near_others}
 
 -- Where a point that is no farther than the overlap radius from a point of a subchunk is: in the near region of the

@@ -3,7 +3,7 @@ use Rattle.std.specs.Prelude.{◌≡◌, ℕ, ◌-◌, List, ◌++◌, Bool, ◌
 use Rattle.std.specs.List.{filter, range_with_len}
 use Rattle.sky_vector.specs.Points.{Point}
 use Rattle.sky_rules.specs.Partition.{Partition, chunk_count}
-use Rattle.sky_rules.specs.Zones.{in_chunk, near_chunk}
+use Rattle.sky_rules.specs.Bounds.{in_chunk, near_chunk}
 use Rattle.sky_plan.specs.Places.{IsOnlyChunk}
 
 -- the point is in the full overlap of the chunk: near it, and not in it
@@ -18,9 +18,12 @@ near_others g p = filter (λ c. in_full_overlap g c p) (range_with_len 0 (chunk_
 abbrev pub others_between : Partition → Point → ℕ → ℕ → List ℕ
 others_between g p a b = filter (λ c. in_full_overlap g c p) (range_with_len a (b - a))
 
--- the old list stands in front of the new one
-abbrev pub Begins : List ℕ → List ℕ → Type 0
-Begins old new = (more : List ℕ) × (new ≡ old ++ more)
+-- The new list is the old one and behind it a front of a third: its first numbers, all of them or fewer.
+pub record AddsFront (old new whole : List ℕ) : Type 0 where
+  pub front : List ℕ
+  pub rest : List ℕ
+  pub added : new ≡ old ++ front
+  pub within : whole ≡ front ++ rest
 
 -- The chunk holds the point, and no other chunk does.
 pub record IsOwn (g : Partition) (own : ℕ) (p : Point) : Type 0 where

@@ -3,7 +3,7 @@ use Rattle.std.specs.Prelude.{◌≡◌, ℕ, ◌+◌, ◌-◌, ◌*◌, ◌≤�
 use Rattle.sky_vector.specs.Points.{Point}
 use Rattle.wedge_rules.specs.Heading.{heading}
 use Rattle.wedge_rules.specs.Wedge.{InWedge}
-use Rattle.sky_rules.specs.Zones.{near_side, near_sides, sides_of}
+use Rattle.sky_rules.specs.Bounds.{near_side, near_sides, sides_of}
 
 -- the side so many steps back from the first side of wedge k, round the n sides
 abbrev pub side_back : ℕ → ℕ → ℕ → ℕ

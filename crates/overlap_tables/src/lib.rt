@@ -8,12 +8,13 @@
 
 mod chunks;
 pub mod examples;
+mod held;
 pub mod laws;
 mod near;
 mod stripes;
 mod wedges;
 
-pub use chunks::{near_chunks, push_near_chunks};
+pub use chunks::{near_chunks, push_near_chunks, push_near_others};
 pub use near::{in_near, in_near_sub};
 
 #[cfg(test)]

@@ -4,8 +4,8 @@ ghost use Rattle.std.specs.Prelude.{◌≡◌, ◌<◌, ◌≤◌, ◌^◌, ◌&
 ghost use Rattle.sky_vector.specs.Pos.{point};
 ghost use Rattle.wedge_rules.specs.Heading.{past};
 ghost use Rattle.sky_rules.specs.Partition.{chunk_count, sub_count};
-ghost use Rattle.sky_rules.specs.Zones.{near_chunk, near_side, near_sides, near_sub, near_zone};
-ghost use Rattle.sky_plan.specs.Regions.{direction_shown, sides_shown, zone_shown};
+ghost use Rattle.sky_rules.specs.Bounds.{near_chunk, near_side, near_sides, near_sub, near_bounds};
+ghost use Rattle.sky_plan.specs.Regions.{direction_shown, sides_shown, bounds_shown};
 
 use sky_plan::{Region, SkyPlan};
 use sky_vector::{Dir, Pos, cross, within};
@@ -32,7 +32,7 @@ pub fn in_near_sub(plan: &SkyPlan, chunk: u32, sub: u32, p: &Pos) -> bool
 /// Whether the position is in the near region of a region, for a radius in grid units.
 fn is_near(region: &Region, radius: u32, p: &Pos) -> bool
     requires { radius ≤ 2 ^ 24 }
-    ensures { result ≡ near_zone radius (zone_shown region.now) (point p.now) }
+    ensures { result ≡ near_bounds radius (bounds_shown region.now) (point p.now) }
 {
     is_near_height(region, radius, p.z) && near_sides(region.sides, radius, p)
 }

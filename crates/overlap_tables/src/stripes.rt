@@ -5,7 +5,7 @@ ghost use Rattle.sky_vector.specs.Points.{IsAdmissible};
 ghost use Rattle.sky_vector.specs.Pos.{point};
 ghost use Rattle.sky_rules.specs.Partition.{sky_bottom, sky_end};
 ghost use Rattle.overlap_tables.specs.Heights.{HaveOthers, ReachesDown, ReachesUp, first_chunk};
-ghost use Rattle.overlap_tables.specs.Overlaps.{Begins, IsOwn, others_between};
+ghost use Rattle.overlap_tables.specs.Overlaps.{AddsFront, IsOwn, others_between};
 
 use crate::chunks::push_others;
 use crate::wedges::candidates;
@@ -73,7 +73,8 @@ pub(crate) fn push_in_stripes(
     requires there { to ≤ length plan.now.stripes }
     ensures all { IfOk result (λ _. into.new.items ≡ into.old.items
         ++ others_between plan.now (point p.now) (first_chunk plan.now from) (first_chunk plan.now to)) }
-    ensures kept { Begins into.old.items into.new.items }
+    ensures part { AddsFront into.old.items into.new.items
+        (others_between plan.now (point p.now) (first_chunk plan.now from) (first_chunk plan.now to)) }
 {
     for number in from..to {
         push_in_stripe(plan, own, number, p, into)?;
@@ -94,7 +95,8 @@ fn push_in_stripe(
     ensures all { IfOk result (λ _.
         into.new.items ≡ into.old.items ++ others_between plan.now (point p.now)
         (first_chunk plan.now number) (first_chunk plan.now (number + 1))) }
-    ensures kept { Begins into.old.items into.new.items }
+    ensures part { AddsFront into.old.items into.new.items (others_between plan.now (point p.now)
+        (first_chunk plan.now number) (first_chunk plan.now (number + 1))) }
 {
     let stripe = plan.stripe_numbered(number);
     let first = plan.first_of(number);

@@ -61,6 +61,31 @@ fn the_diagonal_is_near_one_chunk_and_two_subchunks(rt: HostRuntime) -> Result<(
 }
 
 #[test]
+fn a_position_off_the_sphere_is_near_chunks_by_the_same_rule(rt: HostRuntime) -> Result<(), Fail> {
+    let Ok(plan) = SkyPlan::read(rt.alloc(), HALVES) else {
+        panic!(rt; "no plan");
+    };
+    let cases = [
+        ((10, 0, 0), [0, 3, 7].as_slice()),
+        ((0, 0, 0), [0, 1, 2, 3, 5, 6, 7].as_slice()),
+        ((3, 3, 10), [5, 6, 7].as_slice()),
+        ((536870912, 0, 0), [0, 3, 7].as_slice()),
+        ((0, 0, 268435477), [4, 5, 6, 7].as_slice()),
+        ((0, 0, 268435478), [].as_slice()),
+        ((-10, 20, -268435477), [1].as_slice()),
+    ];
+    for ((x, y, z), want) in cases {
+        let Some(p) = Pos::new(x, y, z) else {
+            panic!(rt; "{x} {y} {z}");
+        };
+        assert!(rt; !length_ok(&p), "{x} {y} {z}");
+        let near = near_chunks(rt.alloc(), &plan, &p)?;
+        assert_eq!(rt; near.as_slice(), want, "{x} {y} {z}");
+    }
+    Ok(())
+}
+
+#[test]
 fn the_walk_finds_what_a_test_of_each_chunk_finds(rt: HostRuntime) -> Result<(), Fail> {
     let Ok(plan) = SkyPlan::read(rt.alloc(), SIX) else {
         panic!(rt; "no plan");

@@ -11,7 +11,7 @@ ghost use Rattle.std.specs.Prelude.{◌≡◌, ◌+◌, ◌*◌, ◌-◌, ◌/�
 ghost use Rattle.sky_vector.specs.Pos.{point};
 ghost use Rattle.wedge_rules.specs.Heading.{heading};
 ghost use Rattle.wedge_rules.specs.Wedge.{IsWedgeCount};
-ghost use Rattle.sky_rules.specs.Zones.{near_side};
+ghost use Rattle.sky_rules.specs.Bounds.{near_side};
 ghost use Rattle.overlap_tables.specs.Windows.{AreCandidates, CoverWay, IsNarrow, IsWindow, side_back, side_on};
 
 use crate::near::is_near_side;
