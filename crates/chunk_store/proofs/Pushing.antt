@@ -8,7 +8,7 @@ use Rattle.std.proofs.lemmas.Bool.Decides.{eqb_tells}
 use Rattle.sky_vector.specs.Points.{Point}
 use Rattle.table_rules.specs.Objects.{Obj}
 use Rattle.sky_rules.specs.Partition.{Partition, chunk_count}
-use Rattle.sky_rules.specs.Zones.{in_chunk, near_chunk}
+use Rattle.sky_rules.specs.Bounds.{in_chunk, near_chunk}
 use Rattle.sky_plan.specs.Places.{IsOnlyChunk}
 use Rattle.overlap_tables.specs.Overlaps.{near_others}
 use Rattle.chunk_store.specs.Places.{passes}

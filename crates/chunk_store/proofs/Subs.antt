@@ -8,7 +8,7 @@ use Rattle.table_rules.specs.Objects.{Obj}
 use Rattle.sky_rules.specs.Laws.{IsOnlyPlace}
 use Rattle.sky_rules.specs.Limits.{IsSky}
 use Rattle.sky_rules.specs.Partition.{Partition, chunk_count, sub_count}
-use Rattle.sky_rules.specs.Zones.{in_chunk, in_sub, near_chunk, near_sub}
+use Rattle.sky_rules.specs.Bounds.{in_chunk, in_sub, near_chunk, near_sub}
 use Rattle.sky_rules.proofs.OnlyPlace.{sub_lies_in_its_chunk}
 use Rattle.overlap_tables.specs.Overlaps.{in_full_overlap}
 use Rattle.chunk_store.specs.Places.{passes, in_sub_overlap, chunk_rows, full_overlap_rows, sub_rows, sub_overlap_rows}

@@ -5,7 +5,7 @@ use Rattle.std.specs.List.{range_with_len}
 use Rattle.table_rules.specs.Objects.{Obj, Catalogue}
 use Rattle.sky_rules.specs.Limits.{IsSky}
 use Rattle.sky_rules.specs.Partition.{Partition, chunk_count}
-use Rattle.sky_rules.specs.Zones.{in_chunk}
+use Rattle.sky_rules.specs.Bounds.{in_chunk}
 use Rattle.overlap_tables.specs.Overlaps.{in_full_overlap}
 use Rattle.chunk_store.specs.Places.{passes, filled_chunks}
 

@@ -6,7 +6,7 @@ use Rattle.std.specs.List.{list_any, range_with_len}
 use Rattle.sky_vector.specs.Points.{Point}
 use Rattle.table_rules.specs.Objects.{Obj}
 use Rattle.sky_rules.specs.Partition.{Partition, chunk_count}
-use Rattle.sky_rules.specs.Zones.{in_chunk, in_sub, near_sub}
+use Rattle.sky_rules.specs.Bounds.{in_chunk, in_sub, near_sub}
 use Rattle.overlap_tables.specs.Overlaps.{in_full_overlap}
 
 -- there is an object, and it passes the test

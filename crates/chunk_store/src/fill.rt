@@ -1,13 +1,13 @@
-//! Fills the lists of a store: one pass over the rows for the chunks that hold them, and one for those that are near.
+//! Fills the lists of a store, in one pass over the rows: a row's chunk is looked for once.
 
 ghost use Rattle.std.specs.Prelude.{◌≡◌, ◌∷◌, [], IfOk, OnOk, length, replicate};
 ghost use Rattle.sky_rules.specs.Limits.{IsSky};
 ghost use Rattle.sky_rules.specs.Partition.{chunk_count};
-ghost use Rattle.overlap_tables.specs.Overlaps.{near_others};
+ghost use Rattle.overlap_tables.specs.Overlaps.{IsOwn, near_others};
 ghost use Rattle.chunk_store.specs.Lists.{AreLists, Pushed, overlap_test, own_test};
 
 use crate::lists::Lists;
-use overlap_tables::push_near_chunks;
+use overlap_tables::push_near_others;
 use sky_io::Memory;
 use sky_plan::SkyPlan;
 use sky_row::{Row, Rows};
@@ -21,44 +21,45 @@ fn empty_lists(alloc: Global, plan: &SkyPlan) -> Result<Lists, Memory>
     Lists::empty(alloc, plan.chunks())
 }
 
-/// For each chunk the places of its rows.
-pub(crate) fn own_lists(alloc: Global, plan: &SkyPlan, rows: &Rows) -> Result<Lists, Memory>
-    ensures limits { IsSky plan.now }
-    ensures ok { IfOk result (λ lists. AreLists (own_test plan.now) (chunk_count plan.now)
-        rows.now.objects (length rows.now.objects) lists) }
-{
-    let mut lists = empty_lists(alloc, plan)?;
-    for place in 0..rows.len() {
-        lists.push(plan.chunk_of(rows.get(place).pos()), place)?;
-    }
-    Ok(lists)
-}
-
-/// Puts the place of a row behind the lists of the chunks that it is near; `near` is room for their numbers.
+/// Puts the place of a row behind the lists of the chunks that it is near, where its own chunk is known; `near` is room for
+/// their numbers.
 fn push_near(
     plan: &SkyPlan,
+    own: u32,
     row: &Row,
     place: u32,
     near: &mut Vec<u32>,
     lists: &mut Lists,
 ) -> Result<(), Memory>
-    requires { length lists.old ≡ chunk_count plan.now }
+    requires own { IsOwn plan.now own row.now.at }
+    requires all { length lists.old ≡ chunk_count plan.now }
     ensures { OnOk result (Pushed (near_others plan.now row.now.at) place lists.old lists.new) }
 {
     near.clear();
-    push_near_chunks(plan, row.pos(), near)?;
+    push_near_others(plan, own, row.pos(), near)?;
     lists.push_all(near.as_slice(), place)
 }
 
-/// For each chunk the places of the rows in its full overlap.
-pub(crate) fn overlap_lists(alloc: Global, plan: &SkyPlan, rows: &Rows) -> Result<Lists, Memory>
-    ensures { IfOk result (λ lists. AreLists (overlap_test plan.now) (chunk_count plan.now)
-        rows.now.objects (length rows.now.objects) lists) }
+/// For each chunk the places of its rows, and those of the rows in its full overlap.
+pub(crate) fn row_lists(
+    alloc: Global,
+    plan: &SkyPlan,
+    rows: &Rows,
+) -> Result<(Lists, Lists), Memory>
+    ensures limits { IsSky plan.now }
+    ensures own { IfOk result (λ lists. AreLists (own_test plan.now) (chunk_count plan.now)
+        rows.now.objects (length rows.now.objects) lists.0) }
+    ensures overlap { IfOk result (λ lists. AreLists (overlap_test plan.now) (chunk_count plan.now)
+        rows.now.objects (length rows.now.objects) lists.1) }
 {
-    let mut lists = empty_lists(alloc, plan)?;
+    let mut own = empty_lists(alloc, plan)?;
+    let mut overlap = empty_lists(alloc, plan)?;
     let mut near = Vec::new(alloc);
     for place in 0..rows.len() {
-        push_near(plan, rows.get(place), place, &mut near, &mut lists)?;
+        let row = rows.get(place);
+        let chunk = plan.chunk_of(row.pos());
+        own.push(chunk, place)?;
+        push_near(plan, chunk, row, place, &mut near, &mut overlap)?;
     }
-    Ok(lists)
+    Ok((own, overlap))
 }

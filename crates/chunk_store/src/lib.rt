@@ -17,4 +17,6 @@ mod subchunk;
 pub use store::Store;
 
 #[cfg(test)]
+mod subchunk_tests;
+#[cfg(test)]
 mod tests;

@@ -3,10 +3,10 @@
 ghost use Rattle.std.specs.Prelude.{◌≡◌, ◌<◌, ◌&&◌, not, All, IfOk, length, slice_get};
 ghost use Rattle.sky_rules.specs.Limits.{IsSky};
 ghost use Rattle.sky_rules.specs.Partition.{chunk_count, sub_count};
-ghost use Rattle.sky_rules.specs.Zones.{in_sub, near_sub};
+ghost use Rattle.sky_rules.specs.Bounds.{in_sub, near_sub};
 ghost use Rattle.chunk_store.specs.Places.{chunk_rows, filled_chunks, full_overlap_rows, passes, sub_overlap_rows, sub_rows};
 
-use crate::fill::{overlap_lists, own_lists};
+use crate::fill::row_lists;
 use crate::lists::{Lists, push_if};
 use crate::merged::Merged;
 use crate::subchunk::{holds, is_beside};
@@ -45,8 +45,7 @@ impl Store {
     pub fn build(alloc: Global, plan: SkyPlan, rows: Rows) -> Result<Store, Memory>
         ensures { IfOk result (λ store. store ≡ record { plan = plan; rows = rows }) }
     {
-        let own = own_lists(alloc, &plan, &rows)?;
-        let overlap = overlap_lists(alloc, &plan, &rows)?;
+        let (own, overlap) = row_lists(alloc, &plan, &rows)?;
         let filled = own.filled(alloc)?;
         Ok(Store {
             plan,

@@ -4,15 +4,15 @@ ghost use Rattle.std.specs.Prelude.{◌≡◌, ◌<◌, ◌&&◌, ◌==◌, not}
 ghost use Rattle.sky_vector.specs.Points.{IsAdmissible};
 ghost use Rattle.sky_vector.specs.Pos.{point};
 ghost use Rattle.sky_rules.specs.Partition.{chunk_count, sub_count};
-ghost use Rattle.sky_rules.specs.Zones.{in_sub, near_sub};
+ghost use Rattle.sky_rules.specs.Bounds.{in_sub, near_sub};
 
 use overlap_tables::in_near_sub;
-use sky_plan::{Place, SkyPlan};
+use sky_plan::{SkyPlan, SubPlace};
 use sky_row::Row;
 use sky_vector::Pos;
 
 /// Whether the place is this subchunk of this chunk.
-fn is_place(place: &Place, chunk: u32, sub: u32) -> bool
+fn is_place(place: &SubPlace, chunk: u32, sub: u32) -> bool
     ensures { result ≡ (place.now.chunk == chunk && place.now.sub == sub) }
 {
     place.chunk == chunk && place.sub == sub

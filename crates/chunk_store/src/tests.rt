@@ -15,7 +15,7 @@ const ONE_OVERLAP: &str = "overlap 5\nstripe -268435472 4 2 2\nstripe 0 4 2 2\n"
 const TWO_OVERLAPS: &str = "version 2\nstripe -268435472 4 2 2 5\nstripe 0 4 2 2 2\n";
 
 // A row with no further value, where the position is admissible.
-fn row(alloc: Global, id: u32, x: i64, y: i64, z: i64) -> Option<Row>
+pub(crate) fn row(alloc: Global, id: u32, x: i64, y: i64, z: i64) -> Option<Row>
     ensures { IfSome result (λ row. length row.further ≡ 0) }
 {
     let at = Pos::new(x, y, z)?;

@@ -2,7 +2,7 @@ use Rattle.std.proofs.Common.{ℕ, ◌<◌, ◌∙◌, arith, ap, sym, subst, fi
 use Rattle.std.specs.List.{All}
 use Rattle.std.proofs.lemmas.List.{take_all}
 use Rattle.table_rules.specs.Objects.{Obj}
-use Rattle.sky_rules.specs.Zones.{in_sub}
+use Rattle.sky_rules.specs.Bounds.{in_sub}
 use Rattle.chunk_store.specs.Places.{passes}
 use Rattle.chunk_store.proofs.Ranges.{places_there}
 use Rattle.chunk_store.proofs.Subs.{sub_of_chunk}

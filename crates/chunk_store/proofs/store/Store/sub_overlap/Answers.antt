@@ -3,7 +3,7 @@ use Rattle.std.specs.List.{All}
 use Rattle.std.proofs.lemmas.List.{append-nil}
 use Rattle.std.proofs.lemmas.List.Elements.{All-tail}
 use Rattle.table_rules.specs.Objects.{Obj}
-use Rattle.sky_rules.specs.Zones.{in_sub, near_sub}
+use Rattle.sky_rules.specs.Bounds.{in_sub, near_sub}
 use Rattle.chunk_store.specs.Lists.{kept_if}
 use Rattle.chunk_store.specs.Merged.{merged}
 use Rattle.chunk_store.specs.Places.{passes, in_sub_overlap}

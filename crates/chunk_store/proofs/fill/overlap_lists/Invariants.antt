@@ -1,6 +1,0 @@
-use Rattle.sky_rules.specs.Partition.{chunk_count}
-use Rattle.chunk_store.specs.Lists.{AreLists, overlap_test}
-use Rattle.chunk_store.proofs.fill.overlap_lists.Given as goal
-
-abbrev pub invariant-loop-place : goal.invariant-loop-place
-invariant-loop-place l = AreLists (overlap_test l.plan) (chunk_count l.plan) l.rows.objects l.place l.lists
