@@ -10,7 +10,7 @@ use Rattle.std.proofs.lemmas.List.Elements.{recursion_from_All}
 use Rattle.std.proofs.lemmas.Map.Made.{is_some-lookup}
 use Rattle.indexmap.specs.IndexMap.{insert_entry}
 use Rattle.sky_rules.specs.Partition.{Partition, chunk_count}
-use Rattle.sky_rules.specs.Zones.{in_chunk}
+use Rattle.sky_rules.specs.Bounds.{in_chunk}
 use Rattle.table_rules.specs.Objects.{Obj, IdsAscend}
 use Rattle.table_rules.specs.Ordered.{has_id}
 use Rattle.object_index.specs.Indexes.{IsEntryOf, IsIndexOf, IsPlaceOf}

@@ -1,7 +1,7 @@
 -- What an index from ids to chunks says. The idea is Qserv's (SC 2011).
 use Rattle.std.specs.Prelude.{◌≡◌, ℕ, ◌<◌, ℤ, List, [], ◌∷◌, Some, slice_get, IsTrue}
 use Rattle.sky_rules.specs.Partition.{Partition, chunk_count}
-use Rattle.sky_rules.specs.Zones.{in_chunk}
+use Rattle.sky_rules.specs.Bounds.{in_chunk}
 use Rattle.table_rules.specs.Objects.{Obj}
 
 -- The entry of a row: its id, and the chunk of the partition that holds its position.

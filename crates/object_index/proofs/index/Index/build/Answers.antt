@@ -1,6 +1,6 @@
 use Rattle.std.proofs.Common.{rules, arith, w64, FitsSigned, ◌∙◌, ◌≡◌, ap, IsTrue, subst, get_or, length, ◌<◌}
 use Rattle.std.proofs.lemmas.Int.{to_z-of_z}
-use Rattle.sky_rules.specs.Zones.{in_chunk}
+use Rattle.sky_rules.specs.Bounds.{in_chunk}
 use Rattle.object_index.proofs.Entries.{few_entries, next_row}
 use Rattle.object_index.proofs.index.Index.build.Goals as goal
 
