@@ -5,3 +5,4 @@ pub mod Firsts
 pub mod Headers
 pub mod RowFaults
 pub mod Steps
+pub mod Ascending

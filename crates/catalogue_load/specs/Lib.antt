@@ -3,3 +3,4 @@ pub mod Standing
 pub mod Parts
 pub mod Judged
 pub mod Gathered
+pub mod Ids
