@@ -11,8 +11,11 @@ use crate::inputs::{Inputs, fetch_inputs};
 use crate::outcome::{Ends, Outcome};
 use crate::words::{TextNames, text_names};
 use answer_text::put_report;
+use chunk_store::Store;
 use czar::{Plain, Queries, World, put_plain};
 use sky_io::{Gate, Put, Shelf, Sink};
+use sky_plan::SkyPlan;
+use sky_row::Rows;
 use std::alloc::Global;
 use std::sync::Wait;
 use std::thread::Threads;
@@ -68,7 +71,7 @@ fn run_form<S: Shelf, K: Sink>(
     }
 }
 
-// Makes the world of the inputs, and writes what they ask for.
+// Writes what the inputs ask for.
 fn do_job<K: Sink>(alloc: Global, inputs: Inputs, sink: &mut K) -> Outcome
     ensures { IsWritten (job_of inputs) (K.state sink.old) (K.state sink.new) result }
 {
@@ -77,37 +80,50 @@ fn do_job<K: Sink>(alloc: Global, inputs: Inputs, sink: &mut K) -> Outcome
         rows,
         queries,
     } = inputs;
-    match World::build(alloc, plan, rows) {
-        Ok(world) => write_job(alloc, &world, queries, sink),
+    match queries {
+        None => report_rows(alloc, plan, rows, sink),
+        Some(queries) => answer_queries(alloc, plan, rows, queries, sink),
+    }
+}
+
+// Writes the report of the rows in their chunks. It asks for no row by its id, so no index is made.
+fn report_rows<K: Sink>(alloc: Global, plan: SkyPlan, rows: Rows, sink: &mut K) -> Outcome
+    ensures { IsWritten (record { survey = record { plan = plan; rows = rows }; ranges = None })
+        (K.state sink.old) (K.state sink.new) result }
+{
+    match Store::build(alloc, plan, rows) {
+        Ok(store) => write_report(alloc, &store, sink),
         Err(_) => Outcome::Memory,
     }
 }
 
-// Writes the report, or the transcript of the queries.
-fn write_job<K: Sink>(
+// Makes the world of the rows, and writes the transcript of the queries.
+fn answer_queries<K: Sink>(
     alloc: Global,
-    world: &World,
-    queries: Option<Queries>,
+    plan: SkyPlan,
+    rows: Rows,
+    queries: Queries,
     sink: &mut K,
 ) -> Outcome
-    ensures { IsWritten (record { survey = world.now.store; ranges = queries })
+    ensures { IsWritten
+        (record { survey = record { plan = plan; rows = rows }; ranges = Some queries })
         (K.state sink.old) (K.state sink.new) result }
 {
-    match queries {
-        None => write_report(alloc, world, sink),
-        Some(queries) => write_run(alloc, &Plain::new(world, queries), sink),
+    match World::build(alloc, plan, rows) {
+        Ok(world) => write_run(alloc, &Plain::new(&world, queries), sink),
+        Err(_) => Outcome::Memory,
     }
 }
 
-// Writes the report of the world and sends it.
-fn write_report<K: Sink>(alloc: Global, world: &World, sink: &mut K) -> Outcome
-    ensures { IsWritten (record { survey = world.now.store; ranges = None })
+// Writes the report of a store and sends it.
+fn write_report<K: Sink>(alloc: Global, store: &Store, sink: &mut K) -> Outcome
+    ensures { IsWritten (record { survey = store.now; ranges = None })
         (K.state sink.old) (K.state sink.new) result }
 {
     let Ok(ends) = Ends::answered(alloc, 0) else {
         return Outcome::Memory;
     };
-    match put_report(sink, 0, &world.store, b"") {
+    match put_report(sink, 0, store, b"") {
         Put::Failed => Outcome::SinkFault { ends },
         Put::Done => send(sink, ends),
     }
