@@ -2,5 +2,10 @@ pub mod Ints
 pub mod Steps
 pub mod Spans
 pub mod Scans
+pub mod Spelled
+pub mod Fronts
+pub mod Longest
 pub mod Written
 pub mod Stand
+pub mod FrontTokens
+pub mod Only

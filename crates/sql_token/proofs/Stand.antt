@@ -7,6 +7,7 @@ use Rattle.sql_token.specs.Bytes.{is_blank}
 use Rattle.sql_token.specs.Faults.{TokenFault, TooMany}
 use Rattle.sql_token.specs.Laws.{IsFirst, IsWritten, StandFrom}
 use Rattle.sql_token.specs.Tokens.{and_behind, and_then, begins, if_flat, put_before, token_at, tokens_from, tokens_of, too_deep, within_limits}
+use Rattle.sql_token.proofs.Longest.{Longest, longest_in}
 use Rattle.sql_token.proofs.Spans.{stands_in}
 use Rattle.sql_token.proofs.Steps.{behind_blank, behind_token, in_token, no_byte}
 use Rattle.sql_token.proofs.Written.{written_in}
@@ -45,6 +46,7 @@ blank_before text place b bs (t ∷ ts) here same blank stand =
         some = first.some;
         within = first.within;
         written = first.written;
+        longest = first.longest;
       },
       stand.1,
     )
@@ -59,12 +61,16 @@ token_before text place b bs ts rest t here same read stand is =
     let none : t.span.from - place ≡ 0 = omega (arith, stands.from) in
     let empty : slice_range text place t.span.from ≡ [] = ap (λ n. take n (drop place text)) none in
     let bytes : b ∷ bs ≡ drop t.span.from text = same ∙ ap (λ p. drop p text) (sym stands.from) in
+    let most = subst (λ bs. Longest bs (t.span.to - t.span.from)) bytes (longest_in place (b ∷ bs) t read) in
+    let left : length (drop t.span.from text) ≡ length text - t.span.from = length-drop t.span.from text in
     let first : IsFirst text place t = record {
       after = omega (arith, stands.from);
       blanks = rw empty refl;
       some = omega (arith, stands.from, stands.some);
       within = omega (arith, stands.ends, size, here.within);
       written = subst (λ bs. IsWritten t.kind (take (t.span.to - t.span.from) bs)) bytes (written_in place (b ∷ bs) t read);
+      longest = λ to more fits k shaped. most (to - t.span.from)
+          (omega (arith, stands.from, stands.some, more)) (omega (arith, fits, left)) k shaped;
     } in
     subst (StandFrom text place) is (first, subst (λ p. StandFrom text p rest) end stand)
 

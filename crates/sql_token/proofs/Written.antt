@@ -1,6 +1,7 @@
 -- Which bytes write the token that is read at a place.
-use Rattle.std.proofs.Common.{◌≡◌, refl, sym, ap, ◌∙◌, subst, ℕ, ◌+◌, ◌-◌, arith, Bool, true, false, cond, List, [], ◌∷◌, take, Option, None, Some, Result, Ok, ℤ, pos, find, nat_le, ◌^◌}
+use Rattle.std.proofs.Common.{◌≡◌, refl, sym, ap, ◌∙◌, subst, ℕ, ◌+◌, ◌-◌, ◌≤◌, arith, Bool, true, false, cond, List, [], ◌∷◌, take, Option, None, Some, Result, Ok, ℤ, pos, find, nat_le, ◌^◌}
 use Rattle.std.specs.List.{list_all, prefix_len, take_while}
+use Rattle.std.proofs.lemmas.Bool.{leb-true}
 use Rattle.std.proofs.lemmas.List.Sums.{take_while-cons}
 use Rattle.text_rules.specs.Numbers.{is_digit, value_after}
 use Rattle.sql_token.specs.declared.keyword.Keyword.{Keyword}
@@ -11,7 +12,7 @@ use Rattle.sql_token.specs.declared.token.TokenKind.TheVariants as kind
 use Rattle.sql_token.specs.Bytes.{begins_word, continues_word}
 use Rattle.sql_token.specs.Faults.{TokenFault}
 use Rattle.sql_token.specs.Keywords.{is_spelled, keyword_of, keywords}
-use Rattle.sql_token.specs.Laws.{is_word, IsWritten}
+use Rattle.sql_token.specs.Laws.{is_word, IsShaped, IsWritten}
 use Rattle.sql_token.specs.Signs.{long_sign, short_sign}
 use Rattle.sql_token.specs.Tokens.{token, word_kind, word_at, int_at, int_token, small_int, short_at, long_at, sign_at, token_at}
 use Rattle.sql_token.proofs.Ints.{all_digits}
@@ -52,27 +53,33 @@ all_pass : (p : ℕ → Bool) (bs : List ℕ) → list_all p (take_while p bs) �
 all_pass p [] = refl
 all_pass p (b ∷ bs) = rw (take_while-cons p b bs) (pass_step p b (take_while p bs) (p b) refl (all_pass p bs))
 
-word_bytes : (b : ℕ) (bs : List ℕ) → begins_word b ≡ true → is_word (take_while continues_word (b ∷ bs)) ≡ true
+pub word_bytes : (b : ℕ) (bs : List ℕ) → begins_word b ≡ true → is_word (take_while continues_word (b ∷ bs)) ≡ true
 word_bytes b bs begins =
     let goes_on : continues_word b ≡ true = grind (arith, begins) in
     rw (take_while-cons continues_word b bs, goes_on, begins) (all_pass continues_word bs)
 
+pub word_shaped : (bytes : List ℕ) (k : Option Keyword) → keyword_of bytes ≡ k → is_word bytes ≡ true → IsShaped (word_kind k) bytes
+word_shaped bytes (Some k) e word = spelled bytes k e
+word_shaped bytes None e word = (word, e)
+
 word_written : (bytes : List ℕ) (k : Option Keyword) → keyword_of bytes ≡ k → is_word bytes ≡ true → IsWritten (word_kind k) bytes
-word_written bytes (Some k) e word = spelled bytes k e
-word_written bytes None e word = (word, e)
+word_written bytes (Some k) e word = word_shaped bytes (Some k) e word
+word_written bytes None e word = word_shaped bytes None e word
 
-small_value : (n : ℕ) (b : Bool) (z : ℤ) → cond b (Some (pos n)) None ≡ Some z → z ≡ pos n
-small_value n true z e = cc e
-small_value n false z e = absurd (cc e)
+-- a number that is small enough
+small_value : (n : ℕ) (b : Bool) (z : ℤ) → nat_le n (2 ^ 63 - 1) ≡ b → cond b (Some (pos n)) None ≡ Some z → (z ≡ pos n) × (n ≤ 2 ^ 63 - 1)
+small_value n true z small e = (cc e, leb-true n (2 ^ 63 - 1) small)
+small_value n false z small e = absurd (cc e)
 
-int_value : (n : ℕ) (z : ℤ) → small_int n ≡ Some z → z ≡ pos n
-int_value n z e = small_value n (nat_le n (2 ^ 63 - 1)) z e
+int_value : (n : ℕ) (z : ℤ) → small_int n ≡ Some z → (z ≡ pos n) × (n ≤ 2 ^ 63 - 1)
+int_value n z e = small_value n (nat_le n (2 ^ 63 - 1)) z refl e
 
 int_written : (place bytes : ℕ) (bs : List ℕ) (z : Option ℤ) (t : Token) → list_all is_digit (take bytes bs) ≡ true
     → small_int (value_after 0 (take bytes bs)) ≡ z → int_token place bytes z ≡ Ok t → WrittenIn bs t
 int_written place bytes bs None t digits value e = absurd (cc e)
 int_written place bytes bs (Some z) t digits value e =
-    from_same bs _ t (written place bytes bs (kind.Int z) (digits, int_value (value_after 0 (take bytes bs)) z value)) e
+    let is = int_value (value_after 0 (take bytes bs)) z value in
+    from_same bs _ t (written place bytes bs (kind.Int z) ((digits, is.0), is.1)) e
 
 short_written : (place a : ℕ) (bs : List ℕ) (s : Option Sign) (t : Token) → short_sign a ≡ s → short_at place s ≡ Ok t → WrittenIn (a ∷ bs) t
 short_written place a bs None t is e = absurd (cc e)

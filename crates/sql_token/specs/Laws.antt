@@ -1,6 +1,6 @@
 -- Where the tokens of a text stand in it, and which bytes write them.
 use Rattle.std.specs.Prelude.{◌≡◌, ℕ, ◌<◌, ◌≤◌, Bool, false, ◌&&◌, List, [], ◌∷◌, length, drop, slice_range, pos}
-use Rattle.std.specs.Prelude.{Option, None, Some, IsTrue}
+use Rattle.std.specs.Prelude.{Option, None, Some, IsTrue, ◌-◌, ◌^◌}
 use Rattle.std.specs.List.{list_all}
 use Rattle.text_rules.specs.Numbers.{is_digit, value_after}
 use Rattle.sql_token.specs.declared.sign.Sign.{Sign}
@@ -22,20 +22,28 @@ sign_of (a ∷ []) = short_sign a
 sign_of (a ∷ b ∷ []) = long_sign a b
 sign_of _ = None
 
--- the bytes write a token of the kind
-abbrev pub IsWritten : TokenKind → List ℕ → Type 0
-IsWritten (kind.Keyword k) bytes = IsTrue (is_spelled bytes k)
-IsWritten kind.Name bytes = IsTrue (is_word bytes) × (keyword_of bytes ≡ None)
-IsWritten (kind.Int z) bytes = IsTrue (list_all is_digit bytes) × (z ≡ pos (value_after 0 bytes))
-IsWritten (kind.Sign s) bytes = sign_of bytes ≡ Some s
+-- the bytes have the shape of a token of the kind: a word, digits of whatever number, or a sign
+abbrev pub IsShaped : TokenKind → List ℕ → Type 0
+IsShaped (kind.Keyword k) bytes = IsTrue (is_spelled bytes k)
+IsShaped kind.Name bytes = IsTrue (is_word bytes) × (keyword_of bytes ≡ None)
+IsShaped (kind.Int z) bytes = IsTrue (list_all is_digit bytes) × (z ≡ pos (value_after 0 bytes))
+IsShaped (kind.Sign s) bytes = sign_of bytes ≡ Some s
 
--- The token is the first one from a place on: it stands behind blanks alone, and its bytes write it.
+-- the bytes write a token of the kind: they have its shape, and an int is at most 2^63 - 1
+abbrev pub IsWritten : TokenKind → List ℕ → Type 0
+IsWritten (kind.Int z) bytes = IsShaped (kind.Int z) bytes × (value_after 0 bytes ≤ 2 ^ 63 - 1)
+IsWritten k bytes = IsShaped k bytes
+
+-- The token is the first one from a place on: it stands behind blanks alone, its bytes write it, and no more
+-- bytes from its first on have the shape of a token of any kind.
 pub record IsFirst (text : List ℕ) (place : ℕ) (t : Token) : Type 0 where
   pub after : place ≤ t.span.from
   pub blanks : IsTrue (list_all is_blank (slice_range text place t.span.from))
   pub some : t.span.from < t.span.to
   pub within : t.span.to ≤ length text
   pub written : IsWritten t.kind (slice_range text t.span.from t.span.to)
+  pub longest : (to : ℕ) → t.span.to < to → to ≤ length text
+      → (k : TokenKind) → IsShaped k (slice_range text t.span.from to) → ⊥
 
 -- from a place on the text is these tokens one behind another, with blanks alone before, between and behind them
 abbrev pub StandFrom : List ℕ → ℕ → List Token → Type 0

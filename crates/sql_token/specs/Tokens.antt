@@ -141,7 +141,7 @@ abbrev pub and_then : Result (List Token) TokenFault
 and_then (Ok ts) more = more ts
 and_then (Err fault) more = Err fault
 
--- the tokens of a text in their order, or its first fault: of each kind of fault the whole text is
--- judged before the next
+-- the tokens of a text in their order, or its first fault: of bad bytes and large ints the first by its place;
+-- where there is none, that the tokens are too many; then the first bracket that is too deep
 abbrev pub tokens_of : List ℕ → Result (List Token) TokenFault
 tokens_of text = and_then (tokens_from 0 0 text) within_limits

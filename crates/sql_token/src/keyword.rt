@@ -104,8 +104,8 @@ fn is_spelled(word: &[u8], keyword: Keyword) -> bool
     word.eq_ignore_ascii_case(keyword.spelling())
 }
 
-#[tactic(auto, unfolding(crate::specs::Keywords::keyword_of))]
 /// The keyword that the word is, in capitals or small letters, or `None` where it is a name. Takes no memory.
+#[tactic(auto, unfolding(crate::specs::Keywords::keyword_of))]
 pub(crate) fn keyword_of(word: &[u8]) -> Option<Keyword>
     ensures { result ≡ keyword_of word.now }
 {
