@@ -1,3 +1,4 @@
 pub mod CondParts
 pub mod Lists
 pub mod Parts
+pub mod CondForms

@@ -1,14 +1,17 @@
--- A tree without its spans: each stands at nothing.
-use Rattle.std.specs.Prelude.{map}
+-- A tree without its spans, where a zero in a list of ints has no sign: each span stands at nothing.
+use Rattle.std.specs.Prelude.{map, pos, Bool, not, ◌&&◌}
+use Rattle.std.specs.Ordering.{int_eq}
 use Rattle.std.specs.Option.{option_map}
 use Rattle.sql_token.specs.declared.token.Span.{Span}
 use Rattle.sql_tree.specs.declared.cond.Cond.{Cond, roll-Cond}
 use Rattle.sql_tree.specs.declared.cond.Conj.{Conj, roll-Conj}
+use Rattle.sql_tree.specs.declared.cond.IntList.{IntList}
 use Rattle.sql_tree.specs.declared.cond.Neg.{Neg, roll-Neg}
 use Rattle.sql_tree.specs.declared.cond.Pred.{Pred}
 use Rattle.sql_tree.specs.declared.cond.Pred.TheFolds.{fold-Cond, fold-Conj, fold-Neg, fold-Pred}
 use Rattle.sql_tree.specs.declared.cond.Pred.TheOpen.{Pred-F}
 use Rattle.sql_tree.specs.declared.cond.Pred.TheVariants as pred
+use Rattle.sql_tree.specs.declared.cond.SignedInt.{SignedInt}
 use Rattle.sql_tree.specs.declared.expr.Atom.{Atom}
 use Rattle.sql_tree.specs.declared.expr.Atom.TheFolds.{fold-Atom, fold-Expr, fold-Factor, fold-Prod, fold-Signed}
 use Rattle.sql_tree.specs.declared.expr.Atom.TheOpen.{Atom-F}
@@ -66,15 +69,27 @@ bare_prod = fold-Prod Atom Expr Factor Prod Signed bare_atom_step roll-Expr roll
 unfoldable pub bare_signed : Signed → Signed
 bare_signed = fold-Signed Atom Expr Factor Prod Signed bare_atom_step roll-Expr roll-Factor roll-Prod roll-Signed
 
+-- an int is below zero: a minus stands before it, and it is no zero
+abbrev pub is_minus : SignedInt → Bool
+is_minus i = i.minus && not (int_eq i.size (pos 0))
+
+-- an int whose zero has no sign
+unfoldable pub bare_int : SignedInt → SignedInt
+bare_int i = record { minus = is_minus i; size = i.size }
+
+-- ints whose zeros have no sign
+abbrev pub bare_ints : IntList → IntList
+bare_ints l = record { first = bare_int l.first; rest = map bare_int l.rest }
+
 -- a predicate whose conditions are without places
 abbrev pub bare_pred_step : Pred-F Pred Cond Conj Neg → Pred
 bare_pred_step (Pred-F.Bracket c) = pred.Bracket c
 bare_pred_step (Pred-F.Compare left op right) = pred.Compare (bare_expr left) op (bare_expr right)
 bare_pred_step (Pred-F.Between not value low high) =
     pred.Between not (bare_expr value) (bare_expr low) (bare_expr high)
-bare_pred_step (Pred-F.Among not value list) = pred.Among not (bare_expr value) list
+bare_pred_step (Pred-F.Among without value list) = pred.Among without (bare_expr value) (bare_ints list)
 bare_pred_step (Pred-F.IsNull not value) = pred.IsNull not (bare_expr value)
-bare_pred_step (Pred-F.Area kind span args) = pred.Area kind nowhere args
+bare_pred_step (Pred-F.Area kind span args) = pred.Area kind nowhere (bare_ints args)
 bare_pred_step (Pred-F.Chord left right strict n) = pred.Chord (bare_name left) (bare_name right) strict n
 
 -- a predicate without places

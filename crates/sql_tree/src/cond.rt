@@ -24,7 +24,7 @@ pub enum AreaKind {
     Boxed,
 }
 
-/// An int as it is written: its sign and its size, 0 to 2^63 - 1. `-0` and `0` are two.
+/// An int as it is written: its sign and its size, 0 to 2^63 - 1. `-0` and `0` are one to `same`, and print alike.
 #[derive(Clone, Copy, Debug, PartialEq, Eq)]
 pub struct SignedInt {
     pub minus: bool,
