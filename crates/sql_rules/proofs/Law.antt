@@ -10,8 +10,9 @@ use Rattle.sql_rules.proofs.AgainQuery.{query_again}
 use Rattle.sql_rules.proofs.FoundQuery.{StarAt, query_takes}
 use Rattle.sql_rules.proofs.Tokens.{maybe_takes}
 use Rattle.sql_rules.proofs.Within.{within, within_tokens}
-use Rattle.sql_rules.specs.Laws.{Writes}
-use Rattle.sql_rules.specs.Pieces.{glyph, pieces, Piece, Glyph}
+use Rattle.sql_rules.specs.Laws.{Writes, OneTree, SyntaxIsNothing}
+use Rattle.sql_rules.specs.declared.fault.SqlFault.{SqlFault}
+use Rattle.sql_rules.specs.Symbols.{of_sign, symbols, Symbol, OfSign}
 use Rattle.sql_rules.specs.Queries.{spell_query, second_span, StarStands, Spells}
 use Rattle.sql_rules.specs.Readers.{maybe_at, Answer, Got, Stuck}
 use Rattle.sql_rules.specs.Spelling.{optional}
@@ -19,15 +20,15 @@ use Rattle.sql_rules.specs.Trees.{query_at, nothing_left, whole, query_of, or_sy
 use Rattle.sql_token.specs.declared.sign.Sign.TheVariants as sign
 use Rattle.sql_tree.specs.declared.query.Selection.TheVariants as selection
 
-left : (q r : Query) (rest : List Piece) → nothing_left q rest ≡ Some r → (rest ≡ []) × (q ≡ r)
+left : (q r : Query) (rest : List Symbol) → nothing_left q rest ≡ Some r → (rest ≡ []) × (q ≡ r)
 left q r [] e = (refl, cc)
 left q r (p ∷ ps) e = absurd cc
 
-is_whole : (a : Answer Query) (q : Query) → whole a ≡ Some q → (b : Bool) × (a ≡ Got q (optional b (glyph sign.Semicolon)))
+is_whole : (a : Answer Query) (q : Query) → whole a ≡ Some q → (b : Bool) × (a ≡ Got q (optional b (of_sign sign.Semicolon)))
 is_whole (Got r rest) q e =
-    let l = left r q (maybe_at (Glyph sign.Semicolon) rest).1 e in
-    let m : rest ≡ optional (maybe_at (Glyph sign.Semicolon) rest).0 (glyph sign.Semicolon) = maybe_takes (Glyph sign.Semicolon) rest ∙ rw l.0 (append-nil (optional (maybe_at (Glyph sign.Semicolon) rest).0 (glyph sign.Semicolon))) in
-    ((maybe_at (Glyph sign.Semicolon) rest).0, rw (← l.1) (ap (λ t. Got r t) m))
+    let l = left r q (maybe_at (OfSign sign.Semicolon) rest).1 e in
+    let m : rest ≡ optional (maybe_at (OfSign sign.Semicolon) rest).0 (of_sign sign.Semicolon) = maybe_takes (OfSign sign.Semicolon) rest ∙ rw l.0 (append-nil (optional (maybe_at (OfSign sign.Semicolon) rest).0 (of_sign sign.Semicolon))) in
+    ((maybe_at (OfSign sign.Semicolon) rest).0, rw (← l.1) (ap (λ t. Got r t) m))
 is_whole Stuck q e = absurd cc
 
 is_ok : (o : Option Query) (q : Query) → or_syntax o ≡ Ok q → o ≡ Some q
@@ -45,9 +46,9 @@ stood ts (selection.List l) h = tt
 found : (text : List ℕ) (ts : List Token) (q : Query) → tokens_of text ≡ Ok ts → tree_of text ≡ Ok q → Spells text ts q
 unfolding tree_of query_of spell_query
 found text ts q tokens e =
-    let tree : or_syntax (whole (query_at (second_span ts) (pieces text ts))) ≡ Ok q = subst (λ r. tree_from text r ≡ Ok q) tokens e in
-    let w = is_whole (query_at (second_span ts) (pieces text ts)) q (is_ok (whole (query_at (second_span ts) (pieces text ts))) q tree) in
-    let t = query_takes (second_span ts) (pieces text ts) q (optional w.0 (glyph sign.Semicolon)) w.1 in
+    let tree : or_syntax (whole (query_at (second_span ts) (symbols text ts))) ≡ Ok q = subst (λ r. tree_from text r ≡ Ok q) tokens e in
+    let w = is_whole (query_at (second_span ts) (symbols text ts)) q (is_ok (whole (query_at (second_span ts) (symbols text ts))) q tree) in
+    let t = query_takes (second_span ts) (symbols text ts) q (optional w.0 (of_sign sign.Semicolon)) w.1 in
     record {
       words = record { first_as = t.first_as; second_as = t.second_as; asc = t.asc; semicolon = w.0 };
       spelled = t.text;
@@ -55,7 +56,7 @@ found text ts q tokens e =
       star = stands ts q.items t.star;
     }
 
-ended : (b : Bool) (q : Query) → whole (Got q (optional b (glyph sign.Semicolon))) ≡ Some q
+ended : (b : Bool) (q : Query) → whole (Got q (optional b (of_sign sign.Semicolon))) ≡ Some q
 ended true q = refl
 ended false q = refl
 
@@ -76,7 +77,7 @@ unfolding tree_of query_of
 only text ts q tokens s =
     let shallow : within 32 0 (spell_query s.words q) ≡ true = rw (← s.spelled) (within_tokens text 0 ts (flat (tokens_from 0 0 text) ts tokens)) in
     let is = query_again (second_span ts) s.words q s.columns (stood ts q.items s.star) shallow in
-    let all : whole (query_at (second_span ts) (pieces text ts)) ≡ Some q = rw (s.spelled, is) (ended s.words.semicolon q) in
+    let all : whole (query_at (second_span ts) (symbols text ts)) ≡ Some q = rw (s.spelled, is) (ended s.words.semicolon q) in
     rw (tokens, all) refl
 
 written : (text : List ℕ) (r : Result (List Token) TokenFault) (q : Query) → tokens_of text ≡ r → tree_from text r ≡ Ok q → tree_of text ≡ Ok q → Writes text q
@@ -89,3 +90,21 @@ read_is_written text q e = written text (tokens_of text) q refl e e
 
 pub written_is_read : (text : List ℕ) (q : Query) → Writes text q → tree_of text ≡ Ok q
 written_is_read text q w = only text w.tokens q w.are w.spell
+
+-- ---- one tree
+
+-- an answer has one tree
+same_ok : (a : Result Query SqlFault) (q r : Query) → a ≡ Ok q → a ≡ Ok r → q ≡ r
+same_ok a q r x y = cc
+
+-- a text writes at most one tree
+pub one_tree : OneTree
+one_tree text q r v w = same_ok (tree_of text) q r (written_is_read text q v) (written_is_read text r w)
+
+-- no answer is a fault and a tree
+no_both : (a : Result Query SqlFault) (why : SqlFault) (q : Query) → a ≡ Err why → a ≡ Ok q → ⊥
+no_both a why q x y = absurd cc
+
+-- where the fault is `Syntax`, a text writes no tree
+pub nothing : SyntaxIsNothing
+nothing text e q w = no_both (tree_of text) _ q e (written_is_read text q w)

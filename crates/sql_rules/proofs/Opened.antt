@@ -27,11 +27,12 @@ use Rattle.sql_tree.specs.declared.name.Name.{Name}
 use Rattle.sql_rules.proofs.Nesting.{most, depth_atom, depth_expr, depth_factor, depth_prod, depth_signed, nest_atom}
 use Rattle.sql_rules.proofs.Nesting.{nest_expr, nest_factor, nest_prod, nest_signed, depth_pred, depth_cond}
 use Rattle.sql_rules.proofs.Nesting.{depth_conj, depth_neg, nest_pred, nest_cond, nest_conj, nest_neg}
-use Rattle.sql_rules.specs.Pieces.{key, glyph, Word, Number, Adds, Compares, Region}
-use Rattle.sql_rules.specs.Spelling.{Pieces, optional, bracketed, spell_col, at_atom, at_factor, at_prod, at_signed}
+use Rattle.sql_rules.specs.Symbols.{of_keyword, of_sign, Named, Number, Adds, Compares, AreaName}
+use Rattle.sql_rules.specs.Spelling.{Symbols, optional, bracketed, spell_col, at_atom, at_factor, at_prod, at_signed}
 use Rattle.sql_rules.specs.Spelling.{at_expr, spell_atom, spell_expr, spell_factor, spell_prod, spell_signed}
-use Rattle.sql_rules.specs.Spelling.{spell_ints, chord_op, at_pred, at_neg, at_conj, at_cond, spell_cond, spell_conj}
-use Rattle.sql_rules.specs.Spelling.{spell_neg, spell_pred}
+use Rattle.sql_rules.specs.SpellingConds.{spell_ints, chord_op, at_pred, at_neg, at_conj, at_cond, spell_cond}
+use Rattle.sql_rules.specs.SpellingConds.{spell_conj}
+use Rattle.sql_rules.specs.SpellingConds.{spell_neg, spell_pred}
 use Rattle.sql_token.specs.declared.keyword.Keyword.TheVariants as keyword
 use Rattle.sql_token.specs.declared.sign.Sign.TheVariants as sign
 use Rattle.sql_tree.specs.declared.expr.Atom.TheVariants as atom
@@ -42,65 +43,65 @@ flat_map-map f g [] = refl
 flat_map-map f g (x ∷ xs) = ap (λ t. f (g x) ++ t) (flat_map-map f g xs)
 
 -- a factor behind its sign, and the same of a conjunction's and a condition's parts
-abbrev pub starred : Factor → Pieces
-starred f = glyph sign.Star ∷ spell_factor f
+abbrev pub starred : Factor → Symbols
+starred f = of_sign sign.Star ∷ spell_factor f
 
-abbrev pub anded : Neg → Pieces
-anded n = key keyword.And ∷ spell_neg n
+abbrev pub anded : Neg → Symbols
+anded n = of_keyword keyword.And ∷ spell_neg n
 
-abbrev pub ored : Conj → Pieces
-ored c = key keyword.Or ∷ spell_conj c
+abbrev pub ored : Conj → Symbols
+ored c = of_keyword keyword.Or ∷ spell_conj c
 
 pub spell_int_atom : (n : _) → spell_atom (atom.Int n) ≡ Number n ∷ []
-spell_int_atom n = ap spell_atom (sym (atom.rolls-Int n)) ∙ fold-roll-Atom Pieces Pieces Pieces Pieces Pieces at_atom at_expr at_factor at_prod at_signed (Atom-F.Int n)
+spell_int_atom n = ap spell_atom (sym (atom.rolls-Int n)) ∙ fold-roll-Atom Symbols Symbols Symbols Symbols Symbols at_atom at_expr at_factor at_prod at_signed (Atom-F.Int n)
 
 pub spell_col_atom : (c : Col) → spell_atom (atom.Col c) ≡ spell_col c
-spell_col_atom c = ap spell_atom (sym (atom.rolls-Col c)) ∙ fold-roll-Atom Pieces Pieces Pieces Pieces Pieces at_atom at_expr at_factor at_prod at_signed (Atom-F.Col c)
+spell_col_atom c = ap spell_atom (sym (atom.rolls-Col c)) ∙ fold-roll-Atom Symbols Symbols Symbols Symbols Symbols at_atom at_expr at_factor at_prod at_signed (Atom-F.Col c)
 
-pub spell_bracket_atom : (e : Expr) → spell_atom (atom.Bracket e) ≡ glyph sign.Open ∷ (spell_expr e ++ (glyph sign.Close ∷ []))
-spell_bracket_atom e = ap spell_atom (sym (atom.rolls-Bracket e)) ∙ fold-roll-Atom Pieces Pieces Pieces Pieces Pieces at_atom at_expr at_factor at_prod at_signed (Atom-F.Bracket e)
+pub spell_bracket_atom : (e : Expr) → spell_atom (atom.Bracket e) ≡ of_sign sign.Open ∷ (spell_expr e ++ (of_sign sign.Close ∷ []))
+spell_bracket_atom e = ap spell_atom (sym (atom.rolls-Bracket e)) ∙ fold-roll-Atom Symbols Symbols Symbols Symbols Symbols at_atom at_expr at_factor at_prod at_signed (Atom-F.Bracket e)
 
 pub spell_factor_roll : (x : Factor-F Atom Expr Factor Prod Signed) → spell_factor (roll-Factor x) ≡ optional x.minus (Adds true) ++ spell_atom x.atom
-spell_factor_roll x = fold-roll-Factor Pieces Pieces Pieces Pieces Pieces at_atom at_expr at_factor at_prod at_signed x
+spell_factor_roll x = fold-roll-Factor Symbols Symbols Symbols Symbols Symbols at_atom at_expr at_factor at_prod at_signed x
 
 pub spell_prod_roll : (x : Prod-F Atom Expr Factor Prod Signed) → spell_prod (roll-Prod x) ≡ spell_factor x.first ++ flat_map starred x.rest
-spell_prod_roll x = fold-roll-Prod Pieces Pieces Pieces Pieces Pieces at_atom at_expr at_factor at_prod at_signed x ∙ ap (λ t. spell_factor x.first ++ t) (flat_map-map (λ t. glyph sign.Star ∷ t) spell_factor x.rest)
+spell_prod_roll x = fold-roll-Prod Symbols Symbols Symbols Symbols Symbols at_atom at_expr at_factor at_prod at_signed x ∙ ap (λ t. spell_factor x.first ++ t) (flat_map-map (λ t. of_sign sign.Star ∷ t) spell_factor x.rest)
 
 pub spell_signed_roll : (x : Signed-F Atom Expr Factor Prod Signed) → spell_signed (roll-Signed x) ≡ Adds x.minus ∷ spell_prod x.prod
-spell_signed_roll x = fold-roll-Signed Pieces Pieces Pieces Pieces Pieces at_atom at_expr at_factor at_prod at_signed x
+spell_signed_roll x = fold-roll-Signed Symbols Symbols Symbols Symbols Symbols at_atom at_expr at_factor at_prod at_signed x
 
 pub spell_expr_roll : (x : Expr-F Atom Expr Factor Prod Signed) → spell_expr (roll-Expr x) ≡ spell_prod x.first ++ flat_map spell_signed x.rest
-spell_expr_roll x = fold-roll-Expr Pieces Pieces Pieces Pieces Pieces at_atom at_expr at_factor at_prod at_signed x ∙ ap (λ t. spell_prod x.first ++ t) (flat_map-map (λ t. t) spell_signed x.rest)
+spell_expr_roll x = fold-roll-Expr Symbols Symbols Symbols Symbols Symbols at_atom at_expr at_factor at_prod at_signed x ∙ ap (λ t. spell_prod x.first ++ t) (flat_map-map (λ t. t) spell_signed x.rest)
 
 pub spell_bracket_pred : (c : Cond) → spell_pred (pred.Bracket c) ≡ bracketed (spell_cond c)
-spell_bracket_pred c = ap spell_pred (sym (pred.rolls-Bracket c)) ∙ fold-roll-Pred Pieces Pieces Pieces Pieces at_pred at_cond at_conj at_neg (Pred-F.Bracket c)
+spell_bracket_pred c = ap spell_pred (sym (pred.rolls-Bracket c)) ∙ fold-roll-Pred Symbols Symbols Symbols Symbols at_pred at_cond at_conj at_neg (Pred-F.Bracket c)
 
 pub spell_compare_pred : (left : Expr) (op : Cmp) (right : Expr) → spell_pred (pred.Compare left op right) ≡ spell_expr left ++ (Compares op ∷ spell_expr right)
-spell_compare_pred left op right = ap spell_pred (sym (pred.rolls-Compare left op right)) ∙ fold-roll-Pred Pieces Pieces Pieces Pieces at_pred at_cond at_conj at_neg (Pred-F.Compare left op right)
+spell_compare_pred left op right = ap spell_pred (sym (pred.rolls-Compare left op right)) ∙ fold-roll-Pred Symbols Symbols Symbols Symbols at_pred at_cond at_conj at_neg (Pred-F.Compare left op right)
 
-pub spell_between_pred : (without : Bool) (value low high : Expr) → spell_pred (pred.Between without value low high) ≡ spell_expr value ++ (optional without (key keyword.Not) ++ (key keyword.Between ∷ (spell_expr low ++ (key keyword.And ∷ spell_expr high))))
-spell_between_pred without value low high = ap spell_pred (sym (pred.rolls-Between without value low high)) ∙ fold-roll-Pred Pieces Pieces Pieces Pieces at_pred at_cond at_conj at_neg (Pred-F.Between without value low high)
+pub spell_between_pred : (without : Bool) (value low high : Expr) → spell_pred (pred.Between without value low high) ≡ spell_expr value ++ (optional without (of_keyword keyword.Not) ++ (of_keyword keyword.Between ∷ (spell_expr low ++ (of_keyword keyword.And ∷ spell_expr high))))
+spell_between_pred without value low high = ap spell_pred (sym (pred.rolls-Between without value low high)) ∙ fold-roll-Pred Symbols Symbols Symbols Symbols at_pred at_cond at_conj at_neg (Pred-F.Between without value low high)
 
-pub spell_among_pred : (without : Bool) (value : Expr) (list : IntList) → spell_pred (pred.Among without value list) ≡ spell_expr value ++ (optional without (key keyword.Not) ++ (key keyword.In ∷ spell_ints list))
-spell_among_pred without value list = ap spell_pred (sym (pred.rolls-Among without value list)) ∙ fold-roll-Pred Pieces Pieces Pieces Pieces at_pred at_cond at_conj at_neg (Pred-F.Among without value list)
+pub spell_among_pred : (without : Bool) (value : Expr) (list : IntList) → spell_pred (pred.Among without value list) ≡ spell_expr value ++ (optional without (of_keyword keyword.Not) ++ (of_keyword keyword.In ∷ spell_ints list))
+spell_among_pred without value list = ap spell_pred (sym (pred.rolls-Among without value list)) ∙ fold-roll-Pred Symbols Symbols Symbols Symbols at_pred at_cond at_conj at_neg (Pred-F.Among without value list)
 
-pub spell_null_pred : (without : Bool) (value : Expr) → spell_pred (pred.IsNull without value) ≡ spell_expr value ++ (key keyword.Is ∷ (optional without (key keyword.Not) ++ (key keyword.Null ∷ [])))
-spell_null_pred without value = ap spell_pred (sym (pred.rolls-IsNull without value)) ∙ fold-roll-Pred Pieces Pieces Pieces Pieces at_pred at_cond at_conj at_neg (Pred-F.IsNull without value)
+pub spell_null_pred : (without : Bool) (value : Expr) → spell_pred (pred.IsNull without value) ≡ spell_expr value ++ (of_keyword keyword.Is ∷ (optional without (of_keyword keyword.Not) ++ (of_keyword keyword.Null ∷ [])))
+spell_null_pred without value = ap spell_pred (sym (pred.rolls-IsNull without value)) ∙ fold-roll-Pred Symbols Symbols Symbols Symbols at_pred at_cond at_conj at_neg (Pred-F.IsNull without value)
 
-pub spell_area_pred : (kind : AreaKind) (span : Span) (args : IntList) → spell_pred (pred.Area kind span args) ≡ Region kind span ∷ spell_ints args
-spell_area_pred kind span args = ap spell_pred (sym (pred.rolls-Area kind span args)) ∙ fold-roll-Pred Pieces Pieces Pieces Pieces at_pred at_cond at_conj at_neg (Pred-F.Area kind span args)
+pub spell_area_pred : (kind : AreaKind) (span : Span) (args : IntList) → spell_pred (pred.Area kind span args) ≡ AreaName kind span ∷ spell_ints args
+spell_area_pred kind span args = ap spell_pred (sym (pred.rolls-Area kind span args)) ∙ fold-roll-Pred Symbols Symbols Symbols Symbols at_pred at_cond at_conj at_neg (Pred-F.Area kind span args)
 
-pub spell_chord_pred : (left right : Name) (strict : Bool) (n : ℤ) → spell_pred (pred.Chord left right strict n) ≡ key keyword.Chord2 ∷ (bracketed (Word left ∷ glyph sign.Comma ∷ Word right ∷ []) ++ (Compares (chord_op strict) ∷ Number n ∷ []))
-spell_chord_pred left right strict n = ap spell_pred (sym (pred.rolls-Chord left right strict n)) ∙ fold-roll-Pred Pieces Pieces Pieces Pieces at_pred at_cond at_conj at_neg (Pred-F.Chord left right strict n)
+pub spell_chord_pred : (left right : Name) (strict : Bool) (n : ℤ) → spell_pred (pred.Chord left right strict n) ≡ of_keyword keyword.Chord2 ∷ (bracketed (Named left ∷ of_sign sign.Comma ∷ Named right ∷ []) ++ (Compares (chord_op strict) ∷ Number n ∷ []))
+spell_chord_pred left right strict n = ap spell_pred (sym (pred.rolls-Chord left right strict n)) ∙ fold-roll-Pred Symbols Symbols Symbols Symbols at_pred at_cond at_conj at_neg (Pred-F.Chord left right strict n)
 
-pub spell_neg_roll : (x : Neg-F Pred Cond Conj Neg) → spell_neg (roll-Neg x) ≡ optional x.not (key keyword.Not) ++ spell_pred x.pred
-spell_neg_roll x = fold-roll-Neg Pieces Pieces Pieces Pieces at_pred at_cond at_conj at_neg x
+pub spell_neg_roll : (x : Neg-F Pred Cond Conj Neg) → spell_neg (roll-Neg x) ≡ optional x.not (of_keyword keyword.Not) ++ spell_pred x.pred
+spell_neg_roll x = fold-roll-Neg Symbols Symbols Symbols Symbols at_pred at_cond at_conj at_neg x
 
 pub spell_conj_roll : (x : Conj-F Pred Cond Conj Neg) → spell_conj (roll-Conj x) ≡ spell_neg x.first ++ flat_map anded x.rest
-spell_conj_roll x = fold-roll-Conj Pieces Pieces Pieces Pieces at_pred at_cond at_conj at_neg x ∙ ap (λ t. spell_neg x.first ++ t) (flat_map-map (λ t. key keyword.And ∷ t) spell_neg x.rest)
+spell_conj_roll x = fold-roll-Conj Symbols Symbols Symbols Symbols at_pred at_cond at_conj at_neg x ∙ ap (λ t. spell_neg x.first ++ t) (flat_map-map (λ t. of_keyword keyword.And ∷ t) spell_neg x.rest)
 
 pub spell_cond_roll : (x : Cond-F Pred Cond Conj Neg) → spell_cond (roll-Cond x) ≡ spell_conj x.first ++ flat_map ored x.rest
-spell_cond_roll x = fold-roll-Cond Pieces Pieces Pieces Pieces at_pred at_cond at_conj at_neg x ∙ ap (λ t. spell_conj x.first ++ t) (flat_map-map (λ t. key keyword.Or ∷ t) spell_conj x.rest)
+spell_cond_roll x = fold-roll-Cond Symbols Symbols Symbols Symbols at_pred at_cond at_conj at_neg x ∙ ap (λ t. spell_conj x.first ++ t) (flat_map-map (λ t. of_keyword keyword.Or ∷ t) spell_conj x.rest)
 
 -- ---- nesting
 

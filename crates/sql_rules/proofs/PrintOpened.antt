@@ -28,7 +28,7 @@ use Rattle.sql_rules.specs.PrintedConds.{print_pred}
 use Rattle.sql_rules.specs.PrintedExprs.{Bytes, text_if, behind_each, in_brackets, print_col, print_atom_step}
 use Rattle.sql_rules.specs.PrintedExprs.{print_expr_step, print_factor_step, print_prod_step, print_signed_step}
 use Rattle.sql_rules.specs.PrintedExprs.{print_atom, print_expr, print_factor, print_prod, print_signed}
-use Rattle.sql_rules.specs.Spelling.{chord_op}
+use Rattle.sql_rules.specs.SpellingConds.{chord_op}
 use Rattle.sql_tree.specs.declared.expr.Atom.TheVariants as atom
 use Rattle.sql_tree.specs.declared.cond.Pred.TheVariants as pred
 

@@ -1,5 +1,5 @@
 -- Texts of worked examples, and their trees.
-use Rattle.std.specs.Prelude.{ℕ, ◌+◌, ℤ, List, [], ◌∷◌, ◌++◌, true, false, Option, None, Some, Result, Ok, Err}
+use Rattle.std.specs.Prelude.{ℕ, ◌+◌, ℤ, List, [], ◌∷◌, ◌++◌, true, false, Option, None, Some}
 use Rattle.std.specs.Prelude.{codes, pos, replicate}
 use Rattle.std.specs.Str.{byte}
 use Rattle.sql_tree.specs.declared.cond.Cmp.TheVariants as cmp
@@ -18,9 +18,6 @@ use Rattle.sql_tree.specs.declared.name.Name.{Name}
 use Rattle.sql_tree.specs.declared.query.ItemKind.TheVariants as what
 use Rattle.sql_tree.specs.declared.query.Query.{Query}
 use Rattle.sql_tree.specs.declared.query.Selection.TheVariants as selection
-use Rattle.sql_rules.specs.Printed.{printed}
-use Rattle.sql_rules.specs.Trees.{tree_of}
-use Rattle.sql_rules.specs.declared.fault.SqlFault.{SqlFault}
 
 -- `SELECT ` and so many opening brackets
 abbrev pub brackets : ℕ → List ℕ
@@ -35,8 +32,8 @@ abbrev pub lone : Atom → Prod
 lone a = roll-Prod (record { first = roll-Factor (record { minus = false; atom = a }); rest = [] })
 
 -- the atom that is a column without a qualifier
-abbrev pub bare_col : Name → Atom
-bare_col n = atom.Col (record { table = None; name = n })
+abbrev pub unqualified : Name → Atom
+unqualified n = atom.Col (record { table = None; name = n })
 
 -- the expression that is one atom
 abbrev pub alone : Atom → Expr
@@ -62,13 +59,25 @@ query_of_one e at cond = record {
 abbrev pub twice_less : Query
 twice_less = query_of_one
     (roll-Expr (record {
-      first = lone (bare_col (name (codes "a") 7 8));
-      rest = less (bare_col (name (codes "b") 11 12)) ∷ less (bare_col (name (codes "c") 15 16)) ∷ [];
+      first = lone (unqualified (name (codes "a") 7 8));
+      rest = less (unqualified (name (codes "b") 11 12)) ∷ less (unqualified (name (codes "c") 15 16)) ∷ [];
     })) 22 None
+
+-- the tree of `SELECT * FROM Object`
+abbrev pub all_columns : Query
+all_columns = record {
+  items = selection.Star (record { from = 7; to = 8 });
+  first = record { name = name (codes "Object") 14 20; alias = None };
+  second = None;
+  cond = None;
+  group = [];
+  order = None;
+  limit = None;
+}
 
 -- what is compared with a small int
 abbrev pub below : Name → ℤ → Pred
-below n z = pred.Compare (alone (bare_col n)) cmp.Less (alone (atom.Int z))
+below n z = pred.Compare (alone (unqualified n)) cmp.Less (alone (atom.Int z))
 
 -- a condition that is one conjunction
 abbrev pub all_of : Neg → List Neg → Cond
@@ -76,13 +85,13 @@ all_of n ns = roll-Cond (record { first = roll-Conj (record { first = n; rest = 
 
 -- the tree of `SELECT x FROM Object WHERE NOT x<1 AND y<2`
 abbrev pub not_first : Query
-not_first = query_of_one (alone (bare_col (name (codes "x") 7 8))) 14
+not_first = query_of_one (alone (unqualified (name (codes "x") 7 8))) 14
     (Some (all_of (roll-Neg (record { not = true; pred = below (name (codes "x") 31 32) (pos 1) }))
     (roll-Neg (record { not = false; pred = below (name (codes "y") 39 40) (pos 2) }) ∷ [])))
 
 -- the tree of `SELECT x FROM Object WHERE (x<1) AND (x)<2`
 abbrev pub two_brackets : Query
-two_brackets = query_of_one (alone (bare_col (name (codes "x") 7 8))) 14
+two_brackets = query_of_one (alone (unqualified (name (codes "x") 7 8))) 14
     (Some (all_of (roll-Neg (record {
       not = false;
       pred = pred.Bracket
@@ -90,33 +99,6 @@ two_brackets = query_of_one (alone (bare_col (name (codes "x") 7 8))) 14
     }))
     (roll-Neg (record {
       not = false;
-      pred = pred.Compare (alone (atom.Bracket (alone (bare_col (name (codes "x") 38 39))))) cmp.Less
+      pred = pred.Compare (alone (atom.Bracket (alone (unqualified (name (codes "x") 38 39))))) cmp.Less
           (alone (atom.Int (pos 2)));
     }) ∷ [])))
-
--- a text's tree, printed
-abbrev pub and_printed : Result Query SqlFault → Option (List ℕ)
-and_printed (Ok q) = Some (printed q)
-and_printed (Err why) = None
-
--- how the tree of a text is printed
-abbrev pub print_of : List ℕ → Option (List ℕ)
-print_of text = and_printed (tree_of text)
-
--- a join, written as it is printed
-abbrev pub join_text : List ℕ
-join_text =
-    codes "SELECT a.x-b.x AS d,b.z FROM Object a,Object b WHERE chord2(a,b)<=9 AND "
-    ++ codes "(a.x<3 OR NOT b.y IN (1,-2)) ORDER BY d DESC LIMIT 5"
-
--- a query, written with blanks, small letters, AS, ASC and a semicolon
-abbrev pub loosely_written : List ℕ
-loosely_written =
-    codes "select count ( * ) , avg(x)as m from Object as o where not(x != 1)and (x+001)*2 not between -2 and - 1 "
-    ++ codes "or g is not null and Area_Box(1,-0) group by a , o . b order by a asc ;"
-
--- the same query as it is printed
-abbrev pub closely_written : List ℕ
-closely_written =
-    codes "SELECT COUNT(*),AVG(x) AS m FROM Object o WHERE NOT (x<>1) AND (x+1)*2 NOT BETWEEN -2 AND -1 "
-    ++ codes "OR g IS NOT NULL AND area_box(1,-0) GROUP BY a,o.b ORDER BY a"

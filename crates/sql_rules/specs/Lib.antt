@@ -1,6 +1,7 @@
-pub mod Pieces
+pub mod Symbols
 pub mod Marks
 pub mod Spelling
+pub mod SpellingConds
 pub mod Queries
 pub mod Readers
 pub mod ReadExprs
@@ -12,3 +13,4 @@ pub mod PrintedConds
 pub mod Printed
 pub mod Laws
 pub mod Examples
+pub mod PrintExamples

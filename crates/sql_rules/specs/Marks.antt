@@ -4,7 +4,7 @@ use Rattle.sql_token.specs.declared.keyword.Keyword.{Keyword}
 use Rattle.sql_token.specs.declared.keyword.Keyword.TheVariants as keyword
 use Rattle.sql_token.specs.declared.sign.Sign.{Sign}
 use Rattle.sql_token.specs.declared.sign.Sign.TheVariants as sign
-use Rattle.sql_rules.specs.Pieces.{Mark, Key, Glyph}
+use Rattle.sql_rules.specs.Symbols.{Mark, OfKeyword, OfSign}
 
 -- the number of a keyword in their list
 abbrev pub keyword_number : Keyword → ℕ
@@ -54,8 +54,8 @@ sign_number sign.Semicolon = 39
 
 -- the number of a mark
 abbrev pub mark_number : Mark → ℕ
-mark_number (Key k) = keyword_number k
-mark_number (Glyph s) = sign_number s
+mark_number (OfKeyword k) = keyword_number k
+mark_number (OfSign s) = sign_number s
 
 -- the marks are the same
 abbrev pub same_mark : Mark → Mark → Bool

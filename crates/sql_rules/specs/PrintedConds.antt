@@ -1,6 +1,7 @@
 -- How conditions are printed.
 use Rattle.std.specs.Prelude.{◌++◌, map, codes}
 use Rattle.std.specs.Fmt.{signed_decimal}
+use Rattle.sql_tree.specs.Bare.{is_minus}
 use Rattle.sql_tree.specs.declared.cond.AreaKind.{AreaKind}
 use Rattle.sql_tree.specs.declared.cond.AreaKind.TheVariants as area
 use Rattle.sql_tree.specs.declared.cond.Cmp.{Cmp}
@@ -13,12 +14,12 @@ use Rattle.sql_tree.specs.declared.cond.Pred.{Pred}
 use Rattle.sql_tree.specs.declared.cond.Pred.TheFolds.{fold-Cond, fold-Conj, fold-Neg, fold-Pred}
 use Rattle.sql_tree.specs.declared.cond.Pred.TheOpen.{Cond-F, Conj-F, Neg-F, Pred-F}
 use Rattle.sql_tree.specs.declared.cond.SignedInt.{SignedInt}
-use Rattle.sql_rules.specs.Spelling.{chord_op}
+use Rattle.sql_rules.specs.SpellingConds.{chord_op}
 use Rattle.sql_rules.specs.PrintedExprs.{Bytes, text_if, behind_each, in_brackets, print_expr}
 
--- an int with its sign
+-- an int of a list with its sign; a zero has none
 abbrev pub print_int : SignedInt → Bytes
-print_int i = text_if i.minus (codes "-") ++ signed_decimal i.size
+print_int i = text_if (is_minus i) (codes "-") ++ signed_decimal i.size
 
 -- ints in brackets
 abbrev pub print_ints : IntList → Bytes

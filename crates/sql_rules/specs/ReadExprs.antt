@@ -10,7 +10,7 @@ use Rattle.sql_tree.specs.declared.expr.Factor.{Factor, roll-Factor}
 use Rattle.sql_tree.specs.declared.expr.Prod.{Prod, roll-Prod}
 use Rattle.sql_tree.specs.declared.expr.Signed.{Signed, roll-Signed}
 use Rattle.sql_tree.specs.declared.name.Col.{Col}
-use Rattle.sql_rules.specs.Pieces.{Glyph}
+use Rattle.sql_rules.specs.Symbols.{OfSign}
 use Rattle.sql_rules.specs.Readers.{Reader, Got, Stuck, ◌>>=◌, either, mark_at, name_at, number_at, adds_at}
 use Rattle.sql_rules.specs.Readers.{minus_at, each}
 
@@ -18,18 +18,18 @@ use Rattle.sql_rules.specs.Readers.{minus_at, each}
 unfoldable pub col_at : Reader Col
 col_at ts =
     name_at ts >>= λ first us.
-    either (mark_at (Glyph sign.Dot) us)
+    either (mark_at (OfSign sign.Dot) us)
     (λ _ vs. name_at vs >>= λ second rest. Got (record { table = Some first; name = second }) rest)
     (Got (record { table = None; name = first }) us)
 
 -- what stands in a bracket, and its end; `inner` reads what stands in brackets
 unfoldable pub bracket_with : Reader Expr → Reader Atom
-bracket_with inner ts = inner ts >>= λ e us. mark_at (Glyph sign.Close) us >>= λ _ rest. Got (atom.Bracket e) rest
+bracket_with inner ts = inner ts >>= λ e us. mark_at (OfSign sign.Close) us >>= λ _ rest. Got (atom.Bracket e) rest
 
 -- atom = int | col | ( expr )
 unfoldable pub atom_with : Reader Expr → Reader Atom
 atom_with inner ts =
-    either (mark_at (Glyph sign.Open) ts) (λ _ us. bracket_with inner us)
+    either (mark_at (OfSign sign.Open) ts) (λ _ us. bracket_with inner us)
     (either (number_at ts) (λ n rest. Got (atom.Int n) rest) (col_at ts >>= λ c rest. Got (atom.Col c) rest))
 
 -- factor = [-] atom
@@ -41,7 +41,7 @@ factor_with inner ts =
 unfoldable pub prod_with : Reader Expr → Reader Prod
 prod_with inner ts =
     factor_with inner ts >>= λ f us.
-    each (mark_at (Glyph sign.Star)) (λ _. factor_with inner) us >>= λ fs rest.
+    each (mark_at (OfSign sign.Star)) (λ _. factor_with inner) us >>= λ fs rest.
     Got (roll-Prod (record { first = f; rest = fs })) rest
 
 -- the product behind a plus or a minus
@@ -68,10 +68,10 @@ int_at ts = number_at (minus_at ts).1 >>= λ n rest. Got (record { minus = (minu
 -- sint {, sint} )
 unfoldable pub more_ints_at : SignedInt → Reader IntList
 more_ints_at first ts =
-    each (mark_at (Glyph sign.Comma)) (λ _. int_at) ts >>= λ more us.
-    mark_at (Glyph sign.Close) us >>= λ _ rest.
+    each (mark_at (OfSign sign.Comma)) (λ _. int_at) ts >>= λ more us.
+    mark_at (OfSign sign.Close) us >>= λ _ rest.
     Got (record { first = first; rest = more }) rest
 
 -- ( sint {, sint} )
 unfoldable pub ints_at : Reader IntList
-ints_at ts = mark_at (Glyph sign.Open) ts >>= λ _ us. int_at us >>= λ first vs. more_ints_at first vs
+ints_at ts = mark_at (OfSign sign.Open) ts >>= λ _ us. int_at us >>= λ first vs. more_ints_at first vs

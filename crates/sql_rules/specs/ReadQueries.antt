@@ -15,7 +15,7 @@ use Rattle.sql_tree.specs.declared.query.OrderBy.{OrderBy}
 use Rattle.sql_tree.specs.declared.query.Selection.{Selection}
 use Rattle.sql_tree.specs.declared.query.Selection.TheVariants as selection
 use Rattle.sql_tree.specs.declared.query.TableRef.{TableRef}
-use Rattle.sql_rules.specs.Pieces.{Key, Glyph}
+use Rattle.sql_rules.specs.Symbols.{OfKeyword, OfSign}
 use Rattle.sql_rules.specs.Readers.{Reader, Answer, Got, ◌>>=◌, either, mark_at, name_at, number_at, maybe_at}
 use Rattle.sql_rules.specs.Readers.{many, each}
 use Rattle.sql_rules.specs.ReadExprs.{expr_at, col_at}
@@ -24,18 +24,18 @@ use Rattle.sql_rules.specs.ReadConds.{cond_at}
 -- expr )
 unfoldable pub argument_at : (Expr → ItemKind) → Reader ItemKind
 argument_at make ts =
-    expr_at 33 ts >>= λ e us. mark_at (Glyph sign.Close) us >>= λ _ rest. Got (make e) rest
+    expr_at 33 ts >>= λ e us. mark_at (OfSign sign.Close) us >>= λ _ rest. Got (make e) rest
 
 -- what follows COUNT ( : * ) | expr )
 unfoldable pub counted_at : Reader ItemKind
 counted_at ts =
-    either (mark_at (Glyph sign.Star) ts) (λ _ us. mark_at (Glyph sign.Close) us >>= λ _ rest. Got what.Count rest)
+    either (mark_at (OfSign sign.Star) ts) (λ _ us. mark_at (OfSign sign.Close) us >>= λ _ rest. Got what.Count rest)
     (argument_at what.CountOf ts)
 
 -- a word, a bracket and what follows it; where the word doesn't stand there, the other
 abbrev pub call_at : Keyword → Reader ItemKind → Answer ItemKind → Reader ItemKind
 call_at word inner other ts =
-    either (mark_at (Key word) ts) (λ _ us. mark_at (Glyph sign.Open) us >>= λ _ vs. inner vs) other
+    either (mark_at (OfKeyword word) ts) (λ _ us. mark_at (OfSign sign.Open) us >>= λ _ vs. inner vs) other
 
 -- an expression, as an item
 unfoldable pub plain_at : Reader ItemKind
@@ -55,7 +55,7 @@ kind_at ts =
 -- [AS name]
 unfoldable pub as_at : Reader (Option Name)
 as_at ts =
-    either (mark_at (Key keyword.As) ts) (λ _ us. name_at us >>= λ a rest. Got (Some a) rest) (Got None ts)
+    either (mark_at (OfKeyword keyword.As) ts) (λ _ us. name_at us >>= λ a rest. Got (Some a) rest) (Got None ts)
 
 -- item = (expr | agg) [AS name]
 unfoldable pub item_at : Reader Item
@@ -65,18 +65,18 @@ item_at ts = kind_at ts >>= λ k us. as_at us >>= λ a rest. Got (record { what 
 unfoldable pub item_list_at : Reader Selection
 item_list_at ts =
     item_at ts >>= λ i us.
-    each (mark_at (Glyph sign.Comma)) (λ _. item_at) us >>= λ is rest.
+    each (mark_at (OfSign sign.Comma)) (λ _. item_at) us >>= λ is rest.
     Got (selection.List (record { first = i; rest = is })) rest
 
 -- items = * | item {, item}; a star would stand at `star`
 unfoldable pub items_at : Span → Reader Selection
 items_at star ts =
-    either (mark_at (Glyph sign.Star) ts) (λ _ rest. Got (selection.Star star) rest) (item_list_at ts)
+    either (mark_at (OfSign sign.Star) ts) (λ _ rest. Got (selection.Star star) rest) (item_list_at ts)
 
 -- [[AS] name]
 unfoldable pub alias_at : Reader (Option Name)
 alias_at ts =
-    either (mark_at (Key keyword.As) ts) (λ _ us. name_at us >>= λ a rest. Got (Some a) rest)
+    either (mark_at (OfKeyword keyword.As) ts) (λ _ us. name_at us >>= λ a rest. Got (Some a) rest)
     (either (name_at ts) (λ a rest. Got (Some a) rest) (Got None ts))
 
 -- table = name [[AS] name]
@@ -86,29 +86,31 @@ table_at ts = name_at ts >>= λ n us. alias_at us >>= λ a rest. Got (record { n
 -- [, table]
 unfoldable pub second_at : Reader (Option TableRef)
 second_at ts =
-    either (mark_at (Glyph sign.Comma) ts) (λ _ us. table_at us >>= λ t rest. Got (Some t) rest) (Got None ts)
+    either (mark_at (OfSign sign.Comma) ts) (λ _ us. table_at us >>= λ t rest. Got (Some t) rest) (Got None ts)
 
 -- [WHERE cond]
 unfoldable pub where_at : Reader (Option Cond)
 where_at ts =
-    either (mark_at (Key keyword.Where) ts) (λ _ us. cond_at 33 us >>= λ c rest. Got (Some c) rest) (Got None ts)
+    either (mark_at (OfKeyword keyword.Where) ts) (λ _ us. cond_at 33 us >>= λ c rest. Got (Some c) rest) (Got None ts)
 
 -- col [, col] [, col] [, col]
 unfoldable pub cols_at : Reader (List Col)
 cols_at ts =
     col_at ts >>= λ c us.
-    many (mark_at (Glyph sign.Comma)) (λ _. col_at) 3 us >>= λ cs rest.
+    many (mark_at (OfSign sign.Comma)) (λ _. col_at) 3 us >>= λ cs rest.
     Got (c ∷ cs) rest
 
 -- [GROUP BY col [, col] [, col] [, col]]
 unfoldable pub group_at : Reader (List Col)
 group_at ts =
-    either (mark_at (Key keyword.Group) ts) (λ _ us. mark_at (Key keyword.By) us >>= λ _ vs. cols_at vs) (Got [] ts)
+    either (mark_at (OfKeyword keyword.Group) ts)
+    (λ _ us. mark_at (OfKeyword keyword.By) us >>= λ _ vs. cols_at vs) (Got [] ts)
 
 -- [ASC | DESC]: whether it goes down
 unfoldable pub way_at : Reader Bool
 way_at ts =
-    either (mark_at (Key keyword.Desc) ts) (λ _ rest. Got true rest) (Got false (maybe_at (Key keyword.Asc) ts).1)
+    either (mark_at (OfKeyword keyword.Desc) ts) (λ _ rest. Got true rest)
+    (Got false (maybe_at (OfKeyword keyword.Asc) ts).1)
 
 -- col [ASC | DESC]
 unfoldable pub sorted_at : Reader (Option OrderBy)
@@ -118,9 +120,10 @@ sorted_at ts =
 -- [ORDER BY col [ASC | DESC]]
 unfoldable pub order_at : Reader (Option OrderBy)
 order_at ts =
-    either (mark_at (Key keyword.Order) ts) (λ _ us. mark_at (Key keyword.By) us >>= λ _ vs. sorted_at vs) (Got None ts)
+    either (mark_at (OfKeyword keyword.Order) ts)
+    (λ _ us. mark_at (OfKeyword keyword.By) us >>= λ _ vs. sorted_at vs) (Got None ts)
 
 -- [LIMIT int]
 unfoldable pub limit_at : Reader (Option ℤ)
 limit_at ts =
-    either (mark_at (Key keyword.Limit) ts) (λ _ us. number_at us >>= λ n rest. Got (Some n) rest) (Got None ts)
+    either (mark_at (OfKeyword keyword.Limit) ts) (λ _ us. number_at us >>= λ n rest. Got (Some n) rest) (Got None ts)

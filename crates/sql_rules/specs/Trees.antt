@@ -11,7 +11,7 @@ use Rattle.sql_tree.specs.declared.name.Col.{Col}
 use Rattle.sql_tree.specs.declared.query.Query.{Query}
 use Rattle.sql_tree.specs.declared.query.Selection.{Selection}
 use Rattle.sql_tree.specs.declared.query.TableRef.{TableRef}
-use Rattle.sql_rules.specs.Pieces.{Piece, Key, Glyph, pieces}
+use Rattle.sql_rules.specs.Symbols.{Symbol, OfKeyword, OfSign, symbols}
 use Rattle.sql_rules.specs.Queries.{second_span}
 use Rattle.sql_rules.specs.Readers.{Reader, Answer, Got, Stuck, ◌>>=◌, mark_at, maybe_at}
 use Rattle.sql_rules.specs.ReadQueries.{items_at, table_at, second_at, where_at, group_at, order_at, limit_at}
@@ -27,7 +27,7 @@ pub record Front : Type 0 where
 -- FROM table [, table]
 unfoldable pub from_at : Selection → Reader Front
 from_at items ts =
-    mark_at (Key keyword.From) ts >>= λ _ us.
+    mark_at (OfKeyword keyword.From) ts >>= λ _ us.
     table_at us >>= λ first vs.
     second_at vs >>= λ second rest.
     Got (record { items = items; first = first; second = second }) rest
@@ -35,7 +35,7 @@ from_at items ts =
 -- SELECT items FROM table [, table]; a star would stand at `star`
 unfoldable pub front_at : Span → Reader Front
 front_at star ts =
-    mark_at (Key keyword.Select) ts >>= λ _ us. items_at star us >>= λ items vs. from_at items vs
+    mark_at (OfKeyword keyword.Select) ts >>= λ _ us. items_at star us >>= λ items vs. from_at items vs
 
 -- the query of its parts
 abbrev pub query_with : Front → Option Cond → List Col → Reader Query
@@ -61,18 +61,18 @@ query_at star ts =
     query_with front cond group ws
 
 -- the query, where nothing is left
-abbrev pub nothing_left : Query → List Piece → Option Query
+abbrev pub nothing_left : Query → List Symbol → Option Query
 nothing_left q [] = Some q
 nothing_left q (p ∷ ps) = None
 
 -- the query that was read, where nothing but a semicolon comes behind it
 abbrev pub whole : Answer Query → Option Query
-whole (Got q rest) = nothing_left q (maybe_at (Glyph sign.Semicolon) rest).1
+whole (Got q rest) = nothing_left q (maybe_at (OfSign sign.Semicolon) rest).1
 whole Stuck = None
 
 -- the query that all the tokens are
 unfoldable pub query_of : List ℕ → List Token → Option Query
-query_of text ts = whole (query_at (second_span ts) (pieces text ts))
+query_of text ts = whole (query_at (second_span ts) (symbols text ts))
 
 -- the fault of a text that has no list of tokens
 abbrev pub fault_of : TokenFault → SqlFault

@@ -3,8 +3,8 @@
 use sql_token::Span;
 use thiserror::Error;
 
-/// The first fault of a text that is no query. A place is a count of bytes from 0. The whole text is judged for each
-/// fault before the next.
+/// The first fault of a text that is no query. A place is a count of bytes from 0. First comes the first bad byte or
+/// large int, by its place; where there is none, too many tokens; then depth; then the grammar.
 #[derive(Clone, Copy, Debug, PartialEq, Eq, Error)]
 pub enum SqlFault {
     /// A byte that begins no token and is no blank.

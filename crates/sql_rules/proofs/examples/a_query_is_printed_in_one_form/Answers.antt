@@ -13,7 +13,7 @@ use Rattle.std.specs.Fmt.{digits}
 use Rattle.sql_rules.specs.Printed.{printed}
 use Rattle.sql_rules.proofs.PrintOpened.{print_int_atom, print_col_atom, print_bracket_atom, print_factor_roll, print_prod_roll}
 use Rattle.sql_rules.proofs.PrintOpened.{print_signed_roll, print_expr_roll, print_bracket_pred, print_compare_pred, print_between_pred}
-use Rattle.sql_rules.proofs.PrintOpened.{print_null_pred, print_area_pred, print_neg_roll, print_conj_roll, print_cond_roll}
+use Rattle.sql_rules.proofs.PrintOpened.{print_among_pred, print_null_pred, print_area_pred, print_neg_roll, print_conj_roll, print_cond_roll}
 use Rattle.sql_rules.proofs.examples.a_query_is_printed_in_one_form.Goals as goal
 
 pub returns : goal.returns
@@ -34,6 +34,7 @@ returns c =
       print_bracket_pred,
       print_compare_pred,
       print_between_pred,
+      print_among_pred,
       print_null_pred,
       print_area_pred,
       print_neg_roll,
