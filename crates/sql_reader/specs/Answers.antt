@@ -1,6 +1,6 @@
 -- What a reader of the code answers is what reading on lists does. Want of memory may come in place of any answer.
 use Rattle.std.specs.Prelude.{◌≡◌, ⊤, List, Option, None, Some, Result, Ok, Err}
-use Rattle.sql_rules.specs.Pieces.{Mark, Piece}
+use Rattle.sql_rules.specs.Symbols.{Mark, Symbol}
 use Rattle.sql_rules.specs.Readers.{Answer, Got, Stuck}
 use Rattle.sql_reader.specs.declared.ahead.ReadStop.{ReadStop}
 use Rattle.sql_reader.specs.declared.ahead.ReadStop.TheVariants.{Memory, Syntax}
@@ -11,19 +11,24 @@ Fails answer Memory = ⊤
 Fails answer Syntax = answer ≡ Stuck
 
 -- the reader answers what stands there and what comes behind it, or that none does, or wants memory
-abbrev pub Gives : {A : Type 0} → Answer A → Result (A × List Piece) ReadStop → Type 0
+abbrev pub Gives : {A : Type 0} → Answer A → Result (A × List Symbol) ReadStop → Type 0
 Gives answer (Ok x) = answer ≡ Got x.0 x.1
 Gives answer (Err why) = Fails answer why
 
 -- the same of a reader that takes no memory
-abbrev pub Shows : {A : Type 0} → Answer A → Option (A × List Piece) → Type 0
+abbrev pub Shows : {A : Type 0} → Answer A → Option (A × List Symbol) → Type 0
 Shows answer (Some x) = answer ≡ Got x.0 x.1
 Shows answer None = answer ≡ Stuck
 
 -- the same of a mark that is known
-abbrev pub Passes : Mark → Answer Mark → Option (List Piece) → Type 0
+abbrev pub Passes : Mark → Answer Mark → Option (List Symbol) → Type 0
 Passes m answer (Some rest) = answer ≡ Got m rest
 Passes m answer None = answer ≡ Stuck
+
+-- what comes behind what stands there, or that none does
+abbrev pub rest_of : {A : Type 0} → Answer A → Option (List Symbol)
+rest_of (Got x rest) = Some rest
+rest_of Stuck = None
 
 -- what was read before, beside what is read now
 abbrev pub beside : {T U : Type 0} → T → Result U ReadStop → Result (T × U) ReadStop

@@ -3,7 +3,7 @@ use Rattle.sql_token.specs.declared.sign.Sign.TheVariants as sign
 use Rattle.sql_tree.specs.declared.expr.Expr.{Expr}
 use Rattle.sql_tree.specs.declared.query.ItemKind.{ItemKind}
 use Rattle.sql_tree.specs.declared.query.ItemKind.TheVariants as what
-use Rattle.sql_rules.specs.Pieces.{Glyph}
+use Rattle.sql_rules.specs.Symbols.{OfSign}
 use Rattle.sql_rules.specs.Readers.{Reader, ◌>>=◌, mark_at}
 use Rattle.sql_reader.specs.declared.items.Call.{Call}
 use Rattle.sql_reader.specs.declared.items.Call.TheVariants as call
@@ -18,4 +18,4 @@ kind_by call.Avg = what.Avg
 
 -- what follows the word of a function: an opening bracket, and what stands in it
 abbrev pub called_at : Reader ItemKind → Reader ItemKind
-called_at inner ts = mark_at (Glyph sign.Open) ts >>= λ _ us. inner us
+called_at inner ts = mark_at (OfSign sign.Open) ts >>= λ _ us. inner us

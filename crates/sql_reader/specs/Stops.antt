@@ -8,7 +8,7 @@ use Rattle.sql_token.specs.Answers.{StopsBy}
 use Rattle.sql_token.specs.Faults.{TokenFault}
 use Rattle.sql_tree.specs.declared.cond.Cond.{Cond}
 use Rattle.sql_tree.specs.declared.query.Query.{Query}
-use Rattle.sql_rules.specs.Pieces.{Piece}
+use Rattle.sql_rules.specs.Symbols.{Symbol}
 use Rattle.sql_rules.specs.Readers.{Reader, Answer, Got, ◌>>=◌}
 use Rattle.sql_rules.specs.ReadQueries.{group_at, where_at}
 use Rattle.sql_rules.specs.Trees.{Front, query_with, tree_from}
@@ -31,7 +31,7 @@ abbrev pub from_where_at : Front → Reader Query
 from_where_at front ts = where_at ts >>= λ cond us. from_group_at front cond us
 
 -- the reader answers what stands there, seen by a view, and what comes behind it, or that none does, or wants memory
-abbrev pub GivesBy : {X A : Type 0} → (X → A) → Answer A → Result (X × List Piece) ReadStop → Type 0
+abbrev pub GivesBy : {X A : Type 0} → (X → A) → Answer A → Result (X × List Symbol) ReadStop → Type 0
 GivesBy view answer (Ok x) = answer ≡ Got (view x.0) x.1
 GivesBy view answer (Err why) = Fails answer why
 

@@ -1,6 +1,6 @@
 //! Tables, and the clauses from WHERE on. One function reads one rule of the grammar.
 ghost use Rattle.std.specs.Prelude.{◌≡◌};
-ghost use Rattle.sql_rules.specs.Pieces.{Glyph};
+ghost use Rattle.sql_rules.specs.Symbols.{OfSign};
 ghost use Rattle.sql_rules.specs.Readers.{many, mark_at};
 ghost use Rattle.sql_rules.specs.ReadExprs.{col_at};
 ghost use Rattle.sql_rules.specs.ReadQueries.{alias_at, cols_at, group_at, limit_at, order_at, second_at};
@@ -75,14 +75,14 @@ pub(crate) fn where_clause<'a>(
         None => Ok((None, ahead.again())),
         Some(rest) => {
             let (cond, rest) = cond(alloc, &rest, MOST_LEVELS)?;
-            Ok((Some(cond), rest))
+            Ok((Some(cond.into_inner()), rest))
         }
     }
 }
 
 // The columns behind commas, at most three.
 fn more_cols<'a>(alloc: Global, ahead: &Ahead<'a>) -> Result<(Items<Col>, Ahead<'a>), ReadStop>
-    ensures { Gives (many (mark_at (Glyph sign.Comma)) (λ _. col_at) 3 ahead.now) result }
+    ensures { Gives (many (mark_at (OfSign sign.Comma)) (λ _. col_at) 3 ahead.now) result }
 {
     let mut found = Items::new(alloc);
     let mut rest = ahead.again();

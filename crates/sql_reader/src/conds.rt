@@ -1,6 +1,6 @@
 //! Conditions. One function reads one rule of the grammar.
 ghost use Rattle.std.specs.Prelude.{◌≡◌, ◌<◌, ◌-◌};
-ghost use Rattle.sql_rules.specs.Pieces.{Key};
+ghost use Rattle.sql_rules.specs.Symbols.{OfKeyword};
 ghost use Rattle.sql_rules.specs.Readers.{each, mark_at};
 ghost use Rattle.sql_rules.specs.ReadExprs.{expr_at};
 ghost use Rattle.sql_rules.specs.ReadConds.{any_with, cond_at, conj_with, group_with, neg_with};
@@ -9,8 +9,8 @@ ghost use Rattle.sql_token.specs.declared.keyword.Keyword.TheVariants as keyword
 ghost use Rattle.sql_reader.specs.Answers.{Gives};
 
 use crate::ahead::{Ahead, ReadStop};
-use crate::exprs::expr;
-use crate::preds::{area, chord, said};
+use crate::preds::{area, chord, valued};
+use crate::skip::skip_expr;
 use sql_token::{Keyword, Sign};
 use sql_tree::{Cond, Conj, Neg, Pred};
 use sqlite_items::{Boxed, Items};
@@ -23,7 +23,7 @@ pub(crate) fn cond<'a>(
     alloc: Global,
     ahead: &Ahead<'a>,
     levels: u32,
-) -> Result<(Cond, Ahead<'a>), ReadStop>
+) -> Result<(Boxed<Cond>, Ahead<'a>), ReadStop>
     ensures { Gives (cond_at levels ahead.now) result }
 {
     if levels == 0 {
@@ -35,13 +35,17 @@ pub(crate) fn cond<'a>(
 // Conjunctions joined by OR.
 #[cycle(cond)]
 #[tactic(auto, unfolding(sql_rules::specs::ReadConds::any_with))]
-fn any<'a>(alloc: Global, ahead: &Ahead<'a>, levels: u32) -> Result<(Cond, Ahead<'a>), ReadStop>
+fn any<'a>(
+    alloc: Global,
+    ahead: &Ahead<'a>,
+    levels: u32,
+) -> Result<(Boxed<Cond>, Ahead<'a>), ReadStop>
     requires { 0 < levels }
     ensures { Gives (any_with (expr_at levels) (cond_at (levels - 1)) ahead.now) result }
 {
     let (first, rest) = conj(alloc, ahead, levels)?;
     let (rest, ahead) = more_conjs(alloc, &rest, levels)?;
-    Ok((Cond { first, rest }, ahead))
+    Ok((Boxed::new(alloc, Cond { first, rest })?, ahead))
 }
 
 // The further conjunctions of a condition.
@@ -52,7 +56,7 @@ fn more_conjs<'a>(
     levels: u32,
 ) -> Result<(Items<Conj>, Ahead<'a>), ReadStop>
     requires { 0 < levels }
-    ensures { Gives (each (mark_at (Key keyword.Or))
+    ensures { Gives (each (mark_at (OfKeyword keyword.Or))
         (λ _. conj_with (expr_at levels) (cond_at (levels - 1))) ahead.now) result }
 {
     let mut found = Items::new(alloc);
@@ -90,7 +94,7 @@ fn more_negs<'a>(
     levels: u32,
 ) -> Result<(Items<Neg>, Ahead<'a>), ReadStop>
     requires { 0 < levels }
-    ensures { Gives (each (mark_at (Key keyword.And))
+    ensures { Gives (each (mark_at (OfKeyword keyword.And))
         (λ _. neg_with (expr_at levels) (cond_at (levels - 1))) ahead.now) result }
 {
     let mut found = Items::new(alloc);
@@ -116,21 +120,22 @@ fn neg<'a>(alloc: Global, ahead: &Ahead<'a>, levels: u32) -> Result<(Neg, Ahead<
     ensures { Gives (neg_with (expr_at levels) (cond_at (levels - 1)) ahead.now) result }
 {
     let (not, rest) = ahead.maybe_key(Keyword::Not);
-    let (pred, rest) = pred(alloc, &rest, levels)?;
-    Ok((Neg { not, pred }, rest))
+    match pred(alloc, &rest, levels) {
+        Ok((pred, rest)) => Ok((Neg { not, pred }, rest)),
+        Err(why) => Err(why),
+    }
 }
 
 // An expression and what is said of it, or another predicate where no expression stands.
 #[cycle(cond)]
-#[tactic(auto, unfolding(sql_rules::specs::ReadConds::pred_with))]
+#[tactic(auto, using(crate::proofs::Skips::pred_valued, crate::proofs::Skips::pred_other))]
 fn pred<'a>(alloc: Global, ahead: &Ahead<'a>, levels: u32) -> Result<(Pred, Ahead<'a>), ReadStop>
     requires { 0 < levels }
     ensures { Gives (pred_with (expr_at levels) (cond_at (levels - 1)) ahead.now) result }
 {
-    match expr(alloc, ahead, levels) {
-        Ok((value, rest)) => said(alloc, &rest, value, levels),
-        Err(ReadStop::Memory) => Err(ReadStop::Memory),
-        Err(ReadStop::Syntax) => other(alloc, ahead, levels),
+    match skip_expr(ahead, levels) {
+        Some(behind) => valued(alloc, ahead, levels),
+        None => other(alloc, ahead, levels),
     }
 }
 
@@ -163,6 +168,6 @@ fn group<'a>(alloc: Global, ahead: &Ahead<'a>, levels: u32) -> Result<(Pred, Ahe
     let (inner, rest) = cond(alloc, ahead, levels - 1)?;
     match rest.after_sign(Sign::Close) {
         None => Err(ReadStop::Syntax),
-        Some(rest) => Ok((Pred::Bracket(Boxed::new(alloc, inner)?), rest)),
+        Some(rest) => Ok((Pred::Bracket(inner), rest)),
     }
 }

@@ -1,6 +1,6 @@
 //! Expressions, and ints in brackets. One function reads one rule of the grammar.
 ghost use Rattle.std.specs.Prelude.{◌≡◌, Bool};
-ghost use Rattle.sql_rules.specs.Pieces.{Glyph};
+ghost use Rattle.sql_rules.specs.Symbols.{OfSign};
 ghost use Rattle.sql_rules.specs.Readers.{adds_at, each, mark_at};
 ghost use Rattle.sql_rules.specs.ReadExprs.{atom_with, bracket_with, col_at, expr_at, factor_with};
 ghost use Rattle.sql_rules.specs.ReadExprs.{int_at, ints_at, more_ints_at, prod_with, signed_with, sum_with};
@@ -124,7 +124,7 @@ fn more_factors<'a>(
     ahead: &Ahead<'a>,
     inner: u32,
 ) -> Result<(Items<Factor>, Ahead<'a>), ReadStop>
-    ensures { Gives (each (mark_at (Glyph sign.Star)) (λ _. factor_with (expr_at inner)) ahead.now)
+    ensures { Gives (each (mark_at (OfSign sign.Star)) (λ _. factor_with (expr_at inner)) ahead.now)
         result }
 {
     let mut found = Items::new(alloc);
@@ -199,7 +199,7 @@ fn further_ints<'a>(
     alloc: Global,
     ahead: &Ahead<'a>,
 ) -> Result<(Items<SignedInt>, Ahead<'a>), ReadStop>
-    ensures { Gives (each (mark_at (Glyph sign.Comma)) (λ _. int_at) ahead.now) result }
+    ensures { Gives (each (mark_at (OfSign sign.Comma)) (λ _. int_at) ahead.now) result }
 {
     let mut found = Items::new(alloc);
     let mut rest = ahead.again();

@@ -1,6 +1,6 @@
 //! What stands between SELECT and FROM. One function reads one rule of the grammar.
 ghost use Rattle.std.specs.Prelude.{◌≡◌};
-ghost use Rattle.sql_rules.specs.Pieces.{Glyph};
+ghost use Rattle.sql_rules.specs.Symbols.{OfSign};
 ghost use Rattle.sql_rules.specs.Readers.{each, mark_at};
 ghost use Rattle.sql_rules.specs.ReadQueries.{argument_at, as_at, counted_at, high_at, item_at, item_list_at};
 ghost use Rattle.sql_rules.specs.ReadQueries.{items_at, kind_at, plain_at};
@@ -162,7 +162,7 @@ fn item<'a>(alloc: Global, ahead: &Ahead<'a>) -> Result<(Item, Ahead<'a>), ReadS
 
 // The items behind commas.
 fn more_items<'a>(alloc: Global, ahead: &Ahead<'a>) -> Result<(Items<Item>, Ahead<'a>), ReadStop>
-    ensures { Gives (each (mark_at (Glyph sign.Comma)) (λ _. item_at) ahead.now) result }
+    ensures { Gives (each (mark_at (OfSign sign.Comma)) (λ _. item_at) ahead.now) result }
 {
     let mut found = Items::new(alloc);
     let mut rest = ahead.again();

@@ -12,6 +12,7 @@ mod exprs;
 mod items;
 mod preds;
 mod query;
+mod skip;
 #[cfg(test)]
 mod tests;
 

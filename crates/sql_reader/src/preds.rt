@@ -4,6 +4,7 @@ ghost use Rattle.sql_rules.specs.ReadExprs.{expr_at};
 ghost use Rattle.sql_rules.specs.ReadConds.{area_with, between_with, chord_at, chord_behind, chord_by};
 ghost use Rattle.sql_rules.specs.ReadConds.{null_at, range_with, said_with};
 ghost use Rattle.sql_reader.specs.Answers.{Gives};
+ghost use Rattle.sql_reader.specs.Preds.{valued_at};
 
 use crate::ahead::{Ahead, ReadStop};
 use crate::exprs::{expr, ints};
@@ -73,9 +74,9 @@ fn null<'a>(ahead: &Ahead<'a>, value: Expr) -> Result<(Pred, Ahead<'a>), ReadSto
     }
 }
 
-/// What is said of an expression, whose brackets go below so many levels.
+// What is said of an expression, whose brackets go below so many levels.
 #[tactic(auto, unfolding(sql_rules::specs::ReadConds::said_with))]
-pub(crate) fn said<'a>(
+fn said<'a>(
     alloc: Global,
     ahead: &Ahead<'a>,
     value: Expr,
@@ -103,6 +104,18 @@ pub(crate) fn said<'a>(
             }
         },
     }
+}
+
+/// An expression with brackets below so many levels, and what is said of it.
+pub(crate) fn valued<'a>(
+    alloc: Global,
+    ahead: &Ahead<'a>,
+    levels: u32,
+) -> Result<(Pred, Ahead<'a>), ReadStop>
+    ensures { Gives (valued_at (expr_at levels) ahead.now) result }
+{
+    let (value, rest) = expr(alloc, ahead, levels)?;
+    said(alloc, &rest, value, levels)
 }
 
 /// What follows an area word.

@@ -1,6 +1,6 @@
 use Rattle.std.proofs.Common.{◌∙◌}
 use Rattle.std.proofs.lemmas.Result.{err_from_is_err_and}
-use Rattle.sql_rules.specs.Pieces.{Glyph}
+use Rattle.sql_rules.specs.Symbols.{OfSign}
 use Rattle.sql_rules.specs.Readers.{many, mark_at}
 use Rattle.sql_token.specs.declared.sign.Sign.TheVariants as sign
 use Rattle.sql_rules.specs.ReadExprs.{col_at}
@@ -9,21 +9,21 @@ use Rattle.sql_reader.proofs.clauses.more_cols.Goals as goal
 
 pub returns-in-None : goal.returns-in-None
 returns-in-None c =
-    c.loop-turn.invariant ∙ loop_stuck (mark_at (Glyph sign.Comma)) (λ _. col_at) c.loop-turn.found 3 c.loop-turn.turn c.loop-turn.rest c.loop-turn-test.true c.in-None.ensures
+    c.loop-turn.invariant ∙ loop_stuck (mark_at (OfSign sign.Comma)) (λ _. col_at) c.loop-turn.found 3 c.loop-turn.turn c.loop-turn.rest c.loop-turn-test.true c.in-None.ensures
 
 pub returns-in_err-item-in-Some : goal.returns-in_err-item-in-Some
 returns-in_err-item-in-Some c =
     let p = err_from_is_err_and c.from_residual.result c.from_residual.ensures.1 in
     rw (p.1, p.2) (fails_with c.in_err-item-in-Some.field-0.0 (col_at c.in-Some.next)
-    (many (mark_at (Glyph sign.Comma)) (λ _. col_at) 3 c.args.ahead.now) c.in_err-item-in-Some.ensures
-    (λ stuck. c.loop-turn.invariant ∙ loop_fails (mark_at (Glyph sign.Comma)) (λ _. col_at) c.loop-turn.found 3 c.loop-turn.turn c.loop-turn.rest (Glyph sign.Comma) c.in-Some.next c.loop-turn-test.true c.in-Some.ensures stuck))
+    (many (mark_at (OfSign sign.Comma)) (λ _. col_at) 3 c.args.ahead.now) c.in_err-item-in-Some.ensures
+    (λ stuck. c.loop-turn.invariant ∙ loop_fails (mark_at (OfSign sign.Comma)) (λ _. col_at) c.loop-turn.found 3 c.loop-turn.turn c.loop-turn.rest (OfSign sign.Comma) c.in-Some.next c.loop-turn-test.true c.in-Some.ensures stuck))
 
 pub loop-turn-preserved : goal.loop-turn-preserved
 loop-turn-preserved c =
     rw c.in_ok-push-in-Some.ensures.ok
-    (c.loop-turn.invariant ∙ loop_more (mark_at (Glyph sign.Comma)) (λ _. col_at) c.loop-turn.found 3 c.loop-turn.turn c.loop-turn.rest (Glyph sign.Comma) c.in-Some.next c.in_ok-item-in-Some.item
+    (c.loop-turn.invariant ∙ loop_more (mark_at (OfSign sign.Comma)) (λ _. col_at) c.loop-turn.found 3 c.loop-turn.turn c.loop-turn.rest (OfSign sign.Comma) c.in-Some.next c.in_ok-item-in-Some.item
     c.in_ok-item-in-Some.next c.loop-turn-test.true c.in-Some.ensures c.in_ok-item-in-Some.ensures)
 
 pub returns : goal.returns
 returns c =
-    c.loop-turn.invariant ∙ loop_end (mark_at (Glyph sign.Comma)) (λ _. col_at) c.loop-turn.found 3 c.loop-turn.turn c.loop-turn.rest c.loop-turn-test.false
+    c.loop-turn.invariant ∙ loop_end (mark_at (OfSign sign.Comma)) (λ _. col_at) c.loop-turn.found 3 c.loop-turn.turn c.loop-turn.rest c.loop-turn-test.false

@@ -1,5 +1,5 @@
 use Rattle.std.proofs.Common.{◌≡◌, ◌+◌, ◌*◌, ◌-◌, length}
-use Rattle.sql_rules.specs.Pieces.{Key}
+use Rattle.sql_rules.specs.Symbols.{OfKeyword}
 use Rattle.sql_rules.specs.Readers.{many, mark_at}
 use Rattle.sql_rules.specs.ReadExprs.{expr_at}
 use Rattle.sql_rules.specs.ReadConds.{conj_with, neg_with, cond_at}
@@ -36,10 +36,10 @@ decreases-group l = 16 * l.levels + 2
 
 abbrev pub invariant-more_conjs-loop-turn : goal.invariant-more_conjs-loop-turn
 invariant-more_conjs-loop-turn l =
-    many (mark_at (Key keyword.Or)) (λ _. conj_with (expr_at l.levels) (cond_at (l.levels - 1))) (length l.fn.ahead) l.fn.ahead
-    ≡ with_front l.found (many (mark_at (Key keyword.Or)) (λ _. conj_with (expr_at l.levels) (cond_at (l.levels - 1))) (l.turn-end - l.turn) l.rest)
+    many (mark_at (OfKeyword keyword.Or)) (λ _. conj_with (expr_at l.levels) (cond_at (l.levels - 1))) (length l.fn.ahead) l.fn.ahead
+    ≡ with_front l.found (many (mark_at (OfKeyword keyword.Or)) (λ _. conj_with (expr_at l.levels) (cond_at (l.levels - 1))) (l.turn-end - l.turn) l.rest)
 
 abbrev pub invariant-more_negs-loop-turn : goal.invariant-more_negs-loop-turn
 invariant-more_negs-loop-turn l =
-    many (mark_at (Key keyword.And)) (λ _. neg_with (expr_at l.levels) (cond_at (l.levels - 1))) (length l.fn.ahead) l.fn.ahead
-    ≡ with_front l.found (many (mark_at (Key keyword.And)) (λ _. neg_with (expr_at l.levels) (cond_at (l.levels - 1))) (l.turn-end - l.turn) l.rest)
+    many (mark_at (OfKeyword keyword.And)) (λ _. neg_with (expr_at l.levels) (cond_at (l.levels - 1))) (length l.fn.ahead) l.fn.ahead
+    ≡ with_front l.found (many (mark_at (OfKeyword keyword.And)) (λ _. neg_with (expr_at l.levels) (cond_at (l.levels - 1))) (l.turn-end - l.turn) l.rest)

@@ -1,5 +1,5 @@
 use Rattle.std.proofs.Common.{◌≡◌, ◌+◌, ◌*◌, ◌-◌}
-use Rattle.sql_rules.specs.Pieces.{Glyph}
+use Rattle.sql_rules.specs.Symbols.{OfSign}
 use Rattle.sql_rules.specs.Readers.{each, many, adds_at, mark_at}
 use Rattle.sql_rules.specs.ReadExprs.{signed_with, factor_with, expr_at}
 use Rattle.sql_token.specs.declared.sign.Sign.TheVariants as sign
@@ -37,4 +37,4 @@ abbrev pub invariant-more_prods-loop-turn : goal.invariant-more_prods-loop-turn
 invariant-more_prods-loop-turn l = each adds_at (signed_with (expr_at l.inner)) l.fn.ahead ≡ with_front l.found (many adds_at (signed_with (expr_at l.inner)) (l.turn-end - l.turn) l.rest)
 
 abbrev pub invariant-more_factors-loop-turn : goal.invariant-more_factors-loop-turn
-invariant-more_factors-loop-turn l = each (mark_at (Glyph sign.Star)) (λ _. factor_with (expr_at l.inner)) l.fn.ahead ≡ with_front l.found (many (mark_at (Glyph sign.Star)) (λ _. factor_with (expr_at l.inner)) (l.turn-end - l.turn) l.rest)
+invariant-more_factors-loop-turn l = each (mark_at (OfSign sign.Star)) (λ _. factor_with (expr_at l.inner)) l.fn.ahead ≡ with_front l.found (many (mark_at (OfSign sign.Star)) (λ _. factor_with (expr_at l.inner)) (l.turn-end - l.turn) l.rest)

@@ -1,0 +1,127 @@
+//! Passes over an expression and builds nothing.
+//!
+//! A bracket may open an expression or a condition, and which one shows at its end alone. So what stands there is passed
+//! over first: building a tree to throw it away, at each of 32 brackets in one another, would cost 32 trees.
+ghost use Rattle.std.specs.Prelude.{◌≡◌};
+ghost use Rattle.sql_rules.specs.Symbols.{OfSign};
+ghost use Rattle.sql_rules.specs.Readers.{adds_at, each, mark_at};
+ghost use Rattle.sql_rules.specs.ReadExprs.{atom_with, bracket_with, col_at, expr_at, factor_with};
+ghost use Rattle.sql_rules.specs.ReadExprs.{prod_with, signed_with, sum_with};
+ghost use Rattle.sql_token.specs.declared.sign.Sign.TheVariants as sign;
+ghost use Rattle.sql_reader.specs.Answers.{rest_of};
+
+use crate::ahead::Ahead;
+use sql_token::Sign;
+
+// What comes behind a column.
+#[tactic(auto, using(crate::proofs::Skips::col_none, crate::proofs::Skips::col_plain, crate::proofs::Skips::col_of_table))]
+fn skip_col<'a>(ahead: &Ahead<'a>) -> Option<Ahead<'a>>
+    ensures { rest_of (col_at ahead.now) ≡ result }
+{
+    let rest = ahead.after_name()?;
+    match rest.after_sign(Sign::Dot) {
+        None => Some(rest),
+        Some(rest) => rest.after_name(),
+    }
+}
+
+/// What comes behind an expression with brackets below so many levels. Takes no memory.
+#[cycle(skip)]
+#[tactic(auto, using(crate::proofs::Steps::expr_level, crate::proofs::Steps::expr_none))]
+pub(crate) fn skip_expr<'a>(ahead: &Ahead<'a>, levels: u32) -> Option<Ahead<'a>>
+    ensures { rest_of (expr_at levels ahead.now) ≡ result }
+{
+    if levels == 0 {
+        return None;
+    }
+    skip_sum(ahead, levels - 1)
+}
+
+// What comes behind a sum of products.
+#[cycle(skip)]
+#[tactic(auto, using(crate::proofs::Skips::sum_none, crate::proofs::Skips::sum_some))]
+fn skip_sum<'a>(ahead: &Ahead<'a>, inner: u32) -> Option<Ahead<'a>>
+    ensures { rest_of (sum_with (expr_at inner) ahead.now) ≡ result }
+{
+    let rest = skip_prod(ahead, inner)?;
+    skip_prods(&rest, inner)
+}
+
+// What comes behind the further products of a sum.
+#[cycle(skip)]
+fn skip_prods<'a>(ahead: &Ahead<'a>, inner: u32) -> Option<Ahead<'a>>
+    ensures { rest_of (each adds_at (signed_with (expr_at inner)) ahead.now) ≡ result }
+{
+    let mut rest = ahead.again();
+    for turn in 0..ahead.len() {
+        match rest.adds() {
+            None => return Some(rest),
+            Some((minus, next)) => {
+                rest = skip_prod(&next, inner)?;
+            }
+        }
+    }
+    Some(rest)
+}
+
+// What comes behind a product of factors.
+#[cycle(skip)]
+#[tactic(auto, using(crate::proofs::Skips::prod_none))]
+fn skip_prod<'a>(ahead: &Ahead<'a>, inner: u32) -> Option<Ahead<'a>>
+    ensures { rest_of (prod_with (expr_at inner) ahead.now) ≡ result }
+{
+    let rest = skip_factor(ahead, inner)?;
+    skip_factors(&rest, inner)
+}
+
+// What comes behind the further factors of a product.
+#[cycle(skip)]
+fn skip_factors<'a>(ahead: &Ahead<'a>, inner: u32) -> Option<Ahead<'a>>
+    ensures { rest_of
+        (each (mark_at (OfSign sign.Star)) (λ _. factor_with (expr_at inner)) ahead.now) ≡ result }
+{
+    let mut rest = ahead.again();
+    for turn in 0..ahead.len() {
+        match rest.after_sign(Sign::Star) {
+            None => return Some(rest),
+            Some(next) => {
+                rest = skip_factor(&next, inner)?;
+            }
+        }
+    }
+    Some(rest)
+}
+
+// What comes behind an atom, and the minus before it.
+#[cycle(skip)]
+fn skip_factor<'a>(ahead: &Ahead<'a>, inner: u32) -> Option<Ahead<'a>>
+    ensures { rest_of (factor_with (expr_at inner) ahead.now) ≡ result }
+{
+    let (minus, rest) = ahead.maybe_minus();
+    skip_atom(&rest, inner)
+}
+
+// What comes behind an int, a column, or an expression in brackets.
+#[cycle(skip)]
+#[tactic(auto, using(crate::proofs::Skips::atom_open, crate::proofs::Skips::atom_int, crate::proofs::Skips::atom_col))]
+fn skip_atom<'a>(ahead: &Ahead<'a>, inner: u32) -> Option<Ahead<'a>>
+    ensures { rest_of (atom_with (expr_at inner) ahead.now) ≡ result }
+{
+    match ahead.after_sign(Sign::Open) {
+        Some(inside) => skip_bracket(&inside, inner),
+        None => match ahead.number() {
+            Some((n, rest)) => Some(rest),
+            None => skip_col(ahead),
+        },
+    }
+}
+
+// What comes behind the closing bracket of an expression.
+#[cycle(skip)]
+#[tactic(auto, using(crate::proofs::Skips::bracket_none))]
+fn skip_bracket<'a>(ahead: &Ahead<'a>, inner: u32) -> Option<Ahead<'a>>
+    ensures { rest_of (bracket_with (expr_at inner) ahead.now) ≡ result }
+{
+    let rest = skip_expr(ahead, inner)?;
+    rest.after_sign(Sign::Close)
+}
