@@ -1,0 +1,4 @@
+pub mod Spaced
+pub mod Laws
+pub mod Gaps
+pub mod ReadBack
