@@ -1,0 +1,18 @@
+use Rattle.std.proofs.Common.{codes, [], map, drop}
+use Rattle.sky_io.proofs.Writes.{Under}
+use Rattle.sql_rules.specs.PrintedExprs.{behind_each, print_factor, print_signed}
+use Rattle.sql_print.proofs.exprs.+put.Given as goal
+
+abbrev pub invariant-put_signeds-loop-signed : goal.invariant-put_signeds-loop-signed
+invariant-put_signeds-loop-signed g l = record {
+  under : Under (g.K.Sink.state l.fn.sink) (g.K.Sink.state l.sink)
+      (behind_each [] (map print_signed (drop l.signed-index l.rest)))
+      (behind_each [] (map print_signed l.rest));
+}
+
+abbrev pub invariant-put_factors-loop-factor : goal.invariant-put_factors-loop-factor
+invariant-put_factors-loop-factor g l = record {
+  under : Under (g.K.Sink.state l.fn.sink) (g.K.Sink.state l.sink)
+      (behind_each (codes "*") (map print_factor (drop l.factor-index l.rest)))
+      (behind_each (codes "*") (map print_factor l.rest));
+}

@@ -1,0 +1,5 @@
+use Rattle.sky_io.proofs.Writes.{wrote_two}
+use Rattle.sql_print.proofs.items.put_item_list.Goals as goal
+
+pub returns-in-Done : goal.returns-in-Done
+returns-in-Done g c = wrote_two _ _ _ _ _ _ c.in-Done.ensures (rw c.as_slice.ensures at c.put_further_items.ensures)

@@ -1,0 +1,6 @@
+use Rattle.std.proofs.Common.{codes}
+use Rattle.sky_io.proofs.Writes.{wrote_two}
+use Rattle.sql_print.proofs.preds.put_closed_names.Goals as goal
+
+pub returns-in-Done : goal.returns-in-Done
+returns-in-Done g c = wrote_two _ _ _ _ (codes ")") _ c.in-Done.ensures c.put.ensures

@@ -1,0 +1,6 @@
+use Rattle.std.proofs.Common.{codes}
+use Rattle.sky_io.proofs.Writes.{wrote_two}
+use Rattle.sql_print.proofs.query.put_where_cond.Goals as goal
+
+pub returns-in-Done : goal.returns-in-Done
+returns-in-Done g c = wrote_two _ _ _ (codes " WHERE ") _ _ c.in-Done.ensures c.put_cond.ensures

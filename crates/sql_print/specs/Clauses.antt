@@ -1,0 +1,30 @@
+-- The printed text of a query from one of its clauses on.
+use Rattle.std.specs.Prelude.{◌++◌, codes}
+use Rattle.sql_tree.specs.declared.query.Query.{Query}
+use Rattle.sql_rules.specs.PrintedExprs.{Bytes}
+use Rattle.sql_rules.specs.Printed.{print_items, print_table, print_second, print_where, print_group, print_order}
+use Rattle.sql_rules.specs.Printed.{print_limit}
+
+-- what stands from ORDER BY on
+unfoldable pub from_order : Query → Bytes
+from_order q = print_order q.order ++ print_limit q.limit
+
+-- what stands from GROUP BY on
+unfoldable pub from_group : Query → Bytes
+from_group q = print_group q.group ++ from_order q
+
+-- what stands from WHERE on
+unfoldable pub from_where : Query → Bytes
+from_where q = print_where q.cond ++ from_group q
+
+-- what stands from the second table on
+unfoldable pub from_second : Query → Bytes
+from_second q = print_second q.second ++ from_where q
+
+-- what stands from the first table on
+unfoldable pub from_first : Query → Bytes
+from_first q = print_table q.first ++ from_second q
+
+-- what stands behind SELECT
+unfoldable pub from_items : Query → Bytes
+from_items q = print_items q.items ++ (codes " FROM " ++ from_first q)
