@@ -1,4 +1,4 @@
--- How the queries of a script may end, given what is known of each before it runs.
+-- How the queries of a script may end, given what holds of each, however its session goes.
 use Rattle.std.specs.Prelude.{ℕ, ◌+◌, Bool, true, false, not, ◌&&◌, ◌||◌, List, [], ◌∷◌, length, nat_eq, nat_le}
 use Rattle.std.specs.Prelude.{if◌then◌else◌}
 use Rattle.std.specs.List.{list_any, take_while}
@@ -8,7 +8,7 @@ use Rattle.session_script.specs.Scripts.{query_count}
 use Rattle.session_rules.specs.declared.end.EndKind.{EndKind}
 use Rattle.session_rules.specs.declared.end.EndKind.TheVariants.{Answered, Refused, Cancelled, Spent}
 
--- What is known of a query before it runs.
+-- What holds of a query, however its session goes.
 pub record Judged : Type 0 where
   -- it is refused for its grammar or for its radius
   pub early : Bool
@@ -62,13 +62,14 @@ has_cancel steps k = list_any (cancels k) (take_while (λ s. not (waits_for k s)
 abbrev pub has_prompt_cancel : List Step → ℕ → Bool
 has_prompt_cancel steps k = list_any (cancels k) (take_while (λ s. not (is_wait s)) (behind_query k steps))
 
--- query k has to end cancelled: there are no workers and at most 64 queries, so no chunk of it is scanned before its cancel
+-- query k has to end cancelled: there are no workers and at most 64 queries, so no chunk of it is scanned before its
+-- cancel
 abbrev pub must_be_cancelled : ℕ → List Step → ℕ → Judged → Bool
 must_be_cancelled workers steps k j =
     nat_eq workers 0 && nat_le (query_count steps) 64 && has_work j && has_prompt_cancel steps k
 
--- query k may end so: an early refusal is told always; a query is cancelled only by its own cancel, and spent only by want
--- of memory in its own work
+-- query k may end so: an early refusal is told always; a query is cancelled only by its own cancel, and spent only by
+-- want of memory in its own work
 abbrev pub may_end : ℕ → List Step → ℕ → Judged → EndKind → Bool
 may_end workers steps k j Answered = not (is_refused j) && not (must_be_cancelled workers steps k j)
 may_end workers steps k j Refused = is_refused j && not (must_be_cancelled workers steps k j)
@@ -81,8 +82,8 @@ may_end_from workers steps k [] [] = true
 may_end_from workers steps k (j ∷ js) (e ∷ es) = may_end workers steps k j e && may_end_from workers steps (k + 1) js es
 may_end_from workers steps k _ _ = false
 
--- the ends fit the script, with so many workers: there is one for each query, as there is what is known of it, and each may
--- end so
+-- the ends fit the script, with so many workers: there is one for each query, as there is what holds of it, and each
+-- may end so
 abbrev pub fit : ℕ → List Step → List Judged → List EndKind → Bool
 fit workers steps judged ends =
     nat_eq (length judged) (query_count steps) && may_end_from workers steps 1 judged ends

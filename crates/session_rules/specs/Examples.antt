@@ -1,8 +1,11 @@
--- Scripts of worked examples, and what is known of their queries.
-use Rattle.std.specs.Prelude.{ℕ, true, false, List, [], ◌∷◌}
+-- Scripts of worked examples, and what holds of their queries.
+use Rattle.std.specs.Prelude.{ℕ, true, false, List, [], ◌∷◌, ◌++◌, map, replicate}
+use Rattle.std.specs.List.{range_with_len}
 use Rattle.session_script.specs.declared.step.Step.{Step}
 use Rattle.session_script.specs.declared.step.Step.TheVariants as step
 use Rattle.session_rules.specs.Ends.{Judged}
+use Rattle.session_rules.specs.declared.end.EndKind.{EndKind}
+use Rattle.session_rules.specs.declared.end.EndKind.TheVariants.{Answered}
 
 -- a query that has chunks to be scanned and is not refused
 abbrev pub plain : Judged
@@ -39,3 +42,15 @@ cancel_late = query 1 ∷ query 2 ∷ query 3 ∷ step.Wait 2 ∷ step.Cancel 2 
 -- three plain queries
 abbrev pub three_plain : List Judged
 three_plain = plain ∷ plain ∷ plain ∷ []
+
+-- so many queries, then a cancel of the second
+abbrev pub cancel_second_of : ℕ → List Step
+cancel_second_of count = map query (range_with_len 1 count) ++ (step.Cancel 2 ∷ [])
+
+-- so many plain queries
+abbrev pub all_plain : ℕ → List Judged
+all_plain count = replicate count plain
+
+-- so many queries that end answered
+abbrev pub all_answered : ℕ → List EndKind
+all_answered count = replicate count Answered

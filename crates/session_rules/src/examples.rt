@@ -4,17 +4,26 @@ ghost use Rattle.std.specs.Prelude.{◌≡◌, [], ◌∷◌, true, false};
 ghost use Rattle.session_rules.specs.Ends.{fit};
 ghost use Rattle.session_rules.specs.Examples.{cancel_late, cancel_second, faulty, nowhere, plain};
 ghost use Rattle.session_rules.specs.Examples.{query, three_plain, too_large, wait_first};
+ghost use Rattle.session_rules.specs.Examples.{all_answered, all_plain, cancel_second_of};
 ghost use Rattle.session_rules.specs.declared.end.EndKind.TheVariants.{Answered, Cancelled, Refused, Spent};
 
-/// With no workers a query whose cancel comes before any wait ends cancelled; with workers the cancel may come too late.
+/// With no workers a query whose cancel comes before any wait ends cancelled, neither answered nor spent; with workers
+/// the cancel may come too late.
 pub fn cancelled_in_time()
     ensures alone { fit 0 cancel_second three_plain (Answered ∷ Cancelled ∷ Answered ∷ []) ≡ true }
     ensures answered { fit 0 cancel_second three_plain
         (Answered ∷ Answered ∷ Answered ∷ []) ≡ false }
+    ensures spent { fit 0 cancel_second three_plain (Answered ∷ Spent ∷ Answered ∷ []) ≡ false }
     ensures too_late { fit 4 cancel_second three_plain
         (Answered ∷ Answered ∷ Answered ∷ []) ≡ true }
     ensures another { fit 4 cancel_second three_plain
         (Cancelled ∷ Answered ∷ Answered ∷ []) ≡ false }
+{}
+
+/// At most 64 queries run at once: with 65 it is open whether a cancel comes in time, with 64 it is not.
+pub fn more_queries_than_can_run()
+    ensures open { fit 0 (cancel_second_of 65) (all_plain 65) (all_answered 65) ≡ true }
+    ensures pinned { fit 0 (cancel_second_of 64) (all_plain 64) (all_answered 64) ≡ false }
 {}
 
 /// A wait for another query leaves it open whether a cancel comes in time, and one for the query itself ends that.

@@ -1,7 +1,8 @@
 //! What a session may do with a script: how its queries may end.
 //!
-//! Callers see the ends as a list, and a query as what is known of it before it runs (`specs/Ends.antt`).
-//! Below: `session_script` for the steps of a script. Above: nothing yet.
+//! Callers see the ends as a list, and a query as what holds of it, however its session goes (`specs/Ends.antt`).
+//! Below: `session_script` for the steps of a script.
+//! Above: `transcript_rules`, which says what holds of each query.
 //! No session is run here: definitions, and worked examples that the checker computes.
 #![tactic(auto)]
 
