@@ -2,18 +2,8 @@
 
 use crate::area::AreaTest;
 use crate::expr::BoundExpr;
+pub use sql_tree::Cmp;
 use sqlite_items::{Boxed, Items};
-
-/// How two values are compared.
-#[derive(Clone, Copy, Debug, PartialEq, Eq)]
-pub enum Cmp {
-    Eq,
-    Ne,
-    Lt,
-    Le,
-    Gt,
-    Ge,
-}
 
 /// A disjunction: what is joined by OR.
 #[cycle(cond)]
