@@ -70,9 +70,9 @@ high_cell o n h k =
     rw (apart n 0 (omega (arith, h)), apart n 1 (omega (arith, h)), apart n 2 (omega (arith, h)), apart n 3 h, above n h) k
 
 pub cell_is_within : CellIsWithin
-cell_is_within o zero row id = let low = row.id in omega (arith, ints, low, id)
-cell_is_within o (suc zero) row id = (admissible_parts o.at row.at).0
-cell_is_within o (suc (suc zero)) row id = (admissible_parts o.at row.at).1
-cell_is_within o (suc (suc (suc zero))) row id = (admissible_parts o.at row.at).2
-cell_is_within o (suc (suc (suc (suc n)))) row id =
+cell_is_within o zero row = let low = row.id in let high = row.most in omega (arith, ints, low, high)
+cell_is_within o (suc zero) row = (admissible_parts o.at row.at).0
+cell_is_within o (suc (suc zero)) row = (admissible_parts o.at row.at).1
+cell_is_within o (suc (suc (suc zero))) row = (admissible_parts o.at row.at).2
+cell_is_within o (suc (suc (suc (suc n)))) row =
     high_cell o (suc (suc (suc (suc n)))) (omega arith) (further_at o.further row.further (suc (suc (suc (suc n))) - 4))

@@ -3,3 +3,4 @@ pub mod Trees
 pub mod Negation
 pub mod Within
 pub mod Cells
+pub mod Ranges

@@ -1,8 +1,8 @@
 -- The term of an expression that is made of its parts, and the formula of a condition.
 use Rattle.std.proofs.Common.{◌≡◌, ℤ, Bool, if◌then◌else◌, List, map, sym, ap, ◌∙◌}
 use Rattle.sql_bound.specs.declared.area.AreaTest.{AreaTest}
-use Rattle.sql_bound.specs.declared.cond.Cmp.{Cmp}
-use Rattle.sql_bound.specs.declared.cond.Cmp.TheVariants.{Le}
+use Rattle.sql_tree.specs.declared.cond.Cmp.{Cmp}
+use Rattle.sql_tree.specs.declared.cond.Cmp.TheVariants.{AtMost}
 use Rattle.sql_bound.specs.declared.expr.BoundCol.{BoundCol}
 use Rattle.sql_bound.specs.declared.expr.BoundAtom.{BoundAtom}
 use Rattle.sql_bound.specs.declared.expr.BoundAtom.TheVariants as atom
@@ -51,7 +51,7 @@ formula_bracket a = ap formula_of_pred (sym (pred.rolls-Bracket a)) ∙ fold-rol
 pub formula_compare : (left : BoundExpr) (op : Cmp) (right : BoundExpr) → formula_of_pred (pred.Compare left op right) ≡ Compares op (term_of left) (term_of right)
 formula_compare left op right = ap formula_of_pred (sym (pred.rolls-Compare left op right)) ∙ fold-roll-BoundPred Formula Formula Formula Formula at_pred at_all at_any at_cond (BoundPred-F.Compare left op right)
 
-pub formula_between : (negated : Bool) (value low high : BoundExpr) → formula_of_pred (pred.Between negated value low high) ≡ negated_if negated (And (Compares Le (term_of low) (term_of value)) (Compares Le (term_of value) (term_of high)))
+pub formula_between : (negated : Bool) (value low high : BoundExpr) → formula_of_pred (pred.Between negated value low high) ≡ negated_if negated (And (Compares AtMost (term_of low) (term_of value)) (Compares AtMost (term_of value) (term_of high)))
 formula_between negated value low high = ap formula_of_pred (sym (pred.rolls-Between negated value low high)) ∙ fold-roll-BoundPred Formula Formula Formula Formula at_pred at_all at_any at_cond (BoundPred-F.Between negated value low high)
 
 pub formula_among : (negated : Bool) (value : BoundExpr) (list : List ℤ) → formula_of_pred (pred.Among negated value list) ≡ negated_if negated (IsAmong (term_of value) list)

@@ -36,7 +36,7 @@ times_size n m None w h k = tt
 times_size n m (Some a) None h k = tt
 times_size n m (Some a) (Some b) h k = rw (unsigned_abs-mul a b) (mul-le _ _ n m h k)
 
-term_is_within : (cells : BoundCol → Option ℤ) → ((c : BoundCol) → IsOfSize (nat_abs (column_bound c.col)) (cells c)) → (t : Term) → IsOfSize (width_at t) (value_at cells t)
+pub term_is_within : (cells : BoundCol → Option ℤ) → ((c : BoundCol) → IsOfSize (nat_abs (column_bound c.col)) (cells c)) → (t : Term) → IsOfSize (width_at t) (value_at cells t)
 term_is_within cells h (Number n) = omega arith
 term_is_within cells h (Column c) = h c
 term_is_within cells h (Minus t) = minus_size (width_at t) (value_at cells t) (term_is_within cells h t)

@@ -9,7 +9,7 @@ use Rattle.sql_bound.specs.declared.area.AreaTest.{AreaTest}
 use Rattle.sql_bound.specs.declared.area.AreaTest.TheVariants.{Boxed}
 use Rattle.sql_bound.specs.declared.cond.BoundCond.{BoundCond}
 use Rattle.sql_bound.specs.declared.cond.BoundPred.TheVariants as pred
-use Rattle.sql_bound.specs.declared.cond.Cmp.TheVariants.{Eq, Gt}
+use Rattle.sql_tree.specs.declared.cond.Cmp.TheVariants.{Equal, More}
 use Rattle.sql_bound.specs.declared.expr.BoundAtom.{BoundAtom}
 use Rattle.sql_bound.specs.declared.expr.BoundAtom.TheVariants as atom
 use Rattle.sql_bound.specs.declared.expr.BoundExpr.{BoundExpr}
@@ -51,7 +51,7 @@ number n = just (atom.Int (pos n))
 -- NOT flux>20 OR objectId=2
 abbrev pub faint_or_second : BoundCond
 faint_or_second =
-    either (cond_of true (pred.Compare flux Gt (number 20))) (cond_of false (pred.Compare id Eq (number 2)))
+    either (cond_of true (pred.Compare flux More (number 20))) (cond_of false (pred.Compare id Equal (number 2)))
 
 -- flux IS NULL
 abbrev pub no_flux : BoundCond
@@ -104,15 +104,15 @@ third = row (object (pos 3) (pos 268435456) (pos 0) (pos 4) (Some (pos 30)))
 
 -- flux>20
 abbrev pub is_bright : BoundCond
-is_bright = cond_of false (pred.Compare flux Gt (number 20))
+is_bright = cond_of false (pred.Compare flux More (number 20))
 
 -- objectId=2
 abbrev pub is_second : BoundCond
-is_second = cond_of false (pred.Compare id Eq (number 2))
+is_second = cond_of false (pred.Compare id Equal (number 2))
 
 -- objectId=3
 abbrev pub is_third : BoundCond
-is_third = cond_of false (pred.Compare id Eq (number 3))
+is_third = cond_of false (pred.Compare id Equal (number 3))
 
 -- the flux times the id, less 1
 abbrev pub flux_times_id : BoundExpr

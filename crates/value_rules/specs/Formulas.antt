@@ -1,8 +1,8 @@
 -- Conditions as formulas: a bound condition without its brackets, over terms.
 use Rattle.std.specs.Prelude.{ℤ, List, [], ◌∷◌, Bool, if◌then◌else◌}
 use Rattle.sql_bound.specs.declared.area.AreaTest.{AreaTest}
-use Rattle.sql_bound.specs.declared.cond.Cmp.{Cmp}
-use Rattle.sql_bound.specs.declared.cond.Cmp.TheVariants.{Le}
+use Rattle.sql_tree.specs.declared.cond.Cmp.{Cmp}
+use Rattle.sql_tree.specs.declared.cond.Cmp.TheVariants.{AtMost}
 use Rattle.sql_bound.specs.declared.cond.BoundAll.{BoundAll}
 use Rattle.sql_bound.specs.declared.cond.BoundAny.{BoundAny}
 use Rattle.sql_bound.specs.declared.cond.BoundCond.{BoundCond}
@@ -41,7 +41,8 @@ abbrev pub at_pred : BoundPred-F Formula Formula Formula Formula → Formula
 at_pred (BoundPred-F.Bracket f) = f
 at_pred (BoundPred-F.Compare left op right) = Compares op (term_of left) (term_of right)
 at_pred (BoundPred-F.Between negated value low high) =
-    negated_if negated (And (Compares Le (term_of low) (term_of value)) (Compares Le (term_of value) (term_of high)))
+    negated_if negated
+    (And (Compares AtMost (term_of low) (term_of value)) (Compares AtMost (term_of value) (term_of high)))
 at_pred (BoundPred-F.Among negated value list) = negated_if negated (IsAmong (term_of value) list)
 at_pred (BoundPred-F.IsNull negated value) = negated_if negated (HasNoValue (term_of value))
 at_pred (BoundPred-F.Area test) = LiesIn test

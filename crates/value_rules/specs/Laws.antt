@@ -1,15 +1,18 @@
 -- Laws of values and of truth.
-use Rattle.std.specs.Prelude.{◌≡◌, ℕ, ◌^◌, ◌-◌, ◌≤ℤ◌, ℤ, pos, nat_abs, Bool, true, false, List, Option, None, Some}
+use Rattle.std.specs.Prelude.{◌≡◌, ℕ, ℤ, nat_abs, Bool, true, false, List, Option, None, Some}
 use Rattle.table_rules.specs.Objects.{Obj, IsRow, cell, column_bound}
 use Rattle.sql_bound.specs.declared.cond.BoundPred.{BoundPred}
 use Rattle.sql_bound.specs.declared.cond.BoundPred.TheVariants as pred
-use Rattle.sql_bound.specs.declared.cond.Cmp.TheVariants.{Le}
+use Rattle.sql_tree.specs.declared.cond.Cmp.TheVariants.{AtMost}
 use Rattle.sql_bound.specs.declared.expr.BoundCol.{BoundCol}
 use Rattle.sql_bound.specs.declared.expr.BoundExpr.{BoundExpr}
+use Rattle.sql_bound.specs.declared.query.Bound.{Bound}
 use Rattle.sql_bound.specs.Trees.{cond_of, both}
+use Rattle.value_rules.specs.Ranges.{IsInRange}
+use Rattle.value_rules.specs.Sound.{IsSound, is_sound_expr}
 use Rattle.value_rules.specs.Truth.{truth_of, truth_not, truth_and, truth_or}
-use Rattle.value_rules.specs.Values.{Pick, cell_of, value_of}
-use Rattle.value_rules.specs.Widths.{IsOfSize, width_of}
+use Rattle.value_rules.specs.Values.{Pick, row, pair, cell_of, value_of}
+use Rattle.value_rules.specs.Widths.{IsOfSize, width_of, most}
 
 -- the values of a row or a pair are within the bounds of their columns
 abbrev pub IsWithinBounds : Pick → Type 0
@@ -21,8 +24,25 @@ ValueIsWithin = (e : BoundExpr) (p : Pick) → IsWithinBounds p → IsOfSize (wi
 
 -- the values of a row within its limits are within the bounds of their columns
 abbrev pub CellIsWithin : Type 0
-CellIsWithin =
-    (o : Obj) (col : ℕ) → IsRow o → o.id ≤ℤ pos (2 ^ 63 - 1) → IsOfSize (nat_abs (column_bound col)) (cell o col)
+CellIsWithin = (o : Obj) (col : ℕ) → IsRow o → IsOfSize (nat_abs (column_bound col)) (cell o col)
+
+-- so are those of a row alone
+abbrev pub RowIsWithin : Type 0
+RowIsWithin = (o : Obj) → IsRow o → IsWithinBounds (row o)
+
+-- and those of a pair of rows
+abbrev pub PairIsWithin : Type 0
+PairIsWithin = (u v : Obj) → IsRow u → IsRow v → IsWithinBounds (pair u v)
+
+-- the value of an expression that is not too wide is NULL or within ±2^100
+abbrev pub SoundValueIsInRange : Type 0
+SoundValueIsInRange =
+    (allowed : BoundCol → Bool) (e : BoundExpr) (p : Pick) → is_sound_expr allowed e ≡ true → IsWithinBounds p
+    → IsOfSize most (value_of e p)
+
+-- each number that an item or a condition of a query computes is within ±2^100, where the query can be run
+abbrev pub SoundIsInRange : Type 0
+SoundIsInRange = (columns : ℕ) (q : Bound) (p : Pick) → IsSound columns q → IsWithinBounds p → IsInRange q p
 
 -- NOT BETWEEN is the negation of BETWEEN
 abbrev pub NotBetween : Type 0
@@ -55,7 +75,7 @@ abbrev pub BetweenIsTwoComparisons : Type 0
 BetweenIsTwoComparisons =
     (p : Pick) (v low high : BoundExpr)
     → truth_of (cond_of false (pred.Between false v low high)) p
-    ≡ truth_of (both (cond_of false (pred.Compare low Le v)) (cond_of false (pred.Compare v Le high))) p
+    ≡ truth_of (both (cond_of false (pred.Compare low AtMost v)) (cond_of false (pred.Compare v AtMost high))) p
 
 -- two parts joined by AND: false where a part is false, else unknown where a part is unknown, else true
 pub record AndTable : Type 0 where

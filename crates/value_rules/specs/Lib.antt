@@ -6,5 +6,7 @@ pub mod Truth
 pub mod Widths
 pub mod Sound
 pub mod Tested
+pub mod Ranges
 pub mod Laws
 pub mod Examples
+pub mod Comparisons

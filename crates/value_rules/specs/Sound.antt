@@ -78,9 +78,9 @@ is_plain_col columns (Pairs limit) c = has_col columns true c
 is_plain_col columns (Groups keys) c = list_any (λ key. same_col key c) keys
 
 -- an aggregate stands in a grouping, over the columns of the table
-abbrev pub is_aggregate : ℕ → Shape → BoundExpr → Bool
-is_aggregate columns (Groups keys) e = is_sound_expr (has_col columns false) e
-is_aggregate columns shape e = false
+abbrev pub may_aggregate : ℕ → Shape → BoundExpr → Bool
+may_aggregate columns (Groups keys) e = is_sound_expr (has_col columns false) e
+may_aggregate columns shape e = false
 
 -- the query is a grouping
 abbrev pub is_grouping : Shape → Bool
@@ -91,11 +91,11 @@ is_grouping shape = false
 abbrev pub is_sound_item : ℕ → Shape → BoundItem → Bool
 is_sound_item columns shape (item.Plain e) = is_sound_expr (is_plain_col columns shape) e
 is_sound_item columns shape item.Count = is_grouping shape
-is_sound_item columns shape (item.CountOf e) = is_aggregate columns shape e
-is_sound_item columns shape (item.Sum e) = is_aggregate columns shape e
-is_sound_item columns shape (item.Min e) = is_aggregate columns shape e
-is_sound_item columns shape (item.Max e) = is_aggregate columns shape e
-is_sound_item columns shape (item.Avg e) = is_aggregate columns shape e
+is_sound_item columns shape (item.CountOf e) = may_aggregate columns shape e
+is_sound_item columns shape (item.Sum e) = may_aggregate columns shape e
+is_sound_item columns shape (item.Min e) = may_aggregate columns shape e
+is_sound_item columns shape (item.Max e) = may_aggregate columns shape e
+is_sound_item columns shape (item.Avg e) = may_aggregate columns shape e
 
 -- a limit on squared chords is -1 or above, and a key is a column of the table
 abbrev pub is_sound_shape : ℕ → Shape → Bool

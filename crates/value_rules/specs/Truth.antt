@@ -3,8 +3,8 @@ use Rattle.std.specs.Prelude.{ℤ, int_le, int_lt, Bool, true, false, not, List,
 use Rattle.std.specs.List.{list_any, list_all}
 use Rattle.std.specs.Ordering.{int_eq}
 use Rattle.sky_vector.specs.Points.{Point}
-use Rattle.sql_bound.specs.declared.cond.Cmp.{Cmp}
-use Rattle.sql_bound.specs.declared.cond.Cmp.TheVariants.{Eq, Ne, Lt, Le, Gt, Ge}
+use Rattle.sql_tree.specs.declared.cond.Cmp.{Cmp}
+use Rattle.sql_tree.specs.declared.cond.Cmp.TheVariants.{Equal, Differs, Less, AtMost, More, AtLeast}
 use Rattle.sql_bound.specs.declared.cond.BoundCond.{BoundCond}
 use Rattle.sql_bound.specs.declared.expr.BoundCol.{BoundCol}
 use Rattle.value_rules.specs.Areas.{area_holds}
@@ -13,12 +13,12 @@ use Rattle.value_rules.specs.Values.{Pick, cell_of, value_at}
 
 -- how two numbers compare
 abbrev pub compares : Cmp → ℤ → ℤ → Bool
-compares Eq a b = int_eq a b
-compares Ne a b = not (int_eq a b)
-compares Lt a b = int_lt a b
-compares Le a b = int_le a b
-compares Gt a b = int_lt b a
-compares Ge a b = int_le b a
+compares Equal a b = int_eq a b
+compares Differs a b = not (int_eq a b)
+compares Less a b = int_lt a b
+compares AtMost a b = int_le a b
+compares More a b = int_lt b a
+compares AtLeast a b = int_le b a
 
 -- a comparison is unknown where a side is NULL
 abbrev pub compared : Cmp → Option ℤ → Option ℤ → Option Bool

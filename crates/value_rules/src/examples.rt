@@ -3,6 +3,8 @@
 ghost use Rattle.std.specs.Prelude.{◌≡◌, ◌^◌, [], ◌∷◌, None, Some, false, negsuc, pos, true};
 ghost use Rattle.sql_bound.specs.Trees.{both, either};
 ghost use Rattle.sql_bound.specs.declared.area.AreaTest.TheVariants.{Band, Boxed, Cap};
+ghost use Rattle.sql_tree.specs.declared.cond.Cmp.TheVariants.{AtLeast, AtMost, Differs, Equal, Less, More};
+ghost use Rattle.value_rules.specs.Comparisons.{among, beside_2, beside_null, less_flux, not_among, up_to_meridian};
 ghost use Rattle.value_rules.specs.Examples.{column, east, faint_or_second, flux, flux_times_id, id_times_flux, ids_in};
 ghost use Rattle.value_rules.specs.Examples.{ids_that_meet, is_bright, middle_box, is_second, is_third, no_flux, north};
 ghost use Rattle.value_rules.specs.Examples.{on_meridian, product_of, second, some_without_flux, third, zero_first};
@@ -55,4 +57,36 @@ pub fn areas_hold_their_borders()
     ensures smaller { ids_in (Cap on_meridian (pos 8)) ≡ pos 1 ∷ pos 5 ∷ [] }
     ensures sides { ids_in middle_box ≡ pos 1 ∷ pos 2 ∷ pos 3 ∷ pos 5 ∷ [] }
     ensures axis { ids_in (Boxed (pos 1000) (pos 268435472) east north) ≡ [] }
+{}
+
+/// The six comparisons of 1, 2 and 3 with 2.
+pub fn six_comparisons()
+    ensures equal { beside_2 Equal ≡ Some false ∷ Some true ∷ Some false ∷ [] }
+    ensures differs { beside_2 Differs ≡ Some true ∷ Some false ∷ Some true ∷ [] }
+    ensures less { beside_2 Less ≡ Some true ∷ Some false ∷ Some false ∷ [] }
+    ensures at_most { beside_2 AtMost ≡ Some true ∷ Some true ∷ Some false ∷ [] }
+    ensures more { beside_2 More ≡ Some false ∷ Some false ∷ Some true ∷ [] }
+    ensures at_least { beside_2 AtLeast ≡ Some false ∷ Some true ∷ Some true ∷ [] }
+{}
+
+/// NULL on the right makes each comparison unknown, a minus before NULL is NULL, and NOT IN of NULL is unknown.
+pub fn null_stays()
+    ensures right { beside_null ≡ None ∷ None ∷ None ∷ None ∷ None ∷ None ∷ [] }
+    ensures minus { value_of less_flux second ≡ None }
+    ensures number { value_of less_flux third ≡ Some (negsuc 29) }
+    ensures among { truth_of (not_among (pos 30 ∷ [])) second ≡ None }
+    ensures found { truth_of (not_among (pos 31 ∷ pos 30 ∷ [])) third ≡ Some false }
+    ensures not_found { truth_of (not_among (pos 31 ∷ [])) third ≡ Some true }
+{}
+
+/// IN of NULL is unknown; of 30 it is true where the list has 30, and else false.
+pub fn null_is_among_nothing()
+    ensures null { truth_of (among (pos 30 ∷ [])) second ≡ None }
+    ensures found { truth_of (among (pos 31 ∷ pos 30 ∷ [])) third ≡ Some true }
+    ensures not_found { truth_of (among (pos 31 ∷ [])) third ≡ Some false }
+{}
+
+/// A box holds what lies on its second side, and nothing past it: 1, 3 and 5 lie on the first meridian, 2 past it.
+pub fn a_box_holds_its_second_side()
+    ensures { ids_in up_to_meridian ≡ pos 1 ∷ pos 3 ∷ pos 4 ∷ pos 5 ∷ [] }
 {}

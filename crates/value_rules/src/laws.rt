@@ -1,7 +1,8 @@
 //! Laws of values and of truth, as functions that do nothing: a caller has what they ensure.
 
 ghost use Rattle.value_rules.specs.Laws.{AndTable, BetweenIsTwoComparisons, CellIsWithin, NotAmong, NotBetween};
-ghost use Rattle.value_rules.specs.Laws.{NotIsNegation, NotNull, NotTable, OrTable, ValueIsWithin};
+ghost use Rattle.value_rules.specs.Laws.{NotIsNegation, NotNull, NotTable, OrTable, PairIsWithin, RowIsWithin};
+ghost use Rattle.value_rules.specs.Laws.{SoundIsInRange, SoundValueIsInRange, ValueIsWithin};
 
 /// The value of an expression is NULL or within its width.
 #[tactic(auto, using(crate::proofs::Within::value_is_within))]
@@ -13,6 +14,18 @@ pub fn value_is_within()
 #[tactic(auto, using(crate::proofs::Cells::cell_is_within))]
 pub fn cell_is_within()
     ensures { CellIsWithin }
+{}
+
+/// A row, or a pair of rows, within its limits has values within the bounds of their columns.
+pub fn picks_are_within()
+    ensures row { RowIsWithin }
+    ensures pair { PairIsWithin }
+{}
+
+/// What the items and the conditions of a query that can be run compute of such a row or pair is NULL or within ±2^100.
+pub fn sound_is_in_range()
+    ensures value { SoundValueIsInRange }
+    ensures query { SoundIsInRange }
 {}
 
 /// NOT, NOT BETWEEN, NOT IN and IS NOT NULL are the negation of the test.
