@@ -21,21 +21,22 @@ use Rattle.answer_rules.specs.declared.rewritten.MergeOrder.{MergeOrder}
 use Rattle.answer_rules.specs.declared.rewritten.MergePlan.{MergePlan}
 use Rattle.answer_rules.specs.declared.value.Value.{Value}
 use Rattle.answer_rules.specs.Answers.{unless_out, answer_of_groups, answer_of}
-use Rattle.answer_rules.specs.Finish.{merged_value, merged_totals, merged_key, merged_order, merge_down, merged_line, groups_merged, merged_groups, finished}
+use Rattle.answer_rules.specs.Finish.{column_value, merged_value, merged_totals, merged_key, merged_order, merge_down, merged_line, groups_merged, merged_groups, finished}
 use Rattle.answer_rules.specs.Gather.{Partial}
 use Rattle.answer_rules.specs.Groups.{Group, GroupLine, group_at, groups_of, item_over, totals_over, first_out, number_of, group_key_value, group_order_value, group_line, group_order}
 use Rattle.answer_rules.specs.InOrder.{in_order, first}
 use Rattle.answer_rules.specs.Keys.{Key, key_order, key_of, keys_in, of_key, put_key}
 use Rattle.answer_rules.specs.Parts.{Sums, sums_over, part_over, count_part, partials_of}
-use Rattle.answer_rules.specs.PieceLaws.{PieceFinishes}
+use Rattle.answer_rules.specs.PieceLaws.{IsPushed, PieceFinishes, limited}
 use Rattle.answer_rules.specs.Picks.{found}
 use Rattle.answer_rules.specs.Pieces.{PieceView, OfRows, OfGroups, PieceBy, RowsFor}
 use Rattle.answer_rules.specs.Ranks.{rank_class, rank_value, row_order}
-use Rattle.answer_rules.specs.Rewriting.{group_parts, parts_of, key_place, merged_from, merge_key_of, group_key_of, chunk_query_of}
-use Rattle.answer_rules.specs.Rows.{shown, goes_down, limit_of, rows_answer}
+use Rattle.answer_rules.specs.Rewriting.{group_parts, chunk_items_of, key_place, merged_from, merge_key_of, group_key_of, chunk_query_of}
+use Rattle.answer_rules.specs.Rows.{goes_down, limit_of, lines_in, rows_answer}
 use Rattle.answer_rules.proofs.Grouping.{climb_put_each}
 use Rattle.answer_rules.proofs.Merging.{lookup, Holds, values_merged, all_totals_merged, same_place, cell_at_place}
-use Rattle.answer_rules.proofs.RowsFinish.{AreLines, rows_finish}
+use Rattle.answer_rules.proofs.RowsFinish.{AreLines, all_plain, rows_finish}
+use Rattle.answer_rules.proofs.LinesMerged.{items_merged}
 
 -- a part that stands for a group
 pub record Fit (keys : List BoundCol) (items : List ChunkItem) (g : Group) (p : Partial Key Sums) : Type 0 where
@@ -173,18 +174,20 @@ merge_of shape q = record {
   limit = q.limit;
 }
 
-lines_finish : (columns : ℕ) (g : Partition) (table : List Obj) (q : Bound) (B : List ℕ) (merge : MergePlan) (view : PieceView) → merge.limit ≡ q.limit → AreLines q.shape → IsSound columns q → IdsAscend table → RowsFor g table (chunk_query_of q) B view → finished merge view ≡ Ok (rows_answer q (found g table q.shape q.conds B))
-lines_finish columns g table q B merge (OfRows pushed rows) m l s a h =
-    ap (λ n. Ok (map (λ r. map shown r.cells) (first (limit_of n) (in_order row_order rows)))) m
-    ∙ ap (λ x. Ok (map (λ r. map shown r.cells) (first (limit_of q.limit) x))) (rows_finish columns g table q B rows l s a h.1)
-lines_finish columns g table q B merge (OfGroups parts) m l s a h = absurd h
+lines_finish : (columns : ℕ) (g : Partition) (table : List Obj) (q : Bound) (B : List ℕ) (limit : Option ℤ) (merge : MergePlan) (view : PieceView) → merge.limit ≡ q.limit → merge.items ≡ merged_from q.shape 0 q.items → AreLines q.shape → IsPushed q limit → IsSound columns q → IdsAscend table → RowsFor g table (limited limit (chunk_query_of q)) B view → finished merge view ≡ Ok (rows_answer q (found g table q.shape q.conds B))
+lines_finish columns g table q B limit merge (OfRows pushed rows) m n l c s a h =
+    ap (λ k. Ok (map (λ r. map (column_value r.cells) merge.items) (first (limit_of k) (in_order row_order rows)))) m
+    ∙ ap (λ x. Ok (map (λ r. map (column_value r.cells) merge.items) x)) (rows_finish columns g table q B limit rows l c s a h.1)
+    ∙ ap (λ x. Ok (map (λ r. map (column_value r.cells) x) (first (limit_of q.limit) (in_order row_order (lines_in g table q B))))) n
+    ∙ ap Ok (items_merged g table q B l (all_plain columns q.shape l q.items s.items))
+lines_finish columns g table q B limit merge (OfGroups parts) m n l c s a h = absurd h
 
-finish_by : (shape : Shape) (columns : ℕ) (g : Partition) (table : List Obj) (q : Bound) (B : List ℕ) (view : PieceView) → q.shape ≡ shape → IsSound columns q → IdsAscend table → PieceBy shape g table (chunk_query_of q) B view → finished (merge_of shape q) view ≡ answer_of shape q (found g table q.shape q.conds B)
-finish_by Rows columns g table q B view e s a h = lines_finish columns g table q B (merge_of Rows q) view refl (subst AreLines (sym e) tt) s a h
-finish_by (Pairs limit) columns g table q B view e s a h = lines_finish columns g table q B (merge_of (Pairs limit) q) view refl (subst AreLines (sym e) tt) s a h
-finish_by (Groups keys) columns g table q B view e s a h =
-    ap (finished (merge_of (Groups keys) q)) (h ∙ ap (λ shape. OfGroups (partials_of keys (flat_map (parts_of shape) q.items) (found g table q.shape q.conds B))) e)
+finish_by : (shape : Shape) (columns : ℕ) (g : Partition) (table : List Obj) (q : Bound) (B : List ℕ) (limit : Option ℤ) (view : PieceView) → q.shape ≡ shape → IsPushed q limit → IsSound columns q → IdsAscend table → PieceBy shape g table (limited limit (chunk_query_of q)) B view → finished (merge_of shape q) view ≡ answer_of shape q (found g table q.shape q.conds B)
+finish_by Rows columns g table q B limit view e c s a h = lines_finish columns g table q B limit (merge_of Rows q) view refl (ap (λ x. merged_from x 0 q.items) (sym e)) (subst AreLines (sym e) tt) c s a h
+finish_by (Pairs near) columns g table q B limit view e c s a h = lines_finish columns g table q B limit (merge_of (Pairs near) q) view refl (ap (λ x. merged_from x 0 q.items) (sym e)) (subst AreLines (sym e) tt) c s a h
+finish_by (Groups keys) columns g table q B limit view e c s a h =
+    ap (finished (merge_of (Groups keys) q)) (h ∙ ap (λ shape. OfGroups (partials_of keys (flat_map (chunk_items_of shape) q.items) (found g table q.shape q.conds B))) e)
     ∙ groups_finish keys q (found g table q.shape q.conds B)
 
 pub piece_finishes : PieceFinishes
-piece_finishes columns g table q B view s a h = finish_by q.shape columns g table q B view refl s a h
+piece_finishes columns g table q B limit view c s a h = finish_by q.shape columns g table q B limit view refl c s a h

@@ -1,6 +1,7 @@
 pub mod Orders
 pub mod Sorting
 pub mod Keeping
+pub mod Cutting
 pub mod Sublists
 pub mod Folds
 pub mod Gathering
@@ -12,9 +13,14 @@ pub mod Joining
 pub mod Ascending
 pub mod Apart
 pub mod RowsFinish
+pub mod LinesMerged
 pub mod Merging
 pub mod Finishing
 pub mod Chunks
 pub mod Areas
 pub mod Boxes
 pub mod Covering
+pub mod KeyOrder
+pub mod RowGroups
+pub mod KeyValues
+pub mod KeysInRange

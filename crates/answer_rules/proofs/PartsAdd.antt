@@ -1,10 +1,11 @@
 -- Parts of groups add up in any order, and row by row.
+use Rattle.std.specs.Prelude.{option_to_list}
 use Rattle.std.proofs.Common.{◌≡◌, ℕ, ◌+◌, ℤ, List, [], ◌∷◌, ◌++◌, map, length, Option, Some, None, refl, ap, ◌∙◌, arith}
 use Rattle.std.proofs.lemmas.Int.{ints}
 use Rattle.value_rules.specs.Values.{Pick, value_of}
 use Rattle.answer_rules.specs.declared.rewritten.ChunkItem.{ChunkItem}
 use Rattle.answer_rules.specs.declared.rewritten.ChunkItem.TheVariants.{Plain, Count, CountOf, Sum, Min, Max}
-use Rattle.answer_rules.specs.Aggregates.{if_there, values_on, joined_to, all_joined, sum_two, lesser, greater}
+use Rattle.answer_rules.specs.Aggregates.{values_on, joined_to, all_joined, sum_two, lesser, greater}
 use Rattle.answer_rules.specs.Gather.{Adds, AddsUp, plus}
 use Rattle.answer_rules.specs.Parts.{Part, Sums, part_by, part_over, sums_over, join_of, add_part, first_part, other_parts, add_parts, add_sums}
 use Rattle.answer_rules.proofs.Gathering.{plus-assoc, plus-comm}
@@ -73,15 +74,15 @@ joined_more : (join : ℤ → ℤ → ℤ) (z : ℤ) (v : Option ℤ) → Some (
 joined_more join z None = refl
 joined_more join z (Some y) = refl
 
-count_more : (v : Option ℤ) (vs : List ℤ) → length (if_there v ++ vs) ≡ length (if_there v ++ []) + length vs
+count_more : (v : Option ℤ) (vs : List ℤ) → length (option_to_list v ++ vs) ≡ length (option_to_list v ++ []) + length vs
 count_more None vs = omega arith
 count_more (Some z) vs = omega arith
 
-value_more : (join : ℤ → ℤ → ℤ) (v : Option ℤ) (vs : List ℤ) → all_joined join (if_there v ++ vs) ≡ plus join (all_joined join (if_there v ++ [])) (all_joined join vs)
+value_more : (join : ℤ → ℤ → ℤ) (v : Option ℤ) (vs : List ℤ) → all_joined join (option_to_list v ++ vs) ≡ plus join (all_joined join (option_to_list v ++ [])) (all_joined join vs)
 value_more join None vs = refl
 value_more join (Some z) vs = joined_more join z (all_joined join vs)
 
-by_more : (join : ℤ → ℤ → ℤ) (v : Option ℤ) (vs : List ℤ) → part_by join (if_there v ++ vs) ≡ record { seen = (part_by join (if_there v ++ [])).seen + length vs; value = plus join (part_by join (if_there v ++ [])).value (all_joined join vs) }
+by_more : (join : ℤ → ℤ → ℤ) (v : Option ℤ) (vs : List ℤ) → part_by join (option_to_list v ++ vs) ≡ record { seen = (part_by join (option_to_list v ++ [])).seen + length vs; value = plus join (part_by join (option_to_list v ++ [])).value (all_joined join vs) }
 by_more join v vs = same_part _ _ _ _ (count_more v vs) (value_more join v vs)
 
 part_more : (i : ChunkItem) (r : Pick) (rest : List Pick) → part_over (r ∷ rest) i ≡ add_part i (part_over (r ∷ []) i) (part_over rest i)

@@ -1,5 +1,5 @@
 -- Laws of lists in order, and of parts that keep their first elements.
-use Rattle.std.specs.Prelude.{◌≡◌, ℕ, ℤ, Bool, List, ◌++◌, Option, IsPermutation}
+use Rattle.std.specs.Prelude.{◌≡◌, ℕ, ℤ, Bool, List, ◌++◌, Option, Some, IsPermutation}
 use Rattle.std.specs.declared.cmp.Ordering.{Ordering}
 use Rattle.std.specs.List.Sorted.{IsSorted}
 use Rattle.std.specs.Ordering.{ordering_then, nat_cmp, int_cmp}
@@ -24,6 +24,12 @@ abbrev pub JoinLaw : {X : Type 0} → (X → X → Ordering) → Type 0
 JoinLaw {X} cmp =
     (limit : Option ℕ) (full full' kept kept' : List X) → KeepsFirst cmp limit full kept
     → KeepsFirst cmp limit full' kept' → KeepsFirst cmp limit (full ++ full') (kept ++ kept')
+
+-- the first n of what is kept, in order, keep the first n
+abbrev pub CutLaw : {X : Type 0} → (X → X → Ordering) → Type 0
+CutLaw {X} cmp =
+    (n : ℕ) (full kept : List X) → KeepsFirst cmp (Some n) full kept
+    → KeepsFirst cmp (Some n) full (first (Some n) (in_order cmp kept))
 
 -- the first of what is kept, in order, are the first of all
 abbrev pub EndLaw : {X : Type 0} → (X → X → Ordering) → Type 0

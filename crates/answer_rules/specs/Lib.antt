@@ -16,7 +16,11 @@ pub mod Finish
 pub mod Laws
 pub mod PieceLaws
 pub mod PlaceLaws
+pub mod KeyLaws
+pub mod RangeLaws
 pub mod Coverage
 pub mod Examples
 pub mod Queries
 pub mod Expected
+pub mod AreaExamples
+pub mod GroupExamples

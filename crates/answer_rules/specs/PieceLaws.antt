@@ -1,5 +1,5 @@
 -- Laws of pieces: they join over disjoint sets of chunks, in any order, and finish as the answer.
-use Rattle.std.specs.Prelude.{◌≡◌, ℕ, true, false, List, [], ◌++◌, Option}
+use Rattle.std.specs.Prelude.{◌≡◌, ◌⊎◌, ℕ, ℤ, true, false, List, [], ◌++◌, Option, None}
 use Rattle.table_rules.specs.Objects.{Obj, IdsAscend}
 use Rattle.sky_rules.specs.Partition.{Partition}
 use Rattle.sql_bound.specs.declared.query.Bound.{Bound}
@@ -56,9 +56,25 @@ EmptyPiece =
     (g : Partition) (table : List Obj) (cq : ChunkQuery)
     → PieceFor g table cq [] (empty_view cq.shape (limit_of cq.limit))
 
--- a piece of a query's chunk query finishes as the query's answer over the chunks that it stands for
+-- the chunk query with this limit
+abbrev pub limited : Option ℤ → ChunkQuery → ChunkQuery
+limited limit cq = record {
+  shape = cq.shape;
+  items = cq.items;
+  conds = cq.conds;
+  order = cq.order;
+  limit = limit;
+}
+
+-- a chunk query has no LIMIT, or that of its query
+abbrev pub IsPushed : Bound → Option ℤ → Type 0
+IsPushed q limit = (limit ≡ None) ⊎ (limit ≡ q.limit)
+
+-- a piece of a query's chunk query, with no LIMIT or with that of the query, finishes as the query's answer over the
+-- chunks that it stands for
 abbrev pub PieceFinishes : Type 0
 PieceFinishes =
-    (columns : ℕ) (g : Partition) (table : List Obj) (q : Bound) (B : List ℕ) (view : PieceView)
-    → IsSound columns q → IdsAscend table → PieceFor g table (chunk_query_of q) B view
+    (columns : ℕ) (g : Partition) (table : List Obj) (q : Bound) (B : List ℕ) (limit : Option ℤ) (view : PieceView)
+    → IsPushed q limit → IsSound columns q → IdsAscend table
+    → PieceFor g table (limited limit (chunk_query_of q)) B view
     → finished (merge_plan_of q) view ≡ answer_in g table q B

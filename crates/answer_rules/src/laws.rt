@@ -1,8 +1,10 @@
 //! Laws of orders, of pieces and of answers, as functions that do nothing: a caller has what they ensure.
 
 ghost use Rattle.answer_rules.specs.Coverage.{AnswerIsFlat, FoundInOne, PlanCovers};
-ghost use Rattle.answer_rules.specs.Laws.{EndLaw, JoinLaw, OnlyOrder, RanksAreKeys, SublistLaw};
+ghost use Rattle.answer_rules.specs.KeyLaws.{KeysAscend, NoKeyTwice, RowsAreGrouped, ValueIsTold};
+ghost use Rattle.answer_rules.specs.Laws.{CutLaw, EndLaw, JoinLaw, OnlyOrder, RanksAreKeys, SublistLaw};
 ghost use Rattle.answer_rules.specs.PlaceLaws.{ChunkIsTheOne, LiesInOne, LiesSomewhere};
+ghost use Rattle.answer_rules.specs.RangeLaws.{KeyItemIsInRange, OrderIsInRange};
 ghost use Rattle.answer_rules.specs.PieceLaws.{EmptyPiece, PieceFinishes, PieceIsForASet, PiecesJoin};
 
 /// Ranks compare as keys do: NULL before every number, all turned round where the order goes down.
@@ -16,12 +18,36 @@ pub fn only_order<X: Ord>()
     ensures { OnlyOrder X.cmp }
 {}
 
-/// What two parts keep, both together keep; at the end the first of what is kept are the first of all, and what is kept
-/// is a sublist of all.
+/// What two parts keep, both together keep, and what is kept may be cut to its first n; at the end the first of what is
+/// kept are the first of all, and what is kept is a sublist of all.
 pub fn parts_keep<X: Ord>()
     ensures join { JoinLaw X.cmp }
+    ensures cut { CutLaw X.cmp }
     ensures end { EndLaw X.cmp }
     ensures sublist { SublistLaw X.cmp }
+{}
+
+/// The groups of some rows ascend by their keys, so that a key is unique.
+pub fn keys_ascend()
+    ensures ascend { KeysAscend }
+    ensures apart { NoKeyTwice }
+{}
+
+/// Each row is in the group of its key, a group has just the rows of its key, and by key columns no group is empty.
+pub fn rows_are_grouped()
+    ensures { RowsAreGrouped }
+{}
+
+/// A plain item of a grouping has on a group's key the value that it has on each of the group's rows.
+pub fn value_is_told()
+    ensures { ValueIsTold }
+{}
+
+/// What the rows or pairs of a query that can be run are ordered by, and what a plain item of a grouping computes on a
+/// group's key, is NULL or within ±2^100.
+pub fn keys_are_in_range()
+    ensures order { OrderIsInRange }
+    ensures item { KeyItemIsInRange }
 {}
 
 /// Pieces over disjoint sets of chunks, joined, stand for both sets.
@@ -36,8 +62,8 @@ pub fn pieces_of_sets()
     ensures empty { EmptyPiece }
 {}
 
-/// A piece of a query's chunk query finishes as the query's answer over the chunks that it stands for, its first total
-/// out of range included.
+/// A piece of a query's chunk query, with the query's LIMIT or without, finishes as the query's answer over the chunks
+/// that it stands for, its first total out of range included.
 #[tactic(auto, using(crate::proofs::Finishing::piece_finishes))]
 pub fn piece_finishes()
     ensures { PieceFinishes }

@@ -1,9 +1,13 @@
 use Rattle.answer_rules.proofs.Keeping.{keeps_joined, first_kept}
+use Rattle.answer_rules.proofs.Cutting.{keeps_first_of_order}
 use Rattle.answer_rules.proofs.Sublists.{kept_sublist}
 use Rattle.answer_rules.proofs.laws.parts_keep.Goals as goal
 
 pub returns-clause-join : goal.returns-clause-join
 returns-clause-join g c = keeps_joined g.X.Ord.cmp
+
+pub returns-clause-cut : goal.returns-clause-cut
+returns-clause-cut g c = keeps_first_of_order g.X.Ord.cmp g.met.X.Ord.total
 
 pub returns-clause-end : goal.returns-clause-end
 returns-clause-end g c = first_kept g.X.Ord.cmp g.met.X.Ord.total
