@@ -27,7 +27,8 @@ use Rattle.sql_rules.specs.declared.fault.BindFault.{BindFault}
 use Rattle.bind_rules.specs.Bounds.{Scope, bound_col, bound_expr}
 use Rattle.bind_rules.specs.Conjuncts.{conjuncts}
 use Rattle.bind_rules.specs.Checks.{alias_place, bind_fault}
-use Rattle.bind_rules.specs.Columns.{all_names, is_join}
+use Rattle.table_rules.specs.Names.{column_names}
+use Rattle.bind_rules.specs.Columns.{is_join}
 use Rattle.bind_rules.specs.Names.{is_grouped}
 use Rattle.bind_rules.specs.Tops.{Test, Chord, tests_in}
 use Rattle.sql_bound.specs.declared.cond.BoundCond.{BoundCond}
@@ -53,7 +54,7 @@ columns_from second at (n ∷ ns) = item.Plain (just_column second at) ∷ colum
 -- a star: all columns of the first table, then in a join all of the second
 abbrev pub star_items : List (List ℕ) → Bool → List BoundItem
 star_items names join =
-    columns_from false 0 (all_names names) ++ (if join then columns_from true 0 (all_names names) else [])
+    columns_from false 0 (column_names names) ++ (if join then columns_from true 0 (column_names names) else [])
 
 -- the bound item
 abbrev pub bound_item : Scope → ItemKind → BoundItem

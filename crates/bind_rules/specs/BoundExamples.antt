@@ -5,7 +5,7 @@ use Rattle.sql_bound.specs.declared.area.AreaTest.TheVariants.{Band, Cap}
 use Rattle.sql_bound.specs.declared.cond.BoundCond.{BoundCond, roll-BoundCond}
 use Rattle.sql_bound.specs.declared.cond.BoundPred.{BoundPred}
 use Rattle.sql_bound.specs.declared.cond.BoundPred.TheVariants as bound
-use Rattle.sql_bound.specs.declared.cond.Cmp.TheVariants as op
+use Rattle.sql_tree.specs.declared.cond.Cmp.TheVariants as op
 use Rattle.sql_bound.specs.declared.expr.BoundAtom.TheVariants as batom
 use Rattle.sql_bound.specs.declared.expr.BoundExpr.{BoundExpr, roll-BoundExpr}
 use Rattle.sql_bound.specs.declared.expr.BoundFactor.{roll-BoundFactor}
@@ -58,8 +58,8 @@ abbrev pub one_id : Bound
 one_id = record {
   shape = shape.Rows;
   items = item.Plain (just_column false 1) ∷ [];
-  conds = holds (bound.Compare (just_column false 0) op.Eq (just_int 4))
-      ∷ holds (bound.Compare (just_column false 1) op.Lt (just_int 3)) ∷ [];
+  conds = holds (bound.Compare (just_column false 0) op.Equal (just_int 4))
+      ∷ holds (bound.Compare (just_column false 1) op.Less (just_int 3)) ∷ [];
   areas = [];
   ids = (pos 4 ∷ []) ∷ [];
   order = Some (record { key = bkey.Item 0; down = true });
@@ -75,7 +75,7 @@ abbrev pub strict_pairs : Bound
 strict_pairs = record {
   shape = shape.Pairs (pos 8);
   items = item.Plain (just_column false 1) ∷ [];
-  conds = holds (bound.Compare (just_column true 0) op.Eq (just_int 4)) ∷ [];
+  conds = holds (bound.Compare (just_column true 0) op.Equal (just_int 4)) ∷ [];
   areas = [];
   ids = [];
   order = Some (record { key = bkey.Column (record { second = true; col = 3 }); down = false });

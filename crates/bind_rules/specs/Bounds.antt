@@ -2,8 +2,6 @@
 use Rattle.std.specs.Prelude.{ℕ, Bool, false, unwrap_or, List}
 use Rattle.std.specs.Prelude.{Option, Some}
 use Rattle.std.specs.Str.{bytes_eq}
-use Rattle.sql_bound.specs.declared.cond.Cmp.{Cmp as BoundCmp}
-use Rattle.sql_bound.specs.declared.cond.Cmp.TheVariants as op
 use Rattle.sql_bound.specs.declared.expr.BoundAtom.{BoundAtom}
 use Rattle.sql_bound.specs.declared.expr.BoundAtom.TheVariants as batom
 use Rattle.sql_bound.specs.declared.expr.BoundCol.{BoundCol}
@@ -11,15 +9,14 @@ use Rattle.sql_bound.specs.declared.expr.BoundExpr.{BoundExpr, roll-BoundExpr}
 use Rattle.sql_bound.specs.declared.expr.BoundFactor.{BoundFactor, roll-BoundFactor}
 use Rattle.sql_bound.specs.declared.expr.BoundProd.{BoundProd, roll-BoundProd}
 use Rattle.sql_bound.specs.declared.expr.BoundSigned.{BoundSigned, roll-BoundSigned}
-use Rattle.sql_tree.specs.declared.cond.Cmp.{Cmp}
-use Rattle.sql_tree.specs.declared.cond.Cmp.TheVariants as cmp
 use Rattle.sql_tree.specs.declared.expr.Atom.TheFolds.{fold-Expr}
 use Rattle.sql_tree.specs.declared.expr.Atom.TheOpen.{Atom-F, Expr-F, Factor-F, Prod-F, Signed-F}
 use Rattle.sql_tree.specs.declared.expr.Expr.{Expr}
 use Rattle.sql_tree.specs.declared.name.Col.{Col}
 use Rattle.sql_tree.specs.declared.name.Name.{Name}
 use Rattle.sql_tree.specs.declared.query.TableRef.{TableRef}
-use Rattle.bind_rules.specs.Columns.{column_of, qualifier}
+use Rattle.table_rules.specs.Names.{column_of}
+use Rattle.bind_rules.specs.Columns.{qualifier}
 
 -- What a query's names are read by: the further columns, and the second table of a join.
 pub record Scope : Type 0 where
@@ -62,12 +59,3 @@ unfoldable pub bound_expr : Scope → Expr → BoundExpr
 bound_expr s =
     fold-Expr BoundAtom BoundExpr BoundFactor BoundProd BoundSigned (bound_atom_step s) bound_expr_step
     bound_factor_step bound_prod_step bound_signed_step
-
--- the same comparison
-abbrev pub bound_op : Cmp → BoundCmp
-bound_op cmp.Equal = op.Eq
-bound_op cmp.Differs = op.Ne
-bound_op cmp.Less = op.Lt
-bound_op cmp.AtMost = op.Le
-bound_op cmp.More = op.Gt
-bound_op cmp.AtLeast = op.Ge

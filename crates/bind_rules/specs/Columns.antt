@@ -1,20 +1,13 @@
--- The columns of a schema, and the tables and columns of a query.
-use Rattle.std.specs.Prelude.{ℕ, Bool, true, ◌&&◌, List, [], ◌∷◌, Option, None, Some, codes}
-use Rattle.std.specs.List.{list_any, position}
+-- The tables and columns of a query, over the columns of a schema.
+use Rattle.std.specs.Prelude.{ℕ, Bool, true, ◌&&◌, List, ◌∷◌, Option, None, Some, option_to_list}
+use Rattle.std.specs.List.{list_any}
 use Rattle.std.specs.Option.{is_some}
 use Rattle.std.specs.Str.{bytes_eq}
+use Rattle.table_rules.specs.Names.{column_of}
 use Rattle.sql_tree.specs.declared.name.Col.{Col}
 use Rattle.sql_tree.specs.declared.name.Name.{Name}
 use Rattle.sql_tree.specs.declared.query.Query.{Query}
 use Rattle.sql_tree.specs.declared.query.TableRef.{TableRef}
-
--- the names of all columns, of the names of the further ones
-abbrev pub all_names : List (List ℕ) → List (List ℕ)
-all_names names = codes "objectId" ∷ codes "x" ∷ codes "y" ∷ codes "z" ∷ names
-
--- the number of the column of that name
-abbrev pub column_of : List (List ℕ) → List ℕ → Option ℕ
-column_of names text = position (bytes_eq text) (all_names names)
 
 -- what a table's columns are qualified by: its alias, or else its name
 abbrev pub qualifier_by : Name → Option Name → List ℕ
@@ -25,14 +18,9 @@ qualifier_by name (Some alias) = alias.text
 abbrev pub qualifier : TableRef → List ℕ
 qualifier t = qualifier_by t.name t.alias
 
--- the second table, where there is one
-abbrev pub if_there : Option TableRef → List TableRef
-if_there None = []
-if_there (Some t) = t ∷ []
-
 -- the tables of a query
 abbrev pub tables : Query → List TableRef
-tables q = q.first ∷ if_there q.second
+tables q = q.first ∷ option_to_list q.second
 
 -- the query is a join
 abbrev pub is_join : Query → Bool

@@ -1,7 +1,7 @@
 -- The conjuncts of WHERE, with columns in place of names. Brackets are looked through, AND and an OR of one part are
 -- taken apart, NOT is not looked into.
 use Rattle.std.specs.Prelude.{Bool, false, if◌then◌else◌, List, [], ◌∷◌, ◌++◌, map}
-use Rattle.std.specs.Prelude.{Option, None, Some}
+use Rattle.std.specs.Prelude.{Option, None, Some, option_to_list}
 use Rattle.std.specs.List.{flat_map}
 use Rattle.sql_bound.specs.declared.area.AreaTest.{AreaTest}
 use Rattle.sql_bound.specs.declared.cond.BoundAll.{BoundAll, roll-BoundAll}
@@ -17,7 +17,7 @@ use Rattle.sql_tree.specs.declared.cond.Pred.TheFolds.{fold-Cond, fold-Conj, fol
 use Rattle.sql_tree.specs.declared.cond.Pred.TheOpen.{Cond-F, Conj-F, Neg-F, Pred-F}
 use Rattle.bind_rules.specs.Forms.{values_of}
 use Rattle.bind_rules.specs.Areas.{area_test}
-use Rattle.bind_rules.specs.Bounds.{Scope, bound_expr, bound_op}
+use Rattle.bind_rules.specs.Bounds.{Scope, bound_expr}
 
 -- What a part of a condition comes to: itself, where it is no chord test and holds none; and the conjuncts that it is
 -- taken apart into, a chord test left out.
@@ -29,8 +29,8 @@ abbrev pub whole_of : {A : Type 0} → Taken A → Option A
 whole_of (Both whole parts) = whole
 
 -- its conjuncts
-abbrev pub parts_of : {A : Type 0} → Taken A → List BoundCond
-parts_of (Both whole parts) = parts
+abbrev pub conjuncts_in : {A : Type 0} → Taken A → List BoundCond
+conjuncts_in (Both whole parts) = parts
 
 -- a predicate, as a condition that is not taken apart
 abbrev pub plain : Option BoundPred → List BoundCond
@@ -57,9 +57,9 @@ Taken-F F = F (Taken BoundPred) (Taken BoundAny) (Taken BoundAll) (Taken BoundCo
 
 -- what a predicate comes to, of the condition that it holds
 abbrev pub bound_pred_step : Scope → Taken-F Pred-F → Taken BoundPred
-bound_pred_step s (Pred-F.Bracket c) = Both (bracket (whole_of c)) (parts_of c)
+bound_pred_step s (Pred-F.Bracket c) = Both (bracket (whole_of c)) (conjuncts_in c)
 bound_pred_step s (Pred-F.Compare left op right) =
-    lone (Some (bound.Compare (bound_expr s left) (bound_op op) (bound_expr s right)))
+    lone (Some (bound.Compare (bound_expr s left) op (bound_expr s right)))
 bound_pred_step s (Pred-F.Between without value low high) =
     lone (Some (bound.Between without (bound_expr s value) (bound_expr s low) (bound_expr s high)))
 bound_pred_step s (Pred-F.Among without value list) =
@@ -93,21 +93,17 @@ abbrev pub neg_by : Bool → Option BoundPred → Option BoundCond
 neg_by without None = None
 neg_by without (Some p) = Some (roll-BoundCond (record { not = without; pred = p }))
 
--- the list of a value that may be there
-abbrev pub listed : {A : Type 0} → Option A → List A
-listed None = []
-listed (Some x) = x ∷ []
-
 -- NOT is not looked into
 abbrev pub bound_neg_step : Taken-F Neg-F → Taken BoundCond
 bound_neg_step n =
-    Both (neg_by n.not (whole_of n.pred)) (if n.not then listed (neg_by n.not (whole_of n.pred)) else parts_of n.pred)
+    Both (neg_by n.not (whole_of n.pred))
+    (if n.not then option_to_list (neg_by n.not (whole_of n.pred)) else conjuncts_in n.pred)
 
 -- AND is taken apart
 abbrev pub bound_conj_step : Taken-F Conj-F → Taken BoundAll
 bound_conj_step c =
     Both (conj_by (whole_of c.first) (all_there (map whole_of c.rest)))
-    (parts_of c.first ++ flat_map parts_of c.rest)
+    (conjuncts_in c.first ++ flat_map conjuncts_in c.rest)
 
 -- the conjuncts of the one part, or of more than one part the whole
 abbrev pub or_whole : {A : Type 0} → Option BoundAny → List BoundCond → List A → List BoundCond
@@ -118,7 +114,7 @@ or_whole c parts (x ∷ xs) = plain (bracket c)
 abbrev pub bound_cond_step : Taken-F Cond-F → Taken BoundAny
 bound_cond_step c =
     Both (any_by (whole_of c.first) (all_there (map whole_of c.rest)))
-    (or_whole (any_by (whole_of c.first) (all_there (map whole_of c.rest))) (parts_of c.first) c.rest)
+    (or_whole (any_by (whole_of c.first) (all_there (map whole_of c.rest))) (conjuncts_in c.first) c.rest)
 
 -- what a predicate comes to
 unfoldable pub taken_pred : Scope → Pred → Taken BoundPred
@@ -146,4 +142,4 @@ taken_neg s =
 
 -- the conjuncts of a condition that stand at its top, but for a chord test
 abbrev pub conjuncts : Scope → Cond → List BoundCond
-conjuncts s c = parts_of (taken_cond s c)
+conjuncts s c = conjuncts_in (taken_cond s c)

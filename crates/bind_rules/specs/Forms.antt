@@ -43,16 +43,16 @@ names_both a b c =
     || (bytes_eq c.left.text b.text && bytes_eq c.right.text a.text)
 
 -- the aliases are two, and the one chord test stands at the top and names both
-abbrev pub is_paired : Option Name → Option Name → List ChordAt → Bool
-is_paired (Some a) (Some b) (c ∷ []) = not (bytes_eq a.text b.text) && c.top && names_both a b c
-is_paired _ _ _ = false
+abbrev pub pairs_both : Option Name → Option Name → List ChordAt → Bool
+pairs_both (Some a) (Some b) (c ∷ []) = not (bytes_eq a.text b.text) && c.top && names_both a b c
+pairs_both _ _ _ = false
 
 -- a query of one table has no chord test; a join has two aliases and its chord test, a qualifier at each column but the
 -- order key, and no grouping
 abbrev pub is_join_form : Query → Option TableRef → Bool
 is_join_form q None = list_all (λ c. false) (chords_of q)
 is_join_form q (Some second) =
-    is_paired q.first.alias second.alias (chords_of q) && list_all (λ c. is_some c.table) (columns_in q)
+    pairs_both q.first.alias second.alias (chords_of q) && list_all (λ c. is_some c.table) (columns_in q)
     && not (is_grouped q)
 
 -- the query has not the form of a join, or has a chord test and is none

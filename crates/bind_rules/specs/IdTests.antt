@@ -1,6 +1,6 @@
 -- The area tests and the id tests of WHERE.
 use Rattle.std.specs.Prelude.{ℤ, Bool, true, false, ◌&&◌, not, if◌then◌else◌, List, [], ◌∷◌}
-use Rattle.std.specs.Prelude.{Option, None, Some, nat_eq}
+use Rattle.std.specs.Prelude.{Option, None, Some, nat_eq, option_to_list}
 use Rattle.sql_bound.specs.declared.area.AreaTest.{AreaTest}
 use Rattle.sql_tree.specs.declared.expr.Atom.TheFolds.{fold-Expr}
 use Rattle.sql_tree.specs.declared.expr.Atom.TheOpen.{Atom-F, Factor-F}
@@ -8,7 +8,6 @@ use Rattle.sql_tree.specs.declared.expr.Expr.{Expr}
 use Rattle.sql_tree.specs.declared.name.Col.{Col}
 use Rattle.bind_rules.specs.Areas.{area_test}
 use Rattle.bind_rules.specs.Bounds.{Scope, bound_col}
-use Rattle.bind_rules.specs.Conjuncts.{listed}
 use Rattle.bind_rules.specs.Forms.{values_of}
 use Rattle.bind_rules.specs.Tops.{Test, Area, Equals, Listed}
 
@@ -69,5 +68,5 @@ ids_by s _ top = []
 
 -- the area test
 abbrev pub areas_by : Test → List AreaTest
-areas_by (Area kind span args) = listed (area_test kind (values_of args))
+areas_by (Area kind span args) = option_to_list (area_test kind (values_of args))
 areas_by _ = []

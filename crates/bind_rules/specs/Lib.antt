@@ -10,5 +10,7 @@ pub mod Bounds
 pub mod Conjuncts
 pub mod IdTests
 pub mod Binding
+pub mod Laws
 pub mod Examples
 pub mod BoundExamples
+pub mod TopExamples

@@ -1,4 +1,4 @@
--- Names that are not known, and what a grouping does not tell.
+-- Names that are not known, and columns of a grouping that are no keys.
 use Rattle.std.specs.Prelude.{ℕ, Bool, true, false, ◌&&◌, ◌||◌, not, if◌then◌else◌}
 use Rattle.std.specs.Prelude.{List, [], ◌∷◌, Option, None, Some, codes}
 use Rattle.std.specs.List.{list_any, find, flat_map}
@@ -62,14 +62,14 @@ plain_columns _ = []
 abbrev pub is_key : Query → Col → Bool
 is_key q c = list_any (is_same_column c) q.group
 
--- the first place of the items that a grouping does not tell
-abbrev pub untold : Query → Selection → Option Span
-untold q (selection.Star span) = Some span
-untold q (selection.List l) =
+-- where the star stands, or the first column outside an aggregate that is no GROUP BY column
+abbrev pub ungrouped : Query → Selection → Option Span
+ungrouped q (selection.Star span) = Some span
+ungrouped q (selection.List l) =
     option_map col_span
     (find (λ c. not (is_key q c)) (flat_map (λ i. plain_columns i.what) (items_of (selection.List l))))
 
--- the first place that a grouping does not tell
+-- the first place of a grouping that has no one value for a group
 unfoldable pub not_grouped : Query → Option BindFault
 not_grouped q =
-    if not (is_join q) && is_grouped q then option_map fault.NotGrouped (untold q q.items) else None
+    if not (is_join q) && is_grouped q then option_map fault.NotGrouped (ungrouped q q.items) else None

@@ -1,5 +1,6 @@
 -- Tests of a condition that more is asked of than whether they hold, in the order of the text, each with whether it is
--- a conjunct at the top: brackets and AND leave it there, NOT and OR do not.
+-- a conjunct at the top: brackets and AND leave it there, NOT and OR do not. That the area tests at the top are those of
+-- the conjuncts that the condition is taken apart into is a law.
 use Rattle.std.specs.Prelude.{ℤ, Bool, true, false, ◌&&◌, not, List, [], ◌∷◌, ◌++◌, map, Option, None, Some}
 use Rattle.sql_token.specs.declared.token.Span.{Span}
 use Rattle.sql_tree.specs.declared.cond.AreaKind.{AreaKind}

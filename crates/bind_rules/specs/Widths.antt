@@ -8,7 +8,7 @@ use Rattle.sql_tree.specs.declared.expr.Atom.TheFolds.{fold-Expr}
 use Rattle.sql_tree.specs.declared.expr.Atom.TheOpen.{Atom-F, Expr-F, Factor-F, Prod-F, Signed-F}
 use Rattle.sql_tree.specs.declared.expr.Expr.{Expr}
 use Rattle.sql_tree.specs.declared.query.Query.{Query}
-use Rattle.bind_rules.specs.Columns.{column_of}
+use Rattle.table_rules.specs.Names.{column_of}
 use Rattle.bind_rules.specs.Mentions.{joined, item_exprs}
 
 -- The largest size of a value, and the largest of all numbers that are computed on the way to it.

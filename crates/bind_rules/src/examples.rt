@@ -4,10 +4,14 @@ ghost use Rattle.std.specs.Prelude.{◌≡◌, codes, Some};
 ghost use Rattle.bind_rules.specs.BoundExamples.{all_in_a_cap, bound_text, cap_text, groups_of_two};
 ghost use Rattle.bind_rules.specs.BoundExamples.{groups_text, one_id, one_id_text, strict_pairs, strict_pairs_text};
 ghost use Rattle.bind_rules.specs.Examples.{Binds, Refused, judged, span};
+ghost use Rattle.bind_rules.specs.TopExamples.{aliases_text, chord_or_other, chord_twice, first_alias, not_four};
+ghost use Rattle.bind_rules.specs.TopExamples.{bracketed_id_text, four_by_filter, four_turned, turned_id_text};
+ghost use Rattle.bind_rules.specs.TopExamples.{not_four_text, star_of_both, star_text};
 ghost use Rattle.sql_rules.specs.declared.fault.BindFault.TheVariants.{AreaForm, JoinForm, NotGrouped, OrderName};
 ghost use Rattle.sql_rules.specs.declared.fault.BindFault.TheVariants.{TooWide, UnknownName};
 
-/// A column that the schema does not have comes before a table that is not there.
+/// Of two unknown names the one that stands first in the text is named, be it a column or a table; a qualifier, though
+/// the column is known, and a GROUP BY column count as well.
 pub fn unknown_names()
     ensures column { judged (codes "SELECT mag FROM Foo") ≡ Refused (UnknownName (span 7 10)) }
     ensures table { judged (codes "SELECT x FROM Foo") ≡ Refused (UnknownName (span 14 17)) }
@@ -42,6 +46,28 @@ pub fn join_forms()
         ≡ Refused JoinForm }
 {}
 
+/// A second chord test is one too many, and under OR it is not at the top.
+pub fn chords_of_a_join()
+    ensures twice { judged chord_twice ≡ Refused JoinForm }
+    ensures under_or { judged chord_or_other ≡ Refused JoinForm }
+{}
+
+/// A cap's centre goes to 2^29 and its n to 2^62, and neither past them; n is not below 0.
+pub fn limits_of_a_cap()
+    ensures centre { judged (codes "SELECT x FROM Object WHERE area_cap(536870912,-536870912,0,0)")
+        ≡ Binds }
+    ensures past_centre { judged (codes "SELECT x FROM Object WHERE area_cap(536870913,0,0,0)")
+        ≡ Refused (AreaForm (span 27 35)) }
+    ensures below_centre { judged (codes "SELECT x FROM Object WHERE area_cap(0,0,-536870913,0)")
+        ≡ Refused (AreaForm (span 27 35)) }
+    ensures most { judged (codes "SELECT x FROM Object WHERE area_cap(0,0,0,4611686018427387904)")
+        ≡ Binds }
+    ensures past { judged (codes "SELECT x FROM Object WHERE area_cap(0,0,0,4611686018427387905)")
+        ≡ Refused (AreaForm (span 27 35)) }
+    ensures below_0 { judged (codes "SELECT x FROM Object WHERE area_cap(0,0,0,-1)")
+        ≡ Refused (AreaForm (span 27 35)) }
+{}
+
 /// An area test stands at the top, with as many arguments as it takes, and a box turns to the left.
 pub fn area_forms()
     ensures negated { judged (codes "SELECT x FROM Object WHERE NOT area_band(1,2)")
@@ -74,6 +100,12 @@ pub fn bound_to_rows()
     ensures { bound_text one_id_text ≡ Some one_id }
 {}
 
+/// An equation with the id in brackets, or on its right, is a filter, and no id test.
+pub fn bound_without_id_tests()
+    ensures bracketed { bound_text bracketed_id_text ≡ Some four_by_filter }
+    ensures turned { bound_text turned_id_text ≡ Some four_turned }
+{}
+
 /// A strict chord test is a limit one smaller; an id of the second table is no id test.
 pub fn bound_to_pairs()
     ensures { bound_text strict_pairs_text ≡ Some strict_pairs }
@@ -87,4 +119,19 @@ pub fn bound_to_groups()
 /// A star is all columns, and a cap has its centre.
 pub fn bound_to_all_columns()
     ensures { bound_text cap_text ≡ Some all_in_a_cap }
+{}
+
+/// NOT before an equation with the id leaves a filter, and no id test.
+pub fn bound_to_all_but_one()
+    ensures { bound_text not_four_text ≡ Some not_four }
+{}
+
+/// An order key is an alias before it is a column, and the first of equal aliases.
+pub fn bound_to_the_first_alias()
+    ensures { bound_text aliases_text ≡ Some first_alias }
+{}
+
+/// A star of a join is all columns of the first table, then all of the second.
+pub fn bound_to_both_tables()
+    ensures { bound_text star_text ≡ Some star_of_both }
 {}

@@ -2,9 +2,12 @@
 //!
 //! Callers see the six checks and their order (`specs/Checks.antt`), each a search over places in the order of the text,
 //! and the bound query (`specs/Binding.antt`).
-//! Below: `sql_tree` for the written query, `sql_rules` for the faults, `sql_bound` for the bound one, `table_rules` for the
-//! bounds of columns. Above: the binder.
-//! No algorithm: definitions and worked examples.
+//! Below: `sql_token` for spans, `sql_tree` for the written query, `sql_rules` for the faults, `sql_bound` for the bound
+//! one, `table_rules` for the columns and their bounds, `sky_vector` for positions and directions, `value_rules` for what
+//! a bound query has to be. Above: the binder.
+//! No algorithm: definitions, worked examples and laws.
 #![tactic(auto)]
 
 pub mod examples;
+pub mod first_faults;
+pub mod laws;

@@ -1,0 +1,169 @@
+-- What is known of a query without a fault.
+use Rattle.std.proofs.Common.{◌≡◌, ℕ, Bool, true, false, List, [], ◌∷◌, ◌++◌, map, Option, Some, None, Ok, refl}
+use Rattle.std.specs.Prelude.{◌&&◌, not, if◌then◌else◌}
+use Rattle.std.specs.List.{AllByRecursion as Each, flat_map, list_any, find}
+use Rattle.std.specs.Option.{is_some, option_map}
+use Rattle.std.proofs.lemmas.Bool.{and_parts}
+use Rattle.sql_token.specs.declared.token.Span.{Span}
+use Rattle.sql_bound.specs.declared.query.Bound.{Bound}
+use Rattle.sql_tree.specs.declared.expr.Expr.{Expr}
+use Rattle.sql_tree.specs.declared.name.Col.{Col}
+use Rattle.sql_tree.specs.declared.query.Query.{Query}
+use Rattle.sql_tree.specs.declared.cond.Cond.{Cond}
+use Rattle.sql_rules.specs.declared.fault.BindFault.{BindFault}
+use Rattle.sql_rules.specs.declared.fault.BindFault.TheVariants as fault
+use Rattle.table_rules.specs.Names.{column_of}
+use Rattle.bind_rules.specs.Binding.{by_fault, bound_query, bound_of}
+use Rattle.bind_rules.specs.Bounds.{Scope}
+use Rattle.bind_rules.specs.Checks.{too_wide, order_name, or_else, bind_fault}
+use Rattle.bind_rules.specs.Columns.{tables, is_known, is_qualified_well}
+use Rattle.bind_rules.specs.Forms.{join_form, area_form, bad_area, first_of, is_area_form, values_of}
+use Rattle.bind_rules.specs.Mentions.{Mention, Column, Table, Mentions, columns_of, mentioned, item_exprs, mentions_of_where, mentions_of}
+use Rattle.bind_rules.specs.Names.{is_unknown, span_of, unknown_name, not_grouped}
+use Rattle.bind_rules.specs.Tops.{Test, Area, Chord, Equals, Listed, Found, tests_in}
+use Rattle.bind_rules.specs.Widths.{is_too_wide, exprs_in, all_exprs}
+use Rattle.bind_rules.proofs.Conds.{HasForm}
+use Rattle.bind_rules.proofs.Each.{front, back, both, weaker, in_parts, unmapped, none_found, none_passes}
+use Rattle.bind_rules.proofs.Exprs.{IsThere}
+use Rattle.bind_rules.proofs.Mentioned.{of_exprs}
+
+-- A query that passes each check.
+pub record Faultless (names : List (List ℕ)) (q : Query) : Type 0 where
+  pub unknown : unknown_name names q ≡ None
+  pub grouped : not_grouped q ≡ None
+  pub join : join_form q ≡ None
+  pub area : area_form q ≡ None
+  pub wide : too_wide names q ≡ None
+  pub order : order_name names q ≡ None
+
+-- what a query's names are read by
+abbrev pub scope_of : List (List ℕ) → Query → Scope
+scope_of names q = record { names = names; second = q.second }
+
+or_none : (a b : Option BindFault) → or_else a b ≡ None → (a ≡ None) × (b ≡ None)
+or_none None b h = (refl, h)
+or_none (Some f) b h = absurd cc
+
+faultless : (names : List (List ℕ)) (q : Query) → bind_fault names q ≡ None → Faultless names q
+unfolding bind_fault
+faultless names q h =
+    let a = or_none (unknown_name names q) _ h in
+    let b = or_none (not_grouped q) _ a.1 in
+    let c = or_none (join_form q) _ b.1 in
+    let d = or_none (area_form q) _ c.1 in
+    let e = or_none (too_wide names q) _ d.1 in
+    record { unknown = a.0; grouped = b.0; join = c.0; area = d.0; wide = e.0; order = e.1 }
+
+ok_parts : (f : Option BindFault) (x b : Bound) → by_fault f x ≡ Ok b → (f ≡ None) × (x ≡ b)
+ok_parts None x b h = (refl, cc)
+ok_parts (Some f) x b h = absurd cc
+
+-- a query that binds has no fault, and is bound to its bound query
+pub binds : (names : List (List ℕ)) (q : Query) (b : Bound) → bound_of names q ≡ Ok b → Faultless names q × (bound_query (scope_of names q) q ≡ b)
+unfolding bound_of
+binds names q b h =
+    let two = ok_parts (bind_fault names q) (bound_query (scope_of names q) q) b h in (faultless names q two.0, two.1)
+
+mapped_none : {X Y : Type 0} (f : X → Y) (x : Option X) → option_map f x ≡ None → x ≡ None
+mapped_none f None h = refl
+mapped_none f (Some x) h = absurd cc
+
+-- ---- names
+
+abbrev pub IsKnown : List (List ℕ) → Query → Mention → Type 0
+IsKnown names q m = is_unknown names (tables q) m ≡ false
+
+pub known : (names : List (List ℕ)) (q : Query) → Faultless names q → Each (IsKnown names q) (mentions_of q)
+unfolding unknown_name
+known names q f = none_found (is_unknown names (tables q)) (mentions_of q) (mapped_none (λ m. fault.UnknownName (span_of m)) (find (is_unknown names (tables q)) (mentions_of q)) f.unknown)
+
+not_false : (b : Bool) → not b ≡ false → b ≡ true
+not_false true h = refl
+not_false false h = absurd cc
+
+pub column_there : (names : List (List ℕ)) (q : Query) (c : Col) → IsKnown names q (Column c) → IsThere (scope_of names q) c
+column_there names q c h = (and_parts (is_qualified_well (tables q) c.table) (is_some (column_of names c.name.text)) (not_false (is_known names (tables q) c) h)).1
+
+columns_there : (names : List (List ℕ)) (q : Query) (cs : List Col) → Each (IsKnown names q) (map Column cs) → Each (IsThere (scope_of names q)) cs
+columns_there names q cs h = weaker (λ c. IsKnown names q (Column c)) (IsThere (scope_of names q)) (column_there names q) cs (unmapped (IsKnown names q) Column cs h)
+
+expr_there : (names : List (List ℕ)) (q : Query) (e : Expr) → Each (IsKnown names q) (mentioned e) → Each (IsThere (scope_of names q)) (columns_of e)
+expr_there names q e h = columns_there names q (columns_of e) h
+
+where_there : (names : List (List ℕ)) (q : Query) (c : Option Cond) → Each (IsKnown names q) (mentions_of_where c) → Each (λ e. Each (IsKnown names q) (mentioned e)) (exprs_in c)
+where_there names q None h = tt
+where_there names q (Some c) h = of_exprs (IsKnown names q) c h
+
+-- the parts of what a query mentions
+abbrev by_items : Query → Mentions
+by_items q = flat_map mentioned (item_exprs q)
+
+abbrev by_tables : Query → Mentions
+by_tables q = map (λ t. Table t.name) (tables q)
+
+abbrev by_where : Query → Mentions
+by_where q = mentions_of_where q.cond
+
+-- the schema has each column of each expression
+pub exprs_there : (names : List (List ℕ)) (q : Query) → Faultless names q → Each (λ e. Each (IsThere (scope_of names q)) (columns_of e)) (all_exprs q)
+exprs_there names q f =
+    let first = front (IsKnown names q) ((by_items q ++ by_tables q) ++ by_where q) (map Column q.group) (known names q f) in
+    let items = in_parts (IsKnown names q) mentioned (item_exprs q) (front (IsKnown names q) (by_items q) (by_tables q) (front (IsKnown names q) (by_items q ++ by_tables q) (by_where q) first)) in
+    let tests = where_there names q q.cond (back (IsKnown names q) (by_items q ++ by_tables q) (by_where q) first) in
+    weaker (λ e. Each (IsKnown names q) (mentioned e)) (λ e. Each (IsThere (scope_of names q)) (columns_of e)) (expr_there names q) (all_exprs q)
+    (both (λ e. Each (IsKnown names q) (mentioned e)) (item_exprs q) (exprs_in q.cond) items tests)
+
+-- and each column of GROUP BY
+pub keys_there : (names : List (List ℕ)) (q : Query) → Faultless names q → Each (IsThere (scope_of names q)) q.group
+keys_there names q f =
+    columns_there names q q.group (back (IsKnown names q) ((by_items q ++ by_tables q) ++ by_where q) (map Column q.group) (known names q f))
+
+-- ---- widths
+
+if_none : {X : Type 0} (b : Bool) (x : X) → (if b then Some x else None) ≡ None → b ≡ false
+if_none true x h = absurd cc
+if_none false x h = refl
+
+-- no expression is too wide
+pub narrow : (names : List (List ℕ)) (q : Query) → Faultless names q → Each (λ e. is_too_wide names e ≡ false) (all_exprs q)
+unfolding too_wide
+narrow names q f = none_passes (is_too_wide names) (all_exprs q) (if_none (list_any (is_too_wide names) (all_exprs q)) fault.TooWide f.wide)
+
+-- ---- area tests
+
+nothing_first : (g : Span → BindFault) (xs : List Span) → option_map g (first_of xs) ≡ None → xs ≡ []
+nothing_first g [] h = refl
+nothing_first g (x ∷ xs) h = absurd cc
+
+empty_front : {X : Type 0} (xs ys : List X) → xs ++ ys ≡ [] → (xs ≡ []) × (ys ≡ [])
+empty_front [] ys h = (refl, h)
+empty_front (x ∷ xs) ys h = absurd cc
+
+all_empty : {X Y : Type 0} (f : X → List Y) (xs : List X) → flat_map f xs ≡ [] → Each (λ x. f x ≡ []) xs
+all_empty f [] h = tt
+all_empty f (x ∷ xs) h = let two = empty_front (f x) (flat_map f xs) h in (two.0, all_empty f xs two.1)
+
+-- an area test is at the top, and its arguments fit
+abbrev pub IsAtTop : Test → Bool → Type 0
+IsAtTop (Area kind span args) top = top ≡ true
+IsAtTop t top = Unit {0}
+
+abbrev pub IsTopArea : Found → Type 0
+IsTopArea f = HasForm f.test × IsAtTop f.test f.top
+
+nothing_bad : {X : Type 0} (b : Bool) (x : X) → (if b then [] else x ∷ []) ≡ [] → b ≡ true
+nothing_bad true x h = refl
+nothing_bad false x h = absurd cc
+
+good_area : (t : Test) (top : Bool) → bad_area t top ≡ [] → HasForm t × IsAtTop t top
+good_area (Area kind span args) top h =
+    let two = and_parts top (is_area_form kind (values_of args)) (nothing_bad (top && is_area_form kind (values_of args)) span h) in (two.1, two.0)
+good_area (Chord left right strict n) top h = (tt, tt)
+good_area (Equals left right) top h = (tt, tt)
+good_area (Listed value list) top h = (tt, tt)
+
+pub good_areas : (names : List (List ℕ)) (q : Query) → Faultless names q → Each IsTopArea (tests_in q.cond)
+unfolding area_form
+good_areas names q f =
+    weaker (λ t. bad_area t.test t.top ≡ []) IsTopArea (λ t h. good_area t.test t.top h) (tests_in q.cond)
+    (all_empty (λ t. bad_area t.test t.top) (tests_in q.cond) (nothing_first fault.AreaForm (flat_map (λ t. bad_area t.test t.top) (tests_in q.cond)) f.area))
