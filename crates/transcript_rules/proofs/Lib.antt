@@ -1,0 +1,13 @@
+pub mod Blocks
+pub mod Deep
+pub mod DemoQueries
+pub mod Ended
+pub mod GroupQueries
+pub mod Keyed
+pub mod Reading
+pub mod Shown
+pub mod KeyedItems
+pub mod RowQueries
+pub mod Steps
+pub mod Texts
+pub mod Written

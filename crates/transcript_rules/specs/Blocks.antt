@@ -1,0 +1,45 @@
+-- The block of a query in a transcript.
+use Rattle.std.specs.Prelude.{ℕ, List, [], ◌++◌, length, Option, None, Some, Result, Ok, Err, codes}
+use Rattle.std.specs.Fmt.{decimal}
+use Rattle.table_rules.specs.Objects.{Catalogue}
+use Rattle.sky_rules.specs.Partition.{Partition}
+use Rattle.sql_rules.specs.PrintedExprs.{Bytes}
+use Rattle.answer_rules.specs.Answers.{Answer, flat_answer}
+use Rattle.answer_rules.specs.Plans.{plan_of}
+use Rattle.session_rules.specs.declared.end.EndKind.{EndKind}
+use Rattle.session_rules.specs.declared.end.EndKind.TheVariants.{Answered, Refused, Cancelled, Spent}
+use Rattle.transcript_rules.specs.declared.refusal.Refusal.{Refusal}
+use Rattle.transcript_rules.specs.Refusals.{Understood, understood, refusal_of}
+use Rattle.transcript_rules.specs.RefusalLines.{line, refusal_line}
+use Rattle.transcript_rules.specs.Tables.{headings, table_lines}
+
+-- `query K`
+abbrev pub number_line : ℕ → Bytes
+number_line k = line (codes "query " ++ decimal k)
+
+-- the lines of an answer; a total out of range has none
+abbrev pub answer_lines : List Bytes → Answer → ℕ → Bytes
+answer_lines headings (Ok rows) chunks = table_lines headings rows chunks
+answer_lines headings (Err total) chunks = []
+
+-- the lines of what is understood: its answer over the flat table, and the size of its plan
+abbrev pub answered_lines : Partition → Catalogue → Result Understood Refusal → Bytes
+answered_lines g c (Ok u) =
+    answer_lines (headings c.names u.tree) (flat_answer c.objects u.bound) (length (plan_of g c.objects u.bound))
+answered_lines g c (Err why) = []
+
+-- the line of a refusal, where there is one
+abbrev pub refused_lines : Bytes → Option Refusal → Bytes
+refused_lines text None = []
+refused_lines text (Some why) = refusal_line text why
+
+-- the lines of a query that ends so
+abbrev pub end_lines : Partition → Catalogue → Bytes → EndKind → Bytes
+end_lines g c text Answered = answered_lines g c (understood c.names text)
+end_lines g c text Refused = refused_lines text (refusal_of g c text)
+end_lines g c text Cancelled = line (codes "cancelled")
+end_lines g c text Spent = line (codes "out of memory")
+
+-- the block of query k, which has this line and ends so
+unfoldable pub block : Partition → Catalogue → ℕ → Bytes → EndKind → Bytes
+block g c k text end = number_line k ++ end_lines g c text end

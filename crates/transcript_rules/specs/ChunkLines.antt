@@ -1,0 +1,86 @@
+-- The line that explains what runs on each chunk: the chunk query, printed with the names that the query has.
+-- A query per partition, over a table of that partition, is Qserv's idea (SC 2011); how it is printed is a rule of this
+-- repository.
+use Rattle.std.specs.Prelude.{ℕ, List, [], ◌∷◌, ◌++◌, map, Option, None, Some, slice_get, codes}
+use Rattle.std.specs.List.{flat_map}
+use Rattle.sql_bound.specs.declared.query.Shape.{Shape}
+use Rattle.sql_bound.specs.declared.query.Shape.TheVariants.{Rows, Pairs, Groups}
+use Rattle.sql_tree.specs.declared.name.Col.{Col}
+use Rattle.sql_tree.specs.declared.query.Item.{Item}
+use Rattle.sql_tree.specs.declared.query.ItemKind.{ItemKind}
+use Rattle.sql_tree.specs.declared.query.ItemKind.TheVariants as what
+use Rattle.sql_tree.specs.declared.query.OrderBy.{OrderBy}
+use Rattle.sql_tree.specs.declared.query.Query.{Query}
+use Rattle.sql_tree.specs.declared.query.Selection.{Selection}
+use Rattle.sql_tree.specs.declared.query.Selection.TheVariants as selection
+use Rattle.sql_tree.specs.declared.query.TableRef.{TableRef}
+use Rattle.sql_rules.specs.Printed.{print_kind, print_alias, print_where, print_group}
+use Rattle.sql_rules.specs.PrintedExprs.{Bytes, print_col}
+use Rattle.bind_rules.specs.Checks.{alias_place}
+use Rattle.bind_rules.specs.Columns.{qualifier}
+use Rattle.bind_rules.specs.Mentions.{items_of}
+use Rattle.transcript_rules.specs.RefusalLines.{line}
+use Rattle.transcript_rules.specs.Tables.{by_commas, qualified, star_columns}
+
+-- the items of a query without their aliases; a star is its columns
+abbrev pub item_texts : List Bytes → Query → Selection → List Bytes
+item_texts names q (selection.Star span) = star_columns names q.first q.second
+item_texts names q (selection.List l) = map (λ i. print_kind i.what) (l.first ∷ l.rest)
+
+-- the id that is added to rows, or both ids that are added to pairs, the first table's first
+abbrev pub id_texts : TableRef → Option TableRef → List Bytes
+id_texts first None = codes "objectId" ∷ []
+id_texts first (Some second) =
+    qualified (qualifier first) (codes "objectId" ∷ []) ++ qualified (qualifier second) (codes "objectId" ∷ [])
+
+-- the expression of an item, where there is one
+abbrev pub text_of_item : Option Item → Bytes
+text_of_item None = []
+text_of_item (Some i) = print_kind i.what
+
+-- the expression of an order key: that of the item at the place whose alias it is, or the column as it is written
+abbrev pub key_text_by : Query → Col → Option ℕ → Bytes
+key_text_by q c (Some place) = text_of_item (slice_get (items_of q.items) place)
+key_text_by q c None = print_col c
+
+-- the expression of the order key, where there is an order
+abbrev pub order_texts : Query → Option OrderBy → List Bytes
+order_texts q None = []
+order_texts q (Some o) = key_text_by q o.key (alias_place q o.key) ∷ []
+
+-- what an item of a grouping gives to the chunk query: an aggregate itself, AVG a total and a count, a plain item
+-- nothing
+abbrev pub part_texts : ItemKind → List Bytes
+part_texts (what.Plain e) = []
+part_texts what.Count = print_kind what.Count ∷ []
+part_texts (what.CountOf e) = print_kind (what.CountOf e) ∷ []
+part_texts (what.Sum e) = print_kind (what.Sum e) ∷ []
+part_texts (what.Min e) = print_kind (what.Min e) ∷ []
+part_texts (what.Max e) = print_kind (what.Max e) ∷ []
+part_texts (what.Avg e) = print_kind (what.Sum e) ∷ print_kind (what.CountOf e) ∷ []
+
+-- the items of the chunk query of rows or pairs: the items, the ids, and the order key where there is one
+abbrev pub row_texts : List Bytes → Query → List Bytes
+row_texts names q = item_texts names q q.items ++ (id_texts q.first q.second ++ order_texts q q.order)
+
+-- the items of the chunk query of a grouping: the keys, and then what each item gives
+abbrev pub group_texts : Query → List Bytes
+group_texts q = map print_col q.group ++ flat_map (λ i. part_texts i.what) (items_of q.items)
+
+-- the items of the chunk query of this shape
+abbrev pub chunk_texts : List Bytes → Query → Shape → List Bytes
+chunk_texts names q Rows = row_texts names q
+chunk_texts names q (Pairs limit) = row_texts names q
+chunk_texts names q (Groups keys) = group_texts q
+
+-- the tables of the chunk query: the chunk, or a subchunk and what is near it, each with the alias that the query has
+abbrev pub chunk_tables : TableRef → Option TableRef → Bytes
+chunk_tables first None = codes "Object_c" ++ print_alias first.alias
+chunk_tables first (Some second) =
+    codes "Object_c_s" ++ (print_alias first.alias ++ (codes ",Object_c_s_near" ++ print_alias second.alias))
+
+-- the chunk query, with the WHERE and the GROUP BY of the query
+unfoldable pub chunk_line : List Bytes → Query → Shape → Bytes
+chunk_line names q shape =
+    line (codes "chunk: SELECT " ++ (by_commas (chunk_texts names q shape) ++ (codes " FROM "
+    ++ (chunk_tables q.first q.second ++ (print_where q.cond ++ print_group q.group)))))

@@ -1,0 +1,12 @@
+pub mod Refusals
+pub mod RefusalLines
+pub mod Tables
+pub mod Blocks
+pub mod Transcripts
+pub mod ChunkLines
+pub mod MergeLines
+pub mod Explained
+pub mod Examples
+pub mod KeyedTexts
+pub mod Laws
+pub mod DemoExamples

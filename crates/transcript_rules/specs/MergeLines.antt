@@ -1,0 +1,126 @@
+-- The line that explains how the pieces of a query become its answer: the merge over the chunk query's columns, which
+-- are named c1, c2 and so on.
+use Rattle.std.specs.Prelude.{ℕ, ◌+◌, List, [], ◌∷◌, ◌++◌, map, length, Option, None, Some, unwrap_or, slice_get}
+use Rattle.std.specs.Prelude.{if◌then◌else◌, codes}
+use Rattle.std.specs.Fmt.{decimal, signed_decimal}
+use Rattle.std.specs.List.{range_with_len}
+use Rattle.sql_bound.specs.declared.expr.BoundAtom.TheFolds.{fold-BoundExpr}
+use Rattle.sql_bound.specs.declared.expr.BoundAtom.TheOpen.{BoundAtom-F, BoundExpr-F, BoundFactor-F}
+use Rattle.sql_bound.specs.declared.expr.BoundAtom.TheOpen.{BoundProd-F, BoundSigned-F}
+use Rattle.sql_bound.specs.declared.expr.BoundCol.{BoundCol}
+use Rattle.sql_bound.specs.declared.expr.BoundExpr.{BoundExpr}
+use Rattle.sql_bound.specs.declared.query.Shape.{Shape}
+use Rattle.sql_bound.specs.declared.query.Shape.TheVariants.{Rows, Pairs, Groups}
+use Rattle.sql_rules.specs.Printed.{print_limit}
+use Rattle.sql_rules.specs.PrintedExprs.{Bytes, text_if, behind_each, in_brackets}
+use Rattle.answer_rules.specs.Rewriting.{key_place}
+use Rattle.answer_rules.specs.declared.rewritten.MergeItem.{MergeItem}
+use Rattle.answer_rules.specs.declared.rewritten.MergeItem.TheVariants as merged
+use Rattle.answer_rules.specs.declared.rewritten.MergeKey.{MergeKey}
+use Rattle.answer_rules.specs.declared.rewritten.MergeKey.TheVariants.{ChunkKey, Item, Key}
+use Rattle.answer_rules.specs.declared.rewritten.MergeOrder.{MergeOrder}
+use Rattle.answer_rules.specs.declared.rewritten.MergePlan.{MergePlan}
+use Rattle.transcript_rules.specs.RefusalLines.{line}
+use Rattle.transcript_rules.specs.Tables.{by_commas}
+
+-- the name of the column at a place, from 0
+abbrev pub column_name : ℕ → Bytes
+column_name place = codes "c" ++ decimal (place + 1)
+
+-- ---- a plain item of a grouping
+
+-- an atom, of the text that it holds; a column is written as that of the first key that is the same
+abbrev pub key_atom : List BoundCol → BoundAtom-F Bytes Bytes Bytes Bytes Bytes → Bytes
+key_atom keys (BoundAtom-F.Int n) = signed_decimal n
+key_atom keys (BoundAtom-F.Col c) = column_name (key_place keys c)
+key_atom keys (BoundAtom-F.Bracket e) = in_brackets e
+
+-- a sum, of the texts of its parts
+abbrev pub sum_text : BoundExpr-F Bytes Bytes Bytes Bytes Bytes → Bytes
+sum_text e = e.first ++ behind_each [] e.rest
+
+-- a factor, of the text of its atom
+abbrev pub factor_text : BoundFactor-F Bytes Bytes Bytes Bytes Bytes → Bytes
+factor_text f = text_if f.minus (codes "-") ++ f.atom
+
+-- a product, of the texts of its factors
+abbrev pub product_text : BoundProd-F Bytes Bytes Bytes Bytes Bytes → Bytes
+product_text p = p.first ++ behind_each (codes "*") p.rest
+
+-- a further product of a sum, of its text
+abbrev pub signed_text : BoundSigned-F Bytes Bytes Bytes Bytes Bytes → Bytes
+signed_text s = (if s.minus then codes "-" else codes "+") ++ s.prod
+
+-- an expression over the keys of a group, printed with the columns of the keys
+unfoldable pub key_expr_text : List BoundCol → BoundExpr → Bytes
+key_expr_text keys =
+    fold-BoundExpr Bytes Bytes Bytes Bytes Bytes (key_atom keys) sum_text factor_text product_text signed_text
+
+-- ---- merged items
+
+-- a word and a column in brackets
+abbrev pub call : Bytes → ℕ → Bytes
+call word place = word ++ in_brackets (column_name place)
+
+-- the merged item of a grouping by these keys, whose columns stand before those of the aggregates
+abbrev pub merged_over : List BoundCol → MergeItem → Bytes
+merged_over keys (merged.Column n) = column_name n
+merged_over keys (merged.OfKeys e) = key_expr_text keys e
+merged_over keys (merged.Count n) = call (codes "SUM") (length keys + n)
+merged_over keys (merged.Sum n) = call (codes "SUM") (length keys + n)
+merged_over keys (merged.Min n) = call (codes "MIN") (length keys + n)
+merged_over keys (merged.Max n) = call (codes "MAX") (length keys + n)
+merged_over keys (merged.Avg n m) =
+    call (codes "SUM") (length keys + n) ++ (codes "/" ++ call (codes "SUM") (length keys + m))
+
+-- the keys of a grouping
+abbrev pub keys_of : Shape → List BoundCol
+keys_of Rows = []
+keys_of (Pairs limit) = []
+keys_of (Groups keys) = keys
+
+-- the merged items
+abbrev pub merged_texts : MergePlan → List Bytes
+merged_texts m = map (merged_over (keys_of m.shape)) m.items
+
+-- ---- GROUP BY and ORDER BY
+
+-- the names c1, c2 and so on of so many columns from a place on
+abbrev pub place_names : ℕ → ℕ → List Bytes
+place_names place count = map column_name (range_with_len place count)
+
+-- words and what follows them parted by commas, where anything does
+abbrev pub clause : Bytes → List Bytes → Bytes
+clause word [] = []
+clause word (text ∷ texts) = word ++ by_commas (text ∷ texts)
+
+-- how many ids stand behind the items of a chunk query
+abbrev pub id_count : Shape → ℕ
+id_count Rows = 1
+id_count (Pairs limit) = 2
+id_count (Groups keys) = 0
+
+-- what ties are ordered by: the ids behind the items of rows and pairs, and all keys of a grouping
+abbrev pub tie_names : MergePlan → Shape → List Bytes
+tie_names m Rows = place_names (length m.items) 1
+tie_names m (Pairs limit) = place_names (length m.items) 2
+tie_names m (Groups keys) = place_names 0 (length keys)
+
+-- the order key: the column behind the ids, a merged item, or a key's column
+abbrev pub order_key_text : MergePlan → MergeKey → Bytes
+order_key_text m ChunkKey = column_name (length m.items + id_count m.shape)
+order_key_text m (Item place) = unwrap_or (slice_get (merged_texts m) place) []
+order_key_text m (Key place) = column_name place
+
+-- the order key and its way, where there is one
+abbrev pub order_key_texts : MergePlan → Option MergeOrder → List Bytes
+order_key_texts m None = []
+order_key_texts m (Some o) = (order_key_text m o.key ++ text_if o.down (codes " DESC")) ∷ []
+
+-- the merge
+unfoldable pub merge_line : MergePlan → Bytes
+merge_line m =
+    line (codes "merge: SELECT " ++ (by_commas (merged_texts m) ++ (codes " FROM pieces"
+    ++ (clause (codes " GROUP BY ") (place_names 0 (length (keys_of m.shape)))
+    ++ (clause (codes " ORDER BY ") (order_key_texts m m.order ++ tie_names m m.shape)
+    ++ print_limit m.limit)))))

@@ -1,0 +1,59 @@
+-- The transcript of a script, and which ends fit it.
+use Rattle.std.specs.Prelude.{◌≡◌, ℕ, ◌+◌, Bool, true, false, List, [], ◌∷◌, map, Some, Result, Ok, Err}
+use Rattle.std.specs.List.{flat_map}
+use Rattle.std.specs.Option.{is_some}
+use Rattle.table_rules.specs.Objects.{Obj, Catalogue}
+use Rattle.sky_rules.specs.Partition.{Partition}
+use Rattle.sql_rules.specs.PrintedExprs.{Bytes}
+use Rattle.answer_rules.specs.Plans.{plan_of}
+use Rattle.session_script.specs.Scripts.{part_of, query_spans}
+use Rattle.session_script.specs.Views.{ScriptView}
+use Rattle.session_rules.specs.Ends.{Judged, fit}
+use Rattle.session_rules.specs.declared.end.EndKind.{EndKind}
+use Rattle.transcript_rules.specs.declared.refusal.Refusal.{Refusal}
+use Rattle.transcript_rules.specs.Refusals.{Understood, understood, early_refusal, total_refusal}
+use Rattle.transcript_rules.specs.Blocks.{block}
+
+-- the lines of a script's queries, in their order
+abbrev pub query_lines : ScriptView → List Bytes
+query_lines s = map (λ span. part_of s.text (Some span)) (query_spans s.steps)
+
+-- texts one behind the other
+abbrev pub joined : List Bytes → Bytes
+joined texts = flat_map (λ text. text) texts
+
+-- the blocks of queries that end so, of which the first has this number
+abbrev pub blocks_from : Partition → Catalogue → ℕ → List Bytes → List EndKind → List Bytes
+blocks_from g c k [] ends = []
+blocks_from g c k (text ∷ texts) [] = []
+blocks_from g c k (text ∷ texts) (end ∷ ends) = block g c k text end ∷ blocks_from g c (k + 1) texts ends
+
+-- the blocks of a script whose queries end so, numbered from 1
+abbrev pub blocks_of : Partition → Catalogue → ScriptView → List EndKind → List Bytes
+blocks_of g c s ends = blocks_from g c 1 (query_lines s) ends
+
+-- the transcript of a script whose queries end so, over a sky plan and a catalogue
+unfoldable pub transcript : Partition → Catalogue → ScriptView → List EndKind → Bytes
+transcript g c s ends = joined (blocks_of g c s ends)
+
+-- there are no such chunks
+abbrev pub is_none_of : List ℕ → Bool
+is_none_of [] = true
+is_none_of (c ∷ chunks) = false
+
+-- what is understood has a plan without chunks; what is not understood has no plan
+abbrev pub is_idle : Partition → List Obj → Result Understood Refusal → Bool
+is_idle g table (Ok u) = is_none_of (plan_of g table u.bound)
+is_idle g table (Err why) = true
+
+-- what holds of a query, however its session goes
+unfoldable pub judged_of : Partition → Catalogue → Bytes → Judged
+judged_of g c text = record {
+  early = is_some (early_refusal g c text);
+  total = is_some (total_refusal c text);
+  idle = is_idle g c.objects (understood c.names text);
+}
+
+-- the ends fit the script with so many workers, over a sky plan and a catalogue
+abbrev pub FitEnds : ℕ → Partition → Catalogue → ScriptView → List EndKind → Type 0
+FitEnds workers g c s ends = fit workers s.steps (map (judged_of g c) (query_lines s)) ends ≡ true

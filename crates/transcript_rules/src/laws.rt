@@ -1,0 +1,59 @@
+//! Laws of transcripts, as functions that do nothing: a caller has what they ensure.
+
+ghost use Rattle.transcript_rules.specs.KeyedTexts.{PlainItemsByKeys};
+ghost use Rattle.transcript_rules.specs.Laws.{AnsweredShowsItsTable, BlocksAreNumbered, BlocksInOrder, EarlyIsTold};
+ghost use Rattle.transcript_rules.specs.Laws.{AnsweredUnlessCancelledOrSpent, CancelledIsAskedFor};
+ghost use Rattle.transcript_rules.specs.Laws.{EqualQueriesAreAlike, ExplainedInOrder, OneBlockEach, OneExplainedEach};
+ghost use Rattle.transcript_rules.specs.Laws.{OneTextEach, RefusedHasItsReason, RefusedShowsNoRows};
+
+/// There is one block for each query, in the order of the script, and each begins with `query K`.
+#[tactic(auto, using(crate::proofs::Blocks::one_block_each, crate::proofs::Blocks::blocks_in_order, crate::proofs::Blocks::blocks_are_numbered))]
+pub fn one_block_each()
+    ensures each { OneBlockEach }
+    ensures order { BlocksInOrder }
+    ensures numbered { BlocksAreNumbered }
+{}
+
+/// Where the ends fit, a refused query shows no rows, and one that is refused before it is run shows its refusal.
+pub fn refused_show_no_rows()
+    ensures refused { RefusedShowsNoRows }
+    ensures early { EarlyIsTold }
+{}
+
+/// Where the ends fit, a query that ends answered has an answer over the flat table, and its block shows it.
+#[tactic(auto, using(crate::proofs::Shown::answered_shows_its_table))]
+pub fn answered_show_their_table()
+    ensures { AnsweredShowsItsTable }
+{}
+
+/// Where the ends fit, a query that ends refused has a reason, one that ends cancelled was cancelled by the script, and
+/// one for which neither holds ends answered, unless it wants for memory.
+pub fn ends_have_their_reasons()
+    ensures refused { RefusedHasItsReason }
+    ensures cancelled { CancelledIsAskedFor }
+    ensures answered { AnsweredUnlessCancelledOrSpent }
+{}
+
+/// However often a query stands in a script, its blocks are the same where its ends are, but for their numbers.
+pub fn equal_queries_are_alike()
+    ensures { EqualQueriesAreAlike }
+{}
+
+/// A script is explained by one block for each query, in its order.
+#[tactic(auto, using(crate::proofs::Blocks::one_explained_each, crate::proofs::Blocks::explained_in_order))]
+pub fn explained_in_order()
+    ensures each { OneExplainedEach }
+    ensures order { ExplainedInOrder }
+{}
+
+/// A chunk query is printed with one text for each of its columns, so that `cK` names the one at place K.
+#[tactic(auto, using(crate::proofs::Texts::one_text_each))]
+pub fn one_text_each()
+    ensures { OneTextEach }
+{}
+
+/// In a merge a plain item of a grouping stands as it is printed, with each column written as that of its key.
+#[tactic(auto, using(crate::proofs::KeyedItems::plain_items_by_keys))]
+pub fn plain_items_by_keys()
+    ensures { PlainItemsByKeys }
+{}

@@ -1,0 +1,20 @@
+//! What is written for a script: the refusal of a query, the block of each query in a transcript, and its block in an
+//! explain text.
+//!
+//! Callers see a refusal as the first that applies (`specs/Refusals.antt`), and a transcript as a text over the flat
+//! table (`specs/Transcripts.antt`).
+//! Below: `sql_rules`, `bind_rules` and `answer_rules` for a query's tree, meaning and answer, `session_rules` for how
+//! queries may end. Above: the printers of blocks, the czar and the top call.
+//! No algorithm: a type that more than one crate names, definitions, worked examples and laws.
+#![tactic(auto)]
+
+pub mod demo_examples;
+pub mod explain_examples;
+pub mod group_examples;
+pub mod laws;
+pub mod refusal;
+pub mod refusal_examples;
+pub mod row_examples;
+pub mod session_examples;
+
+pub use refusal::Refusal;
