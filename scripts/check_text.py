@@ -8,8 +8,10 @@ It prints each finding, or 'check_text: ok', and writes nothing. It looks for:
 - a path of one machine;
 - an .rt or .antt file outside of a crate's src/, specs/ and proofs/;
 - a clause of more than 100 columns;
-- a must-fail edit that docs/PROOFS.md doesn't name beside a claim.
+- a must-fail edit that docs/PROOFS.md doesn't name in as many rows as there are crates with that edit;
+- a wrong body that a row of docs/PROOFS.md names and no crate has.
 """
+import collections
 import os
 import re
 import subprocess
@@ -43,20 +45,32 @@ def findings(name, lines):
             yield f"has a clause of {len(line)} columns", number, line
 
 
-def unnamed_edits(listed):
-    """The must-fail edits that the table of claims doesn't name."""
+def claimed_edits():
+    """The wrong bodies that the rows of the table of claims name: those in the cell before the last."""
     with open("docs/PROOFS.md", encoding="utf-8") as file:
-        claims = file.read()
+        rows = [line.strip("| \n").split(" | ") for line in file if line.startswith("| ")]
+    cells = [row[3] for row in rows if len(row) == 5]
+    return collections.Counter(name for cell in cells for name in set(re.findall(r"`([a-z0-9_]+)`", cell)))
+
+
+def edit_findings(listed):
+    """Where the must-fail edits and the table of claims disagree."""
     edits = [name for name in listed if "/must-fail/" in name]
-    return [name for name in edits if f"`{os.path.basename(name)[: -len('.edit')]}`" not in claims]
+    there = collections.Counter(os.path.basename(name)[: -len(".edit")] for name in edits)
+    claimed = claimed_edits()
+    for name in sorted(there.keys() | claimed.keys()):
+        if claimed[name] < there[name]:
+            yield f"{name}: docs/PROOFS.md names this wrong body in {claimed[name]} rows, {there[name]} crates have it"
+        if there[name] == 0:
+            yield f"{name}: docs/PROOFS.md names this wrong body, and no crate has it"
 
 
 def main():
     os.chdir(os.path.join(os.path.dirname(os.path.abspath(__file__)), ".."))
     count = 0
     listed = names()
-    for name in unnamed_edits(listed):
-        print(f"{name}: docs/PROOFS.md doesn't name it")
+    for finding in edit_findings(listed):
+        print(finding)
         count += 1
     for name in listed:
         if name.endswith((".rt", ".antt")) and not CRATE.match(name):

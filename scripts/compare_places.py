@@ -1,18 +1,21 @@
 #!/usr/bin/env python3
-"""Compares the built program's chunks and overlaps with those of a plain test of every region.
+"""Compares the places that the built program finds with those of a plain test of every region.
 
-    scripts/compare_places.py FOLDER [--program FILE] [--positions N] [--seed SEED] [--list N]
+    scripts/compare_places.py FOLDER [--program FILE] [--positions N] [--seed SEED]
 
-It makes positions on and beside wedge planes, stripe borders, substripe borders and the axis, for several counts of
-chunks and grids of subchunks. The chunk of each, and the other chunks that it is near, are found here by testing every
-region of its sky, with products alone and no division. The program then reports by `load` on catalogues in FOLDER (made
-where it isn't there), of a few positions each, and of one more inside each of the first chunks that they are near, since
-a report names only chunks that hold a row. It prints a line for each sky, and fails at the first report that differs.
+For each of ten skies it draws N positions (10,000) on and beside sides, borders of stripes and substripes, the axis and
+the poles, and at exactly the overlap radius of a side or a border. The program `place_judge` tells the chunk of each, its
+subchunk and the other chunks that it is near. Here the same is found from the text of the sky, in whole numbers: every
+chunk is tested, and every row and column of the one that holds the position, by heights and by the half planes of a table
+of directions. No division finds a wedge or a row.
 
-With --list N it runs no program: for N positions of each sky it prints the chunk, the subchunk and the other chunks
-whose near region holds the position, each found by testing every region.
+FILE is the built program, by default crates/place_judge/out/place_judge, where `rt run` in its crate leaves it. The texts
+`sky` and `positions` are written in FOLDER, which is made where it isn't there. It prints a line for each sky, and before
+it the first lines that differ. The status is 0 where none differs, and 1 else.
 """
 import argparse
+import functools
+import itertools
 import math
 import os
 import random
@@ -21,18 +24,42 @@ import sys
 
 HERE = os.path.dirname(os.path.abspath(__file__))
 RADIUS = 1 << 28
-MARGIN = 16
-BOTTOM, END = -(RADIUS + MARGIN), RADIUS + MARGIN + 1
-# chunks, columns and rows of each stripe; the number of stripes; their overlap
+# the length of a position is within these
+LEAST, MOST = RADIUS - 16, RADIUS + 16
+BOTTOM, END = -MOST, MOST + 1
+# how many lines that differ are printed for a sky
+SHOWN = 5
+
+
+def even(chunks, columns, rows, stripes, overlap):
+    """The text of a sky of stripes of one height, each with as many chunks."""
+    lows = [BOTTOM + i * ((END - BOTTOM) // stripes) for i in range(stripes)]
+    return f"overlap {overlap}\n" + "".join(f"stripe {low} {chunks} {columns} {rows}\n" for low in lows)
+
+
+# a stripe of one chunk between two of many, stripes no higher than their overlap, and overlaps of several sizes
+UNEVEN = """version 2
+stripe -268435472 64 2 3 300000
+stripe -268000000 1 3 2 16777216
+stripe -200000000 5 1 1 16777216
+stripe -100000000 3 2 64 2000000
+stripe -20000000 4 1 1 5000
+stripe -19999936 1024 1 1 0
+stripe 30000000 1 1 1 4000000
+stripe 200000000 7 1 2 16777216
+stripe 268435000 300 1 1 1000000
+"""
 SKIES = [
-    (1, 3, 4, 64, 5),
-    (3, 1, 1, 64, 0),
-    (4, 2, 2, 64, 1000),
-    (5, 7, 3, 64, 65536),
-    (7, 64, 64, 64, 3),
-    (16, 8, 8, 64, 1000),
-    (1023, 3, 5, 16, 65536),
-    (1024, 64, 2, 16, 1),
+    even(1, 3, 4, 64, 5),
+    even(3, 1, 1, 64, 0),
+    even(4, 2, 2, 64, 1000),
+    even(5, 7, 3, 64, 65536),
+    even(7, 64, 64, 64, 3),
+    even(16, 8, 8, 64, 1000),
+    even(1023, 3, 5, 16, 65536),
+    even(1024, 64, 2, 16, 1),
+    even(64, 2, 2, 4, 1 << 24),
+    UNEVEN,
 ]
 
 
@@ -50,87 +77,107 @@ def heading(n, k):
     return n, s - 8 * n
 
 
+@functools.cache
+def sides(n):
+    """The table of directions of n wedges: where each begins, and where the last one ends."""
+    return [heading(n, k) for k in range(n + 1)]
+
+
+@functools.cache
+def whole_sides(n):
+    """Those of a whole length: there are positions at exactly a radius from their lines."""
+    return [d for d in sides(n) if math.isqrt(d[0] ** 2 + d[1] ** 2) ** 2 == d[0] ** 2 + d[1] ** 2]
+
+
 def past(d, p):
     """The plane product of a direction and a position."""
     return d[0] * p[1] - d[1] * p[0]
 
 
 def is_admissible(p):
-    return (RADIUS - MARGIN) ** 2 <= p[0] ** 2 + p[1] ** 2 + p[2] ** 2 <= (RADIUS + MARGIN) ** 2
+    return LEAST**2 <= p[0] ** 2 + p[1] ** 2 + p[2] ** 2 <= MOST**2
+
+
+def holding(n, start, end, p):
+    """The wedges of n, from one up to and without another, that hold the position: it is at or past their first side and
+    short of their second. The axis is in wedge 0, and a wedge that goes all round holds everything."""
+    if n == 1:
+        return [0]
+    if p[0] == 0 and p[1] == 0:
+        return [0] if start == 0 else []
+    products = [past(d, p) for d in sides(n)[start : end + 1]]
+    return [start + k for k in range(end - start) if products[k] >= 0 and products[k + 1] < 0]
+
+
+def near(n, radius, p):
+    """The wedges of n that the position is near: past or near their first side, and short of or near their second."""
+    if n == 1:
+        return [0]
+    products = [past(d, p) for d in sides(n)]
+    is_by = [
+        product * product <= (d[0] * d[0] + d[1] * d[1]) * radius * radius for d, product in zip(sides(n), products)
+    ]
+    return [k for k in range(n) if (products[k] >= 0 or is_by[k]) and (products[k + 1] < 0 or is_by[k + 1])]
+
+
+class Stripe:
+    """A stripe from its lowest z up to and without its end; its first chunk has the number `first`."""
+
+    def __init__(self, numbers, end, first):
+        self.low, self.chunks, self.columns, self.rows, self.overlap = numbers
+        self.end, self.first = end, first
+        self.fine = self.chunks * self.columns
+        self.row_starts = [self.low + t * (end - self.low) // self.rows for t in range(self.rows + 1)]
 
 
 class Sky:
-    """Stripes of one height, each with as many chunks."""
+    """A sky plan, read from its text."""
 
-    def __init__(self, chunks, columns, rows, stripes, overlap):
-        self.chunks, self.columns, self.rows, self.overlap = chunks, columns, rows, overlap
-        self.bounds = [BOTTOM + i * ((END - BOTTOM) // stripes) for i in range(stripes)] + [END]
-        self.planes = [heading(chunks, k) for k in range(chunks + 1)]
-        self.fine = [heading(chunks * columns, k) for k in range(chunks * columns + 1)]
+    def __init__(self, text):
+        self.text = text
+        head, *lines = text.splitlines()
+        common = [] if head == "version 2" else [int(head.split()[1])]
+        numbers = [[int(word) for word in line.split()[1:]] + common for line in lines]
+        ends = [stripe[0] for stripe in numbers[1:]] + [END]
+        self.stripes, self.count = [], 0
+        for stripe, end in zip(numbers, ends):
+            self.stripes.append(Stripe(stripe, end, self.count))
+            self.count += stripe[1]
 
-    def text(self):
-        words = f"{self.chunks} {self.columns} {self.rows}"
-        return f"overlap {self.overlap}\n" + "".join(f"stripe {low} {words}\n" for low in self.bounds[:-1])
-
-    def row_bounds(self, stripe):
-        low, height = self.bounds[stripe], self.bounds[stripe + 1] - self.bounds[stripe]
-        return [low + t * height // self.rows for t in range(self.rows + 1)]
-
-    @staticmethod
-    def in_wedge(planes, k, p):
-        """The wedge holds the position: at or past its first plane and short of its second; the axis is in wedge 0."""
-        if len(planes) == 2:
-            return True
-        if p[0] == 0 and p[1] == 0:
-            return k == 0
-        return past(planes[k], p) >= 0 and past(planes[k + 1], p) < 0
-
-    def chunk(self, p):
-        """The stripe and the wedge that hold the position, by testing each."""
+    def own(self, p):
+        """The stripe and the wedge of the chunk that holds the position, by testing each."""
         return only(
             (stripe, wedge)
-            for stripe in range(len(self.bounds) - 1)
-            if self.bounds[stripe] <= p[2] < self.bounds[stripe + 1]
-            for wedge in range(self.chunks)
-            if self.in_wedge(self.planes, wedge, p)
+            for stripe in self.stripes
+            if stripe.low <= p[2] < stripe.end
+            for wedge in holding(stripe.chunks, 0, stripe.chunks, p)
         )
-
-    def sub(self, stripe, wedge, p):
-        """The subchunk of the chunk that holds the position, by testing each."""
-        lows = self.row_bounds(stripe)
-        return only(
-            row * self.columns + column
-            for row in range(self.rows)
-            if lows[row] <= p[2] < lows[row + 1]
-            for column in range(self.columns)
-            if self.in_wedge(self.fine, wedge * self.columns + column, p)
-        )
-
-    def is_near(self, wedge, p):
-        """The near region of the wedge holds the position, where its height is near."""
-        if self.chunks == 1:
-            return True
-        first, second = self.planes[wedge], self.planes[wedge + 1]
-        return (past(first, p) >= 0 or self.is_by(first, p)) and (past(second, p) < 0 or self.is_by(second, p))
-
-    def is_by(self, d, p):
-        return past(d, p) ** 2 <= (d[0] ** 2 + d[1] ** 2) * self.overlap**2
 
     def near(self, p):
-        """The other chunks that the position is near, by testing each."""
-        home, r = self.chunk(p), self.overlap
+        """The chunks whose near region holds the position, by testing each."""
         return [
-            stripe * self.chunks + wedge
-            for stripe in range(len(self.bounds) - 1)
-            if self.bounds[stripe] - r <= p[2] <= self.bounds[stripe + 1] - 1 + r
-            for wedge in range(self.chunks)
-            if (stripe, wedge) != home and self.is_near(wedge, p)
+            stripe.first + wedge
+            for stripe in self.stripes
+            if stripe.low - stripe.overlap <= p[2] <= stripe.end - 1 + stripe.overlap
+            for wedge in near(stripe.chunks, stripe.overlap, p)
         ]
 
-    def inside(self, stripe, wedge):
-        """A position from the inside of the chunk."""
-        z = (self.bounds[stripe] + self.bounds[stripe + 1]) // 2
-        return at_height(heading(2 * self.chunks, 2 * wedge + 1), z, 0, 0)
+    def place(self, p):
+        """The chunk that holds the position, its subchunk that does, and the other chunks that it is near."""
+        stripe, wedge = self.own(p)
+        chunk = stripe.first + wedge
+        return chunk, sub(stripe, wedge, p), [other for other in self.near(p) if other != chunk]
+
+
+def sub(stripe, wedge, p):
+    """The subchunk that holds the position, by testing each row and each column of the chunk."""
+    first = wedge * stripe.columns
+    return only(
+        row * stripe.columns + fine - first
+        for row in range(stripe.rows)
+        if stripe.row_starts[row] <= p[2] < stripe.row_starts[row + 1]
+        for fine in holding(stripe.fine, first, first + stripe.columns, p)
+    )
 
 
 def only(found):
@@ -141,121 +188,109 @@ def only(found):
 
 def at_height(d, z, right, up):
     """The position of this height in this direction, a few units aside."""
-    flat = math.sqrt(max(0, RADIUS * RADIUS - z * z))
-    length = math.hypot(*d)
-    return round(flat * d[0] / length) + right, round(flat * d[1] / length) + up, z
+    flat, length = max(0, RADIUS * RADIUS - z * z), d[0] ** 2 + d[1] ** 2
+    x, y = (math.isqrt(flat * part * part // length) for part in d)
+    return (x if d[0] >= 0 else -x) + right, (y if d[1] >= 0 else -y) + up, z
 
 
-def on_plane(draw, d):
-    """A position exactly on the plane of a direction."""
+def by_line(draw, d, radius, z):
+    """A position of about this height, before or behind the axis, that is on the line of a direction, next to it, or as far
+    from it as the radius: exactly, where its steps allow that, and else the last within and the first beyond."""
     step = math.gcd(*d)
-    d = (d[0] // step, d[1] // step)
-    length = d[0] ** 2 + d[1] ** 2
-    times = draw.randint(0, math.isqrt(RADIUS * RADIUS // length))
-    z = math.isqrt(RADIUS * RADIUS - times * times * length)
-    return times * d[0], times * d[1], draw.choice((-z, z))
+    a, b = d[0] // step, d[1] // step
+    reach = math.isqrt((a * a + b * b) * radius * radius)
+    product = draw.choice((-1, 1)) * draw.choice((0, 0, 1, reach, reach, reach + 1))
+    # a position with this product, and from there whole steps of the direction
+    y = product * pow(a, -1, abs(b)) % abs(b) if b else product * a
+    x = (a * y - product) // b if b else 0
+    flat = max(0, RADIUS * RADIUS - z * z - radius * radius)
+    steps = draw.choice((-1, 1)) * math.isqrt(flat // (a * a + b * b)) - (a * x + b * y) // (a * a + b * b)
+    x, y = x + steps * a, y + steps * b
+    high = math.isqrt(max(0, RADIUS * RADIUS - x * x - y * y))
+    return x, y, high if z > 0 else -high
 
 
-def height(draw, sky):
-    """A height on or beside a border of a stripe or a substripe, or any."""
-    stripe = draw.randrange(len(sky.bounds) - 1)
-    low = draw.choice(sky.row_bounds(stripe)) if draw.random() < 0.5 else sky.bounds[stripe]
-    anywhere = draw.randint(-RADIUS, RADIUS)
-    return draw.choice((low - 1, low, low + 1, low + draw.randint(-sky.overlap - 1, sky.overlap + 1), anywhere))
+def beside_axis(draw, radius):
+    """A position that is about as far from the axis as the radius, or nearer."""
+    x, y = draw.randint(-radius - 2, radius + 2), draw.randint(-radius - 2, radius + 2)
+    return x, y, draw.choice((-1, 1)) * math.isqrt(RADIUS * RADIUS - x * x - y * y)
+
+
+def height(draw, sky, stripe):
+    """A height at a border of the stripe or of a substripe, on it, beside it or as far as some overlap radius; or any."""
+    if draw.random() < 0.15:
+        return draw.randint(-RADIUS, RADIUS)
+    start = draw.choice(stripe.row_starts) if draw.random() < 0.5 else stripe.low
+    radius = draw.choice((stripe, draw.choice(sky.stripes))).overlap
+    return start + draw.choice((-1, 0, 1, -radius - 1, -radius, radius - 1, radius))
 
 
 def position(draw, sky):
-    """An admissible position on or beside a plane, a border or the axis."""
+    """An admissible position on or beside a side, a border, the axis or a pole."""
     while True:
-        d = draw.choice(sky.planes) if draw.random() < 0.7 else draw.choice(sky.fine)
+        stripe = draw.choice(sky.stripes)
+        n = stripe.chunks if draw.random() < 0.6 else stripe.fine
+        d = draw.choice(sides(n) if draw.random() < 0.7 else whole_sides(n))
+        z = height(draw, sky, stripe)
         kind = draw.random()
         if kind < 0.02:
-            p = (0, 0, draw.choice((-1, 1)) * (RADIUS + draw.randint(-MARGIN, MARGIN)))
-        elif kind < 0.04:
-            p = (draw.randint(-2, 2), draw.randint(-2, 2), draw.choice((-1, 1)) * RADIUS)
-        elif kind < 0.4:
-            p = on_plane(draw, d)
+            p = (0, 0, draw.choice((-1, 1)) * draw.randint(LEAST, MOST))
+        elif kind < 0.1:
+            p = beside_axis(draw, draw.choice((0, stripe.overlap)))
+        elif kind < 0.55:
+            p = by_line(draw, d, stripe.overlap, z)
         else:
-            p = at_height(d, height(draw, sky), draw.randint(-3, 3), draw.randint(-3, 3))
+            p = at_height(d, z, draw.randint(-3, 3), draw.randint(-3, 3))
         if is_admissible(p):
             return p
 
 
-BATCH = 25
-WITNESSES = 6
-
-
-def report(sky, rows):
-    """The load report of these rows."""
-    held, beside = {}, {}
-    for p in rows:
-        stripe, wedge = sky.chunk(p)
-        home = stripe * sky.chunks + wedge
-        held[home] = held.get(home, 0) + 1
-        for chunk in sky.near(p):
-            beside[chunk] = beside.get(chunk, 0) + 1
-    lines = [f"chunk {c}: {held[c]} rows, {beside.get(c, 0)} overlap\n" for c in sorted(held)]
-    count = (len(sky.bounds) - 1) * sky.chunks
-    return f"{len(rows)} rows, {len(held)} of {count} chunks\n" + "".join(lines)
-
-
-def told(program, folder, rows):
-    """The program's load report of these rows."""
-    with open(os.path.join(folder, "csv"), "w") as file:
-        file.write("objectId,x,y,z\n" + "".join(f"{i},{x},{y},{z}\n" for i, (x, y, z) in enumerate(rows)))
-    ended = subprocess.run([program, "load", "sky", "csv"], cwd=folder, capture_output=True, text=True, check=True)
-    return ended.stdout
-
-
-def with_witnesses(sky, batch):
-    """These positions, and one inside each of the first chunks that each is near."""
-    rows = list(batch)
-    for p in batch:
-        rows += [sky.inside(*divmod(chunk, sky.chunks)) for chunk in sky.near(p)[:WITNESSES]]
-    return rows
+def told(program, folder, sky, positions):
+    """The lines that the program writes for the positions."""
+    with open(os.path.join(folder, "sky"), "w") as file:
+        file.write(sky.text)
+    with open(os.path.join(folder, "positions"), "w") as file:
+        file.writelines(f"{x} {y} {z}\n" for x, y, z in positions)
+    ended = subprocess.run([program, "sky", "positions"], cwd=folder, capture_output=True, text=True, check=True)
+    return ended.stdout.splitlines()
 
 
 def compare(program, folder, sky, positions):
-    with open(os.path.join(folder, "sky"), "w") as file:
-        file.write(sky.text())
-    for start in range(0, len(positions), BATCH):
-        rows = with_witnesses(sky, positions[start : start + BATCH])
-        if told(program, folder, rows) != report(sky, rows):
-            sys.exit(f"the report on {folder} differs from that of testing every region")
+    """How many positions have another line than is found here."""
+    others, differing = 0, 0
+    for p, line in itertools.zip_longest(positions, told(program, folder, sky, positions)):
+        wanted = None
+        if p is not None:
+            chunk, subchunk, chunks = sky.place(p)
+            wanted = " ".join(map(str, ["chunk", chunk, "sub", subchunk, "near", *chunks]))
+            others += len(chunks)
+        if line != wanted:
+            differing += 1
+            if differing <= SHOWN:
+                print(f"{p}: {line}\n  wanted: {wanted}")
     print(
-        f"{sky.chunks} chunks of {sky.columns} columns and {sky.rows} rows in {len(sky.bounds) - 1} stripes: "
-        f"{len(positions)} positions",
+        f"{sky.count} chunks in {len(sky.stripes)} stripes: {len(positions)} positions, near {others} other chunks in all,"
+        f" {differing} differ",
         flush=True,
     )
-
-
-def show(sky, positions):
-    print(sky.text().split("\n")[0], f"and {len(sky.bounds) - 1} stripes {sky.chunks} {sky.columns} {sky.rows}")
-    for p in positions:
-        stripe, wedge = sky.chunk(p)
-        near = " ".join(map(str, sky.near(p)))
-        print(*p, "chunk", stripe * sky.chunks + wedge, "sub", sky.sub(stripe, wedge, p), "near", near)
+    return differing
 
 
 def main():
     parser = argparse.ArgumentParser(description=__doc__, formatter_class=argparse.RawDescriptionHelpFormatter)
     parser.add_argument("folder")
-    parser.add_argument("--program", default=os.path.join(HERE, "..", ".qserv", "qserv"))
-    parser.add_argument("--positions", type=int, default=100_000)
+    parser.add_argument("--program", default=os.path.join(HERE, "..", "crates", "place_judge", "out", "place_judge"))
+    parser.add_argument("--positions", type=int, default=10_000)
     parser.add_argument("--seed", type=int, default=1)
-    parser.add_argument("--list", type=int, default=0)
     words = parser.parse_args()
     draw = random.Random(words.seed)
-    skies = [Sky(*parts) for parts in SKIES]
-    if words.list:
-        for sky in skies:
-            show(sky, [position(draw, sky) for _ in range(words.list)])
-        return
     program = os.path.abspath(words.program)
     os.makedirs(words.folder, exist_ok=True)
-    for sky in skies:
-        compare(program, words.folder, sky, [position(draw, sky) for _ in range(words.positions // len(skies))])
+    differing = 0
+    for sky in map(Sky, SKIES):
+        differing += compare(program, words.folder, sky, [position(draw, sky) for _ in range(words.positions)])
+    return 1 if differing else 0
 
 
 if __name__ == "__main__":
-    main()
+    sys.exit(main())

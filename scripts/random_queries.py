@@ -1,13 +1,17 @@
 #!/usr/bin/env python3
-"""Compares the program's reader of SQL with a second one, on random texts.
+"""Compares the program's reader and printer of SQL with second ones, on random texts.
 
 A generator writes queries from the grammar, and of each a second text with one token changed. A reader of its own,
 recursive descent straight from the grammar, says of each text whether it is a query, or which fault is the first.
 The program `query_judge` says the same of the same texts, a line each. Texts on which the two differ are printed.
 
+Then `query_judge print` prints each query back. A printer of its own, which goes from word to word by the rules of the
+printed form, says what is wanted. What was printed is judged and printed again: it has to be a query, with the same
+printed text.
+
 usage: random_queries.py PROGRAM [--count N] [--seed N]
 
-PROGRAM is the built program, crates/query_judge/out/query_judge after `rt run query_judge`. Nothing is written but
+PROGRAM is the built program, crates/query_judge/out/query_judge after `rt run` in `crates/query_judge`. Nothing is written but
 lines on standard output. The status is 0 where no text differs, and 1 else.
 """
 
@@ -43,7 +47,8 @@ class Writer:
         return self.rand.choice(["x", "y", "ra_ps", "flux", "Object", "objectId", "_q1", "a", "b", "selects", "min_x"])
 
     def int(self):
-        return str(self.rand.choice([0, 1, 7, 42, 1000, LARGEST, self.rand.randrange(10**12)]))
+        digits = str(self.rand.choice([0, 0, 1, 7, 42, 1000, LARGEST, self.rand.randrange(10**12)]))
+        return "0" * self.rand.randrange(1, 25) + digits if self.chance(0.1) else digits
 
     def several(self, part, lead, least=1, most=3):
         words = part()
@@ -150,16 +155,22 @@ class Writer:
             words[at], words[at + 1] = words[at + 1], words[at]
         return words
 
+    def blanks(self):
+        return " " if self.chance(0.8) else "".join(self.rand.choice(" \t\r") for _ in range(self.rand.randrange(1, 4)))
+
+    def cased(self, word):
+        mixed = "".join(self.rand.choice([letter, letter.lower()]) for letter in word)
+        return self.rand.choice([word, word.lower(), word.capitalize(), mixed])
+
     def text(self, words):
         """The words as a text: keywords in any case, and blanks where two words would run into one, or at will."""
-        text = ""
+        text = self.blanks() if self.chance(0.05) else ""
         for word in words:
-            if word in KEYWORDS:
-                word = self.rand.choice([word, word.lower(), word.capitalize()])
+            word = self.cased(word) if word in KEYWORDS else word
             runs = text and re.match(r"\w", word) and re.search(r"\w$", text)
             joins = text and (text[-1:] + word[:1]) in ("<=", ">=", "<>", "!=")
-            text += (" " if runs or joins or self.chance(0.3) else "") + word
-        return text
+            text += (self.blanks() if runs or joins or self.chance(0.3) else "") + word
+        return text + (self.blanks() if self.chance(0.05) else "")
 
 
 # ---- the reader
@@ -289,6 +300,47 @@ def judged(text):
     return "query" if len(kinds) in Reader(kinds).rule("query", 0) else "not a query"
 
 
+# ---- the printer: the rules of the printed form, from word to word
+
+SPACED = set("SELECT FROM WHERE GROUP BY ORDER DESC LIMIT AS AND OR NOT BETWEEN IN IS NULL".split())
+SMALL = {"CHORD2", "AREA_BAND", "AREA_CAP", "AREA_BOX"}
+
+
+def words_of(text):
+    """The words of a query as they are printed, each with whether it is a keyword that has spaces around it."""
+    behind_from, in_ints, minus = False, False, False
+    for match in TOKEN.finditer(text):
+        word, digits, sign = match.groups()
+        upper = (word or "").upper()
+        behind_from = behind_from or upper == "FROM"
+        in_ints = (in_ints or upper == "IN" or upper in AREAS) and sign != ")"
+        if upper == "ASC" or sign == ";" or (upper == "AS" and behind_from):
+            continue
+        if sign == "-" and in_ints:
+            minus = True
+        elif digits:
+            if minus and int(digits):
+                yield "-", False
+            minus = False
+            yield str(int(digits)), False
+        elif sign:
+            yield ("<>" if sign == "!=" else sign), False
+        elif upper in SMALL:
+            yield upper.lower(), False
+        else:
+            yield (upper if upper in KEYWORDS else word), upper in SPACED
+
+
+def printed(text):
+    """The printed text of a query."""
+    out, last, spaced = "", "", False
+    for word, spaces in words_of(text):
+        beside = spaces or spaced or (re.match(r"\w", word) and re.search(r"\w$", last))
+        out += (" " if out and beside and last != "(" and word != ")" else "") + word
+        last, spaced = word, spaces
+    return out
+
+
 # ---- the limits, which random texts do not reach
 
 def limits():
@@ -299,6 +351,24 @@ def limits():
     for end in ("", ";"):
         yield "SELECT x" + ",x" * 1021 + " FROM Object LIMIT 0" + end
     yield ")" * 5 + "(" * 33
+
+
+def answers_of(program, words, texts):
+    """What the program says of the texts."""
+    given = "\n".join(texts) + "\n"
+    done = subprocess.run([program] + words, input=given.encode(), capture_output=True, check=True)
+    answers = done.stdout.decode().split("\n")[:-1]
+    if len(answers) != len(texts):
+        sys.exit(f"{len(texts)} texts and {len(answers)} answers")
+    return answers
+
+
+def differ(texts, wants, answers):
+    """Tells where what was answered isn't what is wanted, and counts it."""
+    apart = [row for row in zip(texts, wants, answers) if row[1] != row[2]]
+    for text, want, answer in apart[:20]:
+        print(f"{text!r}\n  wanted: {want}\n  answered: {answer}")
+    return len(apart)
 
 
 def main():
@@ -313,18 +383,20 @@ def main():
         query = writer.query()
         texts += [writer.text(query), writer.text(writer.changed(query))]
     texts = [text for text in texts if len(text) <= 16384]
-    done = subprocess.run([given.program], input="\n".join(texts) + "\n", capture_output=True, text=True, check=True)
-    answers = done.stdout.split("\n")[:-1]
-    if len(answers) != len(texts):
-        sys.exit(f"{len(texts)} texts and {len(answers)} answers")
-    wants = [judged(text) for text in texts]
-    apart = [row for row in zip(texts, wants, answers) if row[1] != row[2]]
-    for text, want, answer in apart[:20]:
-        print(f"{text}\n  wanted: {want}\n  answered: {answer}")
-    counts = collections.Counter(re.sub(r" \d+$", "", want) for want in wants)
+    verdicts = [judged(text) for text in texts]
+    apart = differ(texts, verdicts, answers_of(given.program, [], texts))
+    counts = collections.Counter(re.sub(r" \d+$", "", verdict) for verdict in verdicts)
     told = ", ".join(f"{count} {kind}" for kind, count in counts.most_common())
-    print(f"{len(texts)} texts: {told}; {len(apart)} differ")
-    return 1 if apart else 0
+    print(f"{len(texts)} texts: {told}; {apart} differ")
+
+    wants = [printed(text) if verdict == "query" else verdict for text, verdict in zip(texts, verdicts)]
+    answers = answers_of(given.program, ["print"], texts)
+    apart_printed = differ(texts, wants, answers)
+    back = [answer for answer, verdict in zip(answers, verdicts) if verdict == "query"]
+    apart_again = differ(back, ["query"] * len(back), answers_of(given.program, [], back))
+    apart_again += differ(back, back, answers_of(given.program, ["print"], back))
+    print(f"{len(back)} queries printed: {apart_printed} differ; read and printed again: {apart_again} differ")
+    return 1 if apart or apart_printed or apart_again else 0
 
 
 if __name__ == "__main__":
