@@ -1,11 +1,16 @@
 #!/usr/bin/env python3
 """Measures the built program over catalogues of growing size and skies of more and more chunks.
 
-    bench/run.py FOLDER [--program FILE] [--rows N ..] [--chunks N ..] [--order ascending|random]
+    bench/run.py FOLDER [--growth] [--program FILE] [--rows N ..] [--chunks N ..] [--order ascending|random]
 
 Writes its inputs into FOLDER (made where it isn't there; files that are there already are used again), runs the
 program over each, and prints a line for each run: rows, chunks, bytes, seconds (the least of three), and the most
 memory held at once. Each run's answer is compared with one computed here from the flat list.
+
+With --growth each run is a `load`, which reads the catalogue, builds the store and reports. Beside it stands a run that
+only reads the catalogue: a `query` whose script is missing, which ends when it asks for the script, before a store is
+built. Seconds are then user time, which says more than wall time on a machine that is busy; the last column is what
+the store costs for a million rows.
 """
 import argparse
 import bisect
@@ -28,6 +33,8 @@ def write(path, text):
 SKIES = {8: (2, 4, 2, 2), 256: (4, 64, 8, 8), 16384: (16, 1024, 8, 8)}
 # about an arc minute
 OVERLAP = 78_000
+# a script that isn't there, and the program's status for a text that cannot be read
+MISSING, CANNOT_BE_READ = "no_script.sql", 7
 
 
 def lows(stripes):
@@ -66,45 +73,85 @@ def wedge_of(planes, angles, x, y):
     return 0
 
 
-def expected(path, chunks):
-    """The transcript of one query, from the flat list of rows."""
+def rows_of(path, chunks):
+    """Each row's id and z, and its stripe and wedge, from the flat list."""
     stripes, wedges, _, _ = SKIES[chunks]
     bounds = lows(stripes)
     planes = [heading(wedges, k) for k in range(wedges + 1)]
     angles = [math.atan2(dy, dx) % (2 * math.pi) for dx, dy in planes[:-1]]
-    answer, filled = [], set()
     with open(path) as file:
         next(file)
         for line in file:
             objectid, x, y, z = map(int, line.split(","))
-            if LOW <= z <= HIGH:
-                answer.append(objectid)
-            filled.add((bisect.bisect_right(bounds, z), wedge_of(planes, angles, x, y)))
+            yield objectid, z, (bisect.bisect_right(bounds, z) - 1) * wedges + wedge_of(planes, angles, x, y)
+
+
+def expected(path, chunks):
+    """The transcript of one query."""
+    answer, filled = [], set()
+    for objectid, z, chunk in rows_of(path, chunks):
+        if LOW <= z <= HIGH:
+            answer.append(objectid)
+        filled.add(chunk)
     lines = ["query 1", "objectId", *map(str, sorted(answer)), f"{len(answer)} rows, {len(filled)} chunks"]
     return "\n".join(lines) + "\n"
 
 
-def measure(program, folder, sky, name):
-    """Seconds, the least of three runs; kilobytes held at most; the output."""
-    best, most, output = None, 0, b""
+def expected_report(path, chunks):
+    """The load report without the overlaps; `scripts/compare_places.py` compares which chunks a position is near."""
+    held = [0] * chunks
+    for _, _, chunk in rows_of(path, chunks):
+        held[chunk] += 1
+    filled = [chunk for chunk in range(chunks) if held[chunk] > 0]
+    lines = [f"{sum(held)} rows, {len(filled)} of {chunks} chunks"]
+    return lines + [f"chunk {chunk}: {held[chunk]} rows" for chunk in filled]
+
+
+def measure(program, folder, words, wanted=0):
+    """Wall seconds and user seconds, each the least of three runs; kilobytes held at most; the output."""
+    wall, user, most, output = [], [], 0, b""
     for _ in range(3):
         began = time.monotonic()
         child = subprocess.Popen(
-            [program, "query", sky, name, "script.sql", "0"], cwd=folder, stdout=subprocess.PIPE
+            [program, *words], cwd=folder, stdout=subprocess.PIPE, stderr=subprocess.DEVNULL
         )
         output = child.stdout.read()
         _, status, used = os.wait4(child.pid, 0)
-        took = time.monotonic() - began
-        if status != 0:
-            sys.exit(f"{name}: the program ended with {status}")
-        best = took if best is None else min(best, took)
+        wall.append(time.monotonic() - began)
+        if os.waitstatus_to_exitcode(status) != wanted:
+            sys.exit(f"{' '.join(words)}: the program ended with {os.waitstatus_to_exitcode(status)}, not {wanted}")
+        user.append(used.ru_utime)
         most = max(most, used.ru_maxrss)
-    return best, most, output.decode()
+    return min(wall), min(user), most, output.decode()
+
+
+def query_line(program, folder, rows, chunks, name):
+    path, sky = os.path.join(folder, name), f"sky_{chunks}.txt"
+    seconds, _, most, output = measure(program, folder, ["query", sky, name, "script.sql", "0"])
+    if output != expected(path, chunks):
+        sys.exit(f"{name}, {chunks} chunks: the answer differs from the flat list's")
+    return f"| {rows} | {chunks} | {os.path.getsize(path)} | {seconds:.2f} | {most / 1024:.0f} |"
+
+
+def growth_line(program, folder, rows, chunks, name):
+    sky = f"sky_{chunks}.txt"
+    _, reading, reading_most, _ = measure(program, folder, ["query", sky, name, MISSING, "0"], CANNOT_BE_READ)
+    _, seconds, most, output = measure(program, folder, ["load", sky, name])
+    if [line.split(",")[0] if n > 0 else line for n, line in enumerate(output.splitlines())] != expected_report(
+        os.path.join(folder, name), chunks
+    ):
+        sys.exit(f"{name}, {chunks} chunks: the report differs from the flat list's")
+    above = (seconds - reading) * 1_000_000 / rows
+    return (
+        f"| {rows} | {chunks} | {reading:.2f} | {seconds:.2f} | {seconds - reading:.2f} | {above:.2f} "
+        f"| {reading_most / 1024:.0f} | {most / 1024:.0f} |"
+    )
 
 
 def main():
     parser = argparse.ArgumentParser(description=__doc__, formatter_class=argparse.RawDescriptionHelpFormatter)
     parser.add_argument("folder")
+    parser.add_argument("--growth", action="store_true")
     parser.add_argument("--program", default=os.path.join(HERE, "..", ".qserv", "qserv"))
     parser.add_argument("--rows", type=int, nargs="+", default=[100_000, 1_000_000, 4_000_000])
     parser.add_argument("--chunks", type=int, nargs="+", choices=SKIES, default=list(SKIES))
@@ -118,8 +165,13 @@ def main():
         os.path.join(words.folder, "script.sql"),
         f"SELECT objectId FROM Object WHERE z BETWEEN {LOW} AND {HIGH}\n",
     )
-    print("| rows | chunks | bytes | seconds | MB at most |")
-    print("|---|---|---|---|---|")
+    if words.growth:
+        print("| rows | chunks | reading s | load s | store s | store s a million rows | MB reading | MB load |")
+        print("|---|---|---|---|---|---|---|---|")
+    else:
+        print("| rows | chunks | bytes | seconds | MB at most |")
+        print("|---|---|---|---|---|")
+    line_of = growth_line if words.growth else query_line
     for rows in words.rows:
         name = f"catalogue_{rows}_{words.order}.csv"
         path = os.path.join(words.folder, name)
@@ -131,10 +183,7 @@ def main():
                     check=True,
                 )
         for chunks in words.chunks:
-            seconds, most, output = measure(program, words.folder, f"sky_{chunks}.txt", name)
-            if output != expected(path, chunks):
-                sys.exit(f"{name}, {chunks} chunks: the answer differs from the flat list's")
-            print(f"| {rows} | {chunks} | {os.path.getsize(path)} | {seconds:.2f} | {most / 1024:.0f} |", flush=True)
+            print(line_of(program, words.folder, rows, chunks, name), flush=True)
 
 
 if __name__ == "__main__":
