@@ -2,6 +2,7 @@
 """Measures the built program over catalogues of growing size and skies of more and more chunks.
 
     bench/run.py FOLDER [--growth] [--program FILE] [--rows N ..] [--chunks N ..] [--order ascending|random]
+        [--further COUNT]
 
 Writes its inputs into FOLDER (made where it isn't there; files that are there already are used again), runs the
 program over each, and prints a line for each run: rows, chunks, bytes, seconds (the least of three), and the most
@@ -82,7 +83,7 @@ def rows_of(path, chunks):
     with open(path) as file:
         next(file)
         for line in file:
-            objectid, x, y, z = map(int, line.split(","))
+            objectid, x, y, z = map(int, line.split(",")[:4])
             yield objectid, z, (bisect.bisect_right(bounds, z) - 1) * wedges + wedge_of(planes, angles, x, y)
 
 
@@ -156,6 +157,7 @@ def main():
     parser.add_argument("--rows", type=int, nargs="+", default=[100_000, 1_000_000, 4_000_000])
     parser.add_argument("--chunks", type=int, nargs="+", choices=SKIES, default=list(SKIES))
     parser.add_argument("--order", choices=["ascending", "random"], default="ascending")
+    parser.add_argument("--further", type=int, default=0, help="how many columns each row has behind z")
     words = parser.parse_args()
     os.makedirs(words.folder, exist_ok=True)
     program = os.path.abspath(words.program)
@@ -173,12 +175,13 @@ def main():
         print("|---|---|---|---|---|")
     line_of = growth_line if words.growth else query_line
     for rows in words.rows:
-        name = f"catalogue_{rows}_{words.order}.csv"
+        name = f"catalogue_{rows}_{words.order}_{words.further}.csv"
         path = os.path.join(words.folder, name)
         if not os.path.exists(path):
             with open(path, "w") as file:
                 subprocess.run(
-                    [sys.executable, os.path.join(HERE, "catalogue.py"), str(rows), "--order", words.order],
+                    [sys.executable, os.path.join(HERE, "catalogue.py"), str(rows), "--order", words.order]
+                    + ["--further", str(words.further)],
                     stdout=file,
                     check=True,
                 )
