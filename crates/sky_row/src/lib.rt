@@ -5,6 +5,7 @@
 //! No chunks, no text and no SQL: a name is bytes, and a value is a whole number or NULL.
 #![tactic(auto)]
 
+mod cells;
 mod name;
 mod order;
 mod row;

@@ -1,11 +1,14 @@
 //! A row of the object table.
-ghost use Rattle.std.specs.Prelude.{◌≡◌, ℕ, ◌+◌, ◌<◌, ◌≤◌, ◌≤ℤ◌, pos, length, IsTrue};
+ghost use Rattle.std.specs.Prelude.{◌≡◌, ℕ, ◌+◌, ◌<◌, ◌≤◌, ◌≤ℤ◌, pos, length, IsTrue, IsOk, IfOk};
 ghost use Rattle.std.specs.List.{list_all};
 ghost use Rattle.sky_vector.specs.Points.{is_admissible};
 ghost use Rattle.sky_vector.specs.Pos.{point};
 ghost use Rattle.table_rules.specs.Objects.{IsRow, cell, is_further};
 
+use crate::cells::Cells;
+use sky_io::Memory;
 use sky_vector::Pos;
+use std::alloc::Global;
 use std::marker::Model;
 
 /// An id from 0, an admissible position, and further values, of which `None` is NULL.
@@ -13,7 +16,7 @@ use std::marker::Model;
 pub struct Row {
     id: i64,
     at: Pos,
-    further: Vec<Option<i64>>,
+    further: Cells,
 }
 
 impl Model for Row {
@@ -22,9 +25,9 @@ impl Model for Row {
 
     ghost Value = { Obj };
 
-    ghost view = { λ r. record { id = r.id; at = point r.at; further = r.further.items } };
+    ghost view = { λ r. record { id = r.id; at = point r.at; further = r.further } };
 
-    ghost invariant = { λ r. IsRow (record { id = r.id; at = point r.at; further = r.further.items }) };
+    ghost invariant = { λ r. IsRow (record { id = r.id; at = point r.at; further = r.further }) };
 }
 
 impl Row {
@@ -36,7 +39,30 @@ impl Row {
         requires few { length further.items ≤ 12 }
         ensures { result ≡ record { id = id; at = point at; further = further.items } }
     {
-        Row { id, at, further }
+        Row {
+            id,
+            at,
+            further: Cells::new(further),
+        }
+    }
+
+    /// The row of these parts, of which it copies the further values. Takes memory only where there are more than four.
+    pub fn from_slice(
+        alloc: Global,
+        id: i64,
+        at: Pos,
+        further: &[Option<i64>],
+    ) -> Result<Row, Memory>
+        requires id { pos 0 ≤ℤ id }
+        requires admissible { IsTrue (is_admissible (point at)) }
+        requires further { IsTrue (list_all is_further further.now) }
+        requires few { length further.now ≤ 12 }
+        ensures ok { IfOk result (λ row.
+            row ≡ record { id = id; at = point at; further = further.now }) }
+        ensures few { length further.now ≤ 4 → IsOk result }
+    {
+        let further = Cells::from_slice(alloc, further)?;
+        Ok(Row { id, at, further })
     }
 
     /// The id, from 0. Takes no memory.
@@ -65,7 +91,7 @@ impl Row {
             1 => Some(self.at.x),
             2 => Some(self.at.y),
             3 => Some(self.at.z),
-            _ => self.further[(col - 4) as usize],
+            _ => self.further.get((col - 4) as usize),
         }
     }
 }

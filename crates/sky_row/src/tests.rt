@@ -1,11 +1,14 @@
 //! What no clause says: that calls succeed with memory left, and what some rows are by hand.
-ghost use Rattle.std.specs.Prelude.{◌≡◌, pos, IsTrue, length};
+ghost use Rattle.std.specs.Prelude.{◌≡◌, ◌≤◌, pos, IsTrue, length};
+ghost use Rattle.std.specs.List.{list_all};
+ghost use Rattle.table_rules.specs.Objects.{is_further};
 ghost use Rattle.sky_vector.specs.Points.{is_admissible};
 ghost use Rattle.sky_vector.specs.Pos.{point};
 
 use crate::{Row, Rows, Schema};
 use sky_vector::Pos;
 use std::alloc::Global;
+use std::mem::size_of;
 use std::test::Fail;
 
 // Where the first axis meets the sphere.
@@ -21,6 +24,32 @@ fn bare(alloc: Global, id: u32) -> Row
     ensures narrow { length result.further ≡ 0 }
 {
     Row::new(i64::from(id), place(), Vec::new(alloc))
+}
+
+// The further values of the row, of which there are so many.
+fn further_of(alloc: Global, row: &Row, count: u32) -> Result<Vec<Option<i64>>, Fail>
+    requires all { length row.now.further ≡ count }
+    requires few { count ≤ 12 }
+{
+    let mut values = Vec::new(alloc);
+    for i in 0..count {
+        values.push(row.value(4 + i))?;
+    }
+    Ok(values)
+}
+
+// Whether a row that is given the values has them, and one that copies them.
+fn are_kept(alloc: Global, values: &[Option<i64>]) -> Result<bool, Fail>
+    requires further { IsTrue (list_all is_further values.now) }
+    requires few { length values.now ≤ 12 }
+{
+    let count = values.len() as u32;
+    let given = Row::new(7, place(), Vec::from_slice(alloc, values)?);
+    let copied = Row::from_slice(alloc, 7, place(), values)?;
+    Ok(
+        further_of(alloc, &given, count)?.as_slice() == values
+            && further_of(alloc, &copied, count)?.as_slice() == values,
+    )
 }
 
 // The catalogue of three bare rows.
@@ -52,6 +81,58 @@ fn a_row_gives_its_values_and_null(rt: HostRuntime) -> Result<(), Fail> {
         [Some(-1125899906842624), None]
     );
     Ok(())
+}
+
+#[test]
+fn a_row_keeps_few_and_many_further_values(rt: HostRuntime) -> Result<(), Fail> {
+    let alloc = rt.alloc();
+    let four = [Some(1), None, Some(-1125899906842624), Some(0)];
+    let five = [None, Some(1125899906842624), None, Some(-1), Some(5)];
+    let twelve = [
+        Some(1),
+        Some(2),
+        None,
+        Some(-4),
+        Some(5),
+        None,
+        Some(-7),
+        Some(0),
+        Some(9),
+        Some(10),
+        Some(11),
+        None,
+    ];
+    assert!(rt; are_kept(alloc, &[])?, "0");
+    assert!(rt; are_kept(alloc, &four)?, "4");
+    assert!(rt; are_kept(alloc, &five)?, "5");
+    assert!(rt; are_kept(alloc, &twelve)?, "12");
+    Ok(())
+}
+
+#[test]
+fn a_row_copies_its_fifth_value_and_null(rt: HostRuntime) -> Result<(), Fail> {
+    let row = Row::from_slice(
+        rt.alloc(),
+        0,
+        place(),
+        &[Some(1), None, Some(3), Some(4), Some(-5)],
+    )?;
+    assert_eq!(rt;
+        [
+            row.value(4),
+            row.value(5),
+            row.value(6),
+            row.value(7),
+            row.value(8)
+        ],
+        [Some(1), None, Some(3), Some(4), Some(-5)]
+    );
+    Ok(())
+}
+
+#[test]
+fn a_row_has_72_bytes(rt: HostRuntime) {
+    assert_eq!(rt; size_of::<Row>(), 72);
 }
 
 #[test]
