@@ -4,3 +4,5 @@ pub mod Parts
 pub mod Judged
 pub mod Gathered
 pub mod Ids
+pub mod Keys
+pub mod Repeats

@@ -1,4 +1,7 @@
 //! A row from a record.
+//!
+//! The further values of a record are read into a list that the caller keeps for the next one, and copied from there into
+//! the row; what the list held before has no meaning.
 ghost use Rattle.std.specs.Prelude.{◌≡◌, ◌+◌, ◌≤◌, ◌^◌, ◌≤ℤ◌, ◌++◌, [], length, map, drop, pos, true, Some, IfErr, IfOk, OnOk};
 ghost use Rattle.csv.specs.Records.{fields_of};
 ghost use Rattle.sky_io.specs.Stops.{IfBad};
@@ -19,6 +22,7 @@ use table_rules::LoadFault;
 /// The row of a record with this number, where the header has so many fields.
 pub(crate) fn read_row(
     alloc: Global,
+    cells: &mut Vec<Option<i64>>,
     width: usize,
     row: u32,
     fields: &ByteRecord,
@@ -39,12 +43,17 @@ pub(crate) fn read_row(
             count: count as u32,
         }));
     }
-    read_full_row(alloc, row, fields)
+    read_full_row(alloc, cells, row, fields)
 }
 
 /// The row of a record that has as many fields as the header.
 #[tactic(auto, using(crate::proofs::Firsts::own_none, crate::proofs::Firsts::own_head, crate::proofs::Firsts::own_behind))]
-fn read_full_row(alloc: Global, row: u32, fields: &ByteRecord) -> Result<Row, Stop<LoadFault>>
+fn read_full_row(
+    alloc: Global,
+    cells: &mut Vec<Option<i64>>,
+    row: u32,
+    fields: &ByteRecord,
+) -> Result<Row, Stop<LoadFault>>
     requires four { 4 ≤ length (fields_of fields.now) }
     requires few { length (fields_of fields.now) ≤ 16 }
     ensures none { OnOk result (
@@ -54,7 +63,7 @@ fn read_full_row(alloc: Global, row: u32, fields: &ByteRecord) -> Result<Row, St
         first_of (own_faults (length (fields_of fields.now)) row (fields_of fields.now)) ≡ Some fault)) }
 {
     match read_head(row, fields) {
-        Ok((id, at)) => with_cells(alloc, row, id, at, fields),
+        Ok((id, at)) => with_cells(alloc, cells, row, id, at, fields),
         Err(fault) => Err(Stop::Bad(fault)),
     }
 }
@@ -63,6 +72,7 @@ fn read_full_row(alloc: Global, row: u32, fields: &ByteRecord) -> Result<Row, St
 #[tactic(auto, using(crate::proofs::Firsts::first_front, crate::proofs::Firsts::first_behind))]
 fn with_cells(
     alloc: Global,
+    cells: &mut Vec<Option<i64>>,
     row: u32,
     id: i64,
     at: Pos,
@@ -80,9 +90,12 @@ fn with_cells(
         first_of (faults_from row 4 (fields_of fields.now)
         ++ unless (is_admissible (point_in (fields_of fields.now))) (Length row)) ≡ Some fault)) }
 {
-    let further = read_cells(alloc, row, fields)?;
+    read_cells(cells, row, fields)?;
     if !length_ok(&at) {
         return Err(Stop::Bad(LoadFault::Length { row }));
     }
-    Ok(Row::new(id, at, further))
+    match Row::from_slice(alloc, id, at, cells.as_slice()) {
+        Ok(made) => Ok(made),
+        Err(_) => Err(Stop::Memory),
+    }
 }

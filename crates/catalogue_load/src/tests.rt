@@ -88,6 +88,110 @@ fn each_fault_is_told_where_it_is(rt: HostRuntime) -> Result<(), Fail> {
     Ok(())
 }
 
+// The rows of these ids, each with the same position.
+fn rows_of(alloc: Global, ids: &[&[u8]]) -> Result<Vec<u8>, Fail> {
+    let mut rows = Vec::new(alloc);
+    for id in ids {
+        rows.extend_from_slice(id)?;
+        rows.extend_from_slice(b",268435456,0,0\n")?;
+    }
+    Ok(rows)
+}
+
+#[test]
+fn of_repeated_ids_and_other_faults_the_first_by_row_is_told(rt: HostRuntime) -> Result<(), Fail> {
+    let alloc = rt.alloc();
+    for (ids, fault) in [
+        (
+            [b"1".as_slice(), b"2", b"1", b"4", b"five", b"6"],
+            Some(LoadFault::Repeated { row: 3, id: 1 }),
+        ),
+        (
+            [b"1", b"2", b"three", b"4", b"2", b"6"],
+            Some(LoadFault::Number { row: 3, field: 1 }),
+        ),
+        (
+            [b"40", b"7", b"99", b"3", b"7", b"12"],
+            Some(LoadFault::Repeated { row: 5, id: 7 }),
+        ),
+        (
+            [b"5", b"9", b"2", b"9", b"5", b"1"],
+            Some(LoadFault::Repeated { row: 4, id: 9 }),
+        ),
+        (
+            [b"5", b"9", b"2", b"-9", b"5", b"9"],
+            Some(LoadFault::Range {
+                row: 4,
+                field: 1,
+                value: -9,
+            }),
+        ),
+        (
+            [b"0", b"1", b"2", b"3", b"4", b"0"],
+            Some(LoadFault::Repeated { row: 6, id: 0 }),
+        ),
+        ([b"5", b"9", b"2", b"0", b"7", b"1"], None),
+    ] {
+        let rows = rows_of(alloc, ids.as_slice())?;
+        assert_eq!(rt; fault_under(alloc, rows.as_slice())?, fault, "{ids:?}");
+    }
+    Ok(())
+}
+
+// Puts the ten rows behind the others whose ids begin with these two digits and end with 9 down to 0.
+fn put_ten(rows: &mut Vec<u8>, hundreds: u8, tens: u8) -> Result<(), Fail> {
+    for ones in 0..10u8 {
+        rows.extend_from_slice(&[hundreds, tens, b'9' - ones])?;
+        rows.extend_from_slice(b",268435456,0,0\n")?;
+    }
+    Ok(())
+}
+
+#[test]
+fn a_thousand_rows_are_read_and_the_repeat_behind_them_is_told(
+    rt: HostRuntime,
+) -> Result<(), Fail> {
+    let alloc = rt.alloc();
+    let mut rows = Vec::new(alloc);
+    for first in 0..100u8 {
+        put_ten(&mut rows, b'9' - first / 10, b'9' - first % 10)?;
+    }
+    assert_eq!(rt; fault_under(alloc, rows.as_slice())?, None);
+    rows.extend_from_slice(b"500,268435456,0,0\n")?;
+    assert_eq!(rt;
+        fault_under(alloc, rows.as_slice())?,
+        Some(LoadFault::Repeated { row: 1001, id: 500 })
+    );
+    rows.extend_from_slice(b"999,0,0,0\n")?;
+    assert_eq!(rt;
+        fault_under(alloc, rows.as_slice())?,
+        Some(LoadFault::Repeated { row: 1001, id: 500 })
+    );
+    Ok(())
+}
+
+#[test]
+fn rows_of_twelve_further_values_are_read(rt: HostRuntime) -> Result<(), Fail> {
+    let alloc = rt.alloc();
+    for (text, fault) in [
+        (
+            b"objectId,x,y,z,a,b,c,d,e\n9,268435456,0,0,1,,-3,4,5\n2,268435456,0,0,,,,,\n".as_slice(),
+            None,
+        ),
+        (
+            b"objectId,x,y,z,a,b,c,d,e,f,g,h,i,j,k,l\n9,268435456,0,0,1,,-3,4,5,,7,-8,9,,11,12\n",
+            None,
+        ),
+        (
+            b"objectId,x,y,z,a,b,c,d,e,f,g,h,i,j,k,l,m\n",
+            Some(LoadFault::Header { field: 17 }),
+        ),
+    ] {
+        assert_eq!(rt; fault_of(alloc, text)?, fault, "{text:?}");
+    }
+    Ok(())
+}
+
 #[test]
 fn odd_texts_are_the_records_that_csv_makes_of_them(rt: HostRuntime) -> Result<(), Fail> {
     let alloc = rt.alloc();

@@ -1,9 +1,9 @@
 //! The catalogue of a text: its header, then its rows record by record, then the rows in order.
-ghost use Rattle.std.specs.Prelude.{◌≡◌, ◌+◌, ◌≤◌, ◌^◌, ℕ, List, [], length, IfErr, IfOk, Ok, Err};
+ghost use Rattle.std.specs.Prelude.{◌≡◌, ◌+◌, ◌≤◌, ◌^◌, ℕ, List, [], length, IfErr, IfOk, OnOk, Ok, Err, None, Some};
 ghost use Rattle.sky_io.specs.Stops.{IfBad};
 ghost use Rattle.table_rules.specs.Records.{data_faults, judged};
 ghost use Rattle.catalogue_load.specs.Catalogue.{catalogue_of, catalogue_with};
-ghost use Rattle.catalogue_load.specs.Judged.{rows_behind};
+ghost use Rattle.catalogue_load.specs.Judged.{HasRead};
 ghost use Rattle.catalogue_load.specs.Standing.{HasLeft, StillGives};
 
 use crate::gathered::Gathered;
@@ -15,28 +15,28 @@ use sky_row::{Rows, Schema};
 use std::alloc::Global;
 use table_rules::LoadFault;
 
-/// The rows of the records that the reader has left, behind none.
+/// Reads the records that the reader has left, up to the first with a fault that it has whatever the ids of the rows are,
+/// and puts the rows of those before it behind none.
 fn read_rest(
     alloc: Global,
     mut reader: Reader<&[u8]>,
     mut fields: ByteRecord,
-    mut gathered: Gathered,
-) -> Result<Gathered, Stop<LoadFault>>
-    requires none { gathered.objects ≡ [] }
+    gathered: &mut Gathered,
+) -> Result<(), Stop<LoadFault>>
+    requires none { gathered.old.objects ≡ [] }
     requires gives { HasLeft reader }
-    ensures names { IfOk result (λ all. all.names ≡ gathered.names) }
-    ensures ok { IfOk result (λ all. (rest : List (List (List ℕ))) → StillGives reader.entry rest
-        → rows_behind (4 + length gathered.names) [] rest ≡ Ok all.objects) }
+    ensures names { gathered.new.names ≡ gathered.old.names }
+    ensures ok { OnOk result (
+        HasRead (4 + length gathered.old.names) reader.entry gathered.new.objects None) }
     ensures bad { IfErr result (λ stop. IfBad stop (λ fault.
-        (rest : List (List (List ℕ))) → StillGives reader.entry rest
-        → rows_behind (4 + length gathered.names) [] rest ≡ Err fault)) }
+        HasRead (4 + length gathered.old.names) reader.entry gathered.new.objects (Some fault))) }
 {
     for turn in 0..u64::MAX {
         let Ok(found) = read_next(&mut reader, &mut fields) else {
             return Err(Stop::Memory);
         };
         if !found {
-            return Ok(gathered);
+            return Ok(());
         }
         if let Err(stop) = gathered.add(alloc, &fields) {
             return Err(stop);
@@ -60,14 +60,17 @@ fn rows_under(
         (rest : List (List (List ℕ))) → StillGives reader.entry rest
         → judged (data_faults (4 + length schema) rest) (catalogue_with schema rest) ≡ Err fault)) }
 {
-    match read_rest(alloc, reader, fields, Gathered::new(alloc, schema)) {
-        Ok(gathered) => Ok(gathered.into_rows()),
-        Err(stop) => Err(stop),
+    let mut gathered = Gathered::new(alloc, schema);
+    match read_rest(alloc, reader, fields, &mut gathered) {
+        Ok(()) => gathered.into_rows(alloc),
+        Err(Stop::Bad(fault)) => Err(gathered.first_fault(alloc, fault)),
+        Err(Stop::Memory) => Err(Stop::Memory),
     }
 }
 
 /// Reads a catalogue from a text of at most 2^29 bytes: its rows in ascending id, or its first fault. Takes memory for the
-/// rows and their ids; after an error nothing is kept.
+/// rows, for their ids where they don't ascend, and for the ids with their places to tell a fault of such rows; after an
+/// error nothing is kept.
 pub fn load(alloc: Global, text: &[u8]) -> Result<Rows, Stop<LoadFault>>
     requires { length text.now ≤ 2 ^ 29 }
     ensures ok { IfOk result (λ rows. catalogue_of text.now ≡ Ok rows) }
