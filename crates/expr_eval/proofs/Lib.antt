@@ -1,0 +1,5 @@
+pub mod Formulas
+pub mod Layers
+pub mod Sizes
+pub mod Steps
+pub mod Terms
