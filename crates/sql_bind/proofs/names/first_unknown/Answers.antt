@@ -1,0 +1,10 @@
+use Rattle.std.proofs.Common.{◌∙◌, ap}
+use Rattle.std.specs.Option.{option_map}
+use Rattle.sql_rules.specs.declared.fault.BindFault.TheVariants as fault
+use Rattle.sql_bind.proofs.Unknowns.{as_unknown_name}
+use Rattle.sql_bind.proofs.names.first_unknown.Goals as goal
+
+pub returns : goal.returns
+returns c =
+    ap (option_map (λ span. fault.UnknownName span)) c.unknown_mention.ensures ∙ as_unknown_name c.args.schema.now
+    c.args.query.now

@@ -1,0 +1,33 @@
+//! A written query over a schema.
+ghost use Rattle.std.specs.Prelude.{◌≡◌, IfOk, IfErr, Ok, Err};
+ghost use Rattle.sky_io.specs.Stops.{IfBad};
+ghost use Rattle.bind_rules.specs.Binding.{bound_of};
+
+use crate::first_fault::first_fault;
+use crate::query::bound_query;
+use sky_io::Stop;
+use sky_row::Schema;
+use sql_bound::Bound;
+use sql_rules::BindFault;
+use sql_tree::Query;
+use std::alloc::Global;
+
+/// The bound query of a query over a schema, or its first fault. Want of memory may come in place of a bound query, but
+/// not of a fault. Takes memory for the bound query; neither the query nor the schema is kept. A number of the query
+/// that has no place in a bound one, which no text spells, counts as want of memory.
+#[tactic(auto, unfolding(bind_rules::specs::Binding::bound_of))]
+pub fn bind(alloc: Global, query: &Query, schema: &Schema) -> Result<Bound, Stop<BindFault>>
+    ensures ok { IfOk result (λ bound. bound_of schema.now query.now ≡ Ok bound) }
+    ensures bad { IfErr result (λ stop.
+        IfBad stop (λ fault. bound_of schema.now query.now ≡ Err fault)) }
+    ensures judged { (fault : BindFault) → bound_of schema.now query.now ≡ Err fault
+        → result ≡ Err (Stop.Bad fault) }
+{
+    match first_fault(query, schema) {
+        Some(fault) => Err(Stop::Bad(fault)),
+        None => match bound_query(alloc, query, schema) {
+            Ok(bound) => Ok(bound),
+            Err(_) => Err(Stop::Memory),
+        },
+    }
+}

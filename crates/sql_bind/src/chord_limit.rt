@@ -1,0 +1,74 @@
+//! The limit of a join: the largest squared chord that its chord test accepts.
+ghost use Rattle.std.specs.Prelude.{◌≡◌, ◌-ℤ◌, if◌then◌else◌, pos, FitsSigned, SomeIff, option_to_list};
+ghost use Rattle.std.specs.Int.{w64};
+ghost use Rattle.std.specs.List.{flat_map};
+ghost use Rattle.bind_rules.specs.Binding.{chord_limit, first_or};
+ghost use Rattle.bind_rules.specs.Tops.{tests_in};
+ghost use Rattle.sql_bind.specs.Gathering.{test_of};
+
+use crate::tests_in::{Gather, TestRef, walk};
+use sql_tree::Query;
+
+// The largest squared chord below the n of a strict chord test, or the n of another.
+fn limit_of(strict: bool, n: i64) -> i128
+    ensures { result ≡ (if strict then n -ℤ pos 1 else n) }
+{
+    if strict { n as i128 - 1 } else { n as i128 }
+}
+
+// The largest squared chord that the test accepts, where it is a chord test.
+fn test_limit(test: &TestRef<'_>) -> Option<i128>
+    ensures { option_to_list result ≡ chord_limit (test_of test.now) }
+{
+    match test {
+        TestRef::Chord { strict, n, .. } => Some(limit_of(*strict, **n)),
+        _ => None,
+    }
+}
+
+// The limit of the first chord test.
+#[derive(Drop)]
+struct FirstLimit {
+    limit: Option<i128>,
+}
+
+impl Gather for FirstLimit {
+    ghost use Rattle.std.specs.Prelude.{true};
+    ghost use Rattle.bind_rules.specs.Binding.{chord_limit};
+    ghost use Rattle.sql_bind.specs.Behind.{first_behind};
+
+    ghost kept = { λ _. true };
+
+    ghost after = { λ s f. record { limit = first_behind s.limit (chord_limit f.test) } };
+
+    fn look(&mut self, test: &TestRef<'_>, _top: bool) {
+        if self.limit.is_none() {
+            self.limit = test_limit(test);
+        }
+    }
+}
+
+/// The largest squared chord that the first chord test of a query accepts, and 0 where it has none; or `None` where 64
+/// bits do not hold it, as below -2^63, which no text gives. Takes no memory.
+pub(crate) fn chord_limit(query: &Query) -> Option<i64>
+    ensures { SomeIff result
+        (FitsSigned w64 (first_or (pos 0) (flat_map (λ f. chord_limit f.test) (tests_in query.now.cond))))
+        (first_or (pos 0) (flat_map (λ f. chord_limit f.test) (tests_in query.now.cond))) }
+{
+    let mut first = FirstLimit { limit: None };
+    walk(&mut first, &query.cond);
+    match first.limit {
+        Some(limit) => held(limit),
+        None => Some(0),
+    }
+}
+
+// The number in 64 bits, where they hold it.
+fn held(n: i128) -> Option<i64>
+    ensures { SomeIff result (FitsSigned w64 n) n }
+{
+    match i64::try_from(n) {
+        Ok(n) => Some(n),
+        Err(_) => None,
+    }
+}

@@ -1,0 +1,145 @@
+//! Conditions with columns in place of names, as a whole. One function binds one layer. A condition that holds a chord
+//! test, or an area test whose arguments do not fit, is none.
+ghost use Rattle.std.specs.Prelude.{◌≡◌, map, IfOk};
+ghost use Rattle.bind_rules.specs.Conjuncts.{all_there, taken_cond, taken_conj, taken_neg, taken_pred, whole_of};
+ghost use Rattle.sql_bind.specs.Layers.{whole_conj, whole_neg};
+
+use crate::preds::{among, area, between, compare, is_null};
+use crate::scope::Scope;
+use sql_bound::{BoundAll, BoundAny, BoundCond, BoundPred};
+use sql_tree::{Cond, Conj, Neg, Pred};
+use sqlite_items::{Boxed, Items};
+use std::alloc::{AllocError, Global};
+
+/// The condition, where it is no chord test and holds none. Takes memory for it.
+#[cycle(whole)]
+#[tactic(auto, using(crate::proofs::CondLayers::cond_whole))]
+pub(crate) fn whole_cond(
+    alloc: Global,
+    scope: &Scope<'_>,
+    cond: &Cond,
+) -> Result<Option<BoundAny>, AllocError>
+    ensures { IfOk result (λ whole. whole ≡ whole_of (taken_cond scope.now cond.now)) }
+{
+    let Some(first) = whole_conj(alloc, scope, &cond.first)? else {
+        return Ok(None);
+    };
+    match whole_conjs(alloc, scope, cond.rest.as_slice())? {
+        Some(rest) => Ok(Some(BoundAny { first, rest })),
+        None => Ok(None),
+    }
+}
+
+// The further conjunctions of a condition.
+#[cycle(whole)]
+#[tactic(auto, using(crate::proofs::Loops::there_none, crate::proofs::Loops::there_more, crate::proofs::Loops::there_stops, crate::proofs::Loops::there_end))]
+fn whole_conjs(
+    alloc: Global,
+    scope: &Scope<'_>,
+    rest: &[Conj],
+) -> Result<Option<Items<BoundAll>>, AllocError>
+    ensures { IfOk result (λ whole. whole ≡ all_there (map (whole_conj scope.now) rest.now)) }
+{
+    let mut found = Items::new(alloc);
+    for conj in rest {
+        let Some(whole) = whole_conj(alloc, scope, conj)? else {
+            return Ok(None);
+        };
+        found.push(whole)?;
+    }
+    Ok(Some(found))
+}
+
+// A conjunction.
+#[cycle(whole)]
+#[tactic(auto, using(crate::proofs::CondLayers::conj_whole))]
+fn whole_conj(alloc: Global, scope: &Scope<'_>, conj: &Conj) -> Result<Option<BoundAll>, AllocError>
+    ensures { IfOk result (λ whole. whole ≡ whole_of (taken_conj scope.now conj.now)) }
+{
+    let Some(first) = whole_neg(alloc, scope, &conj.first)? else {
+        return Ok(None);
+    };
+    match whole_negs(alloc, scope, conj.rest.as_slice())? {
+        Some(rest) => Ok(Some(BoundAll { first, rest })),
+        None => Ok(None),
+    }
+}
+
+// The further predicates of a conjunction.
+#[cycle(whole)]
+#[tactic(auto, using(crate::proofs::Loops::there_none, crate::proofs::Loops::there_more, crate::proofs::Loops::there_stops, crate::proofs::Loops::there_end))]
+fn whole_negs(
+    alloc: Global,
+    scope: &Scope<'_>,
+    rest: &[Neg],
+) -> Result<Option<Items<BoundCond>>, AllocError>
+    ensures { IfOk result (λ whole. whole ≡ all_there (map (whole_neg scope.now) rest.now)) }
+{
+    let mut found = Items::new(alloc);
+    for neg in rest {
+        let Some(whole) = whole_neg(alloc, scope, neg)? else {
+            return Ok(None);
+        };
+        found.push(whole)?;
+    }
+    Ok(Some(found))
+}
+
+/// A predicate, and the NOT before it.
+#[cycle(whole)]
+#[tactic(auto, using(crate::proofs::CondLayers::neg_whole))]
+pub(crate) fn whole_neg(
+    alloc: Global,
+    scope: &Scope<'_>,
+    neg: &Neg,
+) -> Result<Option<BoundCond>, AllocError>
+    ensures { IfOk result (λ whole. whole ≡ whole_of (taken_neg scope.now neg.now)) }
+{
+    match whole_pred(alloc, scope, &neg.pred)? {
+        Some(pred) => Ok(Some(BoundCond { not: neg.not, pred })),
+        None => Ok(None),
+    }
+}
+
+/// A predicate.
+#[cycle(whole)]
+#[tactic(auto, using(crate::proofs::CondLayers::compare_whole, crate::proofs::CondLayers::between_whole, crate::proofs::CondLayers::among_whole, crate::proofs::CondLayers::null_whole, crate::proofs::CondLayers::area_whole, crate::proofs::CondLayers::chord_whole))]
+pub(crate) fn whole_pred(
+    alloc: Global,
+    scope: &Scope<'_>,
+    pred: &Pred,
+) -> Result<Option<BoundPred>, AllocError>
+    ensures { IfOk result (λ whole. whole ≡ whole_of (taken_pred scope.now pred.now)) }
+{
+    match pred {
+        Pred::Bracket(cond) => whole_group(alloc, scope, cond.get()),
+        Pred::Compare { left, op, right } => Ok(Some(compare(alloc, scope, left, *op, right)?)),
+        Pred::Between {
+            not,
+            value,
+            low,
+            high,
+        } => Ok(Some(between(alloc, scope, *not, value, low, high)?)),
+        Pred::Among { not, value, list } => Ok(Some(among(alloc, scope, *not, value, list)?)),
+        Pred::IsNull { not, value } => Ok(Some(is_null(alloc, scope, *not, value)?)),
+        Pred::Area { kind, args, .. } => area(*kind, args),
+        Pred::Chord { .. } => Ok(None),
+    }
+}
+
+// A condition in brackets.
+#[cycle(whole)]
+#[tactic(auto, using(crate::proofs::CondLayers::group_whole))]
+fn whole_group(
+    alloc: Global,
+    scope: &Scope<'_>,
+    cond: &Cond,
+) -> Result<Option<BoundPred>, AllocError>
+    ensures { IfOk result (λ whole.
+        whole ≡ whole_of (taken_pred scope.now (Pred.Bracket cond.now))) }
+{
+    match whole_cond(alloc, scope, cond)? {
+        Some(inner) => Ok(Some(BoundPred::Bracket(Boxed::new(alloc, inner)?))),
+        None => Ok(None),
+    }
+}

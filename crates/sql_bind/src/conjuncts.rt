@@ -1,0 +1,183 @@
+//! The conjuncts of WHERE, with columns in place of names: brackets are looked through, AND and an OR of one part are
+//! taken apart, NOT is not looked into. A chord test is left out.
+ghost use Rattle.std.specs.Prelude.{◌≡◌, ◌++◌, IfOk, OnOk, Some, option_to_list};
+ghost use Rattle.std.specs.List.{flat_map};
+ghost use Rattle.bind_rules.specs.Binding.{conds_in};
+ghost use Rattle.bind_rules.specs.Conjuncts.{bracket, conjuncts_in, plain, taken_cond, taken_conj};
+ghost use Rattle.bind_rules.specs.Conjuncts.{taken_neg, taken_pred, whole_of};
+ghost use Rattle.sql_bind.specs.Layers.{conjuncts_of_neg};
+
+use crate::conds::{whole_cond, whole_neg, whole_pred};
+use crate::scope::Scope;
+use sql_bound::{BoundCond, BoundConds, BoundPred};
+use sql_tree::{Cond, Conj, Neg, Pred};
+use sqlite_items::{Boxed, Items};
+use std::alloc::{AllocError, Global};
+
+/// The conjuncts of WHERE. Takes memory for them.
+pub(crate) fn conjuncts(
+    alloc: Global,
+    scope: &Scope<'_>,
+    cond: &Option<Cond>,
+) -> Result<BoundConds, AllocError>
+    ensures { IfOk result (λ conds. conds ≡ conds_in scope.now cond.now) }
+{
+    let mut found = Items::new(alloc);
+    match cond {
+        Some(cond) => {
+            add_cond(alloc, scope, cond, &mut found)?;
+            Ok(found)
+        }
+        None => Ok(found),
+    }
+}
+
+// Adds the conjuncts of the one part, or of more than one part the whole.
+#[cycle(top)]
+#[tactic(auto, using(crate::proofs::CondLayers::cond_one, crate::proofs::CondLayers::cond_more))]
+fn add_cond(
+    alloc: Global,
+    scope: &Scope<'_>,
+    cond: &Cond,
+    found: &mut BoundConds,
+) -> Result<(), AllocError>
+    ensures { OnOk result (found.new ≡ found.old ++ conjuncts_in (taken_cond scope.now cond.now)) }
+{
+    if cond.rest.is_empty() {
+        add_conj(alloc, scope, &cond.first, found)
+    } else {
+        add_bracket(alloc, scope, cond, found)
+    }
+}
+
+// Adds a condition in brackets, where it is no chord test and holds none.
+fn add_bracket(
+    alloc: Global,
+    scope: &Scope<'_>,
+    cond: &Cond,
+    found: &mut BoundConds,
+) -> Result<(), AllocError>
+    ensures { OnOk result (found.new
+        ≡ found.old ++ plain (bracket (whole_of (taken_cond scope.now cond.now)))) }
+{
+    match whole_cond(alloc, scope, cond)? {
+        Some(inner) => add_plain(found, BoundPred::Bracket(Boxed::new(alloc, inner)?)),
+        None => Ok(()),
+    }
+}
+
+// Adds a predicate without NOT.
+fn add_plain(found: &mut BoundConds, pred: BoundPred) -> Result<(), AllocError>
+    ensures { OnOk result (found.new ≡ found.old ++ plain (Some pred)) }
+{
+    found.push(BoundCond { not: false, pred })?;
+    Ok(())
+}
+
+// Adds the conjuncts of each part.
+#[cycle(top)]
+#[tactic(auto, using(crate::proofs::CondLayers::conj_conjuncts, crate::proofs::Loops::then_rest))]
+fn add_conj(
+    alloc: Global,
+    scope: &Scope<'_>,
+    conj: &Conj,
+    found: &mut BoundConds,
+) -> Result<(), AllocError>
+    ensures { OnOk result (found.new ≡ found.old ++ conjuncts_in (taken_conj scope.now conj.now)) }
+{
+    add_neg(alloc, scope, &conj.first, found)?;
+    add_negs(alloc, scope, conj.rest.as_slice(), found)
+}
+
+// Adds the conjuncts of the further parts.
+#[cycle(top)]
+#[tactic(auto, using(crate::proofs::Loops::flat_more))]
+fn add_negs(
+    alloc: Global,
+    scope: &Scope<'_>,
+    rest: &[Neg],
+    found: &mut BoundConds,
+) -> Result<(), AllocError>
+    ensures { OnOk result (found.new
+        ≡ found.old ++ flat_map (conjuncts_of_neg scope.now) rest.now) }
+{
+    for neg in rest {
+        add_neg(alloc, scope, neg, found)?;
+    }
+    Ok(())
+}
+
+// Adds a negation as it is, or else the conjuncts of the predicate.
+#[cycle(top)]
+#[tactic(auto, using(crate::proofs::CondLayers::neg_with, crate::proofs::CondLayers::neg_without))]
+fn add_neg(
+    alloc: Global,
+    scope: &Scope<'_>,
+    neg: &Neg,
+    found: &mut BoundConds,
+) -> Result<(), AllocError>
+    ensures { OnOk result (found.new ≡ found.old ++ conjuncts_of_neg scope.now neg.now) }
+{
+    if neg.not {
+        add_whole_neg(alloc, scope, neg, found)
+    } else {
+        add_pred(alloc, scope, &neg.pred, found)
+    }
+}
+
+// Adds a negation, where it holds no chord test.
+fn add_whole_neg(
+    alloc: Global,
+    scope: &Scope<'_>,
+    neg: &Neg,
+    found: &mut BoundConds,
+) -> Result<(), AllocError>
+    ensures { OnOk result (found.new
+        ≡ found.old ++ option_to_list (whole_of (taken_neg scope.now neg.now))) }
+{
+    match whole_neg(alloc, scope, neg)? {
+        Some(cond) => {
+            found.push(cond)?;
+            Ok(())
+        }
+        None => Ok(()),
+    }
+}
+
+// Adds the conjuncts of a condition in brackets, or another predicate as it is.
+#[cycle(top)]
+#[tactic(auto, using(crate::proofs::CondLayers::group_conjuncts, crate::proofs::CondLayers::compare_lone, crate::proofs::CondLayers::between_lone, crate::proofs::CondLayers::among_lone, crate::proofs::CondLayers::null_lone, crate::proofs::CondLayers::area_lone, crate::proofs::CondLayers::chord_lone))]
+fn add_pred(
+    alloc: Global,
+    scope: &Scope<'_>,
+    pred: &Pred,
+    found: &mut BoundConds,
+) -> Result<(), AllocError>
+    ensures { OnOk result (found.new ≡ found.old ++ conjuncts_in (taken_pred scope.now pred.now)) }
+{
+    match pred {
+        Pred::Bracket(cond) => add_cond(alloc, scope, cond.get(), found),
+        Pred::Compare { .. } => add_lone(alloc, scope, pred, found),
+        Pred::Between { .. } => add_lone(alloc, scope, pred, found),
+        Pred::Among { .. } => add_lone(alloc, scope, pred, found),
+        Pred::IsNull { .. } => add_lone(alloc, scope, pred, found),
+        Pred::Area { .. } => add_lone(alloc, scope, pred, found),
+        Pred::Chord { .. } => add_lone(alloc, scope, pred, found),
+    }
+}
+
+// Adds a predicate, where it is no chord test and holds none.
+fn add_lone(
+    alloc: Global,
+    scope: &Scope<'_>,
+    pred: &Pred,
+    found: &mut BoundConds,
+) -> Result<(), AllocError>
+    ensures { OnOk result (found.new
+        ≡ found.old ++ plain (whole_of (taken_pred scope.now pred.now))) }
+{
+    match whole_pred(alloc, scope, pred)? {
+        Some(pred) => add_plain(found, pred),
+        None => Ok(()),
+    }
+}

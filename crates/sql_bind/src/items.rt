@@ -1,0 +1,102 @@
+//! What stands between SELECT and FROM, with columns in place of names.
+ghost use Rattle.std.specs.Prelude.{◌≡◌, ◌++◌, [], ◌∷◌, IfOk, OnOk, map};
+ghost use Rattle.bind_rules.specs.Binding.{bound_item, bound_items, columns_from, just_column, star_items};
+ghost use Rattle.bind_rules.specs.Columns.{is_join};
+ghost use Rattle.sql_bind.specs.Layers.{item_in};
+ghost use Rattle.table_rules.specs.Names.{column_names};
+
+use crate::columns::is_join;
+use crate::exprs::bound_expr;
+use crate::scope::Scope;
+use sql_bound::{BoundAtom, BoundCol, BoundExpr, BoundFactor, BoundItem, BoundItems, BoundProd};
+use sql_tree::{ItemKind, ItemList, Query, Selection};
+use sqlite_items::Items;
+use std::alloc::{AllocError, Global};
+
+// The expression that is one column. Takes no memory.
+fn just_column(alloc: Global, second: bool, col: u32) -> BoundExpr
+    ensures { result ≡ just_column second col }
+{
+    let atom = BoundAtom::Col(BoundCol { second, col });
+    let first = BoundFactor { minus: false, atom };
+    let first = BoundProd {
+        first,
+        rest: Items::new(alloc),
+    };
+    BoundExpr {
+        first,
+        rest: Items::new(alloc),
+    }
+}
+
+// Adds all columns of a table.
+#[tactic(auto, using(crate::proofs::Stars::columns_more, crate::proofs::Stars::columns_end))]
+fn add_columns(
+    alloc: Global,
+    scope: &Scope<'_>,
+    second: bool,
+    found: &mut BoundItems,
+) -> Result<(), AllocError>
+    ensures { OnOk result (found.new
+        ≡ found.old ++ columns_from second 0 (column_names scope.now.names)) }
+{
+    for col in 0..scope.schema().width() {
+        found.push(BoundItem::Plain(just_column(alloc, second, col)))?;
+    }
+    Ok(())
+}
+
+// All columns of the first table, and in a join all of the second.
+fn star_items(alloc: Global, scope: &Scope<'_>, join: bool) -> Result<BoundItems, AllocError>
+    ensures { IfOk result (λ items. items ≡ star_items scope.now.names join) }
+{
+    let mut found = Items::new(alloc);
+    add_columns(alloc, scope, false, &mut found)?;
+    if join {
+        add_columns(alloc, scope, true, &mut found)?;
+    }
+    Ok(found)
+}
+
+// An item, without its alias.
+fn bound_item(alloc: Global, scope: &Scope<'_>, what: &ItemKind) -> Result<BoundItem, AllocError>
+    ensures { IfOk result (λ item. item ≡ bound_item scope.now what.now) }
+{
+    match what {
+        ItemKind::Plain(e) => Ok(BoundItem::Plain(bound_expr(alloc, scope, e)?)),
+        ItemKind::Count => Ok(BoundItem::Count),
+        ItemKind::CountOf(e) => Ok(BoundItem::CountOf(bound_expr(alloc, scope, e)?)),
+        ItemKind::Sum(e) => Ok(BoundItem::Sum(bound_expr(alloc, scope, e)?)),
+        ItemKind::Min(e) => Ok(BoundItem::Min(bound_expr(alloc, scope, e)?)),
+        ItemKind::Max(e) => Ok(BoundItem::Max(bound_expr(alloc, scope, e)?)),
+        ItemKind::Avg(e) => Ok(BoundItem::Avg(bound_expr(alloc, scope, e)?)),
+    }
+}
+
+// The items of a list.
+#[tactic(auto, using(crate::proofs::Loops::map_more))]
+fn listed_items(alloc: Global, scope: &Scope<'_>, list: &ItemList) -> Result<BoundItems, AllocError>
+    ensures { IfOk result (λ items. items
+        ≡ map (item_in scope.now) (list.now.first ∷ list.now.rest)) }
+{
+    let mut found = Items::new(alloc);
+    found.push(bound_item(alloc, scope, &list.first.what)?)?;
+    for item in list.rest.as_slice() {
+        found.push(bound_item(alloc, scope, &item.what)?)?;
+    }
+    Ok(found)
+}
+
+/// The items of a query. Takes memory for them.
+pub(crate) fn bound_items(
+    alloc: Global,
+    scope: &Scope<'_>,
+    query: &Query,
+) -> Result<BoundItems, AllocError>
+    ensures { IfOk result (λ items. items ≡ bound_items scope.now query.now query.now.items) }
+{
+    match &query.items {
+        Selection::Star { .. } => star_items(alloc, scope, is_join(query)),
+        Selection::List(list) => listed_items(alloc, scope, list),
+    }
+}

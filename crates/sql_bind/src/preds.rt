@@ -1,0 +1,99 @@
+//! Predicates that hold no condition, with columns in place of names.
+ghost use Rattle.std.specs.Prelude.{◌≡◌, IfErr, IfOk};
+ghost use Rattle.sql_bound.specs.declared.cond.BoundPred.TheVariants as bound;
+ghost use Rattle.bind_rules.specs.Areas.{area_test};
+ghost use Rattle.bind_rules.specs.Bounds.{bound_expr};
+ghost use Rattle.bind_rules.specs.Conjuncts.{area_pred};
+ghost use Rattle.bind_rules.specs.Forms.{values_of};
+ghost use Rattle.sql_bind.specs.Held.{AreHeld};
+
+use crate::areas::area_test;
+use crate::exprs::bound_expr;
+use crate::ints::values_of;
+use crate::scope::Scope;
+use sql_bound::BoundPred;
+use sql_tree::{AreaKind, Cmp, Expr, IntList};
+use std::alloc::{AllocError, Global};
+
+/// A comparison. Takes memory for its sides.
+pub(crate) fn compare(
+    alloc: Global,
+    scope: &Scope<'_>,
+    left: &Expr,
+    op: Cmp,
+    right: &Expr,
+) -> Result<BoundPred, AllocError>
+    ensures { IfOk result (λ p. p ≡ bound.Compare (bound_expr scope.now left.now) op
+        (bound_expr scope.now right.now)) }
+{
+    let left = bound_expr(alloc, scope, left)?;
+    let right = bound_expr(alloc, scope, right)?;
+    Ok(BoundPred::Compare { left, op, right })
+}
+
+/// A value between two bounds. Takes memory for the three.
+pub(crate) fn between(
+    alloc: Global,
+    scope: &Scope<'_>,
+    not: bool,
+    value: &Expr,
+    low: &Expr,
+    high: &Expr,
+) -> Result<BoundPred, AllocError>
+    ensures { IfOk result (λ p. p ≡ bound.Between not (bound_expr scope.now value.now)
+        (bound_expr scope.now low.now) (bound_expr scope.now high.now)) }
+{
+    let value = bound_expr(alloc, scope, value)?;
+    let low = bound_expr(alloc, scope, low)?;
+    let high = bound_expr(alloc, scope, high)?;
+    Ok(BoundPred::Between {
+        not,
+        value,
+        low,
+        high,
+    })
+}
+
+/// A value among ints. Takes memory for the value and the ints.
+pub(crate) fn among(
+    alloc: Global,
+    scope: &Scope<'_>,
+    not: bool,
+    value: &Expr,
+    list: &IntList,
+) -> Result<BoundPred, AllocError>
+    ensures { IfOk result (λ p. p ≡ bound.Among not (bound_expr scope.now value.now)
+        (values_of list.now)) }
+{
+    let value = bound_expr(alloc, scope, value)?;
+    match values_of(alloc, list) {
+        Ok(list) => Ok(BoundPred::Among { not, value, list }),
+        Err(_) => Err(AllocError),
+    }
+}
+
+/// Whether a value is NULL. Takes memory for the value.
+pub(crate) fn is_null(
+    alloc: Global,
+    scope: &Scope<'_>,
+    not: bool,
+    value: &Expr,
+) -> Result<BoundPred, AllocError>
+    ensures { IfOk result (λ p. p ≡ bound.IsNull not (bound_expr scope.now value.now)) }
+{
+    let value = bound_expr(alloc, scope, value)?;
+    Ok(BoundPred::IsNull { not, value })
+}
+
+/// An area test, where its arguments fit its function. An int that 64 bits do not hold counts as want of memory. Takes
+/// no memory.
+pub(crate) fn area(kind: AreaKind, args: &IntList) -> Result<Option<BoundPred>, AllocError>
+    ensures ok { IfOk result (λ p. p ≡ area_pred (area_test kind (values_of args.now))) }
+    ensures err { IfErr result (λ _. AreHeld (values_of args.now) → ⊥) }
+{
+    match area_test(kind, args) {
+        Ok(Some(test)) => Ok(Some(BoundPred::Area(test))),
+        Ok(None) => Ok(None),
+        Err(_) => Err(AllocError),
+    }
+}

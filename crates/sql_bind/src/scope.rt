@@ -1,0 +1,72 @@
+//! What a query's names are read by.
+ghost use Rattle.std.specs.Prelude.{◌≡◌};
+ghost use Rattle.std.specs.Str.{bytes_eq};
+ghost use Rattle.bind_rules.specs.Bounds.{bound_col, is_second};
+ghost use Rattle.bind_rules.specs.Columns.{qualifier};
+
+use crate::columns::qualifier;
+use sky_row::Schema;
+use sql_bound::BoundCol;
+use sql_tree::{Col, Name, Query, TableRef};
+use std::marker::Model;
+
+/// The columns of a schema, and the second table of a join.
+#[derive(Drop)]
+pub(crate) struct Scope<'a> {
+    schema: &'a Schema,
+    second: &'a Option<TableRef>,
+}
+
+impl<'a> Model for Scope<'a> {
+    ghost use Rattle.bind_rules.specs.Bounds.{Scope};
+
+    ghost Value = { Scope };
+
+    ghost view = { λ s. record { names = s.schema.now; second = s.second.now } };
+}
+
+// The name is the qualifier of the table.
+fn is_qualified_by(name: &Name, table: &TableRef) -> bool
+    ensures { result ≡ bytes_eq name.now.text (qualifier table.now) }
+{
+    name.text.as_slice() == qualifier(table)
+}
+
+// The qualifier is that of the second table.
+fn is_second(second: &Option<TableRef>, name: &Option<Name>) -> bool
+    ensures { result ≡ is_second second.now name.now }
+{
+    match (second, name) {
+        (Some(table), Some(name)) => is_qualified_by(name, table),
+        _ => false,
+    }
+}
+
+impl<'a> Scope<'a> {
+    /// What the names of a query are read by, over a schema.
+    pub(crate) fn new(query: &'a Query, schema: &'a Schema) -> Scope<'a>
+        ensures { result ≡ record { names = schema.now; second = query.now.second } }
+    {
+        Scope {
+            schema,
+            second: &query.second,
+        }
+    }
+
+    /// The columns of a table.
+    pub(crate) fn schema(&self) -> &Schema
+        ensures { result.now ≡ self.now.names }
+    {
+        self.schema
+    }
+
+    /// The column that is meant; a name that the schema does not have counts as column 0. Takes no memory.
+    pub(crate) fn column(&self, col: &Col) -> BoundCol
+        ensures { result ≡ bound_col self.now col.now }
+    {
+        BoundCol {
+            second: is_second(self.second, &col.table),
+            col: self.schema.column(col.name.text.as_slice()).unwrap_or(0),
+        }
+    }
+}
