@@ -10,8 +10,8 @@ memory held at once. Each run's answer is compared with one computed here from t
 
 With --growth each run is a `load`, which reads the catalogue, builds the store and reports. Beside it stands a run that
 only reads the catalogue: a `query` whose script is missing, which ends when it asks for the script, before a store is
-built. Seconds are then user time, which says more than wall time on a machine that is busy; the last column is what
-the store costs for a million rows.
+built. Seconds are then user time, which says more than wall time on a machine that is busy, and beside it wall time;
+the sixth column is what the store costs for a million rows.
 """
 import argparse
 import bisect
@@ -136,8 +136,10 @@ def query_line(program, folder, rows, chunks, name):
 
 def growth_line(program, folder, rows, chunks, name):
     sky = f"sky_{chunks}.txt"
-    _, reading, reading_most, _ = measure(program, folder, ["query", sky, name, MISSING, "0"], CANNOT_BE_READ)
-    _, seconds, most, output = measure(program, folder, ["load", sky, name])
+    reading_wall, reading, reading_most, _ = measure(
+        program, folder, ["query", sky, name, MISSING, "0"], CANNOT_BE_READ
+    )
+    wall, seconds, most, output = measure(program, folder, ["load", sky, name])
     if [line.split(",")[0] if n > 0 else line for n, line in enumerate(output.splitlines())] != expected_report(
         os.path.join(folder, name), chunks
     ):
@@ -145,7 +147,7 @@ def growth_line(program, folder, rows, chunks, name):
     above = (seconds - reading) * 1_000_000 / rows
     return (
         f"| {rows} | {chunks} | {reading:.2f} | {seconds:.2f} | {seconds - reading:.2f} | {above:.2f} "
-        f"| {reading_most / 1024:.0f} | {most / 1024:.0f} |"
+        f"| {reading_wall:.2f} | {wall:.2f} | {reading_most / 1024:.0f} | {most / 1024:.0f} |"
     )
 
 
@@ -168,8 +170,11 @@ def main():
         f"SELECT objectId FROM Object WHERE z BETWEEN {LOW} AND {HIGH}\n",
     )
     if words.growth:
-        print("| rows | chunks | reading s | load s | store s | store s a million rows | MB reading | MB load |")
-        print("|---|---|---|---|---|---|---|---|")
+        print(
+            "| rows | chunks | reading s | load s | store s | store s a million rows "
+            "| reading wall s | load wall s | MB reading | MB load |"
+        )
+        print("|---|---|---|---|---|---|---|---|---|---|")
     else:
         print("| rows | chunks | bytes | seconds | MB at most |")
         print("|---|---|---|---|---|")
