@@ -8,10 +8,13 @@ It prints each finding, or 'check_text: ok', and writes nothing. It looks for:
 - a path of one machine;
 - an .rt or .antt file outside of a crate's src/, specs/ and proofs/;
 - a clause of more than 100 columns;
-- a must-fail edit that docs/PROOFS.md doesn't name in as many rows as there are crates with that edit;
-- a wrong body that a row of docs/PROOFS.md names and no crate has.
+- a must-fail edit that the claims of docs/proofs don't name in as many rows as there are crates with that edit;
+- a wrong body that a claim names and no crate has;
+- a call, a clause or a word that a claim names and that stands neither in the crates of its section nor in a crate that
+  the row names.
 """
 import collections
+import glob
 import os
 import re
 import subprocess
@@ -24,6 +27,7 @@ LABEL = re.compile(
 MACHINE = re.compile(r"(?<![\w.])/(?:work|opt|tmp|root|home)/")
 CLAUSE = re.compile(r"\s*(?:requires|ensures)\*?\b")
 CRATE = re.compile(r"crates/[a-z0-9_]+/(?:src|specs|proofs)/")
+NAME = re.compile(r"[A-Za-z_][A-Za-z0-9_']*")
 WIDEST_CLAUSE = 100
 
 
@@ -45,12 +49,45 @@ def findings(name, lines):
             yield f"has a clause of {len(line)} columns", number, line
 
 
+def claims():
+    """The rows of the tables of claims, as (page, line number, crates of the section, cells)."""
+    for page in sorted(glob.glob("docs/proofs/*.md")):
+        section = []
+        with open(page, encoding="utf-8") as file:
+            for number, line in enumerate(file, 1):
+                if line.startswith("## "):
+                    section = re.findall(r"`([a-z0-9_]+)`", line)
+                row = line.strip("| \n").split(" | ")
+                if line.startswith("| ") and len(row) == 5:
+                    yield page, number, section, row
+
+
 def claimed_edits():
     """The wrong bodies that the rows of the table of claims name: those in the cell before the last."""
-    with open("docs/PROOFS.md", encoding="utf-8") as file:
-        rows = [line.strip("| \n").split(" | ") for line in file if line.startswith("| ")]
-    cells = [row[3] for row in rows if len(row) == 5]
+    cells = [row[3] for _, _, _, row in claims()]
     return collections.Counter(name for cell in cells for name in set(re.findall(r"`([a-z0-9_]+)`", cell)))
+
+
+def names_in(crate):
+    """The names that a crate's code, definitions and files have."""
+    found = {crate}
+    for name in glob.glob(f"crates/{crate}/src/**/*.rt", recursive=True) + glob.glob(f"crates/{crate}/specs/**/*.antt", recursive=True):
+        found.add(os.path.basename(name).split(".")[0])
+        with open(name, encoding="utf-8") as file:
+            found.update(NAME.findall(file.read()))
+    return found
+
+
+def claim_findings():
+    """The calls, clauses and words of the table of claims that are nowhere in the crates they are said of."""
+    there = {crate: names_in(crate) for crate in os.listdir("crates")}
+    for page, number, section, row in claims():
+        cells = " ".join(row[1:3])
+        said_of = [crate for crate in there if crate in section or crate in NAME.findall(cells)]
+        known = set().union(*(there[crate] for crate in said_of))
+        for name in NAME.findall(" ".join(re.findall(r"`([^`]+)`", cells))):
+            if name not in known:
+                yield f"{page}:{number}: {name} stands in none of the crates of this row"
 
 
 def edit_findings(listed):
@@ -60,16 +97,16 @@ def edit_findings(listed):
     claimed = claimed_edits()
     for name in sorted(there.keys() | claimed.keys()):
         if claimed[name] < there[name]:
-            yield f"{name}: docs/PROOFS.md names this wrong body in {claimed[name]} rows, {there[name]} crates have it"
+            yield f"{name}: docs/proofs names this wrong body in {claimed[name]} rows, {there[name]} crates have it"
         if there[name] == 0:
-            yield f"{name}: docs/PROOFS.md names this wrong body, and no crate has it"
+            yield f"{name}: docs/proofs names this wrong body, and no crate has it"
 
 
 def main():
     os.chdir(os.path.join(os.path.dirname(os.path.abspath(__file__)), ".."))
     count = 0
     listed = names()
-    for finding in edit_findings(listed):
+    for finding in [*edit_findings(listed), *claim_findings()]:
         print(finding)
         count += 1
     for name in listed:

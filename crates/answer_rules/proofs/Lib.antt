@@ -10,6 +10,7 @@ pub mod Totals
 pub mod Finding
 pub mod PartsAdd
 pub mod Joining
+pub mod JoinedAlone
 pub mod Ascending
 pub mod Apart
 pub mod RowsFinish
@@ -24,3 +25,11 @@ pub mod KeyOrder
 pub mod RowGroups
 pub mod KeyValues
 pub mod KeysInRange
+pub mod KeptTwice
+pub mod SoundChunks
+pub mod KeptPieces
+pub mod OwnWays
+pub mod Smallness
+pub mod Cuts
+pub mod Planned
+pub mod IdChunks

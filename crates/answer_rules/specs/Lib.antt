@@ -19,6 +19,10 @@ pub mod PlaceLaws
 pub mod KeyLaws
 pub mod RangeLaws
 pub mod Coverage
+pub mod PlanLaws
+pub mod SoundChunks
+pub mod Bases
+pub mod Small
 pub mod Examples
 pub mod Queries
 pub mod Expected

@@ -10,19 +10,24 @@ use Rattle.answer_rules.specs.declared.rewritten.ChunkItem.{ChunkItem}
 use Rattle.answer_rules.specs.declared.rewritten.ChunkQuery.{ChunkQuery}
 use Rattle.answer_rules.specs.Answers.{answer_in}
 use Rattle.answer_rules.specs.Finish.{finished}
-use Rattle.answer_rules.specs.Parts.{gathered}
-use Rattle.answer_rules.specs.Picks.{is_among}
+use Rattle.answer_rules.specs.Gather.{gather}
+use Rattle.answer_rules.specs.Keys.{key_order}
+use Rattle.answer_rules.specs.Keeps.{AreApart, KeepsFirst}
+use Rattle.answer_rules.specs.Ranks.{row_order}
+use Rattle.answer_rules.specs.declared.row.OutRow.{OutRow}
+use Rattle.answer_rules.specs.Parts.{add_own_sums, gathered}
+use Rattle.scan_rules.specs.Numbers.{has}
 use Rattle.answer_rules.specs.Pieces.{PieceView, OfRows, OfGroups, PieceFor}
 use Rattle.answer_rules.specs.Rows.{limit_of}
 use Rattle.answer_rules.specs.Rewriting.{chunk_query_of, merge_plan_of}
 
 -- no chunk is in both sets
 abbrev pub AreDisjoint : List ℕ → List ℕ → Type 0
-AreDisjoint B B' = (c : ℕ) → is_among B c ≡ true → is_among B' c ≡ false
+AreDisjoint B B' = (c : ℕ) → has B c ≡ true → has B' c ≡ false
 
 -- the sets have the same chunks
 abbrev pub AreSame : List ℕ → List ℕ → Type 0
-AreSame B B' = (c : ℕ) → is_among B c ≡ is_among B' c
+AreSame B B' = (c : ℕ) → has B c ≡ has B' c
 
 -- two pieces joined: the rows of one behind those of the other, or parts of groups added up
 abbrev pub joined_views : List ChunkItem → PieceView → PieceView → PieceView
@@ -31,12 +36,39 @@ joined_views items (OfRows pushed rows) (OfGroups parts') = OfRows pushed rows
 joined_views items (OfGroups parts) (OfRows pushed' rows') = OfGroups parts
 joined_views items (OfGroups parts) (OfGroups parts') = OfGroups (gathered items (parts ++ parts'))
 
+-- two pieces joined by what they are: parts of groups are added up by their own ways
+abbrev pub joined_alone : PieceView → PieceView → PieceView
+joined_alone (OfRows pushed rows) (OfRows pushed' rows') = OfRows pushed (rows ++ rows')
+joined_alone (OfRows pushed rows) (OfGroups parts') = OfRows pushed rows
+joined_alone (OfGroups parts) (OfRows pushed' rows') = OfGroups parts
+joined_alone (OfGroups parts) (OfGroups parts') = OfGroups (gather key_order add_own_sums (parts ++ parts'))
+
 -- pieces over disjoint sets of chunks, joined, stand for both sets
 abbrev pub PiecesJoin : Type 0
 PiecesJoin =
     (g : Partition) (table : List Obj) (cq : ChunkQuery) (B B' : List ℕ) (mine other : PieceView) → AreDisjoint B B'
     → PieceFor g table cq B mine → PieceFor g table cq B' other
     → PieceFor g table cq (B ++ B') (joined_views cq.items mine other)
+
+-- so do pieces that are joined by what they are, whatever their chunk query
+abbrev pub JoinsAlone : Type 0
+JoinsAlone =
+    (g : Partition) (table : List Obj) (cq : ChunkQuery) (B B' : List ℕ) (mine other : PieceView) → AreDisjoint B B'
+    → PieceFor g table cq B mine → PieceFor g table cq B' other
+    → PieceFor g table cq (B ++ B') (joined_alone mine other)
+
+-- a piece of rows may keep less of them, if what it keeps has the first n
+abbrev pub KeptStands : Type 0
+KeptStands =
+    (g : Partition) (table : List Obj) (cq : ChunkQuery) (B : List ℕ) (pushed : Option ℕ) (rows kept : List OutRow)
+    → KeepsFirst row_order pushed rows kept → PieceFor g table cq B (OfRows pushed rows)
+    → PieceFor g table cq B (OfRows pushed kept)
+
+-- the rows of a piece are apart in the order of rows
+abbrev pub RowsAreApart : Type 0
+RowsAreApart =
+    (g : Partition) (table : List Obj) (cq : ChunkQuery) (B : List ℕ) (pushed : Option ℕ) (rows : List OutRow)
+    → IdsAscend table → PieceFor g table cq B (OfRows pushed rows) → AreApart row_order rows
 
 -- a piece stands for the chunks of a set, in whatever order they are listed
 abbrev pub PieceIsForASet : Type 0
@@ -77,4 +109,11 @@ PieceFinishes =
     (columns : ℕ) (g : Partition) (table : List Obj) (q : Bound) (B : List ℕ) (limit : Option ℤ) (view : PieceView)
     → IsPushed q limit → IsSound columns q → IdsAscend table
     → PieceFor g table (limited limit (chunk_query_of q)) B view
+    → finished (merge_plan_of q) view ≡ answer_in g table q B
+
+-- so does a piece of the chunk query as the query is cut, with its LIMIT where rows or pairs have one
+abbrev pub CutPieceFinishes : Type 0
+CutPieceFinishes =
+    (columns : ℕ) (g : Partition) (table : List Obj) (q : Bound) (B : List ℕ) (view : PieceView)
+    → IsSound columns q → IdsAscend table → PieceFor g table (chunk_query_of q) B view
     → finished (merge_plan_of q) view ≡ answer_in g table q B

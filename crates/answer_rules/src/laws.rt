@@ -1,11 +1,17 @@
 //! Laws of orders, of pieces and of answers, as functions that do nothing: a caller has what they ensure.
 
-ghost use Rattle.answer_rules.specs.Coverage.{AnswerIsFlat, FoundInOne, PlanCovers};
+ghost use Rattle.answer_rules.specs.Coverage.{AnswerIsFlat, FoundInOne, PlanCovers, PlanFinishes};
 ghost use Rattle.answer_rules.specs.KeyLaws.{KeysAscend, NoKeyTwice, RowsAreGrouped, ValueIsTold};
-ghost use Rattle.answer_rules.specs.Laws.{CutLaw, EndLaw, JoinLaw, OnlyOrder, RanksAreKeys, SublistLaw};
+ghost use Rattle.answer_rules.specs.Laws.{AgainLaw, CutLaw, EndLaw, JoinLaw, OnlyOrder};
+ghost use Rattle.answer_rules.specs.Laws.{RanksAreKeys, SublistLaw};
 ghost use Rattle.answer_rules.specs.PlaceLaws.{ChunkIsTheOne, LiesInOne, LiesSomewhere};
-ghost use Rattle.answer_rules.specs.RangeLaws.{KeyItemIsInRange, OrderIsInRange};
-ghost use Rattle.answer_rules.specs.PieceLaws.{EmptyPiece, PieceFinishes, PieceIsForASet, PiecesJoin};
+ghost use Rattle.answer_rules.specs.RangeLaws.{ChunkIsInRange, KeyItemIsInRange, OrderIsInRange};
+ghost use Rattle.answer_rules.specs.PieceLaws.{CutPieceFinishes, EmptyPiece, JoinsAlone, KeptStands};
+ghost use Rattle.answer_rules.specs.PieceLaws.{PieceFinishes, PieceIsForASet, PiecesJoin, RowsAreApart};
+ghost use Rattle.answer_rules.specs.PlanLaws.{IdsByTheirChunks, PlanAscends, PlanIsFilled};
+ghost use Rattle.answer_rules.specs.PlanLaws.{RadiusReaches, RadiusReachesOver};
+ghost use Rattle.answer_rules.specs.Small.{JoinIsSmall, PieceIsSmall};
+ghost use Rattle.answer_rules.specs.SoundChunks.{ChunkIsSound, CutIsSound};
 
 /// Ranks compare as keys do: NULL before every number, all turned round where the order goes down.
 #[tactic(auto, using(crate::proofs::Totals::ranks_are_keys))]
@@ -18,10 +24,11 @@ pub fn only_order<X: Ord>()
     ensures { OnlyOrder X.cmp }
 {}
 
-/// What two parts keep, both together keep, and what is kept may be cut to its first n; at the end the first of what is
-/// kept are the first of all, and what is kept is a sublist of all.
+/// What two parts keep, both together keep; what is kept of what is kept is kept, and may be cut to its first n; at the
+/// end the first of what is kept are the first of all, and what is kept is a sublist of all.
 pub fn parts_keep<X: Ord>()
     ensures join { JoinLaw X.cmp }
+    ensures again { AgainLaw X.cmp }
     ensures cut { CutLaw X.cmp }
     ensures end { EndLaw X.cmp }
     ensures sublist { SublistLaw X.cmp }
@@ -43,10 +50,11 @@ pub fn value_is_told()
     ensures { ValueIsTold }
 {}
 
-/// What the rows or pairs of a query that can be run are ordered by, and what a plain item of a grouping computes on a
-/// group's key, is NULL or within ±2^100.
+/// What the rows or pairs of a query that can be run are ordered by, what its chunk query computes of them, and what a
+/// plain item of a grouping computes on a group's key, is NULL or within ±2^100.
 pub fn keys_are_in_range()
     ensures order { OrderIsInRange }
+    ensures chunk { ChunkIsInRange }
     ensures item { KeyItemIsInRange }
 {}
 
@@ -56,17 +64,42 @@ pub fn pieces_join()
     ensures { PiecesJoin }
 {}
 
+/// So do pieces that are joined by what they are: a part of a group carries its way of adding.
+#[tactic(auto, using(crate::proofs::JoinedAlone::joins_alone))]
+pub fn joins_alone()
+    ensures { JoinsAlone }
+{}
+
+/// A piece of rows may keep less of them, if that has the first n; its rows are apart in the order of rows.
+pub fn pieces_keep()
+    ensures stands { KeptStands }
+    ensures apart { RowsAreApart }
+{}
+
 /// A piece stands for the chunks of a set, in whatever order they are listed; an empty piece stands for none.
 pub fn pieces_of_sets()
     ensures same { PieceIsForASet }
     ensures empty { EmptyPiece }
 {}
 
+/// The chunk query of a query can be run where the query can: with its LIMIT or without, and as the query is cut.
+pub fn chunk_is_sound()
+    ensures any { ChunkIsSound }
+    ensures cut { CutIsSound }
+{}
+
+/// The totals of a piece are as small as its rows allow, and pieces over disjoint sets of chunks have no more rows
+/// together than the table.
+pub fn pieces_are_small()
+    ensures one { PieceIsSmall }
+    ensures both { JoinIsSmall }
+{}
+
 /// A piece of a query's chunk query, with the query's LIMIT or without, finishes as the query's answer over the chunks
-/// that it stands for, its first total out of range included.
-#[tactic(auto, using(crate::proofs::Finishing::piece_finishes))]
+/// that it stands for, its first total out of range included; so does one of the chunk query as the query is cut.
 pub fn piece_finishes()
-    ensures { PieceFinishes }
+    ensures any { PieceFinishes }
+    ensures cut { CutPieceFinishes }
 {}
 
 /// A chunk holds a point exactly where it is the point's chunk; a set of one chunk holds what the chunk holds, and the
@@ -93,4 +126,26 @@ pub fn found_in_one()
 #[tactic(auto, using(crate::proofs::Covering::plan_covers))]
 pub fn plan_covers()
     ensures { PlanCovers }
+{}
+
+/// A piece of a query's chunk query over its plan finishes as the answer over the flat table.
+pub fn plan_finishes()
+    ensures { PlanFinishes }
+{}
+
+/// A plan lists chunks of the sky that hold a row, and ascends.
+pub fn plan_is_filled()
+    ensures filled { PlanIsFilled }
+    ensures ascend { PlanAscends }
+{}
+
+/// A query that is not refused for its radius reaches at every chunk of its plan, and over any chunks likewise.
+pub fn radius_reaches()
+    ensures plan { RadiusReaches }
+    ensures over { RadiusReachesOver }
+{}
+
+/// A chunk holds a row with one of some ids exactly where it is the chunk of one of them: a table of ids is enough.
+pub fn ids_by_their_chunks()
+    ensures { IdsByTheirChunks }
 {}

@@ -1,7 +1,7 @@
 //! What is told of a bound query, and of a fault.
 use sky_io::{Put, Sink};
+use sql_bind::BindFault;
 use sql_bound::{Bound, BoundKey, BoundOrder, Shape};
-use sql_rules::BindFault;
 use std::alloc::{AllocError, Global};
 
 // Writes a text.

@@ -36,9 +36,12 @@ use Rattle.sql_rules.proofs.Law.{read_is_written}
 use Rattle.value_rules.specs.Sound.{is_sound_limit}
 use Rattle.bind_rules.specs.Laws.{is_count, HasCounts, WhatIsReadHasCounts}
 use Rattle.bind_rules.specs.Mentions.{joined}
-use Rattle.bind_rules.specs.Tops.{Area, Chord, Found, Tests, kept_if, is_alone, at_top, tests_at_pred, tests_at_neg, tests_at_conj, tests_at_cond, tests_of, tests_in}
-use Rattle.bind_rules.proofs.Conds.{pred_tests, neg_tests, conj_tests}
-use Rattle.bind_rules.proofs.Each.{front, back, both, all_pass}
+use Rattle.bind_rules.specs.Conjuncts.{conjuncts}
+use Rattle.bind_rules.specs.Tops.{Test, Area, Chord, Tests, found_in, within_pred, within, tests_in}
+use Rattle.bind_rules.proofs.Found.{of_found}
+use Rattle.bind_rules.proofs.Inside.{from_pred, from_cond, from_conj, from_neg, from_conjuncts}
+use Rattle.bind_rules.proofs.Views.{View, views}
+use Rattle.bind_rules.proofs.Each.{front, back, both, by_two, in_parts, of_parts, all_pass}
 use Rattle.bind_rules.proofs.Folds.{fold_group, fold_compare, fold_between, fold_among, fold_null, fold_area, fold_chord}
 use Rattle.bind_rules.proofs.Inductions.{cond_induction}
 
@@ -188,8 +191,8 @@ symbols_count text (t ∷ ts) h = (kind_counts text t.kind t.span h.0, symbols_c
 
 -- ---- chord tests
 
-abbrev IsCountTest : Found → Type 0
-IsCountTest f = is_count f.test ≡ true
+abbrev IsCountTest : Test → Type 0
+IsCountTest t = is_count t ≡ true
 
 -- where the numbers that spell a part are no numbers below 0, its tests count
 abbrev Claim : Symbols → Tests → Type 0
@@ -198,7 +201,7 @@ Claim ps ts = Each IsCountSymbol ps → Each IsCountTest ts
 claim_as : (ps ps' : Symbols) (ts ts' : Tests) → ps ≡ ps' → ts ≡ ts' → Claim ps' ts' → Claim ps ts
 claim_as ps ps' ts ts' p q h = subst (λ x. Claim x ts) (sym p) (subst (λ x. Claim ps' x) (sym q) h)
 
-compare_counts : (left right : Expr) (op : Cmp) → Each IsCountTest (tests_at_pred (Pred-F.Compare left op right))
+compare_counts : (left right : Expr) (op : Cmp) → Each IsCountTest (within_pred (Pred-F.Compare left op right))
 compare_counts left right cmp.Equal = (refl, tt)
 compare_counts left right cmp.Differs = tt
 compare_counts left right cmp.Less = tt
@@ -206,13 +209,9 @@ compare_counts left right cmp.AtMost = tt
 compare_counts left right cmp.More = tt
 compare_counts left right cmp.AtLeast = tt
 
-among_counts : (without : Bool) (value : Expr) (list : IntList) → Each IsCountTest (tests_at_pred (Pred-F.Among without value list))
+among_counts : (without : Bool) (value : Expr) (list : IntList) → Each IsCountTest (within_pred (Pred-F.Among without value list))
 among_counts true value list = tt
 among_counts false value list = (refl, tt)
-
-kept_counts : (b : Bool) (ts : Tests) → Each IsCountTest ts → Each IsCountTest (kept_if b ts)
-kept_counts b [] h = tt
-kept_counts b (t ∷ ts) h = (h.0, kept_counts b ts h.1)
 
 led_counts : {X : Type 0} (p : Symbol) (spell : X → Symbols) (tests : X → Tests) (xs : List X) → Each (λ x. Claim (spell x) (tests x)) xs → Each IsCountSymbol (led_by p (map spell xs)) → Each IsCountTest (joined (map tests xs))
 led_counts p spell tests [] h k = tt
@@ -225,29 +224,35 @@ layer_counts p ps ts spell tests xs h k m =
     both IsCountTest ts (joined (map tests xs)) (h (front IsCountSymbol ps (led_by p (map spell xs)) m))
     (led_counts p spell tests xs k (back IsCountSymbol ps (led_by p (map spell xs)) m))
 
-cond_counts : (c : Cond) → Each IsCountSymbol (spell_cond c) → Each IsCountTest (tests_of c)
-unfolding tests_of
+cond_counts : (c : Cond) → Each IsCountSymbol (spell_cond c) → Each IsCountTest (from_cond within_pred c)
 cond_counts = cond_induction
-    (λ p. Claim (spell_pred p) (pred_tests p))
-    (λ c. Claim (spell_cond c) (tests_of c))
-    (λ c. Claim (spell_conj c) (conj_tests c))
-    (λ n. Claim (spell_neg n) (neg_tests n))
-    (λ c h. claim_as _ (bracketed (spell_cond c)) _ (tests_of c) (fold_group at_pred at_cond at_conj at_neg c) (fold_group tests_at_pred tests_at_cond tests_at_conj tests_at_neg c) (λ m. h (front IsCountSymbol (spell_cond c) (of_sign sign.Close ∷ []) m.1)))
-    (λ left op right. claim_as _ (at_pred (Pred-F.Compare left op right)) _ (tests_at_pred (Pred-F.Compare left op right)) (fold_compare at_pred at_cond at_conj at_neg left op right) (fold_compare tests_at_pred tests_at_cond tests_at_conj tests_at_neg left op right) (λ m. compare_counts left right op))
-    (λ without value low high. claim_as _ (at_pred (Pred-F.Between without value low high)) _ [] (fold_between at_pred at_cond at_conj at_neg without value low high) (fold_between tests_at_pred tests_at_cond tests_at_conj tests_at_neg without value low high) (λ m. tt))
-    (λ without value list. claim_as _ (at_pred (Pred-F.Among without value list)) _ (tests_at_pred (Pred-F.Among without value list)) (fold_among at_pred at_cond at_conj at_neg without value list) (fold_among tests_at_pred tests_at_cond tests_at_conj tests_at_neg without value list) (λ m. among_counts without value list))
-    (λ without value. claim_as _ (at_pred (Pred-F.IsNull without value)) _ [] (fold_null at_pred at_cond at_conj at_neg without value) (fold_null tests_at_pred tests_at_cond tests_at_conj tests_at_neg without value) (λ m. tt))
-    (λ kind span args. claim_as _ (at_pred (Pred-F.Area kind span args)) _ (at_top (Area kind span args)) (fold_area at_pred at_cond at_conj at_neg kind span args) (fold_area tests_at_pred tests_at_cond tests_at_conj tests_at_neg kind span args) (λ m. (refl, tt)))
-    (λ left right strict n. claim_as _ (at_pred (Pred-F.Chord left right strict n)) _ (at_top (Chord left right strict n)) (fold_chord at_pred at_cond at_conj at_neg left right strict n) (fold_chord tests_at_pred tests_at_cond tests_at_conj tests_at_neg left right strict n) (λ m. ((back IsCountSymbol (bracketed (Named left ∷ (of_sign sign.Comma ∷ (Named right ∷ [])))) (Compares (chord_op strict) ∷ (Number n ∷ [])) m.1).1.0, tt)))
-    (λ x h. claim_as _ (optional x.not (of_keyword keyword.Not) ++ spell_pred x.pred) _ (kept_if (not x.not) (pred_tests x.pred)) (fold-roll-Neg Symbols Symbols Symbols Symbols at_pred at_cond at_conj at_neg x) (fold-roll-Neg Tests Tests Tests Tests tests_at_pred tests_at_cond tests_at_conj tests_at_neg x) (λ m. kept_counts (not x.not) (pred_tests x.pred) (h (back IsCountSymbol (optional x.not (of_keyword keyword.Not)) (spell_pred x.pred) m))))
-    (λ x h k. claim_as _ (spell_neg x.first ++ led_by (of_keyword keyword.And) (map spell_neg x.rest)) _ (neg_tests x.first ++ joined (map neg_tests x.rest)) (fold-roll-Conj Symbols Symbols Symbols Symbols at_pred at_cond at_conj at_neg x) (fold-roll-Conj Tests Tests Tests Tests tests_at_pred tests_at_cond tests_at_conj tests_at_neg x) (layer_counts (of_keyword keyword.And) (spell_neg x.first) (neg_tests x.first) spell_neg neg_tests x.rest h k))
-    (λ x h k. claim_as _ (spell_conj x.first ++ led_by (of_keyword keyword.Or) (map spell_conj x.rest)) _ (kept_if (is_alone (map conj_tests x.rest)) (conj_tests x.first ++ joined (map conj_tests x.rest))) (fold-roll-Cond Symbols Symbols Symbols Symbols at_pred at_cond at_conj at_neg x) (fold-roll-Cond Tests Tests Tests Tests tests_at_pred tests_at_cond tests_at_conj tests_at_neg x) (λ m. kept_counts (is_alone (map conj_tests x.rest)) (conj_tests x.first ++ joined (map conj_tests x.rest)) (layer_counts (of_keyword keyword.Or) (spell_conj x.first) (conj_tests x.first) spell_conj conj_tests x.rest h k m)))
+    (λ p. Claim (spell_pred p) (from_pred within_pred p))
+    (λ c. Claim (spell_cond c) (from_cond within_pred c))
+    (λ c. Claim (spell_conj c) (from_conj within_pred c))
+    (λ n. Claim (spell_neg n) (from_neg within_pred n))
+    (λ c h. claim_as _ (bracketed (spell_cond c)) _ (from_cond within_pred c) (fold_group at_pred at_cond at_conj at_neg c) (fold_group within_pred (λ c. c.first ++ joined c.rest) (λ c. c.first ++ joined c.rest) (λ n. n.pred) c) (λ m. h (front IsCountSymbol (spell_cond c) (of_sign sign.Close ∷ []) m.1)))
+    (λ left op right. claim_as _ (at_pred (Pred-F.Compare left op right)) _ (within_pred (Pred-F.Compare left op right)) (fold_compare at_pred at_cond at_conj at_neg left op right) (fold_compare within_pred (λ c. c.first ++ joined c.rest) (λ c. c.first ++ joined c.rest) (λ n. n.pred) left op right) (λ m. compare_counts left right op))
+    (λ without value low high. claim_as _ (at_pred (Pred-F.Between without value low high)) _ [] (fold_between at_pred at_cond at_conj at_neg without value low high) (fold_between within_pred (λ c. c.first ++ joined c.rest) (λ c. c.first ++ joined c.rest) (λ n. n.pred) without value low high) (λ m. tt))
+    (λ without value list. claim_as _ (at_pred (Pred-F.Among without value list)) _ (within_pred (Pred-F.Among without value list)) (fold_among at_pred at_cond at_conj at_neg without value list) (fold_among within_pred (λ c. c.first ++ joined c.rest) (λ c. c.first ++ joined c.rest) (λ n. n.pred) without value list) (λ m. among_counts without value list))
+    (λ without value. claim_as _ (at_pred (Pred-F.IsNull without value)) _ [] (fold_null at_pred at_cond at_conj at_neg without value) (fold_null within_pred (λ c. c.first ++ joined c.rest) (λ c. c.first ++ joined c.rest) (λ n. n.pred) without value) (λ m. tt))
+    (λ kind span args. claim_as _ (at_pred (Pred-F.Area kind span args)) _ (Area kind span args ∷ []) (fold_area at_pred at_cond at_conj at_neg kind span args) (fold_area within_pred (λ c. c.first ++ joined c.rest) (λ c. c.first ++ joined c.rest) (λ n. n.pred) kind span args) (λ m. (refl, tt)))
+    (λ left right strict n. claim_as _ (at_pred (Pred-F.Chord left right strict n)) _ (Chord left right strict n ∷ []) (fold_chord at_pred at_cond at_conj at_neg left right strict n) (fold_chord within_pred (λ c. c.first ++ joined c.rest) (λ c. c.first ++ joined c.rest) (λ n. n.pred) left right strict n) (λ m. ((back IsCountSymbol (bracketed (Named left ∷ (of_sign sign.Comma ∷ (Named right ∷ [])))) (Compares (chord_op strict) ∷ (Number n ∷ [])) m.1).1.0, tt)))
+    (λ x h. claim_as _ (optional x.not (of_keyword keyword.Not) ++ spell_pred x.pred) _ (from_pred within_pred x.pred) (fold-roll-Neg Symbols Symbols Symbols Symbols at_pred at_cond at_conj at_neg x) (fold-roll-Neg Tests Tests Tests Tests within_pred (λ c. c.first ++ joined c.rest) (λ c. c.first ++ joined c.rest) (λ n. n.pred) x) (λ m. (h (back IsCountSymbol (optional x.not (of_keyword keyword.Not)) (spell_pred x.pred) m))))
+    (λ x h k. claim_as _ (spell_neg x.first ++ led_by (of_keyword keyword.And) (map spell_neg x.rest)) _ (from_neg within_pred x.first ++ joined (map (from_neg within_pred) x.rest)) (fold-roll-Conj Symbols Symbols Symbols Symbols at_pred at_cond at_conj at_neg x) (fold-roll-Conj Tests Tests Tests Tests within_pred (λ c. c.first ++ joined c.rest) (λ c. c.first ++ joined c.rest) (λ n. n.pred) x) (layer_counts (of_keyword keyword.And) (spell_neg x.first) (from_neg within_pred x.first) spell_neg (from_neg within_pred) x.rest h k))
+    (λ x h k. claim_as _ (spell_conj x.first ++ led_by (of_keyword keyword.Or) (map spell_conj x.rest)) _ (from_conj within_pred x.first ++ joined (map (from_conj within_pred) x.rest)) (fold-roll-Cond Symbols Symbols Symbols Symbols at_pred at_cond at_conj at_neg x) (fold-roll-Cond Tests Tests Tests Tests within_pred (λ c. c.first ++ joined c.rest) (λ c. c.first ++ joined c.rest) (λ n. n.pred) x) (layer_counts (of_keyword keyword.Or) (spell_conj x.first) (from_conj within_pred x.first) spell_conj (from_conj within_pred) x.rest h k))
 
 -- ---- the law
 
-where_counts : (c : Option Cond) → Each IsCountSymbol (spell_where c) → Each IsCountTest (tests_in c)
+found_counts : (c : Cond) → Each IsCountTest (from_cond within_pred c) → Each (λ f. IsCountTest f.test) (tests_in (Some c))
+unfolding within
+found_counts c h =
+    of_parts (λ f. IsCountTest f.test) found_in (conjuncts c)
+    (by_two View (λ n. Each IsCountTest (from_neg within_pred n)) (λ n. Each (λ f. IsCountTest f.test) (found_in n)) (of_found IsCountTest) (conjuncts c) (views c)
+    (in_parts IsCountTest (from_neg within_pred) (conjuncts c) (subst (Each IsCountTest) (from_conjuncts within_pred (λ ts. refl) c) h)))
+
+where_counts : (c : Option Cond) → Each IsCountSymbol (spell_where c) → Each (λ f. IsCountTest f.test) (tests_in c)
 where_counts None h = tt
-where_counts (Some c) h = cond_counts c h.1
+where_counts (Some c) h = found_counts c (cond_counts c h.1)
 
 limit_counts : (n : Option ℤ) → Each IsCountSymbol (spell_limit n) → is_sound_limit n ≡ true
 limit_counts None h = refl

@@ -1,5 +1,5 @@
 -- What holds of each element of a list, and of a value that may be there.
-use Rattle.std.proofs.Common.{◌≡◌, Bool, true, false, List, [], ◌∷◌, ◌++◌, map, Option, Some, None, refl, cond}
+use Rattle.std.proofs.Common.{◌≡◌, Bool, true, false, List, [], ◌∷◌, ◌++◌, map, Option, Some, None, refl, cond, ap, sym, ◌∙◌, append_assoc}
 use Rattle.std.specs.Prelude.{◌||◌}
 use Rattle.std.specs.List.{AllByRecursion as Each, flat_map, list_all, find, list_any}
 use Rattle.std.proofs.lemmas.Bool.{and_parts}
@@ -82,3 +82,17 @@ none_found p (x ∷ xs) h = let two = none_step p x (find p xs) (p x) refl h in 
 pub none_passes : {X : Type 0} (p : X → Bool) (xs : List X) → list_any p xs ≡ false → Each (λ x. p x ≡ false) xs
 none_passes p [] h = tt
 none_passes p (x ∷ xs) h = let two = neither (p x) (list_any p xs) h in (two.0, none_passes p xs two.1)
+
+-- lists one behind another
+pub flat_append : {X Y : Type 0} (f : X → List Y) (xs ys : List X) → flat_map f (xs ++ ys) ≡ flat_map f xs ++ flat_map f ys
+flat_append f [] ys = refl
+flat_append f (x ∷ xs) ys = ap (λ t. f x ++ t) (flat_append f xs ys) ∙ sym (append_assoc (f x) (flat_map f xs) (flat_map f ys))
+
+pub flat_twice : {X Y Z : Type 0} (f : Y → List Z) (g : X → List Y) (xs : List X) → flat_map f (flat_map g xs) ≡ flat_map (λ x. flat_map f (g x)) xs
+flat_twice f g [] = refl
+flat_twice f g (x ∷ xs) = flat_append f (g x) (flat_map g xs) ∙ ap (λ t. flat_map f (g x) ++ t) (flat_twice f g xs)
+
+-- the same lists one behind another
+pub flat_same : {X Y : Type 0} (f g : X → List Y) (xs : List X) → Each (λ x. f x ≡ g x) xs → flat_map f xs ≡ flat_map g xs
+flat_same f g [] h = refl
+flat_same f g (x ∷ xs) h = ap (λ t. t ++ flat_map f xs) h.0 ∙ ap (λ t. g x ++ t) (flat_same f g xs h.1)

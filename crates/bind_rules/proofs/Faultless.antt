@@ -10,8 +10,8 @@ use Rattle.sql_tree.specs.declared.expr.Expr.{Expr}
 use Rattle.sql_tree.specs.declared.name.Col.{Col}
 use Rattle.sql_tree.specs.declared.query.Query.{Query}
 use Rattle.sql_tree.specs.declared.cond.Cond.{Cond}
-use Rattle.sql_rules.specs.declared.fault.BindFault.{BindFault}
-use Rattle.sql_rules.specs.declared.fault.BindFault.TheVariants as fault
+use Rattle.bind_rules.specs.declared.fault.BindFault.{BindFault}
+use Rattle.bind_rules.specs.declared.fault.BindFault.TheVariants as fault
 use Rattle.table_rules.specs.Names.{column_of}
 use Rattle.bind_rules.specs.Binding.{by_fault, bound_query, bound_of}
 use Rattle.bind_rules.specs.Bounds.{Scope}

@@ -9,7 +9,7 @@ use Rattle.sql_tree.specs.declared.cond.Conj.{Conj, roll-Conj}
 use Rattle.sql_tree.specs.declared.cond.IntList.{IntList}
 use Rattle.sql_tree.specs.declared.cond.Neg.{Neg, roll-Neg}
 use Rattle.sql_tree.specs.declared.cond.Pred.{Pred, roll-Pred, map-Pred}
-use Rattle.sql_tree.specs.declared.cond.Pred.TheFolds.{ind-Cond}
+use Rattle.sql_tree.specs.declared.cond.Pred.TheFolds.{ind-Cond, ind-Conj, ind-Neg, ind-Pred}
 use Rattle.sql_tree.specs.declared.cond.Pred.TheOpen.{Cond-F, Conj-F, Neg-F, Pred-F}
 use Rattle.sql_tree.specs.declared.cond.Pred.TheVariants as pred
 use Rattle.sql_tree.specs.declared.expr.Atom.{Atom, roll-Atom, map-Atom}
@@ -59,6 +59,33 @@ pred_step PP PC PJ PN on_bracket on_compare on_between on_among on_null on_area 
 pub cond_induction : (PP : Pred → Type 0) (PC : Cond → Type 0) (PJ : Conj → Type 0) (PN : Neg → Type 0) → ((c : Cond) → PC c → PP (pred.Bracket c)) → ((left : Expr) (op : Cmp) (right : Expr) → PP (pred.Compare left op right)) → ((without : Bool) (value low high : Expr) → PP (pred.Between without value low high)) → ((without : Bool) (value : Expr) (list : IntList) → PP (pred.Among without value list)) → ((without : Bool) (value : Expr) → PP (pred.IsNull without value)) → ((kind : AreaKind) (span : Span) (args : IntList) → PP (pred.Area kind span args)) → ((left right : Name) (strict : Bool) (n : ℤ) → PP (pred.Chord left right strict n)) → ((x : Neg-F Pred Cond Conj Neg) → PP x.pred → PN (roll-Neg x)) → ((x : Conj-F Pred Cond Conj Neg) → PN x.first → Each PN x.rest → PJ (roll-Conj x)) → ((x : Cond-F Pred Cond Conj Neg) → PJ x.first → Each PJ x.rest → PC (roll-Cond x)) → (c : Cond) → PC c
 cond_induction PP PC PJ PN on_bracket on_compare on_between on_among on_null on_area on_chord on_neg on_conj on_cond =
     ind-Cond PP PC PJ PN
+    (λ x y is. pred_step PP PC PJ PN on_bracket on_compare on_between on_among on_null on_area on_chord x y is)
+    (λ x y is. subst (λ z. PC (roll-Cond z)) is (on_cond (record { first = y.first.0; rest = map (λ e. e.0) y.rest }) y.first.1 (each_of PJ y.rest)))
+    (λ x y is. subst (λ z. PJ (roll-Conj z)) is (on_conj (record { first = y.first.0; rest = map (λ e. e.0) y.rest }) y.first.1 (each_of PN y.rest)))
+    (λ x y is. subst (λ z. PN (roll-Neg z)) is (on_neg (record { not = y.not; pred = y.pred.0 }) y.pred.1))
+
+-- of conjunctions
+pub conj_induction : (PP : Pred → Type 0) (PC : Cond → Type 0) (PJ : Conj → Type 0) (PN : Neg → Type 0) → ((c : Cond) → PC c → PP (pred.Bracket c)) → ((left : Expr) (op : Cmp) (right : Expr) → PP (pred.Compare left op right)) → ((without : Bool) (value low high : Expr) → PP (pred.Between without value low high)) → ((without : Bool) (value : Expr) (list : IntList) → PP (pred.Among without value list)) → ((without : Bool) (value : Expr) → PP (pred.IsNull without value)) → ((kind : AreaKind) (span : Span) (args : IntList) → PP (pred.Area kind span args)) → ((left right : Name) (strict : Bool) (n : ℤ) → PP (pred.Chord left right strict n)) → ((x : Neg-F Pred Cond Conj Neg) → PP x.pred → PN (roll-Neg x)) → ((x : Conj-F Pred Cond Conj Neg) → PN x.first → Each PN x.rest → PJ (roll-Conj x)) → ((x : Cond-F Pred Cond Conj Neg) → PJ x.first → Each PJ x.rest → PC (roll-Cond x)) → (c : Conj) → PJ c
+conj_induction PP PC PJ PN on_bracket on_compare on_between on_among on_null on_area on_chord on_neg on_conj on_cond =
+    ind-Conj PP PC PJ PN
+    (λ x y is. pred_step PP PC PJ PN on_bracket on_compare on_between on_among on_null on_area on_chord x y is)
+    (λ x y is. subst (λ z. PC (roll-Cond z)) is (on_cond (record { first = y.first.0; rest = map (λ e. e.0) y.rest }) y.first.1 (each_of PJ y.rest)))
+    (λ x y is. subst (λ z. PJ (roll-Conj z)) is (on_conj (record { first = y.first.0; rest = map (λ e. e.0) y.rest }) y.first.1 (each_of PN y.rest)))
+    (λ x y is. subst (λ z. PN (roll-Neg z)) is (on_neg (record { not = y.not; pred = y.pred.0 }) y.pred.1))
+
+-- of predicates with or without NOT
+pub neg_induction : (PP : Pred → Type 0) (PC : Cond → Type 0) (PJ : Conj → Type 0) (PN : Neg → Type 0) → ((c : Cond) → PC c → PP (pred.Bracket c)) → ((left : Expr) (op : Cmp) (right : Expr) → PP (pred.Compare left op right)) → ((without : Bool) (value low high : Expr) → PP (pred.Between without value low high)) → ((without : Bool) (value : Expr) (list : IntList) → PP (pred.Among without value list)) → ((without : Bool) (value : Expr) → PP (pred.IsNull without value)) → ((kind : AreaKind) (span : Span) (args : IntList) → PP (pred.Area kind span args)) → ((left right : Name) (strict : Bool) (n : ℤ) → PP (pred.Chord left right strict n)) → ((x : Neg-F Pred Cond Conj Neg) → PP x.pred → PN (roll-Neg x)) → ((x : Conj-F Pred Cond Conj Neg) → PN x.first → Each PN x.rest → PJ (roll-Conj x)) → ((x : Cond-F Pred Cond Conj Neg) → PJ x.first → Each PJ x.rest → PC (roll-Cond x)) → (n : Neg) → PN n
+neg_induction PP PC PJ PN on_bracket on_compare on_between on_among on_null on_area on_chord on_neg on_conj on_cond =
+    ind-Neg PP PC PJ PN
+    (λ x y is. pred_step PP PC PJ PN on_bracket on_compare on_between on_among on_null on_area on_chord x y is)
+    (λ x y is. subst (λ z. PC (roll-Cond z)) is (on_cond (record { first = y.first.0; rest = map (λ e. e.0) y.rest }) y.first.1 (each_of PJ y.rest)))
+    (λ x y is. subst (λ z. PJ (roll-Conj z)) is (on_conj (record { first = y.first.0; rest = map (λ e. e.0) y.rest }) y.first.1 (each_of PN y.rest)))
+    (λ x y is. subst (λ z. PN (roll-Neg z)) is (on_neg (record { not = y.not; pred = y.pred.0 }) y.pred.1))
+
+-- of predicates
+pub pred_induction : (PP : Pred → Type 0) (PC : Cond → Type 0) (PJ : Conj → Type 0) (PN : Neg → Type 0) → ((c : Cond) → PC c → PP (pred.Bracket c)) → ((left : Expr) (op : Cmp) (right : Expr) → PP (pred.Compare left op right)) → ((without : Bool) (value low high : Expr) → PP (pred.Between without value low high)) → ((without : Bool) (value : Expr) (list : IntList) → PP (pred.Among without value list)) → ((without : Bool) (value : Expr) → PP (pred.IsNull without value)) → ((kind : AreaKind) (span : Span) (args : IntList) → PP (pred.Area kind span args)) → ((left right : Name) (strict : Bool) (n : ℤ) → PP (pred.Chord left right strict n)) → ((x : Neg-F Pred Cond Conj Neg) → PP x.pred → PN (roll-Neg x)) → ((x : Conj-F Pred Cond Conj Neg) → PN x.first → Each PN x.rest → PJ (roll-Conj x)) → ((x : Cond-F Pred Cond Conj Neg) → PJ x.first → Each PJ x.rest → PC (roll-Cond x)) → (p : Pred) → PP p
+pred_induction PP PC PJ PN on_bracket on_compare on_between on_among on_null on_area on_chord on_neg on_conj on_cond =
+    ind-Pred PP PC PJ PN
     (λ x y is. pred_step PP PC PJ PN on_bracket on_compare on_between on_among on_null on_area on_chord x y is)
     (λ x y is. subst (λ z. PC (roll-Cond z)) is (on_cond (record { first = y.first.0; rest = map (λ e. e.0) y.rest }) y.first.1 (each_of PJ y.rest)))
     (λ x y is. subst (λ z. PJ (roll-Conj z)) is (on_conj (record { first = y.first.0; rest = map (λ e. e.0) y.rest }) y.first.1 (each_of PN y.rest)))

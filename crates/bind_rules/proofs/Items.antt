@@ -23,7 +23,7 @@ use Rattle.bind_rules.specs.Bounds.{Scope, bound_col}
 use Rattle.bind_rules.specs.Columns.{is_join}
 use Rattle.bind_rules.specs.Mentions.{items_of, expr_of, item_exprs}
 use Rattle.bind_rules.specs.Names.{is_aggregate, has_keys, is_grouped, plain_columns, is_key, ungrouped}
-use Rattle.bind_rules.specs.Tops.{tests_in}
+use Rattle.bind_rules.specs.Tops.{top_tests}
 use Rattle.bind_rules.specs.Widths.{exprs_in}
 use Rattle.bind_rules.proofs.Conds.{IsSoundExpr}
 use Rattle.bind_rules.proofs.Each.{front, both, mapped, weaker, by_two, in_parts, passed, all_pass, none_found, none_passes, neither}
@@ -134,7 +134,7 @@ no_aggregate q g = none_passes (λ i. is_aggregate i.what) (items_of q.items) (n
 
 items_by : (names : List (List ℕ)) (q : Query) (sel : Selection) (j g : Bool) → is_join q ≡ j → (j ≡ true → is_grouped q ≡ false) → is_grouped q ≡ g → (j ≡ false → g ≡ true → ungrouped q sel ≡ None) → (is_grouped q ≡ false → Each (λ i. is_aggregate i.what ≡ false) (items_of sel)) → Each (λ i. Each (IsSoundExpr (scope_of names q) (has_col (count names) j)) (expr_of i.what)) (items_of sel) → list_all (is_sound_item (count names) (shape_by (scope_of names q) q j g)) (bound_items (scope_of names q) q sel) ≡ true
 items_by names q (selection.Star span) true g j p e u n k =
-    subst (λ b. list_all (is_sound_item (count names) (shape_by (scope_of names q) q true g)) (star_items names b) ≡ true) (sym j) (star_of_pairs names (first_or (pos 0) (flat_map (λ f. chord_limit f.test) (tests_in q.cond))))
+    subst (λ b. list_all (is_sound_item (count names) (shape_by (scope_of names q) q true g)) (star_items names b) ≡ true) (sym j) (star_of_pairs names (first_or (pos 0) (flat_map chord_limit (top_tests q.cond))))
 items_by names q (selection.Star span) false true j p e u n k = absurd (star_untold (u refl refl))
   where
     star_untold : Some span ≡ None → ⊥

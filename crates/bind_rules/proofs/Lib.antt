@@ -1,10 +1,14 @@
 pub mod Folds
-pub mod Taken
 pub mod Each
 pub mod Inductions
+pub mod Apart
+pub mod Views
+pub mod Inside
 pub mod Exprs
 pub mod Lone
 pub mod AreaTests
+pub mod Wholes
+pub mod Found
 pub mod Conds
 pub mod Places
 pub mod Shapes
@@ -15,4 +19,10 @@ pub mod Tops
 pub mod Mentioned
 pub mod Faultless
 pub mod Tested
-pub mod AreasTaken
+pub mod TopAreas
+pub mod TopIds
+pub mod WrittenTruths
+pub mod FittingAreas
+pub mod Kept
+pub mod BoundWhere
+pub mod Worked

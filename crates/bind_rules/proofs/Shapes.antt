@@ -11,7 +11,7 @@ use Rattle.sql_bound.specs.declared.query.Shape.TheVariants as shape
 use Rattle.sql_tree.specs.declared.name.Col.{Col}
 use Rattle.sql_tree.specs.declared.query.Query.{Query}
 use Rattle.sql_tree.specs.declared.query.TableRef.{TableRef}
-use Rattle.sql_rules.specs.declared.fault.BindFault.TheVariants as fault
+use Rattle.bind_rules.specs.declared.fault.BindFault.TheVariants as fault
 use Rattle.value_rules.specs.Sound.{has_col, is_sound_shape}
 use Rattle.bind_rules.specs.Binding.{chord_limit, first_or}
 use Rattle.bind_rules.specs.Bounds.{Scope, bound_col}
@@ -20,11 +20,12 @@ use Rattle.bind_rules.specs.Forms.{chords_of, pairs_both, is_join_form, join_for
 use Rattle.bind_rules.specs.Laws.{HasCounts, is_count}
 use Rattle.bind_rules.specs.Mentions.{columns_of, columns_in}
 use Rattle.bind_rules.specs.Names.{is_grouped, ungrouped, not_grouped}
-use Rattle.bind_rules.specs.Tops.{Test, Area, Chord, Equals, Listed, tests_in}
+use Rattle.bind_rules.specs.Tops.{Test, Area, Chord, Equals, Listed, tests_in, top_tests}
 use Rattle.bind_rules.specs.Widths.{is_too_wide, all_exprs}
 use Rattle.bind_rules.proofs.Conds.{IsSoundExpr}
 use Rattle.bind_rules.proofs.Each.{mapped, weaker, by_two, of_parts, passed, all_pass}
 use Rattle.bind_rules.proofs.Exprs.{IsThere}
+use Rattle.bind_rules.proofs.Found.{tops_found}
 use Rattle.bind_rules.proofs.Faultless.{Faultless, scope_of, exprs_there, keys_there, narrow}
 use Rattle.bind_rules.proofs.Places.{count, has_there, expr_sound}
 
@@ -41,7 +42,7 @@ exprs_sound names q f =
 -- by whether it is a join, and else whether it is a grouping
 abbrev pub shape_by : Scope → Query → Bool → Bool → Shape
 shape_by s q join grouped =
-    if join then shape.Pairs (first_or (pos 0) (flat_map (λ f. chord_limit f.test) (tests_in q.cond)))
+    if join then shape.Pairs (first_or (pos 0) (flat_map chord_limit (top_tests q.cond)))
     else if grouped then shape.Groups (map (bound_col s) q.group)
     else shape.Rows
 
@@ -90,12 +91,12 @@ first_sound : (zs : List ℤ) → Each (λ z. int_le (negsuc 0) z ≡ true) zs �
 first_sound [] h = refl
 first_sound (z ∷ zs) h = h.0
 
-limit_sound : (q : Query) → HasCounts q → int_le (negsuc 0) (first_or (pos 0) (flat_map (λ f. chord_limit f.test) (tests_in q.cond))) ≡ true
+limit_sound : (q : Query) → HasCounts q → int_le (negsuc 0) (first_or (pos 0) (flat_map chord_limit (top_tests q.cond))) ≡ true
 limit_sound q h =
-    first_sound (flat_map (λ f. chord_limit f.test) (tests_in q.cond))
-    (of_parts (λ z. int_le (negsuc 0) z ≡ true) (λ f. chord_limit f.test) (tests_in q.cond)
-    (weaker (λ f. is_count f.test ≡ true) (λ f. Each (λ z. int_le (negsuc 0) z ≡ true) (chord_limit f.test)) (λ f k. limit_step f.test k) (tests_in q.cond)
-    (passed (λ f. is_count f.test) (tests_in q.cond) h.chords)))
+    first_sound (flat_map chord_limit (top_tests q.cond))
+    (of_parts (λ z. int_le (negsuc 0) z ≡ true) chord_limit (top_tests q.cond)
+    (weaker (λ t. is_count t ≡ true) (λ t. Each (λ z. int_le (negsuc 0) z ≡ true) (chord_limit t)) limit_step (top_tests q.cond)
+    (tops_found (λ t. is_count t ≡ true) q.cond (passed (λ f. is_count f.test) (tests_in q.cond) h.chords))))
 
 pub single_has : (names : List (List ℕ)) (o : Option TableRef) (c : Col) → is_some o ≡ false → IsThere (record { names = names; second = o }) c → has_col (count names) false (bound_col (record { names = names; second = o }) c) ≡ true
 single_has names None c j h = has_there names None c h

@@ -20,25 +20,26 @@ use Rattle.sql_tree.specs.declared.query.Query.{Query}
 use Rattle.sql_tree.specs.declared.query.Selection.{Selection}
 use Rattle.sql_tree.specs.declared.query.Selection.TheVariants as selection
 use Rattle.sql_tree.specs.Spans.{col_span}
-use Rattle.sql_rules.specs.declared.fault.BindFault.TheVariants as fault
+use Rattle.bind_rules.specs.declared.fault.BindFault.TheVariants as fault
 use Rattle.value_rules.specs.Sound.{has_col, is_paired, is_plain_col, is_sound_cond, is_sound_area, is_sound_order, is_sound_key, IsSound}
 use Rattle.bind_rules.specs.Areas.{area_test}
-use Rattle.bind_rules.specs.Binding.{bound_item, bound_items, bound_shape, key_by, bound_order, conds_in, bound_query}
+use Rattle.bind_rules.specs.Binding.{bound_item, bound_items, bound_shape, key_by, bound_order, bound_query}
 use Rattle.bind_rules.specs.Bounds.{Scope, bound_col}
 use Rattle.bind_rules.specs.Checks.{alias_place, is_named, is_sortable, order_fault, order_name}
 use Rattle.bind_rules.specs.Columns.{tables, is_join, is_known, is_qualified_well}
-use Rattle.bind_rules.specs.Conjuncts.{conjuncts}
 use Rattle.bind_rules.specs.Forms.{values_of}
 use Rattle.bind_rules.specs.IdTests.{areas_by}
 use Rattle.bind_rules.specs.Laws.{HasCounts, BoundIsSound}
 use Rattle.bind_rules.specs.Mentions.{items_of, item_exprs}
 use Rattle.bind_rules.specs.Names.{is_grouped, is_key}
-use Rattle.bind_rules.specs.Tops.{Test, Area, Chord, Equals, Listed, tests_in}
+use Rattle.bind_rules.specs.Tops.{Test, Area, Chord, Equals, Listed, tests_in, top_tests}
+use Rattle.bind_rules.specs.Wholes.{conds_in}
 use Rattle.bind_rules.specs.Widths.{exprs_in}
 use Rattle.bind_rules.proofs.AreaTests.{IsSoundArea, area_sound}
-use Rattle.bind_rules.proofs.Conds.{IsSoundExpr, HasForm, FoundForm, taken_sound}
+use Rattle.bind_rules.proofs.Conds.{IsSoundExpr, HasForm, FoundForm, conjuncts_sound}
 use Rattle.bind_rules.proofs.Each.{back, weaker, of_parts, all_pass, IfThere}
 use Rattle.bind_rules.proofs.Exprs.{IsThere}
+use Rattle.bind_rules.proofs.Found.{tops_found}
 use Rattle.bind_rules.proofs.Faultless.{Faultless, scope_of, binds, good_areas, IsTopArea}
 use Rattle.bind_rules.proofs.Places.{count, has_there, key_there}
 use Rattle.table_rules.proofs.Accepted.{accepted_is_catalogue}
@@ -58,7 +59,7 @@ forms q h = weaker IsTopArea FoundForm (λ t k. k.0) (tests_in q.cond) h
 
 where_sound : (s : Scope) (allowed : BoundCol → Bool) (c : Option Cond) → Each (IsSoundExpr s allowed) (exprs_in c) → Each FoundForm (tests_in c) → list_all (is_sound_cond allowed) (conds_in s c) ≡ true
 where_sound s allowed None h k = refl
-where_sound s allowed (Some c) h k = all_pass (is_sound_cond allowed) (conjuncts s c) (taken_sound s allowed c h k).1
+where_sound s allowed (Some c) h k = all_pass (is_sound_cond allowed) (conds_in s (Some c)) (conjuncts_sound s allowed c h k)
 
 over_pairs : (s : Scope) (q : Query) (j g : Bool) → is_paired (shape_by s q j g) ≡ j
 over_pairs s q true g = refl
@@ -81,11 +82,11 @@ areas_of_test (Chord left right strict n) h = tt
 areas_of_test (Equals left right) h = tt
 areas_of_test (Listed value list) h = tt
 
-areas_sound : (names : List (List ℕ)) (q : Query) → Faultless names q → list_all is_sound_area (flat_map (λ f. areas_by f.test) (tests_in q.cond)) ≡ true
+areas_sound : (names : List (List ℕ)) (q : Query) → Faultless names q → list_all is_sound_area (flat_map areas_by (top_tests q.cond)) ≡ true
 areas_sound names q f =
-    all_pass is_sound_area (flat_map (λ f. areas_by f.test) (tests_in q.cond))
-    (of_parts IsSoundArea (λ f. areas_by f.test) (tests_in q.cond)
-    (weaker FoundForm (λ f. Each IsSoundArea (areas_by f.test)) (λ t h. areas_of_test t.test h) (tests_in q.cond) (forms q (good_areas names q f))))
+    all_pass is_sound_area (flat_map areas_by (top_tests q.cond))
+    (of_parts IsSoundArea areas_by (top_tests q.cond)
+    (weaker HasForm (λ t. Each IsSoundArea (areas_by t)) areas_of_test (top_tests q.cond) (tops_found HasForm q.cond (forms q (good_areas names q f)))))
 
 -- ---- the order
 
@@ -180,5 +181,5 @@ each_pick b h objects rows =
 pub values_are_in_range : ValuesAreInRange
 values_are_in_range records c q b accepted e =
     let two = binds c.names q b e in
-    let rows = recursion_from_All IsRow c.objects (accepted_is_catalogue records c accepted).1 in
+    let rows = recursion_from_All IsRow c.objects (accepted_is_catalogue records c accepted).rows in
     each_pick b (subst (λ x. (p : Pick) → IsWithinBounds p → IsInRange x p) two.1 (query_in_range c.names q two.0)) c.objects rows

@@ -15,7 +15,6 @@ use Rattle.sql_bound.specs.declared.query.BoundKey.TheVariants as bkey
 use Rattle.sql_bound.specs.declared.query.BoundOrder.{BoundOrder}
 use Rattle.sql_bound.specs.declared.query.Shape.{Shape}
 use Rattle.sql_bound.specs.declared.query.Shape.TheVariants as shape
-use Rattle.sql_tree.specs.declared.cond.Cond.{Cond}
 use Rattle.sql_tree.specs.declared.name.Col.{Col}
 use Rattle.sql_tree.specs.declared.query.ItemKind.{ItemKind}
 use Rattle.sql_tree.specs.declared.query.ItemKind.TheVariants as what
@@ -23,16 +22,15 @@ use Rattle.sql_tree.specs.declared.query.OrderBy.{OrderBy}
 use Rattle.sql_tree.specs.declared.query.Query.{Query}
 use Rattle.sql_tree.specs.declared.query.Selection.{Selection}
 use Rattle.sql_tree.specs.declared.query.Selection.TheVariants as selection
-use Rattle.sql_rules.specs.declared.fault.BindFault.{BindFault}
+use Rattle.bind_rules.specs.declared.fault.BindFault.{BindFault}
 use Rattle.bind_rules.specs.Bounds.{Scope, bound_col, bound_expr}
-use Rattle.bind_rules.specs.Conjuncts.{conjuncts}
 use Rattle.bind_rules.specs.Checks.{alias_place, bind_fault}
 use Rattle.table_rules.specs.Names.{column_names}
 use Rattle.bind_rules.specs.Columns.{is_join}
 use Rattle.bind_rules.specs.Names.{is_grouped}
-use Rattle.bind_rules.specs.Tops.{Test, Chord, tests_in}
-use Rattle.sql_bound.specs.declared.cond.BoundCond.{BoundCond}
+use Rattle.bind_rules.specs.Tops.{Test, Chord, top_tests}
 use Rattle.bind_rules.specs.IdTests.{areas_by, ids_by}
+use Rattle.bind_rules.specs.Wholes.{conds_in}
 
 -- ---- items
 
@@ -87,7 +85,7 @@ first_or z (n ∷ ns) = n
 -- pairs up to the limit of the one chord test, groups, or rows
 abbrev pub bound_shape : Scope → Query → Shape
 bound_shape s q =
-    if is_join q then shape.Pairs (first_or (pos 0) (flat_map (λ f. chord_limit f.test) (tests_in q.cond)))
+    if is_join q then shape.Pairs (first_or (pos 0) (flat_map chord_limit (top_tests q.cond)))
     else if is_grouped q then shape.Groups (map (bound_col s) q.group)
     else shape.Rows
 
@@ -100,11 +98,6 @@ key_by s c None = bkey.Column (bound_col s c)
 abbrev pub bound_order : Scope → Query → OrderBy → BoundOrder
 bound_order s q o = record { key = key_by s o.key (alias_place q o.key); down = o.down }
 
--- the conjuncts of WHERE
-abbrev pub conds_in : Scope → Option Cond → List BoundCond
-conds_in s None = []
-conds_in s (Some c) = conjuncts s c
-
 -- ---- the query
 
 -- the bound query of a query without a fault
@@ -113,8 +106,8 @@ bound_query s q = record {
   shape = bound_shape s q;
   items = bound_items s q q.items;
   conds = conds_in s q.cond;
-  areas = flat_map (λ f. areas_by f.test) (tests_in q.cond);
-  ids = flat_map (λ f. ids_by s f.test f.top) (tests_in q.cond);
+  areas = flat_map areas_by (top_tests q.cond);
+  ids = flat_map (ids_by s) (top_tests q.cond);
   order = option_map (bound_order s q) q.order;
   limit = q.limit;
 }

@@ -15,7 +15,7 @@ use Rattle.sql_bound.specs.declared.query.BoundItem.TheVariants as item
 use Rattle.sql_bound.specs.declared.query.BoundKey.TheVariants as bkey
 use Rattle.sql_bound.specs.declared.query.Shape.TheVariants as shape
 use Rattle.sql_tree.specs.declared.query.Query.{Query}
-use Rattle.sql_rules.specs.declared.fault.BindFault.{BindFault}
+use Rattle.bind_rules.specs.declared.fault.BindFault.{BindFault}
 use Rattle.sql_rules.specs.declared.fault.SqlFault.{SqlFault}
 use Rattle.sql_rules.specs.Trees.{tree_of}
 use Rattle.bind_rules.specs.Binding.{bound_of, just_column}

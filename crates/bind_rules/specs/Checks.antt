@@ -9,8 +9,8 @@ use Rattle.sql_tree.specs.declared.name.Name.{Name}
 use Rattle.sql_tree.specs.declared.query.OrderBy.{OrderBy}
 use Rattle.sql_tree.specs.declared.query.Query.{Query}
 use Rattle.sql_tree.specs.Spans.{col_span}
-use Rattle.sql_rules.specs.declared.fault.BindFault.{BindFault}
-use Rattle.sql_rules.specs.declared.fault.BindFault.TheVariants as fault
+use Rattle.bind_rules.specs.declared.fault.BindFault.{BindFault}
+use Rattle.bind_rules.specs.declared.fault.BindFault.TheVariants as fault
 use Rattle.bind_rules.specs.Columns.{tables, is_join, is_known}
 use Rattle.bind_rules.specs.Mentions.{items_of}
 use Rattle.bind_rules.specs.Widths.{is_too_wide, all_exprs}

@@ -1,145 +1,108 @@
--- The conjuncts of WHERE, with columns in place of names. Brackets are looked through, AND and an OR of one part are
--- taken apart, NOT is not looked into.
-use Rattle.std.specs.Prelude.{Bool, false, if◌then◌else◌, List, [], ◌∷◌, ◌++◌, map}
-use Rattle.std.specs.Prelude.{Option, None, Some, option_to_list}
+-- The conjuncts of WHERE, as they are written: AND is taken apart, brackets are looked through, an OR of several parts
+-- and a NOT stay whole.
+use Rattle.std.specs.Prelude.{ℤ, Bool, false, if◌then◌else◌, List, [], ◌∷◌, ◌++◌, map, Option, None, Some}
 use Rattle.std.specs.List.{flat_map}
-use Rattle.sql_bound.specs.declared.area.AreaTest.{AreaTest}
-use Rattle.sql_bound.specs.declared.cond.BoundAll.{BoundAll, roll-BoundAll}
-use Rattle.sql_bound.specs.declared.cond.BoundAny.{BoundAny, roll-BoundAny}
-use Rattle.sql_bound.specs.declared.cond.BoundCond.{BoundCond, roll-BoundCond}
-use Rattle.sql_bound.specs.declared.cond.BoundPred.{BoundPred}
-use Rattle.sql_bound.specs.declared.cond.BoundPred.TheVariants as bound
-use Rattle.sql_tree.specs.declared.cond.Cond.{Cond}
-use Rattle.sql_tree.specs.declared.cond.Conj.{Conj}
-use Rattle.sql_tree.specs.declared.cond.Neg.{Neg}
+use Rattle.sql_tree.specs.declared.cond.Cond.{Cond, roll-Cond}
+use Rattle.sql_tree.specs.declared.cond.Conj.{Conj, roll-Conj}
+use Rattle.sql_tree.specs.declared.cond.Neg.{Neg, roll-Neg}
 use Rattle.sql_tree.specs.declared.cond.Pred.{Pred}
 use Rattle.sql_tree.specs.declared.cond.Pred.TheFolds.{fold-Cond, fold-Conj, fold-Neg, fold-Pred}
 use Rattle.sql_tree.specs.declared.cond.Pred.TheOpen.{Cond-F, Conj-F, Neg-F, Pred-F}
-use Rattle.bind_rules.specs.Forms.{values_of}
-use Rattle.bind_rules.specs.Areas.{area_test}
-use Rattle.bind_rules.specs.Bounds.{Scope, bound_expr}
+use Rattle.sql_tree.specs.declared.cond.Pred.TheVariants as pred
 
--- What a part of a condition comes to: itself, where it is no chord test and holds none; and the conjuncts that it is
--- taken apart into, a chord test left out.
-pub data Taken (A : Type 0) : Type 0 where
-  Both : Option A → List BoundCond → Taken A
+-- A part of a condition as it stands, and the conjuncts that it is taken apart into.
+pub record Part (A : Type 0) : Type 0 where
+  pub whole : A
+  pub conjuncts : List Neg
 
--- itself
-abbrev pub whole_of : {A : Type 0} → Taken A → Option A
-whole_of (Both whole parts) = whole
+-- a layer of a condition whose parts are taken apart
+abbrev pub Part-F : (Type 0 → Type 0 → Type 0 → Type 0 → Type 0) → Type 0
+Part-F F = F (Part Pred) (Part Cond) (Part Conj) (Part Neg)
 
--- its conjuncts
-abbrev pub conjuncts_in : {A : Type 0} → Taken A → List BoundCond
-conjuncts_in (Both whole parts) = parts
+-- a predicate as a conjunct
+abbrev pub conjunct : Pred → Neg
+conjunct p = roll-Neg (record { not = false; pred = p })
 
--- a predicate, as a condition that is not taken apart
-abbrev pub plain : Option BoundPred → List BoundCond
-plain None = []
-plain (Some p) = roll-BoundCond (record { not = false; pred = p }) ∷ []
+-- a predicate that is no bracket is one conjunct
+abbrev pub lone : Pred → Part Pred
+lone p = record { whole = p; conjuncts = conjunct p ∷ [] }
 
--- a predicate that is no bracket
-abbrev pub lone : Option BoundPred → Taken BoundPred
-lone p = Both p (plain p)
+-- brackets are looked through
+abbrev pub part_at_pred : Part-F Pred-F → Part Pred
+part_at_pred (Pred-F.Bracket c) = record { whole = pred.Bracket c.whole; conjuncts = c.conjuncts }
+part_at_pred (Pred-F.Compare left op right) = lone (pred.Compare left op right)
+part_at_pred (Pred-F.Between without value low high) = lone (pred.Between without value low high)
+part_at_pred (Pred-F.Among without value list) = lone (pred.Among without value list)
+part_at_pred (Pred-F.IsNull without value) = lone (pred.IsNull without value)
+part_at_pred (Pred-F.Area kind span args) = lone (pred.Area kind span args)
+part_at_pred (Pred-F.Chord left right strict n) = lone (pred.Chord left right strict n)
 
--- an area test as a predicate
-abbrev pub area_pred : Option AreaTest → Option BoundPred
-area_pred None = None
-area_pred (Some t) = Some (bound.Area t)
+-- a predicate with NOT stays whole
+abbrev pub part_by_not : Neg → Bool → List Neg → Part Neg
+part_by_not whole without parts = record { whole = whole; conjuncts = if without then whole ∷ [] else parts }
 
--- a condition in brackets
-abbrev pub bracket : Option BoundAny → Option BoundPred
-bracket None = None
-bracket (Some c) = Some (bound.Bracket c)
-
--- a layer of a condition whose parts are taken
-abbrev pub Taken-F : (Type 0 → Type 0 → Type 0 → Type 0 → Type 0) → Type 0
-Taken-F F = F (Taken BoundPred) (Taken BoundAny) (Taken BoundAll) (Taken BoundCond)
-
--- what a predicate comes to, of the condition that it holds
-abbrev pub bound_pred_step : Scope → Taken-F Pred-F → Taken BoundPred
-bound_pred_step s (Pred-F.Bracket c) = Both (bracket (whole_of c)) (conjuncts_in c)
-bound_pred_step s (Pred-F.Compare left op right) =
-    lone (Some (bound.Compare (bound_expr s left) op (bound_expr s right)))
-bound_pred_step s (Pred-F.Between without value low high) =
-    lone (Some (bound.Between without (bound_expr s value) (bound_expr s low) (bound_expr s high)))
-bound_pred_step s (Pred-F.Among without value list) =
-    lone (Some (bound.Among without (bound_expr s value) (values_of list)))
-bound_pred_step s (Pred-F.IsNull without value) = lone (Some (bound.IsNull without (bound_expr s value)))
-bound_pred_step s (Pred-F.Area kind span args) = lone (area_pred (area_test kind (values_of args)))
-bound_pred_step s (Pred-F.Chord left right strict n) = lone None
-
--- one before the others, where all are there
-abbrev pub before : {A : Type 0} → Option A → Option (List A) → Option (List A)
-before (Some x) (Some xs) = Some (x ∷ xs)
-before _ _ = None
-
--- all of them, where each is there
-abbrev pub all_there : {A : Type 0} → List (Option A) → Option (List A)
-all_there [] = Some []
-all_there (x ∷ xs) = before x (all_there xs)
-
--- a conjunction of its parts, where all are there
-abbrev pub conj_by : Option BoundCond → Option (List BoundCond) → Option BoundAll
-conj_by (Some c) (Some cs) = Some (roll-BoundAll (record { first = c; rest = cs }))
-conj_by _ _ = None
-
--- a condition of its parts, where all are there
-abbrev pub any_by : Option BoundAll → Option (List BoundAll) → Option BoundAny
-any_by (Some c) (Some cs) = Some (roll-BoundAny (record { first = c; rest = cs }))
-any_by _ _ = None
-
--- the condition, negated where NOT stands before it
-abbrev pub neg_by : Bool → Option BoundPred → Option BoundCond
-neg_by without None = None
-neg_by without (Some p) = Some (roll-BoundCond (record { not = without; pred = p }))
-
--- NOT is not looked into
-abbrev pub bound_neg_step : Taken-F Neg-F → Taken BoundCond
-bound_neg_step n =
-    Both (neg_by n.not (whole_of n.pred))
-    (if n.not then option_to_list (neg_by n.not (whole_of n.pred)) else conjuncts_in n.pred)
+-- a predicate with or without NOT
+abbrev pub part_at_neg : Part-F Neg-F → Part Neg
+part_at_neg n = part_by_not (roll-Neg (record { not = n.not; pred = n.pred.whole })) n.not n.pred.conjuncts
 
 -- AND is taken apart
-abbrev pub bound_conj_step : Taken-F Conj-F → Taken BoundAll
-bound_conj_step c =
-    Both (conj_by (whole_of c.first) (all_there (map whole_of c.rest)))
-    (conjuncts_in c.first ++ flat_map conjuncts_in c.rest)
+abbrev pub part_at_conj : Part-F Conj-F → Part Conj
+part_at_conj c = record {
+  whole = roll-Conj (record { first = c.first.whole; rest = map (λ p. p.whole) c.rest });
+  conjuncts = c.first.conjuncts ++ flat_map (λ p. p.conjuncts) c.rest;
+}
 
--- the conjuncts of the one part, or of more than one part the whole
-abbrev pub or_whole : {A : Type 0} → Option BoundAny → List BoundCond → List A → List BoundCond
-or_whole c parts [] = parts
-or_whole c parts (x ∷ xs) = plain (bracket c)
+-- the conjuncts of the one part, or an OR of several parts as one conjunct
+abbrev pub or_conjuncts : {A : Type 0} → Cond → List Neg → List A → List Neg
+or_conjuncts whole parts [] = parts
+or_conjuncts whole parts (x ∷ xs) = conjunct (pred.Bracket whole) ∷ []
 
--- an OR of one part is taken apart
-abbrev pub bound_cond_step : Taken-F Cond-F → Taken BoundAny
-bound_cond_step c =
-    Both (any_by (whole_of c.first) (all_there (map whole_of c.rest)))
-    (or_whole (any_by (whole_of c.first) (all_there (map whole_of c.rest))) (conjuncts_in c.first) c.rest)
+-- an OR of several parts stays whole
+abbrev pub part_by_or : {A : Type 0} → Cond → List Neg → List A → Part Cond
+part_by_or whole parts rest = record { whole = whole; conjuncts = or_conjuncts whole parts rest }
 
--- what a predicate comes to
-unfoldable pub taken_pred : Scope → Pred → Taken BoundPred
-taken_pred s =
-    fold-Pred (Taken BoundPred) (Taken BoundAny) (Taken BoundAll) (Taken BoundCond) (bound_pred_step s)
-    bound_cond_step bound_conj_step bound_neg_step
+-- a condition of one part or of several
+abbrev pub part_at_cond : Part-F Cond-F → Part Cond
+part_at_cond c =
+    part_by_or (roll-Cond (record { first = c.first.whole; rest = map (λ p. p.whole) c.rest })) c.first.conjuncts c.rest
 
--- what a condition comes to
-unfoldable pub taken_cond : Scope → Cond → Taken BoundAny
-taken_cond s =
-    fold-Cond (Taken BoundPred) (Taken BoundAny) (Taken BoundAll) (Taken BoundCond) (bound_pred_step s)
-    bound_cond_step bound_conj_step bound_neg_step
+-- a predicate taken apart
+unfoldable pub part_of_pred : Pred → Part Pred
+part_of_pred =
+    fold-Pred (Part Pred) (Part Cond) (Part Conj) (Part Neg) part_at_pred part_at_cond part_at_conj part_at_neg
 
--- what a conjunction comes to
-unfoldable pub taken_conj : Scope → Conj → Taken BoundAll
-taken_conj s =
-    fold-Conj (Taken BoundPred) (Taken BoundAny) (Taken BoundAll) (Taken BoundCond) (bound_pred_step s)
-    bound_cond_step bound_conj_step bound_neg_step
+-- a condition taken apart
+unfoldable pub part_of_cond : Cond → Part Cond
+part_of_cond =
+    fold-Cond (Part Pred) (Part Cond) (Part Conj) (Part Neg) part_at_pred part_at_cond part_at_conj part_at_neg
 
--- what a predicate with or without NOT comes to
-unfoldable pub taken_neg : Scope → Neg → Taken BoundCond
-taken_neg s =
-    fold-Neg (Taken BoundPred) (Taken BoundAny) (Taken BoundAll) (Taken BoundCond) (bound_pred_step s)
-    bound_cond_step bound_conj_step bound_neg_step
+-- a conjunction taken apart
+unfoldable pub part_of_conj : Conj → Part Conj
+part_of_conj =
+    fold-Conj (Part Pred) (Part Cond) (Part Conj) (Part Neg) part_at_pred part_at_cond part_at_conj part_at_neg
 
--- the conjuncts of a condition that stand at its top, but for a chord test
-abbrev pub conjuncts : Scope → Cond → List BoundCond
-conjuncts s c = conjuncts_in (taken_cond s c)
+-- a predicate with or without NOT taken apart
+unfoldable pub part_of_neg : Neg → Part Neg
+part_of_neg =
+    fold-Neg (Part Pred) (Part Cond) (Part Conj) (Part Neg) part_at_pred part_at_cond part_at_conj part_at_neg
+
+-- the conjuncts of a condition
+abbrev pub conjuncts : Cond → List Neg
+conjuncts c = (part_of_cond c).conjuncts
+
+-- the conjuncts of a conjunction
+abbrev pub conjuncts_of_conj : Conj → List Neg
+conjuncts_of_conj c = (part_of_conj c).conjuncts
+
+-- the conjuncts of a predicate with or without NOT
+abbrev pub conjuncts_of_neg : Neg → List Neg
+conjuncts_of_neg n = (part_of_neg n).conjuncts
+
+-- the conjuncts of a predicate
+abbrev pub conjuncts_of_pred : Pred → List Neg
+conjuncts_of_pred p = (part_of_pred p).conjuncts
+
+-- the conjuncts of WHERE
+abbrev pub where_conjuncts : Option Cond → List Neg
+where_conjuncts None = []
+where_conjuncts (Some c) = conjuncts c

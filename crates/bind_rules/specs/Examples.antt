@@ -3,7 +3,7 @@ use Rattle.std.specs.Prelude.{ℕ, List, [], ◌∷◌, Option, None, Some, Resu
 use Rattle.sql_token.specs.declared.token.Span.{Span}
 use Rattle.sql_tree.specs.declared.query.Query.{Query}
 use Rattle.sql_rules.specs.declared.fault.SqlFault.{SqlFault}
-use Rattle.sql_rules.specs.declared.fault.BindFault.{BindFault}
+use Rattle.bind_rules.specs.declared.fault.BindFault.{BindFault}
 use Rattle.sql_rules.specs.Trees.{tree_of}
 use Rattle.bind_rules.specs.Checks.{bind_fault}
 

@@ -13,8 +13,8 @@ use Rattle.sql_tree.specs.declared.cond.SignedInt.{SignedInt}
 use Rattle.sql_tree.specs.declared.name.Name.{Name}
 use Rattle.sql_tree.specs.declared.query.Query.{Query}
 use Rattle.sql_tree.specs.declared.query.TableRef.{TableRef}
-use Rattle.sql_rules.specs.declared.fault.BindFault.{BindFault}
-use Rattle.sql_rules.specs.declared.fault.BindFault.TheVariants as fault
+use Rattle.bind_rules.specs.declared.fault.BindFault.{BindFault}
+use Rattle.bind_rules.specs.declared.fault.BindFault.TheVariants as fault
 use Rattle.bind_rules.specs.Mentions.{columns_in}
 use Rattle.bind_rules.specs.Tops.{Test, Area, Chord, tests_in}
 use Rattle.bind_rules.specs.Names.{is_grouped}

@@ -60,11 +60,11 @@ abbrev pub ids_if : Bool → List ℤ → List (List ℤ)
 ids_if true (n ∷ ns) = (n ∷ ns) ∷ []
 ids_if _ _ = []
 
--- the ids of a test that is a conjunct at the top
-abbrev pub ids_by : Scope → Test → Bool → List (List ℤ)
-ids_by s (Equals left right) top = ids_if (top && is_first_id s (lone_of left)) (int_of (lone_of right))
-ids_by s (Listed value list) top = ids_if (top && is_first_id s (lone_of value)) (values_of list)
-ids_by s _ top = []
+-- the ids of a test that is a conjunct
+abbrev pub ids_by : Scope → Test → List (List ℤ)
+ids_by s (Equals left right) = ids_if (is_first_id s (lone_of left)) (int_of (lone_of right))
+ids_by s (Listed value list) = ids_if (is_first_id s (lone_of value)) (values_of list)
+ids_by s _ = []
 
 -- the area test
 abbrev pub areas_by : Test → List AreaTest

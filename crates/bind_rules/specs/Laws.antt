@@ -1,20 +1,32 @@
 -- Laws of binding: a query that binds can be run, and its chunk tests are among its conditions.
-use Rattle.std.specs.Prelude.{◌≡◌, ℕ, pos, int_le, Bool, true, List, [], ◌∷◌, length, All, IsTrue, Ok}
+use Rattle.std.specs.Prelude.{◌≡◌, ℕ, pos, int_le, Bool, true, if◌then◌else◌, List, [], ◌∷◌, ◌++◌, length, All, IsTrue, Option, Some, Ok}
 use Rattle.std.specs.List.{list_all, flat_map}
 use Rattle.table_rules.specs.Names.{column_names}
 use Rattle.table_rules.specs.Objects.{Catalogue}
 use Rattle.table_rules.specs.Records.{catalogue_of_records}
 use Rattle.sql_bound.specs.declared.area.AreaTest.{AreaTest}
+use Rattle.sql_bound.specs.declared.cond.BoundCond.{BoundCond}
 use Rattle.sql_bound.specs.declared.query.Bound.{Bound}
+use Rattle.sql_tree.specs.declared.cond.Cond.{Cond, out-Cond}
+use Rattle.sql_tree.specs.declared.cond.Conj.{Conj, out-Conj}
+use Rattle.sql_tree.specs.declared.cond.Neg.{Neg, out-Neg}
+use Rattle.sql_tree.specs.declared.cond.Pred.TheVariants as pred
 use Rattle.sql_tree.specs.declared.query.Query.{Query}
 use Rattle.sql_rules.specs.Trees.{tree_of}
 use Rattle.value_rules.specs.Formulas.{Formula, LiesIn, formula_of}
 use Rattle.value_rules.specs.Ranges.{IsInRange}
 use Rattle.value_rules.specs.Sound.{IsSound, is_sound_limit}
 use Rattle.value_rules.specs.Tested.{IsTested}
-use Rattle.value_rules.specs.Values.{row, pair}
+use Rattle.value_rules.specs.Truth.{truth_of, is_true}
+use Rattle.value_rules.specs.Values.{Pick, row, pair}
 use Rattle.bind_rules.specs.Binding.{bound_of}
+use Rattle.bind_rules.specs.Bounds.{Scope}
+use Rattle.bind_rules.specs.Conjuncts.{conjunct, conjuncts, conjuncts_of_conj, conjuncts_of_neg, conjuncts_of_pred}
+use Rattle.bind_rules.specs.Conjuncts.{where_conjuncts}
+use Rattle.bind_rules.specs.IdLists.{id_lists}
 use Rattle.bind_rules.specs.Tops.{Test, Chord, tests_in}
+use Rattle.bind_rules.specs.Truths.{conjunct_truth, where_holds}
+use Rattle.bind_rules.specs.Wholes.{bound_cond}
 
 -- the n of a chord test is no number below 0
 abbrev pub is_count : Test → Bool
@@ -51,6 +63,11 @@ AreasAreConjuncts =
     (names : List (List ℕ)) (q : Query) (b : Bound) → bound_of names q ≡ Ok b
     → b.areas ≡ flat_map (λ c. area_in (formula_of c)) b.conds
 
+-- the id tests of what a query is bound to are all those among its conditions, in their order
+abbrev pub IdsAreConjuncts : Type 0
+IdsAreConjuncts =
+    (names : List (List ℕ)) (q : Query) (b : Bound) → bound_of names q ≡ Ok b → b.ids ≡ flat_map id_lists b.conds
+
 -- on each row, and on each pair of rows, of an accepted catalogue each number that a bound query computes is within
 -- ±2^100
 abbrev pub ValuesAreInRange : Type 0
@@ -58,3 +75,43 @@ ValuesAreInRange =
     (records : List (List (List ℕ))) (c : Catalogue) (q : Query) (b : Bound) → catalogue_of_records records ≡ Ok c
     → bound_of c.names q ≡ Ok b
     → All (λ u. IsInRange b (row u) × All (λ v. IsInRange b (pair u v)) c.objects) c.objects
+
+-- ---- the conjuncts of a condition
+
+-- brackets are looked through
+abbrev pub BracketsAreLookedThrough : Type 0
+BracketsAreLookedThrough = (c : Cond) → conjuncts_of_pred (pred.Bracket c) ≡ conjuncts c
+
+-- a predicate with NOT stays whole, and another is what it is
+abbrev pub NotStaysWhole : Type 0
+NotStaysWhole =
+    (n : Neg) → conjuncts_of_neg n ≡ (if (out-Neg n).not then n ∷ [] else conjuncts_of_pred (out-Neg n).pred)
+
+-- AND is taken apart
+abbrev pub AndIsTakenApart : Type 0
+AndIsTakenApart =
+    (c : Conj) → conjuncts_of_conj c
+    ≡ conjuncts_of_neg (out-Conj c).first ++ flat_map conjuncts_of_neg (out-Conj c).rest
+
+-- a condition of one part is taken apart
+abbrev pub OnePartIsTakenApart : Type 0
+OnePartIsTakenApart = (c : Cond) → (out-Cond c).rest ≡ [] → conjuncts c ≡ conjuncts_of_conj (out-Cond c).first
+
+-- an OR of several parts stays whole: it is one conjunct, in brackets
+abbrev pub OrStaysWhole : Type 0
+OrStaysWhole =
+    (c : Cond) (second : Conj) (others : List Conj) → (out-Cond c).rest ≡ second ∷ others
+    → conjuncts c ≡ conjunct (pred.Bracket c) ∷ []
+
+-- ---- what the conjuncts say
+
+-- WHERE is true of a row or a pair exactly where each of its conjuncts is
+abbrev pub WhereIsItsConjuncts : Type 0
+WhereIsItsConjuncts =
+    (s : Scope) (p : Pick) (w : Option Cond)
+    → where_holds s p w ≡ list_all (λ n. is_true (conjunct_truth s p n)) (where_conjuncts w)
+
+-- a conjunct says what the condition says that it is bound to
+abbrev pub BoundConjunctsSayTheSame : Type 0
+BoundConjunctsSayTheSame =
+    (s : Scope) (p : Pick) (n : Neg) (c : BoundCond) → bound_cond s n ≡ Some c → truth_of c p ≡ conjunct_truth s p n

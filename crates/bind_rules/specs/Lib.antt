@@ -1,5 +1,6 @@
 pub mod Columns
 pub mod Mentions
+pub mod Conjuncts
 pub mod Tops
 pub mod Widths
 pub mod Names
@@ -7,10 +8,13 @@ pub mod Forms
 pub mod Checks
 pub mod Areas
 pub mod Bounds
-pub mod Conjuncts
+pub mod Wholes
 pub mod IdTests
+pub mod IdLists
+pub mod Truths
 pub mod Binding
 pub mod Laws
+pub mod BoundWhere
 pub mod Examples
 pub mod BoundExamples
 pub mod TopExamples

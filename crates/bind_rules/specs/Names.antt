@@ -13,8 +13,8 @@ use Rattle.sql_tree.specs.declared.query.Selection.{Selection}
 use Rattle.sql_tree.specs.declared.query.Selection.TheVariants as selection
 use Rattle.sql_tree.specs.declared.query.TableRef.{TableRef}
 use Rattle.sql_tree.specs.Spans.{col_span}
-use Rattle.sql_rules.specs.declared.fault.BindFault.{BindFault}
-use Rattle.sql_rules.specs.declared.fault.BindFault.TheVariants as fault
+use Rattle.bind_rules.specs.declared.fault.BindFault.{BindFault}
+use Rattle.bind_rules.specs.declared.fault.BindFault.TheVariants as fault
 use Rattle.bind_rules.specs.Columns.{tables, is_join, is_qualifier, is_known, is_same_column}
 use Rattle.bind_rules.specs.Mentions.{Mention, Column, Table, Side, mentions_of, columns_of, items_of}
 

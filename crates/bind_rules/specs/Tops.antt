@@ -1,16 +1,20 @@
--- Tests of a condition that more is asked of than whether they hold, in the order of the text, each with whether it is
--- a conjunct at the top: brackets and AND leave it there, NOT and OR do not. That the area tests at the top are those of
--- the conjuncts that the condition is taken apart into is a law.
-use Rattle.std.specs.Prelude.{ℤ, Bool, true, false, ◌&&◌, not, List, [], ◌∷◌, ◌++◌, map, Option, None, Some}
+-- Tests of WHERE that more is asked of than whether they hold: those among its conjuncts, which stand at the top, and
+-- those within its other conjuncts.
+use Rattle.std.specs.Prelude.{ℤ, Bool, true, false, List, [], ◌∷◌, ◌++◌, map, Option}
+use Rattle.std.specs.List.{flat_map}
 use Rattle.sql_token.specs.declared.token.Span.{Span}
 use Rattle.sql_tree.specs.declared.cond.AreaKind.{AreaKind}
 use Rattle.sql_tree.specs.declared.cond.Cmp.TheVariants as cmp
 use Rattle.sql_tree.specs.declared.cond.Cond.{Cond}
+use Rattle.sql_tree.specs.declared.cond.Conj.{Conj}
 use Rattle.sql_tree.specs.declared.cond.IntList.{IntList}
-use Rattle.sql_tree.specs.declared.cond.Pred.TheFolds.{fold-Cond}
-use Rattle.sql_tree.specs.declared.cond.Pred.TheOpen.{Cond-F, Conj-F, Neg-F, Pred-F}
+use Rattle.sql_tree.specs.declared.cond.Neg.{Neg, out-Neg}
+use Rattle.sql_tree.specs.declared.cond.Pred.{Pred, out-Pred}
+use Rattle.sql_tree.specs.declared.cond.Pred.TheFolds.{fold-Neg}
+use Rattle.sql_tree.specs.declared.cond.Pred.TheOpen.{Pred-F}
 use Rattle.sql_tree.specs.declared.expr.Expr.{Expr}
 use Rattle.sql_tree.specs.declared.name.Name.{Name}
+use Rattle.bind_rules.specs.Conjuncts.{where_conjuncts}
 use Rattle.bind_rules.specs.Mentions.{joined}
 
 -- An area test, a chord test, an equation, or IN without NOT.
@@ -20,57 +24,68 @@ pub data Test : Type 0 where
   Equals : Expr → Expr → Test
   Listed : Expr → IntList → Test
 
--- A test, and whether it is a conjunct at the top.
+-- tests
+abbrev pub Tests : Type 0
+Tests = List Test
+
+-- the test that a predicate is
+abbrev pub test_at_pred : {A B C D : Type 0} → Pred-F A B C D → Tests
+test_at_pred (Pred-F.Bracket c) = []
+test_at_pred (Pred-F.Compare left cmp.Equal right) = Equals left right ∷ []
+test_at_pred (Pred-F.Compare left op right) = []
+test_at_pred (Pred-F.Between without value low high) = []
+test_at_pred (Pred-F.Among true value list) = []
+test_at_pred (Pred-F.Among false value list) = Listed value list ∷ []
+test_at_pred (Pred-F.IsNull without value) = []
+test_at_pred (Pred-F.Area kind span args) = Area kind span args ∷ []
+test_at_pred (Pred-F.Chord left right strict n) = Chord left right strict n ∷ []
+
+-- ---- tests at the top
+
+-- the test of a predicate without NOT
+abbrev pub test_without : {A B C D : Type 0} → Bool → Pred-F A B C D → Tests
+test_without true p = []
+test_without false p = test_at_pred p
+
+-- the test that a conjunct is
+unfoldable pub test_of : Neg → Tests
+test_of n = test_without (out-Neg n).not (out-Pred (out-Neg n).pred)
+
+-- the tests among the conjuncts of WHERE
+abbrev pub top_tests : Option Cond → Tests
+top_tests w = flat_map test_of (where_conjuncts w)
+
+-- ---- all tests
+
+-- the tests of a predicate, of those of the condition that it holds
+abbrev pub within_pred : Pred-F Tests Tests Tests Tests → Tests
+within_pred (Pred-F.Bracket c) = c
+within_pred p = test_at_pred p
+
+-- the tests within a predicate with or without NOT, in the order of the text
+unfoldable pub within : Neg → Tests
+within =
+    fold-Neg Tests Tests Tests Tests within_pred (λ c. c.first ++ joined c.rest) (λ c. c.first ++ joined c.rest)
+    (λ n. n.pred)
+
+-- A test, and whether it is a conjunct, at the top.
 pub record Found : Type 0 where
   pub test : Test
   pub top : Bool
 
--- tests
-abbrev pub Tests : Type 0
-Tests = List Found
+-- a test at the top, or not
+abbrev pub found_at : Bool → Test → Found
+found_at top t = record { test = t; top = top }
 
--- at the top, where they were there and this holds
-abbrev pub kept_if : Bool → Tests → Tests
-kept_if holds = map (λ f. record { test = f.test; top = holds && f.top })
+-- a conjunct that is a test, or the tests within another
+abbrev pub found_by : Tests → Tests → List Found
+found_by [] inner = map (found_at false) inner
+found_by (t ∷ ts) inner = map (found_at true) (t ∷ ts)
 
--- there is but one part
-abbrev pub is_alone : {A : Type 0} → List A → Bool
-is_alone [] = true
-is_alone (x ∷ xs) = false
+-- the tests of a conjunct
+unfoldable pub found_in : Neg → List Found
+found_in n = found_by (test_of n) (within n)
 
--- the test at the top
-abbrev pub at_top : Test → Tests
-at_top t = record { test = t; top = true } ∷ []
-
--- the tests of a predicate
-abbrev pub tests_at_pred : Pred-F Tests Tests Tests Tests → Tests
-tests_at_pred (Pred-F.Bracket c) = c
-tests_at_pred (Pred-F.Compare left cmp.Equal right) = at_top (Equals left right)
-tests_at_pred (Pred-F.Compare left op right) = []
-tests_at_pred (Pred-F.Between without value low high) = []
-tests_at_pred (Pred-F.Among true value list) = []
-tests_at_pred (Pred-F.Among false value list) = at_top (Listed value list)
-tests_at_pred (Pred-F.IsNull without value) = []
-tests_at_pred (Pred-F.Area kind span args) = at_top (Area kind span args)
-tests_at_pred (Pred-F.Chord left right strict n) = at_top (Chord left right strict n)
-
--- the tests of a predicate with or without NOT
-abbrev pub tests_at_neg : Neg-F Tests Tests Tests Tests → Tests
-tests_at_neg n = kept_if (not n.not) n.pred
-
--- the tests of a conjunction
-abbrev pub tests_at_conj : Conj-F Tests Tests Tests Tests → Tests
-tests_at_conj c = c.first ++ joined c.rest
-
--- the tests of a condition, of its parts
-abbrev pub tests_at_cond : Cond-F Tests Tests Tests Tests → Tests
-tests_at_cond c = kept_if (is_alone c.rest) (c.first ++ joined c.rest)
-
--- the tests of a condition
-unfoldable pub tests_of : Cond → Tests
-tests_of = fold-Cond Tests Tests Tests Tests tests_at_pred tests_at_cond tests_at_conj tests_at_neg
-
--- the tests of WHERE
-abbrev pub tests_in : Option Cond → Tests
-tests_in None = []
-tests_in (Some c) = tests_of c
+-- the tests of WHERE in the order of the text
+abbrev pub tests_in : Option Cond → List Found
+tests_in w = flat_map found_in (where_conjuncts w)

@@ -7,8 +7,8 @@ ghost use Rattle.bind_rules.specs.Examples.{Binds, Refused, judged, span};
 ghost use Rattle.bind_rules.specs.TopExamples.{aliases_text, chord_or_other, chord_twice, first_alias, not_four};
 ghost use Rattle.bind_rules.specs.TopExamples.{bracketed_id_text, four_by_filter, four_turned, turned_id_text};
 ghost use Rattle.bind_rules.specs.TopExamples.{not_four_text, star_of_both, star_text};
-ghost use Rattle.sql_rules.specs.declared.fault.BindFault.TheVariants.{AreaForm, JoinForm, NotGrouped, OrderName};
-ghost use Rattle.sql_rules.specs.declared.fault.BindFault.TheVariants.{TooWide, UnknownName};
+ghost use Rattle.bind_rules.specs.declared.fault.BindFault.TheVariants.{AreaForm, JoinForm, NotGrouped, OrderName};
+ghost use Rattle.bind_rules.specs.declared.fault.BindFault.TheVariants.{TooWide, UnknownName};
 
 /// Of two unknown names the one that stands first in the text is named, be it a column or a table; a qualifier, though
 /// the column is known, and a GROUP BY column count as well.

@@ -2,8 +2,8 @@
 
 ghost use Rattle.std.specs.Prelude.{◌≡◌, codes};
 ghost use Rattle.bind_rules.specs.Examples.{Refused, judged, span};
-ghost use Rattle.sql_rules.specs.declared.fault.BindFault.TheVariants.{AreaForm, JoinForm, NotGrouped, OrderName};
-ghost use Rattle.sql_rules.specs.declared.fault.BindFault.TheVariants.{TooWide, UnknownName};
+ghost use Rattle.bind_rules.specs.declared.fault.BindFault.TheVariants.{AreaForm, JoinForm, NotGrouped, OrderName};
+ghost use Rattle.bind_rules.specs.declared.fault.BindFault.TheVariants.{TooWide, UnknownName};
 
 /// A name that is not known, a grouping, the form of a join, an area test, the width and the order key are judged in
 /// this order: each text has the fault that is told and a later one.

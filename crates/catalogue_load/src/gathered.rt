@@ -7,81 +7,75 @@ ghost use Rattle.table_rules.specs.Records.{row_of};
 ghost use Rattle.catalogue_load.specs.Judged.{faults_alone};
 ghost use Rattle.catalogue_load.specs.Parts.{first_of};
 ghost use Rattle.catalogue_load.specs.Repeats.{IsFirstFault, IsRepeat, ids_in};
+ghost use Rattle.text_rules.specs.declared.limits.TheConstants.{TEXT_MOST};
+ghost use Rattle.table_rules.specs.declared.limits.TheConstants.{COLUMNS_MOST, ROWS_MOST};
 
 use crate::order::{first_fault, in_order};
 use crate::row::read_row;
 use csv::ByteRecord;
-use sky_io::Stop;
-use sky_row::{Row, Rows, Schema};
+use sky_io::{Memory, Stop};
+use sky_row::{Columns, Row, Rows, Schema};
 use std::alloc::Global;
 use std::marker::Model;
 use table_rules::LoadFault;
-
-/// The most rows of a catalogue: 2^22.
-const MOST_ROWS: usize = 4194304;
+use table_rules::limits::ROWS_MOST;
 
 /// The row of the record behind so many rows, whatever their ids are.
 #[tactic(auto, using(crate::proofs::RowFaults::row_full))]
 fn next_row(
-    alloc: Global,
     cells: &mut Vec<Option<i64>>,
     width: usize,
     count: usize,
     fields: &ByteRecord,
 ) -> Result<Row, Stop<LoadFault>>
     requires four { 4 ≤ width }
-    requires few { width ≤ 16 }
-    requires small { length (fields_of fields.now) ≤ 2 ^ 29 + 1 }
-    ensures room { OnOk result (count < 2 ^ 22) }
+    requires few { width ≤ COLUMNS_MOST }
+    requires small { length (fields_of fields.now) ≤ TEXT_MOST + 1 }
+    ensures room { OnOk result (count < ROWS_MOST) }
     ensures none { OnOk result (faults_alone width count (fields_of fields.now) ≡ []) }
     ensures ok { IfOk result (λ row. row ≡ row_of (fields_of fields.now)) }
     ensures wide { IfOk result (λ row. 4 + length row.further ≡ width) }
     ensures bad { IfErr result (λ stop. IfBad stop (λ fault.
         first_of (faults_alone width count (fields_of fields.now)) ≡ Some fault)) }
 {
-    if count >= MOST_ROWS {
+    if count >= ROWS_MOST {
         return Err(Stop::Bad(LoadFault::TooManyRows));
     }
-    read_row(alloc, cells, width, count as u32 + 1, fields)
+    read_row(cells, width, count as u32 + 1, fields)
 }
 
 /// The columns of a catalogue and its rows so far, in the order of the text.
 #[derive(Drop)]
 pub(crate) struct Gathered {
-    schema: Schema,
-    rows: Vec<Row>,
+    columns: Columns,
     /// Where the further values of a record are read, before they are copied into its row.
     cells: Vec<Option<i64>>,
 }
 
 impl Model for Gathered {
     ghost use Rattle.table_rules.specs.Objects.{Catalogue};
-    ghost use Rattle.catalogue_load.specs.Gathered.{IsGathered};
 
     ghost Value = { Catalogue };
 
-    ghost view = { λ g. record { names = g.schema; objects = g.rows.items } };
-
-    ghost invariant = { λ g. IsGathered (record { names = g.schema; objects = g.rows.items }) };
+    ghost view = { λ g. g.columns };
 }
 
 impl Gathered {
     /// These columns, and no row.
-    pub(crate) fn new(alloc: Global, schema: Schema) -> Gathered
-        requires { length schema ≤ 12 }
-        ensures { result ≡ record { names = schema; objects = [] } }
+    pub(crate) fn new(alloc: Global, schema: Schema) -> Result<Gathered, Memory>
+        ensures { IfOk result (λ gathered. gathered ≡ record { names = schema; objects = [] }) }
     {
-        Gathered {
-            schema,
-            rows: Vec::new(alloc),
+        let columns = Columns::new(alloc, schema)?;
+        Ok(Gathered {
+            columns,
             cells: Vec::new(alloc),
-        }
+        })
     }
 
     /// Puts the row of the next record behind the others, where the record has no fault whatever their ids are. After an
     /// error nothing has changed.
-    pub(crate) fn add(&mut self, alloc: Global, fields: &ByteRecord) -> Result<(), Stop<LoadFault>>
-        requires small { length (fields_of fields.now) ≤ 2 ^ 29 + 1 }
+    pub(crate) fn add(&mut self, fields: &ByteRecord) -> Result<(), Stop<LoadFault>>
+        requires small { length (fields_of fields.now) ≤ TEXT_MOST + 1 }
         ensures names { self.new.names ≡ self.old.names }
         ensures none { OnOk result (
             faults_alone (4 + length self.old.names) (length self.old.objects) (fields_of fields.now) ≡ []) }
@@ -92,13 +86,12 @@ impl Gathered {
             (4 + length self.old.names) (length self.old.objects) (fields_of fields.now)) ≡ Some fault)) }
     {
         match next_row(
-            alloc,
             &mut self.cells,
-            self.schema.width() as usize,
-            self.rows.len(),
+            self.columns.schema().width() as usize,
+            self.columns.len() as usize,
             fields,
         ) {
-            Ok(row) => match self.rows.push(row) {
+            Ok(row) => match self.columns.push(&row) {
                 Ok(()) => Ok(()),
                 Err(_) => Err(Stop::Memory),
             },
@@ -113,18 +106,14 @@ impl Gathered {
         ensures bad { IfErr result (λ stop. IfBad stop (λ fault.
             IsRepeat (ids_in self.objects) fault)) }
     {
-        let Gathered {
-            schema,
-            rows,
-            cells: _,
-        } = self;
-        in_order(alloc, schema, rows)
+        let Gathered { columns, cells: _ } = self;
+        in_order(alloc, columns)
     }
 
     /// The first fault of the rows and of the record behind them, which has this one; or want of memory.
     pub(crate) fn first_fault(&self, alloc: Global, behind: LoadFault) -> Stop<LoadFault>
         ensures { IfBad result (λ fault. IsFirstFault self.now.objects behind fault) }
     {
-        first_fault(alloc, self.rows.as_slice(), behind)
+        first_fault(alloc, &self.columns, behind)
     }
 }

@@ -1,7 +1,7 @@
 //! A row from a record.
 //!
 //! The further values of a record are read into a list that the caller keeps for the next one, and copied from there into
-//! the row; what the list held before has no meaning.
+//! the row, which takes no memory; what the list held before has no meaning.
 ghost use Rattle.std.specs.Prelude.{◌≡◌, ◌+◌, ◌≤◌, ◌^◌, ◌≤ℤ◌, ◌++◌, [], length, map, drop, pos, true, Some, IfErr, IfOk, OnOk};
 ghost use Rattle.csv.specs.Records.{fields_of};
 ghost use Rattle.sky_io.specs.Stops.{IfBad};
@@ -10,26 +10,26 @@ ghost use Rattle.sky_vector.specs.Pos.{point};
 ghost use Rattle.table_rules.specs.Records.{number_in, own_faults, row_of, unless};
 ghost use Rattle.table_rules.specs.declared.fault.LoadFault.TheVariants.{Length};
 ghost use Rattle.catalogue_load.specs.Parts.{faults_from, first_of, head_faults, point_in};
+ghost use Rattle.text_rules.specs.declared.limits.TheConstants.{TEXT_MOST};
+ghost use Rattle.table_rules.specs.declared.limits.TheConstants.{COLUMNS_MOST};
 
 use crate::fields::{read_cells, read_head};
 use csv::ByteRecord;
 use sky_io::Stop;
 use sky_row::Row;
 use sky_vector::{Pos, length_ok};
-use std::alloc::Global;
 use table_rules::LoadFault;
 
 /// The row of a record with this number, where the header has so many fields.
 pub(crate) fn read_row(
-    alloc: Global,
     cells: &mut Vec<Option<i64>>,
     width: usize,
     row: u32,
     fields: &ByteRecord,
 ) -> Result<Row, Stop<LoadFault>>
     requires four { 4 ≤ width }
-    requires few { width ≤ 16 }
-    requires small { length (fields_of fields.now) ≤ 2 ^ 29 + 1 }
+    requires few { width ≤ COLUMNS_MOST }
+    requires small { length (fields_of fields.now) ≤ TEXT_MOST + 1 }
     ensures none { OnOk result (own_faults width row (fields_of fields.now) ≡ []) }
     ensures ok { IfOk result (λ made. made ≡ row_of (fields_of fields.now)) }
     ensures wide { IfOk result (λ made. 4 + length made.further ≡ width) }
@@ -43,19 +43,18 @@ pub(crate) fn read_row(
             count: count as u32,
         }));
     }
-    read_full_row(alloc, cells, row, fields)
+    read_full_row(cells, row, fields)
 }
 
 /// The row of a record that has as many fields as the header.
 #[tactic(auto, using(crate::proofs::Firsts::own_none, crate::proofs::Firsts::own_head, crate::proofs::Firsts::own_behind))]
 fn read_full_row(
-    alloc: Global,
     cells: &mut Vec<Option<i64>>,
     row: u32,
     fields: &ByteRecord,
 ) -> Result<Row, Stop<LoadFault>>
     requires four { 4 ≤ length (fields_of fields.now) }
-    requires few { length (fields_of fields.now) ≤ 16 }
+    requires few { length (fields_of fields.now) ≤ COLUMNS_MOST }
     ensures none { OnOk result (
         own_faults (length (fields_of fields.now)) row (fields_of fields.now) ≡ []) }
     ensures ok { IfOk result (λ made. made ≡ row_of (fields_of fields.now)) }
@@ -63,7 +62,7 @@ fn read_full_row(
         first_of (own_faults (length (fields_of fields.now)) row (fields_of fields.now)) ≡ Some fault)) }
 {
     match read_head(row, fields) {
-        Ok((id, at)) => with_cells(alloc, cells, row, id, at, fields),
+        Ok((id, at)) => with_cells(cells, row, id, at, fields),
         Err(fault) => Err(Stop::Bad(fault)),
     }
 }
@@ -71,7 +70,6 @@ fn read_full_row(
 /// The row of a record whose id and position are these.
 #[tactic(auto, using(crate::proofs::Firsts::first_front, crate::proofs::Firsts::first_behind))]
 fn with_cells(
-    alloc: Global,
     cells: &mut Vec<Option<i64>>,
     row: u32,
     id: i64,
@@ -79,7 +77,7 @@ fn with_cells(
     fields: &ByteRecord,
 ) -> Result<Row, Stop<LoadFault>>
     requires four { 4 ≤ length (fields_of fields.now) }
-    requires few { length (fields_of fields.now) ≤ 16 }
+    requires few { length (fields_of fields.now) ≤ COLUMNS_MOST }
     requires id { id ≡ number_in (fields_of fields.now) 0 }
     requires low { pos 0 ≤ℤ id }
     requires at { point at ≡ point_in (fields_of fields.now) }
@@ -94,8 +92,5 @@ fn with_cells(
     if !length_ok(&at) {
         return Err(Stop::Bad(LoadFault::Length { row }));
     }
-    match Row::from_slice(alloc, id, at, cells.as_slice()) {
-        Ok(made) => Ok(made),
-        Err(_) => Err(Stop::Memory),
-    }
+    Ok(Row::new(id, at, cells.as_slice()))
 }

@@ -3,13 +3,11 @@ use crate::{LoadFault, load};
 use sky_io::{Memory, Stop};
 use std::alloc::Global;
 use std::test::Fail;
-
-/// The longest catalogue, in bytes; no text here is longer.
-const LIMIT: usize = 1 << 29;
+use text_rules::limits::TEXT_MOST;
 
 // The first fault of a text, or `None` where it is accepted.
 fn fault_of(alloc: Global, text: &[u8]) -> Result<Option<LoadFault>, Memory> {
-    if text.len() > LIMIT {
+    if text.len() > TEXT_MOST {
         return Err(Memory);
     }
     match load(alloc, text) {
@@ -34,12 +32,8 @@ fn rows_come_in_ascending_id(rt: HostRuntime) -> Result<(), Fail> {
     let rows = load(alloc, text)?;
     assert_eq!(rt; rows.len(), 2);
     assert_eq!(rt; rows.schema().column(b"_k"), Some(5));
-    let [first, second] = rows.as_slice() else {
-        panic!(rt; "not two rows");
-    };
-    assert_eq!(rt; [first.id(), second.id()], [3, 7]);
-    assert_eq!(rt; first.value(3), Some(-268435456));
-    assert_eq!(rt; second.value(3), Some(0));
+    assert_eq!(rt; rows.ids(), [3, 7].as_slice());
+    assert_eq!(rt; rows.zs(), [-268435456, 0].as_slice());
     Ok(())
 }
 

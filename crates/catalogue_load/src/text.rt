@@ -5,6 +5,7 @@ ghost use Rattle.table_rules.specs.Records.{data_faults, judged};
 ghost use Rattle.catalogue_load.specs.Catalogue.{catalogue_of, catalogue_with};
 ghost use Rattle.catalogue_load.specs.Judged.{HasRead};
 ghost use Rattle.catalogue_load.specs.Standing.{HasLeft, StillGives};
+ghost use Rattle.text_rules.specs.declared.limits.TheConstants.{TEXT_MOST};
 
 use crate::gathered::Gathered;
 use crate::header::read_header;
@@ -18,7 +19,6 @@ use table_rules::LoadFault;
 /// Reads the records that the reader has left, up to the first with a fault that it has whatever the ids of the rows are,
 /// and puts the rows of those before it behind none.
 fn read_rest(
-    alloc: Global,
     mut reader: Reader<&[u8]>,
     mut fields: ByteRecord,
     gathered: &mut Gathered,
@@ -38,7 +38,7 @@ fn read_rest(
         if !found {
             return Ok(());
         }
-        if let Err(stop) = gathered.add(alloc, &fields) {
+        if let Err(stop) = gathered.add(&fields) {
             return Err(stop);
         }
     }
@@ -60,8 +60,10 @@ fn rows_under(
         (rest : List (List (List ℕ))) → StillGives reader.entry rest
         → judged (data_faults (4 + length schema) rest) (catalogue_with schema rest) ≡ Err fault)) }
 {
-    let mut gathered = Gathered::new(alloc, schema);
-    match read_rest(alloc, reader, fields, &mut gathered) {
+    let Ok(mut gathered) = Gathered::new(alloc, schema) else {
+        return Err(Stop::Memory);
+    };
+    match read_rest(reader, fields, &mut gathered) {
         Ok(()) => gathered.into_rows(alloc),
         Err(Stop::Bad(fault)) => Err(gathered.first_fault(alloc, fault)),
         Err(Stop::Memory) => Err(Stop::Memory),
@@ -72,7 +74,7 @@ fn rows_under(
 /// rows, for their ids where they don't ascend, and for the ids with their places to tell a fault of such rows; after an
 /// error nothing is kept.
 pub fn load(alloc: Global, text: &[u8]) -> Result<Rows, Stop<LoadFault>>
-    requires { length text.now ≤ 2 ^ 29 }
+    requires { length text.now ≤ TEXT_MOST }
     ensures ok { IfOk result (λ rows. catalogue_of text.now ≡ Ok rows) }
     ensures bad { IfErr result (λ stop. IfBad stop (λ fault. catalogue_of text.now ≡ Err fault)) }
 {

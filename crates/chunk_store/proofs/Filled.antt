@@ -7,7 +7,8 @@ use Rattle.std.proofs.lemmas.List.Folds.{list_any_more}
 use Rattle.std.proofs.lemmas.Option.{slice_get-get_or}
 use Rattle.table_rules.specs.Objects.{Obj}
 use Rattle.sky_rules.specs.Partition.{Partition, chunk_count}
-use Rattle.chunk_store.specs.Places.{passes, places_by, filled_chunks, is_filled}
+use Rattle.chunk_rules.specs.Filled.{filled_chunks, is_filled}
+use Rattle.chunk_rules.specs.Places.{passes, places_by}
 use Rattle.chunk_store.specs.Lists.{has_some, kept_if, places_below, AreLists, own_test}
 use Rattle.chunk_store.proofs.Ranges.{filter_more, same_filter}
 

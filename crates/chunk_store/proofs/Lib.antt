@@ -3,3 +3,4 @@ pub mod Merging
 pub mod Pushing
 pub mod Filled
 pub mod Subs
+pub mod SubLaws

@@ -11,7 +11,7 @@ use Rattle.sky_rules.specs.Partition.{Partition, chunk_count}
 use Rattle.sky_rules.specs.Bounds.{in_chunk, near_chunk}
 use Rattle.sky_plan.specs.Places.{IsOnlyChunk}
 use Rattle.overlap_tables.specs.Overlaps.{near_others}
-use Rattle.chunk_store.specs.Places.{passes}
+use Rattle.chunk_rules.specs.Places.{passes}
 use Rattle.chunk_store.specs.Lists.{kept_if, as_often, Pushed, places_below, AreLists, own_test, overlap_test}
 use Rattle.chunk_store.proofs.Ranges.{filter_more, filter_below, one_of}
 

@@ -8,7 +8,7 @@ use Rattle.std.proofs.lemmas.List.FromFn.{filter_of_map_range_with_len_more, get
 use Rattle.std.proofs.lemmas.Bool.{eq-eqb}
 use Rattle.std.proofs.lemmas.Bool.Decides.{eqb_tells}
 use Rattle.table_rules.specs.Objects.{Obj}
-use Rattle.chunk_store.specs.Places.{passes, places_by}
+use Rattle.chunk_rules.specs.Places.{passes, places_by}
 use Rattle.chunk_store.specs.Lists.{kept_if}
 
 same_map : (l : List ℕ) → map (λ k. k) l ≡ l

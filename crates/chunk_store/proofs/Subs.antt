@@ -11,7 +11,8 @@ use Rattle.sky_rules.specs.Partition.{Partition, chunk_count, sub_count}
 use Rattle.sky_rules.specs.Bounds.{in_chunk, in_sub, near_chunk, near_sub}
 use Rattle.sky_rules.proofs.OnlyPlace.{sub_lies_in_its_chunk}
 use Rattle.overlap_tables.specs.Overlaps.{in_full_overlap}
-use Rattle.chunk_store.specs.Places.{passes, in_sub_overlap, chunk_rows, full_overlap_rows, sub_rows, sub_overlap_rows}
+use Rattle.chunk_rules.specs.Places.{passes}
+use Rattle.chunk_store.specs.Places.{in_sub_overlap, chunk_rows, full_overlap_rows, sub_rows, sub_overlap_rows}
 use Rattle.chunk_store.specs.Merged.{merged}
 use Rattle.chunk_store.proofs.Ranges.{filter_twice, filter_below, same_filter}
 use Rattle.chunk_store.proofs.Merging.{merged_filters}

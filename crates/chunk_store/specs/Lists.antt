@@ -7,7 +7,8 @@ use Rattle.sky_rules.specs.Limits.{IsSky}
 use Rattle.sky_rules.specs.Partition.{Partition, chunk_count}
 use Rattle.sky_rules.specs.Bounds.{in_chunk}
 use Rattle.overlap_tables.specs.Overlaps.{in_full_overlap}
-use Rattle.chunk_store.specs.Places.{passes, filled_chunks}
+use Rattle.chunk_rules.specs.Filled.{filled_chunks}
+use Rattle.chunk_rules.specs.Places.{passes}
 
 -- the list has an element
 abbrev pub has_some : List ℕ → Bool

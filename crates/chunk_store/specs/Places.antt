@@ -1,22 +1,13 @@
 -- Which rows a chunk and a subchunk hold, and which they need beside their own so that a near-neighbour join never
 -- leaves them. Each is a list of places: a row's place is its number in the table, from 0.
 -- Overlap rows are Qserv's idea (SC 2011); which rows they are is a rule of this repository.
-use Rattle.std.specs.Prelude.{ℕ, Bool, false, not, ◌&&◌, ◌||◌, List, length, Option, None, Some, slice_get, filter}
-use Rattle.std.specs.List.{list_any, range_with_len}
+use Rattle.std.specs.Prelude.{ℕ, Bool, not, ◌&&◌, ◌||◌, List}
 use Rattle.sky_vector.specs.Points.{Point}
 use Rattle.table_rules.specs.Objects.{Obj}
-use Rattle.sky_rules.specs.Partition.{Partition, chunk_count}
+use Rattle.sky_rules.specs.Partition.{Partition}
 use Rattle.sky_rules.specs.Bounds.{in_chunk, in_sub, near_sub}
+use Rattle.chunk_rules.specs.Places.{places_by}
 use Rattle.overlap_tables.specs.Overlaps.{in_full_overlap}
-
--- there is an object, and it passes the test
-abbrev pub passes : (Obj → Bool) → Option Obj → Bool
-passes test None = false
-passes test (Some o) = test o
-
--- the places, ascending, of the objects that pass the test
-abbrev pub places_by : (Obj → Bool) → List Obj → List ℕ
-places_by test objects = filter (λ i. passes test (slice_get objects i)) (range_with_len 0 (length objects))
 
 -- the point is in the chunk or in its full overlap, and in the subchunk's near region but not in the subchunk
 abbrev pub in_sub_overlap : Partition → ℕ → ℕ → Point → Bool
@@ -38,11 +29,3 @@ sub_rows g objects c s = places_by (λ o. in_sub g c s o.at) objects
 -- region and not in the subchunk
 abbrev pub sub_overlap_rows : Partition → List Obj → ℕ → ℕ → List ℕ
 sub_overlap_rows g objects c s = places_by (λ o. in_sub_overlap g c s o.at) objects
-
--- the chunk holds a row
-abbrev pub is_filled : Partition → List Obj → ℕ → Bool
-is_filled g objects c = list_any (λ o. in_chunk g c o.at) objects
-
--- the chunks, ascending, that hold a row
-abbrev pub filled_chunks : Partition → List Obj → List ℕ
-filled_chunks g objects = filter (λ c. is_filled g objects c) (range_with_len 0 (chunk_count g))

@@ -3,7 +3,8 @@
 ghost use Rattle.std.specs.Prelude.{◌≡◌, [], ◌∷◌, length};
 ghost use Rattle.sky_rules.specs.Examples.{halves};
 ghost use Rattle.chunk_store.specs.Examples.{six_rows, two_overlaps};
-ghost use Rattle.chunk_store.specs.Places.{chunk_rows, filled_chunks, full_overlap_rows, sub_overlap_rows, sub_rows};
+ghost use Rattle.chunk_rules.specs.Filled.{filled_chunks};
+ghost use Rattle.chunk_store.specs.Places.{chunk_rows, full_overlap_rows, sub_overlap_rows, sub_rows};
 
 /// Three of the eight chunks hold a row.
 #[tactic(auto, unfolding(wedge_rules::specs::Heading::heading, wedge_rules::specs::Heading::walk))]

@@ -59,7 +59,7 @@ pub(crate) fn row_lists(
         let row = rows.get(place);
         let chunk = plan.chunk_of(row.pos());
         own.push(chunk, place)?;
-        push_near(plan, chunk, row, place, &mut near, &mut overlap)?;
+        push_near(plan, chunk, &row, place, &mut near, &mut overlap)?;
     }
     Ok((own, overlap))
 }

@@ -9,6 +9,7 @@
 
 pub mod examples;
 mod fill;
+pub mod laws;
 mod lists;
 mod merged;
 pub mod store;

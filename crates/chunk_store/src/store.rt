@@ -1,10 +1,12 @@
 //! The store: a plan of the sky, the rows, and which of them each chunk holds and needs.
 
-ghost use Rattle.std.specs.Prelude.{◌≡◌, ◌<◌, ◌&&◌, not, All, IfOk, length, slice_get};
+ghost use Rattle.std.specs.Prelude.{◌≡◌, ◌<◌, ◌&&◌, not, All, AllPairs, IfOk, length, slice_get};
 ghost use Rattle.sky_rules.specs.Limits.{IsSky};
 ghost use Rattle.sky_rules.specs.Partition.{chunk_count, sub_count};
 ghost use Rattle.sky_rules.specs.Bounds.{in_sub, near_sub};
-ghost use Rattle.chunk_store.specs.Places.{chunk_rows, filled_chunks, full_overlap_rows, passes, sub_overlap_rows, sub_rows};
+ghost use Rattle.chunk_rules.specs.Filled.{filled_chunks};
+ghost use Rattle.chunk_rules.specs.Places.{passes};
+ghost use Rattle.chunk_store.specs.Places.{chunk_rows, full_overlap_rows, sub_overlap_rows, sub_rows};
 
 use crate::fill::row_lists;
 use crate::lists::{Lists, push_if};
@@ -72,6 +74,15 @@ impl Store {
 
     /// The chunks that hold a row, ascending. Takes no memory.
     pub fn filled(&self) -> &[u32]
+        ensures value { result.now ≡ filled_chunks self.now.plan self.now.rows.objects }
+        ensures there { All (λ chunk. chunk < chunk_count self.now.plan) result.now }
+        ensures ascend { AllPairs (λ a b. a < b) result.now }
+    {
+        self.filled_list()
+    }
+
+    /// The kept list of the chunks that hold a row.
+    fn filled_list(&self) -> &[u32]
         ensures { result.now ≡ filled_chunks self.now.plan self.now.rows.objects }
     {
         self.filled.as_slice()
@@ -142,7 +153,8 @@ impl Store {
         ensures { result ≡ passes (λ o. in_sub self.now.plan chunk sub o.at)
             (slice_get self.now.rows.objects place) }
     {
-        holds(&self.plan, chunk, sub, self.rows.get(place))
+        let row = self.rows.get(place);
+        holds(&self.plan, chunk, sub, &row)
     }
 
     /// Whether the row at the place is in the subchunk's near region and not in the subchunk.
@@ -153,6 +165,7 @@ impl Store {
         ensures { result ≡ passes (λ o. near_sub self.now.plan chunk sub o.at
             && not (in_sub self.now.plan chunk sub o.at)) (slice_get self.now.rows.objects place) }
     {
-        is_beside(&self.plan, chunk, sub, self.rows.get(place))
+        let row = self.rows.get(place);
+        is_beside(&self.plan, chunk, sub, &row)
     }
 }

@@ -7,9 +7,9 @@ mod bounds;
 
 use crate::Store;
 use crate::subchunk_tests::bounds::{BOUNDS, CHUNKS, Part, SIDES, cut, holds, is_near};
-use crate::tests::row;
+use crate::tests::{put, row};
 use sky_plan::SkyPlan;
-use sky_row::{Row, Rows, Schema};
+use sky_row::{Columns, Row, Rows, Schema};
 use std::alloc::Global;
 use std::test::Fail;
 
@@ -43,7 +43,7 @@ fn size(n: i64) -> u64 {
 }
 
 // A row at a drawn position beside a bound and a side, where that is admissible.
-fn drawn(alloc: Global, id: u32, seed: &mut u64) -> Option<Row>
+fn drawn(id: u32, seed: &mut u64) -> Option<Row>
     ensures { IfSome result (λ row. length row.further ≡ 0) }
 {
     let z = BOUNDS
@@ -53,22 +53,22 @@ fn drawn(alloc: Global, id: u32, seed: &mut u64) -> Option<Row>
     let flat = (1u64 << 56).saturating_sub(size(z));
     let step = flat.checked_div(size(way.0).wrapping_add(size(way.1)))?;
     let x = leg(step.wrapping_mul(size(way.0)), 0, way.0).wrapping_add(*OFF.get(draw(seed, 12))?);
-    row(alloc, id, x, leg(flat, size(x), way.1), z)
+    row(id, x, leg(flat, size(x), way.1), z)
 }
 
 // The store of the rows that are admissible among 400 drawn ones.
 fn drawn_store(alloc: Global) -> Result<Option<Store>, Fail> {
     let mut seed = 1;
-    let mut rows = Vec::new(alloc);
+    let mut columns = Columns::new(alloc, Schema::new(alloc))?;
     for id in 0..400 {
-        if let Some(row) = drawn(alloc, id, &mut seed) {
-            rows.push(row)?;
+        if let Some(row) = drawn(id, &mut seed) {
+            put(&mut columns, &row)?;
         }
     }
     let Ok(plan) = SkyPlan::read(alloc, SKY) else {
         return Ok(None);
     };
-    let Some(rows) = Rows::in_order(Schema::new(alloc), rows) else {
+    let Some(rows) = Rows::in_order(alloc, columns)? else {
         return Ok(None);
     };
     Ok(Some(Store::build(alloc, plan, rows)?))
@@ -83,7 +83,8 @@ fn wanted(
 ) -> Result<(Vec<u32>, Vec<u32>), Fail> {
     let (mut own, mut beside) = (Vec::new(alloc), Vec::new(alloc));
     for place in 0..rows.len() {
-        let p = rows.get(place).pos();
+        let row = rows.get(place);
+        let p = row.pos();
         if holds(sub, p) {
             own.push(place)?;
         } else if is_near(sub, p) && (holds(chunk, p) || is_near(chunk, p)) {

@@ -4,8 +4,9 @@
 ghost use Rattle.std.specs.Prelude.{◌≡◌, IfSome, length};
 
 use crate::Store;
+use sky_io::Memory;
 use sky_plan::SkyPlan;
-use sky_row::{Row, Rows, Schema};
+use sky_row::{Columns, Row, Rows, Schema};
 use sky_vector::{Pos, length_ok};
 use std::alloc::Global;
 use std::test::Fail;
@@ -15,35 +16,51 @@ const ONE_OVERLAP: &str = "overlap 5\nstripe -268435472 4 2 2\nstripe 0 4 2 2\n"
 const TWO_OVERLAPS: &str = "version 2\nstripe -268435472 4 2 2 5\nstripe 0 4 2 2 2\n";
 
 // A row with no further value, where the position is admissible.
-pub(crate) fn row(alloc: Global, id: u32, x: i64, y: i64, z: i64) -> Option<Row>
+pub(crate) fn row(id: u32, x: i64, y: i64, z: i64) -> Option<Row>
     ensures { IfSome result (λ row. length row.further ≡ 0) }
 {
     let at = Pos::new(x, y, z)?;
     if length_ok(&at) {
-        Some(Row::new(i64::from(id), at, Vec::new(alloc)))
+        Some(Row::new(i64::from(id), at, &[]))
     } else {
         None
     }
 }
 
+// Puts a row with no further value behind the others, where they have none either and there is room.
+pub(crate) fn put(columns: &mut Columns, row: &Row) -> Result<(), Memory>
+    requires { length row.now.further ≡ 0 }
+{
+    if columns.schema().width() == 4 && columns.len() < 1000 {
+        columns.push(row)?;
+    }
+    Ok(())
+}
+
 // Four rows where the equator meets the first meridian, one below it, and one at the pole.
 fn six_rows(alloc: Global) -> Result<Option<Rows>, Fail> {
     let (Some(a), Some(b), Some(c)) = (
-        row(alloc, 1, 268435456, 0, 0),
-        row(alloc, 2, 268435456, 3, 0),
-        row(alloc, 3, 268435456, 0, 4),
+        row(1, 268435456, 0, 0),
+        row(2, 268435456, 3, 0),
+        row(3, 268435456, 0, 4),
     ) else {
         return Ok(None);
     };
     let (Some(d), Some(e), Some(f)) = (
-        row(alloc, 4, 268435456, -3, 0),
-        row(alloc, 5, 268435456, 0, -1),
-        row(alloc, 6, 0, 0, 268435456),
+        row(4, 268435456, -3, 0),
+        row(5, 268435456, 0, -1),
+        row(6, 0, 0, 268435456),
     ) else {
         return Ok(None);
     };
-    let rows = vec![in alloc; a, b, c, d, e, f]?;
-    Ok(Rows::in_order(Schema::new(alloc), rows))
+    let mut columns = Columns::new(alloc, Schema::new(alloc))?;
+    put(&mut columns, &a)?;
+    put(&mut columns, &b)?;
+    put(&mut columns, &c)?;
+    put(&mut columns, &d)?;
+    put(&mut columns, &e)?;
+    put(&mut columns, &f)?;
+    Ok(Rows::in_order(alloc, columns)?)
 }
 
 // The store of the six rows under a sky text, which is short.

@@ -1,8 +1,9 @@
 -- The narrow script: queries for the ids of the rows of a range of z.
-use Rattle.std.specs.Prelude.{ℕ, ◌^◌, List, [], ◌∷◌, length, map, Option, None, Some, option_and_then}
+use Rattle.std.specs.Prelude.{ℕ, List, [], ◌∷◌, length, map, Option, None, Some, option_and_then}
 use Rattle.std.specs.Prelude.{if◌then◌else◌, nat_le, ℤ, codes}
 use Rattle.std.specs.Str.{bytes_eq}
 use Rattle.text_rules.specs.Numbers.{whole_number}
+use Rattle.text_rules.specs.declared.limits.TheConstants.{SCRIPT_TEXT_MOST}
 use Rattle.czar.specs.NarrowLines.{behind, pieces, ended_lines, each_there}
 
 -- A range of z, with both its ends.
@@ -38,4 +39,4 @@ script_lines lines = option_and_then if_short (each_there (map query_line lines)
 -- the queries of a narrow script in their order, and None of any other text
 abbrev pub narrow_script : List ℕ → Option (List Range)
 narrow_script text =
-    if nat_le (length text) (2 ^ 23) then option_and_then script_lines (ended_lines text) else None
+    if nat_le (length text) SCRIPT_TEXT_MOST then option_and_then script_lines (ended_lines text) else None

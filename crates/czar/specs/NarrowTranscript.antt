@@ -3,7 +3,7 @@ use Rattle.std.specs.Prelude.{ℕ, ◌+◌, Bool, ◌&&◌, List, [], ◌∷◌,
 use Rattle.std.specs.Fmt.{decimal, signed_decimal}
 use Rattle.table_rules.specs.Objects.{Obj}
 use Rattle.chunk_store.specs.Survey.{Survey}
-use Rattle.chunk_store.specs.Places.{filled_chunks}
+use Rattle.chunk_rules.specs.Filled.{filled_chunks}
 use Rattle.czar.specs.NarrowScript.{Range}
 
 -- the row's z is in the range

@@ -9,7 +9,6 @@
 mod cut;
 mod each;
 pub mod examples;
-mod reading;
 mod run;
 mod script;
 #[cfg(test)]
@@ -17,7 +16,6 @@ mod tests;
 mod transcript;
 mod world;
 
-pub use reading::plain;
-pub use run::{Plain, Unbuilt, put_plain};
+pub use run::{Plain, put_plain};
 pub use script::{Queries, read_script};
 pub use world::World;

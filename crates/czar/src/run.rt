@@ -9,12 +9,6 @@ use crate::world::World;
 use sky_io::{Put, Sink};
 use std::marker::Model;
 
-/// Which text isn't built: it is in no form that is answered so far.
-#[derive(Clone, Copy, Debug, PartialEq, Eq)]
-pub enum Unbuilt {
-    Script,
-}
-
 /// The queries of a narrow script, over a world.
 #[derive(Drop)]
 pub struct Plain<'w> {
@@ -53,10 +47,5 @@ pub fn put_plain<K: Sink>(sink: &mut K, run: &Plain<'_>) -> Put
 {
     let store = &run.world.store;
     let chunks = store.filled().len() as u64;
-    put_blocks(
-        sink,
-        store.rows().as_slice(),
-        chunks,
-        run.queries.as_slice(),
-    )
+    put_blocks(sink, store.rows(), chunks, run.queries.as_slice())
 }

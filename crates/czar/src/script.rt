@@ -9,6 +9,7 @@ use sky_io::Memory;
 use sky_text::read_whole;
 use std::alloc::Global;
 use std::marker::Model;
+use text_rules::limits::SCRIPT_TEXT_MOST;
 
 /// The most queries of a script.
 const MOST_QUERIES: usize = 255;
@@ -102,7 +103,7 @@ impl LineForm for QueryLine {
 pub fn read_script(alloc: Global, text: &[u8]) -> Result<Option<Queries>, Memory>
     ensures { IfOk result (λ o. o ≡ narrow_script text.now) }
 {
-    if text.len() > 1 << 23 {
+    if text.len() > SCRIPT_TEXT_MOST {
         return Ok(None);
     }
     let lines = Cutter::new(text, b'\n');

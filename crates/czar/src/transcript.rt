@@ -8,7 +8,7 @@ ghost use Rattle.czar.specs.NarrowTranscript.{block_end, block_of, blocks};
 
 use crate::script::Query;
 use sky_io::{Put, Sink};
-use sky_row::Row;
+use sky_row::{Row, Rows};
 use sky_text::{put_count, put_int};
 
 /// The number of a query, the end of its line, and the heading.
@@ -98,15 +98,15 @@ fn put_row<K: Sink>(sink: &mut K, query: &Query, row: &Row) -> Option<u64>
 }
 
 /// A line for each row that the query answers, and how many they are: `None` where the sink failed.
-fn put_rows<K: Sink>(sink: &mut K, query: &Query, rows: &[Row]) -> Option<u64>
-    requires { length rows.now ≤ 2 ^ 22 }
+fn put_rows<K: Sink>(sink: &mut K, query: &Query, rows: &Rows) -> Option<u64>
     ensures wrote { Wrote (K.state sink.old) (K.state sink.new)
-        (row_lines (answer query.now rows.now)) (put_of result) }
-    ensures count { IfSome result (λ n. n ≡ length (answer query.now rows.now)) }
+        (row_lines (answer query.now rows.now.objects)) (put_of result) }
+    ensures count { IfSome result (λ n. n ≡ length (answer query.now rows.now.objects)) }
 {
     let mut count: u64 = 0;
-    for row in rows {
-        match put_row(sink, query, row) {
+    for place in 0..rows.len() {
+        let row = rows.get(place);
+        match put_row(sink, query, &row) {
             None => return None,
             Some(lines) => count += lines,
         }
@@ -115,11 +115,10 @@ fn put_rows<K: Sink>(sink: &mut K, query: &Query, rows: &[Row]) -> Option<u64>
 }
 
 /// The lines of the rows, and the last line.
-fn put_answer<K: Sink>(sink: &mut K, query: &Query, rows: &[Row], chunks: u64) -> Put
-    requires { length rows.now ≤ 2 ^ 22 }
+fn put_answer<K: Sink>(sink: &mut K, query: &Query, rows: &Rows, chunks: u64) -> Put
     ensures { Wrote (K.state sink.old) (K.state sink.new)
-        (row_lines (answer query.now rows.now)
-        ++ block_end (length (answer query.now rows.now)) chunks)
+        (row_lines (answer query.now rows.now.objects)
+        ++ block_end (length (answer query.now rows.now.objects)) chunks)
         result }
 {
     match put_rows(sink, query, rows) {
@@ -129,10 +128,9 @@ fn put_answer<K: Sink>(sink: &mut K, query: &Query, rows: &[Row], chunks: u64) -
 }
 
 /// The block of a query.
-fn put_block<K: Sink>(sink: &mut K, number: u64, query: &Query, rows: &[Row], chunks: u64) -> Put
-    requires { length rows.now ≤ 2 ^ 22 }
+fn put_block<K: Sink>(sink: &mut K, number: u64, query: &Query, rows: &Rows, chunks: u64) -> Put
     ensures { Wrote (K.state sink.old) (K.state sink.new)
-        (block_of rows.now chunks number query.now) result }
+        (block_of rows.now.objects chunks number query.now) result }
 {
     match put_head(sink, number) {
         Put::Failed => Put::Failed,
@@ -141,11 +139,10 @@ fn put_block<K: Sink>(sink: &mut K, number: u64, query: &Query, rows: &[Row], ch
 }
 
 /// The blocks of the queries, numbered from 1. Takes no memory.
-pub fn put_blocks<K: Sink>(sink: &mut K, rows: &[Row], chunks: u64, queries: &[Query]) -> Put
-    requires few { length rows.now ≤ 2 ^ 22 }
+pub fn put_blocks<K: Sink>(sink: &mut K, rows: &Rows, chunks: u64, queries: &[Query]) -> Put
     requires short { length queries.now ≤ 255 }
     ensures { Wrote (K.state sink.old) (K.state sink.new)
-        (blocks rows.now chunks 1 queries.now) result }
+        (blocks rows.now.objects chunks 1 queries.now) result }
 {
     let mut number: u64 = 1;
     for query in queries {

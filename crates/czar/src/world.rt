@@ -9,11 +9,12 @@ use sky_plan::SkyPlan;
 use sky_row::Rows;
 use std::alloc::Global;
 
-/// The rows of a catalogue by chunk, and the chunk and the place of each id. Both are of one catalogue.
+/// The rows of a catalogue by chunk, and the chunk and the place of each id. Both are of one plan and of one catalogue.
 #[derive(Drop)]
 pub struct World {
     pub store: Store,
     pub index: Index,
+    pub ghost one: { IsIndexOf store.plan store.rows.objects index },
 }
 
 impl World {

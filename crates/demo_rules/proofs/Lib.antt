@@ -1,1 +1,4 @@
 pub mod First
+pub mod Existence
+pub mod Uniqueness
+pub mod Catalogues

@@ -3,8 +3,10 @@ use Rattle.std.specs.Prelude.{◌≡◌, ℕ, ◌+◌, ◌^◌, ◌/◌, ◌%◌
 use Rattle.std.specs.Prelude.{◌-ℤ◌, ◌+ℤ◌, ◌*ℤ◌, Bool, ◌&&◌, List, [], ◌∷◌, length, codes, Option, Some}
 use Rattle.std.specs.Prelude.{if◌then◌else◌, slice_get}
 use Rattle.sky_vector.specs.Points.{Point, square, is_admissible}
+use Rattle.sky_vector.specs.declared.limits.TheConstants.{COORDINATE_MOST}
 use Rattle.table_rules.specs.Objects.{Obj, Catalogue}
-use Rattle.demo_rules.specs.Draws.{draw_of, IsRoot}
+use Rattle.sky_vector.specs.Roots.{IsRoot}
+use Rattle.demo_rules.specs.Draws.{draw_of}
 
 -- a number divided by a natural one, cut towards zero
 abbrev pub cut_quotient : ℤ → ℕ → ℤ
@@ -29,7 +31,7 @@ on_meridian = record { x = pos 268435456; y = pos 0; z = pos 0 }
 
 -- a coordinate is within those of an admissible point
 abbrev pub is_coordinate : ℤ → Bool
-is_coordinate a = int_le (negsuc 268435471) a && int_le a (pos 268435472)
+is_coordinate a = int_le (neg_ℤ (pos COORDINATE_MOST)) a && int_le a (pos COORDINATE_MOST)
 
 -- the point, where it is a position of the sky
 abbrev pub kept_point : Point → Point

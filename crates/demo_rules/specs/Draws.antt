@@ -1,5 +1,5 @@
 -- The draws of the demo: a linear congruential generator, minstd_rand of the C++ standard.
-use Rattle.std.specs.Prelude.{ℕ, ◌+◌, ◌-◌, ◌*◌, ◌^◌, ◌%◌, ◌≤◌, ◌<◌}
+use Rattle.std.specs.Prelude.{ℕ, ◌+◌, ◌-◌, ◌*◌, ◌^◌, ◌%◌}
 
 -- the k-th draw from a seed, counted from 1: each is 48,271 times the one before, modulo 2^31 - 1
 abbrev pub draw : ℕ → ℕ → ℕ
@@ -8,7 +8,3 @@ draw seed k = seed * 48271 ^ k % 2147483647
 -- draw j of object i, both counted from 1: an object takes five
 abbrev pub draw_of : ℕ → ℕ → ℕ → ℕ
 draw_of seed i j = draw seed (5 * (i - 1) + j)
-
--- r is the square root of n, rounded down
-abbrev pub IsRoot : ℕ → ℕ → Type 0
-IsRoot n r = (r * r ≤ n) × (n < (r + 1) * (r + 1))

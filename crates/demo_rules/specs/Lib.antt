@@ -2,3 +2,4 @@ pub mod Draws
 pub mod DemoRows
 pub mod DemoTexts
 pub mod Examples
+pub mod Laws

@@ -1,7 +1,8 @@
 //! Worked examples of the demo, computed by the checker.
 
 ghost use Rattle.std.specs.Prelude.{◌≡◌, [], ◌∷◌, map, negsuc, pos};
-ghost use Rattle.demo_rules.specs.Draws.{IsRoot, draw};
+ghost use Rattle.sky_vector.specs.Roots.{IsRoot};
+ghost use Rattle.demo_rules.specs.Draws.{draw};
 ghost use Rattle.demo_rules.specs.DemoRows.{IsDemoObject, height, lean_x, lean_y, leaning_point, on_meridian};
 ghost use Rattle.demo_rules.specs.Examples.{first_object, first_point, second_object};
 

@@ -2,7 +2,8 @@
 //!
 //! Callers see the catalogue as the rows of `specs/DemoRows.antt`, and the two texts as bytes (`specs/DemoTexts.antt`).
 //! Below: `table_rules` for rows, `sky_vector` for points. Above: nothing yet.
-//! No algorithm: definitions, and worked examples that the checker computes.
+//! No algorithm: definitions, laws, and worked examples that the checker computes.
 #![tactic(auto)]
 
 pub mod examples;
+pub mod laws;

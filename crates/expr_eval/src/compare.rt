@@ -1,7 +1,7 @@
 //! Comparisons of numbers, and lists of numbers, where a side may be NULL.
 
 ghost use Rattle.std.specs.Prelude.{◌≡◌};
-ghost use Rattle.value_rules.specs.Truth.{compared, compares, is_listed, is_one_of};
+ghost use Rattle.value_rules.specs.Truth.{compared, compares, among, is_one_of};
 
 use sql_bound::Cmp;
 
@@ -34,8 +34,8 @@ fn is_one_of(list: &[i64], a: i128) -> bool
 }
 
 /// The truth of IN, which is unknown where the value is NULL.
-pub(crate) fn is_listed(value: Option<i128>, list: &[i64]) -> Option<bool>
-    ensures { result ≡ is_listed value list.now }
+pub(crate) fn among(value: Option<i128>, list: &[i64]) -> Option<bool>
+    ensures { result ≡ among value list.now }
 {
     Some(is_one_of(list, value?))
 }

@@ -3,10 +3,10 @@
 ghost use Rattle.std.specs.Prelude.{◌≡◌};
 ghost use Rattle.expr_eval.specs.Picks.{AreRows, IsSoundTerm, pick_of, truth_on};
 ghost use Rattle.sql_tree.specs.declared.cond.Cmp.TheVariants.{AtMost};
-ghost use Rattle.value_rules.specs.Formulas.{And, Compares, HasNoValue, IsAmong, negated_if};
+ghost use Rattle.value_rules.specs.Formulas.{And, Compares, IsNull, Among, negated_if};
 ghost use Rattle.value_rules.specs.Terms.{term_of};
 
-use crate::compare::{compared, is_listed};
+use crate::compare::compared;
 use crate::expr::sum;
 use crate::three::{both, negated_if};
 use sky_row::Row;
@@ -67,10 +67,10 @@ pub(crate) fn among(
     requires rows { AreRows (pick_of first.now second) }
     requires value { IsSoundTerm (pick_of first.now second) (term_of value.now) }
     ensures { result ≡ truth_on (pick_of first.now second.entry)
-        (negated_if negated (IsAmong (term_of value.now) list.now)) }
+        (negated_if negated (Among (term_of value.now) list.now)) }
 {
     let value = sum(value, first, second);
-    negated_if(negated, is_listed(value, list))
+    negated_if(negated, crate::compare::among(value, list))
 }
 
 /// The truth of IS NULL, or with `negated` of IS NOT NULL.
@@ -83,7 +83,7 @@ pub(crate) fn is_null(
     requires rows { AreRows (pick_of first.now second) }
     requires value { IsSoundTerm (pick_of first.now second) (term_of value.now) }
     ensures { result ≡ truth_on (pick_of first.now second.entry)
-        (negated_if negated (HasNoValue (term_of value.now))) }
+        (negated_if negated (IsNull (term_of value.now))) }
 {
     let value = sum(value, first, second);
     negated_if(negated, Some(value.is_none()))

@@ -22,20 +22,13 @@ use std::process::Abort;
 use std::test::Fail;
 
 // The row with this id, height and flux, so far left of the first meridian.
-fn row(
-    rt: &impl Abort,
-    alloc: Global,
-    id: u32,
-    left: i64,
-    height: i64,
-    flux: Option<i64>,
-) -> Result<Row, Fail>
+fn row(rt: &impl Abort, id: u32, left: i64, height: i64, flux: Option<i64>) -> Row
     requires { IsTrue (is_further flux) }
-    ensures { IfOk result (λ row. length row.further ≡ 1) }
+    ensures { length result.further ≡ 1 }
 {
     let at = Pos::new(1 << 28, left, height).expect(rt, "a position");
     assert!(rt; length_ok(&at));
-    Ok(Row::new(i64::from(id), at, vec![in alloc; flux]?))
+    Row::new(i64::from(id), at, &[flux])
 }
 
 // A factor alone.
@@ -230,7 +223,7 @@ fn worth(e: &BoundExpr, first: &Row, second: &Row) -> Option<i128>
 #[test]
 fn not_keeps_unknown(rt: HostRuntime) -> Result<(), Fail> {
     let alloc = rt.alloc();
-    let dim = row(&rt, alloc, 2, 3, 0, None)?;
+    let dim = row(&rt, 2, 3, 0, None);
     for (part, want) in [
         (Some(true), Some(false)),
         (Some(false), Some(true)),
@@ -245,7 +238,7 @@ fn not_keeps_unknown(rt: HostRuntime) -> Result<(), Fail> {
 #[test]
 fn and_and_or_have_three_truths(rt: HostRuntime) -> Result<(), Fail> {
     let alloc = rt.alloc();
-    let dim = row(&rt, alloc, 2, 3, 0, None)?;
+    let dim = row(&rt, 2, 3, 0, None);
     let (t, f) = (Some(true), Some(false));
     for (a, b, both, one) in [
         (t, t, t, t),
@@ -271,9 +264,9 @@ fn the_widest_product_is_2_to_the_100(rt: HostRuntime) -> Result<(), Fail> {
     let alloc = rt.alloc();
     let product = flux_times_flux(alloc)?;
     let most = 1267650600228229401496703205376;
-    let high = row(&rt, alloc, 1, 0, 0, Some(1125899906842624))?;
-    let low = row(&rt, alloc, 2, 0, 0, Some(-1125899906842624))?;
-    let dim = row(&rt, alloc, 3, 0, 0, None)?;
+    let high = row(&rt, 1, 0, 0, Some(1125899906842624));
+    let low = row(&rt, 2, 0, 0, Some(-1125899906842624));
+    let dim = row(&rt, 3, 0, 0, None);
     assert_eq!(rt; worth(&product, &high, &high), Some(most));
     assert_eq!(rt; worth(&product, &high, &low), Some(-most));
     assert_eq!(rt; worth(&product, &low, &low), Some(most));
@@ -286,8 +279,8 @@ fn the_widest_product_is_2_to_the_100(rt: HostRuntime) -> Result<(), Fail> {
 fn a_minus_in_32_brackets_counts_once(rt: HostRuntime) -> Result<(), Fail> {
     let alloc = rt.alloc();
     let minus_flux = in_32_brackets(alloc, column(alloc, true, false, 4))?;
-    let bright = row(&rt, alloc, 3, 0, 4, Some(30))?;
-    let dim = row(&rt, alloc, 2, 3, 0, None)?;
+    let bright = row(&rt, 3, 0, 4, Some(30));
+    let dim = row(&rt, 2, 3, 0, None);
     assert_eq!(rt; worth(&minus_flux, &bright, &dim), Some(-30));
     assert_eq!(rt; worth(&minus_flux, &dim, &bright), None);
     Ok(())
@@ -296,8 +289,8 @@ fn a_minus_in_32_brackets_counts_once(rt: HostRuntime) -> Result<(), Fail> {
 #[test]
 fn in_asks_for_a_value(rt: HostRuntime) -> Result<(), Fail> {
     let alloc = rt.alloc();
-    let bright = row(&rt, alloc, 3, 0, 4, Some(30))?;
-    let dim = row(&rt, alloc, 2, 3, 0, None)?;
+    let bright = row(&rt, 3, 0, 4, Some(30));
+    let dim = row(&rt, 2, 3, 0, None);
     for (not, list, want) in [
         (false, [31, 30], Some(true)),
         (true, [31, 30], Some(false)),
@@ -314,8 +307,8 @@ fn in_asks_for_a_value(rt: HostRuntime) -> Result<(), Fail> {
 #[test]
 fn areas_hold_their_edges_and_look_at_the_first_row(rt: HostRuntime) -> Result<(), Fail> {
     let alloc = rt.alloc();
-    let left = row(&rt, alloc, 2, 3, 0, None)?;
-    let above = row(&rt, alloc, 3, 0, 4, Some(30))?;
+    let left = row(&rt, 2, 3, 0, None);
+    let above = row(&rt, 3, 0, 4, Some(30));
     for (lo, hi, of_left, of_above) in [
         (4, 9, false, true),
         (-1, 4, true, true),
@@ -338,8 +331,8 @@ fn areas_hold_their_edges_and_look_at_the_first_row(rt: HostRuntime) -> Result<(
 #[test]
 fn a_pair_has_the_columns_of_both_rows(rt: HostRuntime) -> Result<(), Fail> {
     let alloc = rt.alloc();
-    let left = row(&rt, alloc, 2, 3, 0, None)?;
-    let above = row(&rt, alloc, 7, 0, 4, Some(30))?;
+    let left = row(&rt, 2, 3, 0, None);
+    let above = row(&rt, 7, 0, 4, Some(30));
     for (second, col, want) in [
         (false, 0, Some(2)),
         (true, 0, Some(7)),
@@ -384,8 +377,8 @@ fn flux_is(alloc: Global, n: i64) -> BoundCond
 #[test]
 fn a_row_alone_meets_what_is_true_of_it(rt: HostRuntime) -> Result<(), Fail> {
     let alloc = rt.alloc();
-    let bright = row(&rt, alloc, 3, 0, 4, Some(30))?;
-    let dim = row(&rt, alloc, 2, 3, 0, None)?;
+    let bright = row(&rt, 3, 0, 4, Some(30));
+    let dim = row(&rt, 2, 3, 0, None);
     let conds = vec![in alloc; flux_is(alloc, 30), flux_is(alloc, 31)]?;
     let is_30 = flux_is(alloc, 30);
     assert_eq!(rt; truth(&is_30, &bright, None), Some(true));

@@ -1,9 +1,9 @@
 //! An index of the rows of a catalogue by their ids.
-ghost use Rattle.std.specs.Prelude.{◌≡◌, ◌≤◌, ◌^◌, List, false, length, IfNone, IfOk, IfSome};
+ghost use Rattle.std.specs.Prelude.{◌≡◌, List, false, option_map, IfNone, IfOk, IfSome};
 ghost use Rattle.sky_rules.specs.Partition.{Partition};
 ghost use Rattle.table_rules.specs.Objects.{Obj};
 ghost use Rattle.table_rules.specs.Ordered.{has_id};
-ghost use Rattle.object_index.specs.Indexes.{IsIndexOf, IsPlaceOf};
+ghost use Rattle.object_index.specs.Indexes.{IsIndexOf, IsPlaceOf, chunk_listed};
 
 use crate::place::Place;
 use indexmap::IndexMap;
@@ -21,13 +21,16 @@ pub struct Index {
 }
 
 impl Model for Index {
-    ghost use Rattle.std.specs.Prelude.{List, ℕ, ℤ, length, ◌≤◌, ◌^◌};
+    ghost use Rattle.std.specs.Prelude.{List, length, ◌≤◌};
+    ghost use Rattle.table_rules.specs.declared.limits.TheConstants.{ROWS_MOST};
+    ghost use Rattle.object_index.specs.Indexes.{Entry};
+    ghost use Rattle.object_index.specs.Pairs.{entries_of};
 
-    ghost Value = { List (ℤ × ℕ) };
+    ghost Value = { List Entry };
 
-    ghost view = { λ x. x.chunks.entries };
+    ghost view = { λ x. entries_of x.chunks.entries };
 
-    ghost invariant = { λ x. length x.chunks.entries ≤ 2 ^ 22 };
+    ghost invariant = { λ x. length x.chunks.entries ≤ ROWS_MOST };
 }
 
 impl Index {
@@ -38,7 +41,8 @@ impl Index {
         let Ok(mut chunks) = IndexMap::with_capacity(alloc, rows.len() as usize) else {
             return Err(Memory);
         };
-        for row in rows.as_slice() {
+        for place in 0..rows.len() {
+            let row = rows.get(place);
             let Ok(_) = chunks.insert(row.id(), plan.chunk_of(row.pos())) else {
                 return Err(Memory);
             };
@@ -52,6 +56,7 @@ impl Index {
             → IsIndexOf g rows self.now → IsPlaceOf g rows id place.chunk place.row) }
         ensures none { IfNone result ((g : Partition) (rows : List Obj)
             → IsIndexOf g rows self.now → has_id rows id ≡ false) }
+        ensures chunk { option_map (λ place. place.chunk) result ≡ chunk_listed self.now id }
     {
         match self.chunks.get_full(&id) {
             Some((row, _, chunk)) => Some(Place {

@@ -2,41 +2,59 @@
 ghost use Rattle.std.specs.Prelude.{◌≡◌, length, IfSome};
 
 use crate::{Index, Place};
+use sky_io::Memory;
 use sky_plan::SkyPlan;
-use sky_row::{Row, Rows, Schema};
+use sky_row::{Columns, Row, Rows, Schema};
 use sky_vector::{Pos, length_ok};
 use std::alloc::Global;
 use std::test::Fail;
 
-// A row with no further value, where the position is one.
-fn row(alloc: Global, id: u32, x: i64, y: i64, z: i64) -> Option<Row>
-    ensures { IfSome result (λ made. length made.further ≡ 0) }
+// A row with no further value, where the position is admissible.
+fn row(id: u32, x: i64, y: i64, z: i64) -> Option<Row>
+    ensures { IfSome result (λ row. length row.further ≡ 0) }
 {
     let at = Pos::new(x, y, z)?;
-    if !length_ok(&at) {
-        return None;
+    if length_ok(&at) {
+        Some(Row::new(i64::from(id), at, &[]))
+    } else {
+        None
     }
-    Some(Row::new(i64::from(id), at, Vec::new(alloc)))
+}
+
+// Puts a row with no further value behind the others, where they have none either and there is room.
+fn put(columns: &mut Columns, row: &Row) -> Result<(), Memory>
+    requires { length row.now.further ≡ 0 }
+{
+    if columns.schema().width() == 4 && columns.len() < 1000 {
+        columns.push(row)?;
+    }
+    Ok(())
 }
 
 // Six rows, of which the fifth has the highest id.
 fn six_rows(alloc: Global) -> Result<Option<Rows>, Fail> {
     let (Some(a), Some(b), Some(c)) = (
-        row(alloc, 1, 268435456, 0, 0),
-        row(alloc, 2, 268435456, 3, 0),
-        row(alloc, 3, 268435456, 0, 4),
+        row(1, 268435456, 0, 0),
+        row(2, 268435456, 3, 0),
+        row(3, 268435456, 0, 4),
     ) else {
         return Ok(None);
     };
     let (Some(d), Some(e), Some(f)) = (
-        row(alloc, 4, 268435456, -3, 0),
-        row(alloc, 50, 268435456, 0, -1),
-        row(alloc, 6, 0, 0, 268435456),
+        row(4, 268435456, -3, 0),
+        row(50, 268435456, 0, -1),
+        row(6, 0, 0, 268435456),
     ) else {
         return Ok(None);
     };
-    let rows = vec![in alloc; a, b, c, d, e, f]?;
-    Ok(Rows::in_order(Schema::new(alloc), rows))
+    let mut columns = Columns::new(alloc, Schema::new(alloc))?;
+    put(&mut columns, &a)?;
+    put(&mut columns, &b)?;
+    put(&mut columns, &c)?;
+    put(&mut columns, &d)?;
+    put(&mut columns, &e)?;
+    put(&mut columns, &f)?;
+    Ok(Rows::in_order(alloc, columns)?)
 }
 
 #[test]

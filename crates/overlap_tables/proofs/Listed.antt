@@ -47,7 +47,7 @@ first_listed p c zero h some = absurd (omega (arith, some))
 first_listed p c (suc n) h some = rw h (0, omega arith, refl)
 
 -- a number below the end that passes is one of them
-listed : (p : ℕ → Bool) (c n : ℕ) → c < n → p c ≡ true → Contains (filter p (range_with_len 0 n)) c
+pub listed : (p : ℕ → Bool) (c n : ℕ) → c < n → p c ≡ true → Contains (filter p (range_with_len 0 n)) c
 listed p c n h e =
     let all : n - 0 ≡ n = omega arith in
     let parts = joined p 0 c n (omega arith) (omega (arith, h)) ∙ ap (λ m. filter p (range_with_len 0 m)) all in

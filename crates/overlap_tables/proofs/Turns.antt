@@ -6,7 +6,7 @@ use borrow.Author.Differences.{up, down}
 use lib.IntN.{neg_ℤ}
 use Rattle.sky_vector.specs.Plane.{plane_product}
 use Rattle.sky_vector.proofs.Signed.{of, whole, of-same, of-zero, differences}
-use Rattle.wedge_rules.specs.Heading.{walk, past}
+use Rattle.wedge_rules.specs.Heading.{Direction, towards, walk, past}
 use Rattle.wedge_rules.proofs.Products.{swap}
 use Rattle.wedge_rules.proofs.Walk.{walk_right, walk_top, walk_left, walk_bottom, walk_right_again}
 use Rattle.wedge_rules.proofs.HalfTurn.{ahead_walk}
@@ -14,11 +14,11 @@ use Rattle.overlap_tables.specs.Windows.{IsNarrow, straight, round}
 use Rattle.overlap_tables.proofs.FarLines.{Alike, ups, downs}
 
 -- the opposite direction
-abbrev back : ℤ × ℤ → ℤ × ℤ
-back d = (neg_ℤ d.0, neg_ℤ d.1)
+abbrev back : Direction → Direction
+back d = towards (neg_ℤ d.dx) (neg_ℤ d.dy)
 
-pair : (a a' b b' : ℤ) → a ≡ a' → b ≡ b' → ◌≡◌ {A = ℤ × ℤ} (a, b) (a', b')
-pair a a' b b' e f = rw (e, f) refl
+same_direction : (a a' b b' : ℤ) → a ≡ a' → b ≡ b' → towards a b ≡ towards a' b'
+same_direction a a' b b' e f = rw (e, f) refl
 
 twice_back : (z : ℤ) → z ≡ neg_ℤ (neg_ℤ z)
 twice_back z = omega (arith, ints)
@@ -28,20 +28,20 @@ half_later : (n s : ℕ) → 0 < n → s ≤ 4 * n → walk n (s + 4 * n) ≡ ba
 half_later n s some h = elim (cases_lt s n) [
   | inl a ↦
       let e : pos (s + 4 * n) -ℤ pos (4 * n) ≡ pos s = omega (arith, ints) in
-      walk_left n (s + 4 * n) (omega (arith, some)) (omega (arith, a)) ∙ (pair _ _ _ _ refl (ap neg_ℤ e) ∙ sym (ap back (walk_right n s a)))
+      walk_left n (s + 4 * n) (omega (arith, some)) (omega (arith, a)) ∙ (same_direction _ _ _ _ refl (ap neg_ℤ e) ∙ sym (ap back (walk_right n s a)))
   | inr a ↦ elim (cases_lt s (3 * n)) [
     | inl b ↦
         let e : pos (s + 4 * n) -ℤ pos (6 * n) ≡ neg_ℤ (neg_ℤ (pos s -ℤ pos (2 * n))) = omega (arith, ints) in
-        walk_bottom n (s + 4 * n) (omega (arith, a)) (omega (arith, b)) ∙ (pair _ _ _ _ e refl ∙ sym (ap back (walk_top n s a b)))
+        walk_bottom n (s + 4 * n) (omega (arith, a)) (omega (arith, b)) ∙ (same_direction _ _ _ _ e refl ∙ sym (ap back (walk_top n s a b)))
     | inr b ↦
         let e : pos (s + 4 * n) -ℤ pos (8 * n) ≡ neg_ℤ (neg_ℤ (pos s -ℤ pos (4 * n))) = omega (arith, ints) in
-        walk_right_again n (s + 4 * n) (omega (arith, b)) ∙ (pair _ _ _ _ (twice_back (pos n)) e ∙ sym (ap back (walk_left n s b (omega (arith, h, some)))))
+        walk_right_again n (s + 4 * n) (omega (arith, b)) ∙ (same_direction _ _ _ _ (twice_back (pos n)) e ∙ sym (ap back (walk_left n s b (omega (arith, h, some)))))
   ]
 ]
 
 -- how far step t lies past step s, as their plane product
 abbrev pub turn : ℕ → ℕ → ℕ → ℤ
-turn n s t = past (walk n s) (walk n t).0 (walk n t).1
+turn n s t = past (walk n s) (walk n t).dx (walk n t).dy
 
 back_of : (a a' b b' x x' y y' : ℕ) → plane_product (neg_ℤ (of a a')) (neg_ℤ (of b b')) (of x x') (of y y') ≡ neg_ℤ (plane_product (of a a') (of b b') (of x x') (of y y'))
 back_of a a' b b' x x' y y' = simp differences (of-same _ _ _ _ (omega arith))
@@ -71,28 +71,28 @@ turn_above n s t some h near end = ahead_walk n s t some h end near
 pub turn_below : (n s t : ℕ) → 0 < n → s + 4 * n < t → t < s + 8 * n → t ≤ 8 * n → turn n s t <ℤ pos 0
 turn_below n s t some h near end =
     let later = ahead_walk n (s + 4 * n) t some h end (omega (arith, near)) in
-    let e = ap (λ d. past d (walk n t).0 (walk n t).1) (half_later n s some (omega (arith, h, end))) in
-    let f = past_back (walk n s).0 (walk n s).1 (walk n t).0 (walk n t).1 in omega (arith, ints, later, e, f)
+    let e = ap (λ d. past d (walk n t).dx (walk n t).dy) (half_later n s some (omega (arith, h, end))) in
+    let f = past_back (walk n s).dx (walk n s).dy (walk n t).dx (walk n t).dy in omega (arith, ints, later, e, f)
 
 -- a step lies on its own line
 turn_self : (n s t : ℕ) → s ≡ t → turn n s t ≡ pos 0
-turn_self n s t e = subst (λ r. turn n s r ≡ pos 0) e (on_line (walk n s).0 (walk n s).1)
+turn_self n s t e = subst (λ r. turn n s r ≡ pos 0) e (on_line (walk n s).dx (walk n s).dy)
 
 -- so does the one half the walk later
 turn_half : (n s t : ℕ) → 0 < n → s + 4 * n ≡ t → t ≤ 8 * n → turn n s t ≡ pos 0
 turn_half n s t some e end =
     subst (λ r. turn n s r ≡ pos 0) e
-    (ap (λ (d : ℤ × ℤ). past (walk n s) d.0 d.1) (half_later n s some (omega (arith, e, end))) ∙ against (walk n s).0 (walk n s).1)
+    (ap (λ (d : Direction). past (walk n s) d.dx d.dy) (half_later n s some (omega (arith, e, end))) ∙ against (walk n s).dx (walk n s).dy)
 
 -- the whole walk later stands the first direction again
 walk_round : (n : ℕ) → 0 < n → walk n (8 * n) ≡ walk n 0
 walk_round n some =
     let e : pos (8 * n) -ℤ pos (8 * n) ≡ pos 0 = omega (arith, ints) in
-    walk_right_again n (8 * n) (omega arith) ∙ (pair _ _ _ _ refl e ∙ sym (walk_right n 0 some))
+    walk_right_again n (8 * n) (omega arith) ∙ (same_direction _ _ _ _ refl e ∙ sym (walk_right n 0 some))
 
 turn_round : (n s t : ℕ) → 0 < n → s ≡ 0 → t ≡ 8 * n → turn n s t ≡ pos 0
 turn_round n s t some e f =
-    rw (e, f) (ap (λ (d : ℤ × ℤ). past (walk n 0) d.0 d.1) (walk_round n some) ∙ on_line (walk n 0).0 (walk n 0).1)
+    rw (e, f) (ap (λ (d : Direction). past (walk n 0) d.dx d.dy) (walk_round n some) ∙ on_line (walk n 0).dx (walk n 0).dy)
 
 -- up to half the walk later nothing lies short
 pub turn_up : (n s t : ℕ) → 0 < n → s ≤ t → t ≤ s + 4 * n → t ≤ 8 * n → pos 0 ≤ℤ turn n s t
@@ -116,7 +116,7 @@ turn_down n s t some h end = elim (cases_lt (s + 4 * n) t) [
 
 -- seen from the other one it is the opposite
 turn_back : (n s t : ℕ) → turn n t s ≡ neg_ℤ (turn n s t)
-turn_back n s t = swap (walk n t).0 (walk n t).1 (walk n s).0 (walk n s).1
+turn_back n s t = swap (walk n t).dx (walk n t).dy (walk n s).dx (walk n s).dy
 
 -- Side j of n lies outside of the way from side a to side b, and outside of the way opposite to it.
 pub data IsBeyond (n a b j : ℕ) : Type 0 where

@@ -6,7 +6,7 @@ use Rattle.sky_vector.specs.Points.{Point, square}
 use Rattle.sky_vector.specs.Plane.{plane_product, length_squared}
 use Rattle.sky_vector.proofs.Signed.{product_up, square_up}
 use Rattle.sky_vector.proofs.Plane.{length_up}
-use Rattle.wedge_rules.specs.Heading.{heading, walk, past, LiesBetween}
+use Rattle.wedge_rules.specs.Heading.{Direction, heading, walk, past, LiesBetween}
 use Rattle.wedge_rules.specs.Wedge.{InWedge, whole, axis, between}
 use Rattle.wedge_rules.proofs.Tests.{le_from, lt_from}
 use Rattle.wedge_rules.proofs.Products.{int_cases}
@@ -78,17 +78,17 @@ wider n k a b x y some there h ha hb narrow way =
     (f.1.signs (8 * a) (omega (arith, ha))) (f.1.signs (8 * b) (omega (arith, hb)))
 
 -- a side that a point is not near is far: its squared product is larger
-side_clear : (r : ℕ) (d : ℤ × ℤ) (p : Point) → near_side r d p ≡ false
-    → (length_squared d.0 d.1 *ℤ square (pos r)) <ℤ square (plane_product d.0 d.1 p.x p.y)
-side_clear r d p h = far_from (square (plane_product d.0 d.1 p.x p.y)) (length_squared d.0 d.1 *ℤ square (pos r)) h
+side_clear : (r : ℕ) (d : Direction) (p : Point) → near_side r d p ≡ false
+    → (length_squared d.dx d.dy *ℤ square (pos r)) <ℤ square (plane_product d.dx d.dy p.x p.y)
+side_clear r d p h = far_from (square (plane_product d.dx d.dy p.x p.y)) (length_squared d.dx d.dy *ℤ square (pos r)) h
 
 -- so the point is not on the axis
-axis_near : (r : ℕ) (d : ℤ × ℤ) (p : Point) → near_side r d p ≡ false → p.x ≡ pos 0 → p.y ≡ pos 0 → ⊥
+axis_near : (r : ℕ) (d : Direction) (p : Point) → near_side r d p ≡ false → p.x ≡ pos 0 → p.y ≡ pos 0 → ⊥
 axis_near r d p h e f =
     let far = side_clear r d p h in
-    let line = past_axis d.0 d.1 p.x p.y e f in
-    let none : square (plane_product d.0 d.1 p.x p.y) ≡ pos 0 = rw line refl in
-    let long = product_up (length_squared d.0 d.1) (square (pos r)) (length_up d.0 d.1) (square_up (pos r)) in
+    let line = past_axis d.dx d.dy p.x p.y e f in
+    let none : square (plane_product d.dx d.dy p.x p.y) ≡ pos 0 = rw line refl in
+    let long = product_up (length_squared d.dx d.dy) (square (pos r)) (length_up d.dx d.dy) (square_up (pos r)) in
     omega (arith, ints, far, none, long)
 
 -- less than half a turn takes three wedges or more for the whole
@@ -115,7 +115,7 @@ side_by n r a b j p true is hj beyond near =
     let far_b = side_clear r (walk n (8 * b)) p is.second_far in
     let second = at.1 in
     let alike = beyond_alike n a b j is.narrow is.first_there is.second_there hj beyond in
-    absurd (far_outside (walk n (8 * a)).0 (walk n (8 * a)).1 (walk n (8 * b)).0 (walk n (8 * b)).1 (walk n (8 * j)).0 (walk n (8 * j)).1 p.x p.y (square (pos r))
+    absurd (far_outside (walk n (8 * a)).dx (walk n (8 * a)).dy (walk n (8 * b)).dx (walk n (8 * b)).dy (walk n (8 * j)).dx (walk n (8 * j)).dy p.x p.y (square (pos r))
     (square_up (pos r)) alike at.0 (omega (arith, ints, second)) far_a far_b (le_from _ _ near))
 side_by n r a b j p false is hj beyond near = near
 
@@ -129,7 +129,7 @@ or_none false = refl
 
 sides_by : (n r k : ℕ) (p : Point) (one : Bool) → nat_eq n 1 ≡ one → 3 ≤ n
     → near_side r (heading n k) p ≡ false → near_side r (heading n (k + 1)) p ≡ false
-    → near_sides r (cond one None (Some (heading n k, heading n (k + 1)))) p
+    → near_sides r (cond one None (Some (record { first = heading n k; second = heading n (k + 1) }))) p
     ≡ int_le (pos 0) (past (heading n k) p.x p.y) && int_lt (past (heading n (k + 1)) p.x p.y) (pos 0)
 sides_by n r k p true e some h l = let one = eqb-true n 1 e in absurd (omega (arith, one, some))
 sides_by n r k p false e some h l =

@@ -3,10 +3,10 @@
 
 ghost use Rattle.std.specs.Prelude.{◌≡◌, ◌<◌, ◌&&◌, pos, int_le, int_lt};
 ghost use Rattle.sky_vector.specs.Pos.{point};
-ghost use Rattle.wedge_rules.specs.Heading.{past};
+ghost use Rattle.wedge_rules.specs.Heading.{direction_shown, past};
 ghost use Rattle.sky_rules.specs.Partition.{chunk_count};
 ghost use Rattle.sky_rules.specs.Bounds.{in_chunk, in_sides, in_bounds, is_on_axis};
-ghost use Rattle.sky_plan.specs.Regions.{direction_shown, sides_shown, bounds_shown};
+ghost use Rattle.sky_plan.specs.Regions.{sides_shown, bounds_shown};
 
 use sky_plan::{Region, SkyPlan};
 use sky_vector::{Dir, Pos, cross};
@@ -19,8 +19,8 @@ pub(crate) fn is_held(plan: &SkyPlan, chunk: u32, p: &Pos) -> bool
     is_in(&plan.region(chunk), p)
 }
 
-/// Whether the region holds the position.
-fn is_in(region: &Region, p: &Pos) -> bool
+/// Whether a part of the sky holds the position, which may be any. Takes no memory.
+pub fn is_in(region: &Region, p: &Pos) -> bool
     ensures { result ≡ in_bounds (bounds_shown region.now) (point p.now) }
 {
     is_in_height(region, p.z) && is_in_sides(region.sides, region.axis, p)

@@ -15,7 +15,8 @@ mod stripes;
 mod wedges;
 
 pub use chunks::{near_chunks, push_near_chunks, push_near_others};
-pub use near::{in_near, in_near_sub};
+pub use held::is_in;
+pub use near::{in_near, in_near_sub, is_near};
 
 #[cfg(test)]
 mod tests;

@@ -1,11 +1,12 @@
 //! Whether a position is in the near region of a chunk or of a subchunk.
 
-ghost use Rattle.std.specs.Prelude.{◌≡◌, ◌<◌, ◌≤◌, ◌^◌, ◌&&◌, ◌||◌, ◌+ℤ◌, ◌-ℤ◌, int_le, int_lt, pos};
+ghost use Rattle.std.specs.Prelude.{◌≡◌, ◌<◌, ◌≤◌, ◌&&◌, ◌||◌, ◌+ℤ◌, ◌-ℤ◌, int_le, int_lt, pos};
 ghost use Rattle.sky_vector.specs.Pos.{point};
-ghost use Rattle.wedge_rules.specs.Heading.{past};
+ghost use Rattle.wedge_rules.specs.Heading.{direction_shown, past};
 ghost use Rattle.sky_rules.specs.Partition.{chunk_count, sub_count};
 ghost use Rattle.sky_rules.specs.Bounds.{near_chunk, near_side, near_sides, near_sub, near_bounds};
-ghost use Rattle.sky_plan.specs.Regions.{direction_shown, sides_shown, bounds_shown};
+ghost use Rattle.sky_rules.specs.declared.limits.TheConstants.{OVERLAP_MOST};
+ghost use Rattle.sky_plan.specs.Regions.{sides_shown, bounds_shown};
 
 use sky_plan::{Region, SkyPlan};
 use sky_vector::{Dir, Pos, cross, within};
@@ -29,9 +30,10 @@ pub fn in_near_sub(plan: &SkyPlan, chunk: u32, sub: u32, p: &Pos) -> bool
     is_near(&plan.sub_region(chunk, sub), plan.radius_of(chunk), p)
 }
 
-/// Whether the position is in the near region of a region, for a radius in grid units.
-fn is_near(region: &Region, radius: u32, p: &Pos) -> bool
-    requires { radius ≤ 2 ^ 24 }
+/// Whether the position is in the near region of a part of the sky, for a radius in grid units: within it, or no farther
+/// from its heights and from the lines of its sides. Takes no memory.
+pub fn is_near(region: &Region, radius: u32, p: &Pos) -> bool
+    requires { radius ≤ OVERLAP_MOST }
     ensures { result ≡ near_bounds radius (bounds_shown region.now) (point p.now) }
 {
     is_near_height(region, radius, p.z) && near_sides(region.sides, radius, p)
@@ -39,7 +41,7 @@ fn is_near(region: &Region, radius: u32, p: &Pos) -> bool
 
 /// Whether the height is, up or down, no farther than the radius from those of the region.
 fn is_near_height(region: &Region, radius: u32, z: i64) -> bool
-    requires { radius ≤ 2 ^ 24 }
+    requires { radius ≤ OVERLAP_MOST }
     ensures { result ≡ (int_le (region.now.z_low -ℤ pos radius) z
         && int_le z (region.now.z_high +ℤ pos radius)) }
 {
@@ -48,7 +50,7 @@ fn is_near_height(region: &Region, radius: u32, z: i64) -> bool
 
 /// Whether the height is no farther than the radius below the region's lowest.
 fn reaches_down(region: &Region, radius: u32, z: i64) -> bool
-    requires { radius ≤ 2 ^ 24 }
+    requires { radius ≤ OVERLAP_MOST }
     ensures { result ≡ int_le (region.now.z_low -ℤ pos radius) z }
 {
     region.z_low - i64::from(radius) <= z
@@ -56,7 +58,7 @@ fn reaches_down(region: &Region, radius: u32, z: i64) -> bool
 
 /// Whether the height is no farther than the radius above the region's highest.
 fn reaches_up(region: &Region, radius: u32, z: i64) -> bool
-    requires { radius ≤ 2 ^ 24 }
+    requires { radius ≤ OVERLAP_MOST }
     ensures { result ≡ int_le z (region.now.z_high +ℤ pos radius) }
 {
     z <= region.z_high + i64::from(radius)
@@ -64,7 +66,7 @@ fn reaches_up(region: &Region, radius: u32, z: i64) -> bool
 
 /// Whether the position is at or past the first side or near it, and short of the second or near it.
 fn near_sides(sides: Option<(Dir, Dir)>, radius: u32, p: &Pos) -> bool
-    requires { radius ≤ 2 ^ 24 }
+    requires { radius ≤ OVERLAP_MOST }
     ensures { result ≡ near_sides radius (sides_shown sides) (point p.now) }
 {
     match sides {
@@ -76,7 +78,7 @@ fn near_sides(sides: Option<(Dir, Dir)>, radius: u32, p: &Pos) -> bool
 
 /// Whether the position is at or past a direction, or near its line.
 pub(crate) fn past_or_near(side: &Dir, radius: u32, p: &Pos) -> bool
-    requires { radius ≤ 2 ^ 24 }
+    requires { radius ≤ OVERLAP_MOST }
     ensures { result ≡ (int_le (pos 0) (past (direction_shown side.now) p.now.x p.now.y)
         || near_side radius (direction_shown side.now) (point p.now)) }
 {
@@ -85,7 +87,7 @@ pub(crate) fn past_or_near(side: &Dir, radius: u32, p: &Pos) -> bool
 
 /// Whether the position is short of a direction, or near its line.
 pub(crate) fn short_or_near(side: &Dir, radius: u32, p: &Pos) -> bool
-    requires { radius ≤ 2 ^ 24 }
+    requires { radius ≤ OVERLAP_MOST }
     ensures { result ≡ (int_lt (past (direction_shown side.now) p.now.x p.now.y) (pos 0)
         || near_side radius (direction_shown side.now) (point p.now)) }
 {
@@ -94,7 +96,7 @@ pub(crate) fn short_or_near(side: &Dir, radius: u32, p: &Pos) -> bool
 
 /// Whether the position is, in the plane, no farther than the radius from the line of a direction.
 pub(crate) fn is_near_side(side: &Dir, radius: u32, p: &Pos) -> bool
-    requires { radius ≤ 2 ^ 24 }
+    requires { radius ≤ OVERLAP_MOST }
     ensures { result ≡ near_side radius (direction_shown side.now) (point p.now) }
 {
     let size = u64::from(radius);

@@ -1,9 +1,10 @@
 //! The stripes that have chunks near a position, and the chunks of them that need it as overlap.
 
-ghost use Rattle.std.specs.Prelude.{◌≡◌, ◌+◌, ◌++◌, ◌<◌, ◌≤◌, ◌^◌, ◌≤ℤ◌, ◌<ℤ◌, IfOk, length};
+ghost use Rattle.std.specs.Prelude.{◌≡◌, ◌+◌, ◌++◌, ◌<◌, ◌≤◌, ◌≤ℤ◌, ◌<ℤ◌, IfOk, length};
 ghost use Rattle.sky_vector.specs.Points.{IsAdmissible};
 ghost use Rattle.sky_vector.specs.Pos.{point};
 ghost use Rattle.sky_rules.specs.Partition.{sky_bottom, sky_end};
+ghost use Rattle.sky_rules.specs.declared.limits.TheConstants.{OVERLAP_MOST};
 ghost use Rattle.overlap_tables.specs.Heights.{HaveOthers, ReachesDown, ReachesUp, first_chunk};
 ghost use Rattle.overlap_tables.specs.Overlaps.{AddsFront, IsOwn, others_between};
 
@@ -11,13 +12,8 @@ use crate::chunks::push_others;
 use crate::wedges::candidates;
 use sky_io::Memory;
 use sky_plan::SkyPlan;
+use sky_rules::limits::{SKY_BOTTOM, SKY_END};
 use sky_vector::Pos;
-
-/// The lowest z of all positions.
-const SKY_BOTTOM: i64 = -268435472;
-
-/// The highest z of all positions.
-const SKY_TOP: i64 = 268435472;
 
 /// The stripes, from a number up to and without another, that have each chunk near an admissible position. They are
 /// looked for within the greatest overlap radius, since a chunk reaches as far as that of its own stripe.
@@ -33,7 +29,7 @@ pub(crate) fn stripes_near(plan: &SkyPlan, p: &Pos) -> (usize, usize)
 
 /// The lowest height within the reach of another one.
 fn lowest(z: i64, reach: u32) -> i64
-    requires reach { reach ≤ 2 ^ 24 }
+    requires reach { reach ≤ OVERLAP_MOST }
     requires bottom { sky_bottom ≤ℤ z }
     requires end { z <ℤ sky_end }
     ensures bottom { sky_bottom ≤ℤ result }
@@ -47,7 +43,7 @@ fn lowest(z: i64, reach: u32) -> i64
 
 /// The highest height within the reach of another one.
 fn highest(z: i64, reach: u32) -> i64
-    requires reach { reach ≤ 2 ^ 24 }
+    requires reach { reach ≤ OVERLAP_MOST }
     requires bottom { sky_bottom ≤ℤ z }
     requires end { z <ℤ sky_end }
     ensures bottom { sky_bottom ≤ℤ result }
@@ -56,7 +52,7 @@ fn highest(z: i64, reach: u32) -> i64
     ensures reaches { ReachesUp z reach result }
 {
     let high = z + i64::from(reach);
-    if SKY_TOP < high { SKY_TOP } else { high }
+    if high < SKY_END { high } else { SKY_END - 1 }
 }
 
 /// Puts those chunks of some stripes behind the list whose full overlap holds the position, ascending.

@@ -7,11 +7,12 @@
 //! sides lie on the same lines. A longer way comes of few wedges, or of a position beside the axis: then all wedges
 //! are left.
 
-ghost use Rattle.std.specs.Prelude.{◌≡◌, ◌+◌, ◌*◌, ◌-◌, ◌/◌, ◌<◌, ◌≤◌, ◌^◌, IfSome, false, min};
+ghost use Rattle.std.specs.Prelude.{◌≡◌, ◌+◌, ◌*◌, ◌-◌, ◌/◌, ◌<◌, ◌≤◌, IfSome, false, min};
 ghost use Rattle.sky_vector.specs.Pos.{point};
 ghost use Rattle.wedge_rules.specs.Heading.{heading};
 ghost use Rattle.wedge_rules.specs.Wedge.{IsWedgeCount};
 ghost use Rattle.sky_rules.specs.Bounds.{near_side};
+ghost use Rattle.sky_rules.specs.declared.limits.TheConstants.{OVERLAP_MOST, STRIPE_CHUNKS_MOST};
 ghost use Rattle.overlap_tables.specs.Windows.{AreCandidates, CoverWay, IsNarrow, IsWindow, side_back, side_on};
 
 use crate::near::is_near_side;
@@ -29,12 +30,12 @@ pub(crate) struct Runs {
     pub(crate) high_end: u32,
 }
 
-/// The runs outside of which no wedge has the position in its near region, for 1 to 1,024 wedges and a radius in grid
+/// The runs outside of which no wedge has the position in its near region, for the wedges of a stripe and a radius in grid
 /// units.
 pub(crate) fn candidates(wedges: u32, radius: u32, p: &Pos) -> Runs
     requires count { IsWedgeCount wedges }
-    requires few { wedges ≤ 1024 }
-    requires radius { radius ≤ 2 ^ 24 }
+    requires few { wedges ≤ STRIPE_CHUNKS_MOST }
+    requires radius { radius ≤ OVERLAP_MOST }
     ensures { AreCandidates wedges radius (point p.now)
         result.low result.low_end result.middle result.middle_end result.high result.high_end }
 {
@@ -62,7 +63,7 @@ fn all(wedges: u32) -> Runs
 
 /// The wedges between two sides that are less than half a turn apart, and those opposite to them.
 fn of_way(wedges: u32, first: u32, second: u32) -> Runs
-    requires few { wedges ≤ 1024 }
+    requires few { wedges ≤ STRIPE_CHUNKS_MOST }
     requires first { first < wedges }
     requires second { second ≤ wedges }
     requires narrow { IsNarrow wedges first second }
@@ -95,8 +96,8 @@ fn of_way(wedges: u32, first: u32, second: u32) -> Runs
 /// The sides at which the walk ends, where they are less than half a turn apart.
 fn window(wedges: u32, radius: u32, p: &Pos) -> Option<(u32, u32)>
     requires count { IsWedgeCount wedges }
-    requires few { wedges ≤ 1024 }
-    requires radius { radius ≤ 2 ^ 24 }
+    requires few { wedges ≤ STRIPE_CHUNKS_MOST }
+    requires radius { radius ≤ OVERLAP_MOST }
     ensures { IfSome result (λ sides. IsWindow wedges radius sides.0 sides.1 (point p.now)) }
 {
     let own = wedge_of(wedges, p);
@@ -112,8 +113,8 @@ fn window(wedges: u32, radius: u32, p: &Pos) -> Option<(u32, u32)>
 /// How many steps back from the first side of a wedge the first one stands whose line the position is far from. It is
 /// looked for as far as half a turn.
 fn steps_back(wedges: u32, radius: u32, wedge: u32, p: &Pos) -> Option<u32>
-    requires few { wedges ≤ 1024 }
-    requires radius { radius ≤ 2 ^ 24 }
+    requires few { wedges ≤ STRIPE_CHUNKS_MOST }
+    requires radius { radius ≤ OVERLAP_MOST }
     requires there { wedge < wedges }
     ensures within { IfSome result (λ steps. steps < wedges) }
     ensures far { IfSome result (λ steps.
@@ -129,8 +130,8 @@ fn steps_back(wedges: u32, radius: u32, wedge: u32, p: &Pos) -> Option<u32>
 
 /// The same, on from the second side of the wedge.
 fn steps_on(wedges: u32, radius: u32, wedge: u32, p: &Pos) -> Option<u32>
-    requires few { wedges ≤ 1024 }
-    requires radius { radius ≤ 2 ^ 24 }
+    requires few { wedges ≤ STRIPE_CHUNKS_MOST }
+    requires radius { radius ≤ OVERLAP_MOST }
     requires there { wedge < wedges }
     ensures within { IfSome result (λ steps. steps < wedges) }
     ensures far { IfSome result (λ steps.
@@ -146,8 +147,8 @@ fn steps_on(wedges: u32, radius: u32, wedge: u32, p: &Pos) -> Option<u32>
 
 /// Whether the position is, in the plane, no farther than the radius from the line of a side.
 fn is_near(wedges: u32, radius: u32, side: u32, p: &Pos) -> bool
-    requires few { wedges ≤ 1024 }
-    requires radius { radius ≤ 2 ^ 24 }
+    requires few { wedges ≤ STRIPE_CHUNKS_MOST }
+    requires radius { radius ≤ OVERLAP_MOST }
     requires there { side ≤ wedges }
     ensures { result ≡ near_side radius (heading wedges side) (point p.now) }
 {
@@ -156,7 +157,7 @@ fn is_near(wedges: u32, radius: u32, side: u32, p: &Pos) -> bool
 
 /// The side so many steps back from the first side of a wedge, round the sky.
 fn side_back(wedges: u32, wedge: u32, steps: u32) -> u32
-    requires few { wedges ≤ 1024 }
+    requires few { wedges ≤ STRIPE_CHUNKS_MOST }
     requires there { wedge < wedges }
     requires steps { steps < wedges }
     ensures value { result ≡ side_back wedges wedge steps }
@@ -171,7 +172,7 @@ fn side_back(wedges: u32, wedge: u32, steps: u32) -> u32
 
 /// The side so many steps on from the second side of a wedge, round the sky.
 fn side_on(wedges: u32, wedge: u32, steps: u32) -> u32
-    requires few { wedges ≤ 1024 }
+    requires few { wedges ≤ STRIPE_CHUNKS_MOST }
     requires there { wedge < wedges }
     requires steps { steps < wedges }
     ensures value { result ≡ side_on wedges wedge steps }

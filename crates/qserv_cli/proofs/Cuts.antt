@@ -3,6 +3,7 @@ use Rattle.std.proofs.Common.{◌≡◌, ℕ, ◌+◌, ◌<◌, ◌≤◌, Bool,
 use Rattle.std.proofs.lemmas.List.{take_all, length-take-le}
 use Rattle.std.proofs.lemmas.Bool.{leb-true}
 use Rattle.std.specs.Option.{option_and_then}
+use Rattle.text_rules.specs.declared.limits.TheConstants.{SCRIPT_TEXT_MOST}
 use Rattle.sky_io.specs.Shelves.{ShelfState, GivesText, named_text}
 use Rattle.czar.specs.NarrowLines.{ended_lines}
 use Rattle.czar.specs.NarrowScript.{Range, narrow_script, script_lines}
@@ -91,14 +92,14 @@ cut_by limit g t false h =
     rw (long', h) refl
 
 -- a script that is cut reads as the whole one: neither is read
-script_cut : (t cut : List ℕ) → cut ≡ take (8388608 + 1) t → narrow_script cut ≡ narrow_script t
+script_cut : (t cut : List ℕ) → cut ≡ take (SCRIPT_TEXT_MOST + 1) t → narrow_script cut ≡ narrow_script t
 script_cut t cut is =
     ap narrow_script is
-    ∙ cut_by 8388608 (λ text. option_and_then script_lines (ended_lines text)) t (nat_le (length t) 8388608) refl
+    ∙ cut_by SCRIPT_TEXT_MOST (λ text. option_and_then script_lines (ended_lines text)) t (nat_le (length t) SCRIPT_TEXT_MOST) refl
 
 script_told :
     (told : Option Texts) (name cut : List ℕ) (ranges : Option (List Range)) →
-    GivesText told name 8388608 cut → ranges ≡ narrow_script cut →
+    GivesText told name SCRIPT_TEXT_MOST cut → ranges ≡ narrow_script cut →
     IfTold told (λ texts. narrow_script (named_text name texts) ≡ ranges)
 script_told None name cut ranges given is = tt
 script_told (Some texts) name cut ranges given is = sym (is ∙ script_cut (named_text name texts) cut given)
@@ -106,7 +107,7 @@ script_told (Some texts) name cut ranges given is = sym (is ∙ script_cut (name
 -- What the given text reads as, the named script does.
 pub script_read :
     (old new : ShelfState) (name text slice : List ℕ) (ranges : Option (List Range)) →
-    IsGiven name 8388608 text old new → slice ≡ text → ranges ≡ narrow_script slice →
+    IsGiven name SCRIPT_TEXT_MOST text old new → slice ≡ text → ranges ≡ narrow_script slice →
     IsRead (OfNamed name (λ text. narrow_script text ≡ ranges)) old new
 script_read old new name text slice ranges got same is =
     record { same = got.same; holds = script_told old.texts name text ranges got.given (is ∙ ap narrow_script same) }
@@ -121,7 +122,7 @@ ranges_told (Some texts) name ranges h = (h, refl)
 -- What the given text reads as is what the form asks.
 pub ranges_read :
     (old new : ShelfState) (name text slice : List ℕ) (ranges : List Range) →
-    IsGiven name 8388608 text old new → slice ≡ text → Some ranges ≡ narrow_script slice →
+    IsGiven name SCRIPT_TEXT_MOST text old new → slice ≡ text → Some ranges ≡ narrow_script slice →
     IsRead (λ texts. AreRangesOf (Some name) texts (Some ranges)) old new
 ranges_read old new name text slice ranges got same is =
     let read = script_read old new name text slice (Some ranges) got same is in

@@ -8,7 +8,7 @@ use Rattle.qserv_cli.specs.Words.{Names}
 use Rattle.qserv_cli.specs.Reached.{Job, IsJobOf}
 use Rattle.qserv_cli.specs.Explained.{AllAnswered, ExplainedOf, shown, text_of_job}
 use Rattle.qserv_cli.specs.Steps.{IsRead, IsSent, IsTorn, IsWritten, IsFlushed}
-use Rattle.qserv_cli.specs.declared.outcome.EndKind.{EndKind}
+use Rattle.session_rules.specs.declared.end.EndKind.{EndKind}
 use Rattle.qserv_cli.specs.declared.outcome.Outcome.{Outcome}
 use Rattle.qserv_cli.specs.declared.outcome.Outcome.TheVariants.{Done, Usage, BadSky, BadCatalogue, NotBuilt, TooLong}
 use Rattle.qserv_cli.specs.declared.outcome.Outcome.TheVariants.{ShelfFault, SinkFault, Memory}

@@ -14,8 +14,8 @@ use Rattle.qserv_cli.specs.Reached.{Texts, IfTold, text_at, Job, IsJobOf, HasTex
 use Rattle.qserv_cli.specs.Reached.{IsSkyFault, IsCatalogueFault, IsLong}
 use Rattle.qserv_cli.specs.declared.outcome.Which.{Which}
 use Rattle.qserv_cli.specs.declared.outcome.Which.TheVariants.{Sky, Catalogue, Script}
-use Rattle.qserv_cli.specs.declared.outcome.EndKind.{EndKind}
-use Rattle.qserv_cli.specs.declared.outcome.EndKind.TheVariants.{Answered}
+use Rattle.session_rules.specs.declared.end.EndKind.{EndKind}
+use Rattle.session_rules.specs.declared.end.EndKind.TheVariants.{Answered}
 use Rattle.qserv_cli.specs.declared.outcome.Outcome.{Outcome}
 use Rattle.qserv_cli.specs.declared.outcome.Outcome.TheVariants.{Done, Usage, BadSky, BadCatalogue, NotBuilt, TooLong}
 use Rattle.qserv_cli.specs.declared.outcome.Outcome.TheVariants.{ShelfFault, SinkFault, Memory}

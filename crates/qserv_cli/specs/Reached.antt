@@ -1,5 +1,6 @@
 -- Which of the named texts is reached: they are fetched and judged one by one, sky, catalogue, script.
-use Rattle.std.specs.Prelude.{◌≡◌, ℕ, ◌^◌, ◌≤◌, ◌<◌, List, length, Option, None, Some, IsSome, Ok, Err}
+use Rattle.std.specs.Prelude.{◌≡◌, ℕ, ◌≤◌, ◌<◌, List, length, Option, None, Some, IsSome, Ok, Err}
+use Rattle.text_rules.specs.declared.limits.TheConstants.{SCRIPT_TEXT_MOST, SKY_TEXT_MOST, TEXT_MOST}
 use Rattle.sky_io.specs.Shelves.{named_text, times}
 use Rattle.sky_rules.specs.Partition.{Partition}
 use Rattle.sky_rules.specs.SkyText.{sky_of}
@@ -29,25 +30,25 @@ text_at names texts which = named_text (name_of names which) texts
 
 -- the longest text of its kind, in bytes
 abbrev pub limit_of : Which → ℕ
-limit_of Sky = 2 ^ 16
-limit_of Catalogue = 2 ^ 29
-limit_of Script = 2 ^ 23
+limit_of Sky = SKY_TEXT_MOST
+limit_of Catalogue = TEXT_MOST
+limit_of Script = SCRIPT_TEXT_MOST
 
 -- the text is accepted as this plan of the sky
 abbrev pub IsSkyOf : List ℕ → Partition → Type 0
-IsSkyOf text plan = (length text ≤ 2 ^ 16) × (sky_of text ≡ Ok plan)
+IsSkyOf text plan = (length text ≤ SKY_TEXT_MOST) × (sky_of text ≡ Ok plan)
 
 -- the text is within its limit, and has this first fault
 abbrev pub IsSkyFault : List ℕ → SkyFault → Type 0
-IsSkyFault text fault = (length text ≤ 2 ^ 16) × (sky_of text ≡ Err fault)
+IsSkyFault text fault = (length text ≤ SKY_TEXT_MOST) × (sky_of text ≡ Err fault)
 
 -- the text is accepted as this catalogue
 abbrev pub IsCatalogueOf : List ℕ → Table → Type 0
-IsCatalogueOf text table = (length text ≤ 2 ^ 29) × (catalogue_of text ≡ Ok table)
+IsCatalogueOf text table = (length text ≤ TEXT_MOST) × (catalogue_of text ≡ Ok table)
 
 -- the text is within its limit, and has this first fault
 abbrev pub IsCatalogueFault : List ℕ → LoadFault → Type 0
-IsCatalogueFault text fault = (length text ≤ 2 ^ 29) × (catalogue_of text ≡ Err fault)
+IsCatalogueFault text fault = (length text ≤ TEXT_MOST) × (catalogue_of text ≡ Err fault)
 
 -- the text is longer than its limit
 abbrev pub IsLong : Which → List ℕ → Type 0

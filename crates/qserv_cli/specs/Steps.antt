@@ -9,7 +9,7 @@ use Rattle.qserv_cli.specs.Reached.{Texts, IfTold, Job, IsSkyFault, IsCatalogueF
 use Rattle.qserv_cli.specs.Explained.{AllAnswered, ExplainedOf, shown, text_of_job}
 use Rattle.qserv_cli.specs.declared.outcome.Which.{Which}
 use Rattle.qserv_cli.specs.declared.outcome.Which.TheVariants.{Sky, Catalogue, Script}
-use Rattle.qserv_cli.specs.declared.outcome.EndKind.{EndKind}
+use Rattle.session_rules.specs.declared.end.EndKind.{EndKind}
 use Rattle.qserv_cli.specs.declared.outcome.Outcome.{Outcome}
 use Rattle.qserv_cli.specs.declared.outcome.Outcome.TheVariants.{Done, BadSky, BadCatalogue, NotBuilt, TooLong}
 use Rattle.qserv_cli.specs.declared.outcome.Outcome.TheVariants.{ShelfFault, SinkFault, Memory}

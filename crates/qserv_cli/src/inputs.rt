@@ -20,15 +20,7 @@ use sky_io::{Fetch, Memory, Shelf, Stop};
 use sky_plan::SkyPlan;
 use sky_row::Rows;
 use std::alloc::Global;
-
-/// The longest sky plan, in bytes.
-const SKY_LIMIT: usize = 1 << 16;
-
-/// The longest catalogue, in bytes.
-const CATALOGUE_LIMIT: usize = 1 << 29;
-
-/// The longest script, in bytes.
-const SCRIPT_LIMIT: usize = 1 << 23;
+use text_rules::limits::{SCRIPT_TEXT_MOST, SKY_TEXT_MOST, TEXT_MOST};
 
 /// What the texts of a form say; the form `load` has no queries.
 #[derive(Drop)]
@@ -71,7 +63,7 @@ fn fetch_sky<S: Shelf>(alloc: Global, shelf: &mut S, name: &str) -> Result<SkyPl
         (S.state shelf.old) (S.state shelf.new)) }
     ensures err { IfErr result (IsSkyStop name.now (S.state shelf.old) (S.state shelf.new)) }
 {
-    let text = fetch_whole(alloc, shelf, name, SKY_LIMIT, Which::Sky)?;
+    let text = fetch_whole(alloc, shelf, name, SKY_TEXT_MOST, Which::Sky)?;
     match SkyPlan::read(alloc, text.as_slice()) {
         Ok(plan) => Ok(plan),
         Err(Stop::Bad(fault)) => Err(Outcome::BadSky { fault }),
@@ -85,7 +77,7 @@ fn fetch_catalogue<S: Shelf>(alloc: Global, shelf: &mut S, name: &str) -> Result
         (S.state shelf.old) (S.state shelf.new)) }
     ensures err { IfErr result (IsCatalogueStop name.now (S.state shelf.old) (S.state shelf.new)) }
 {
-    let text = fetch_whole(alloc, shelf, name, CATALOGUE_LIMIT, Which::Catalogue)?;
+    let text = fetch_whole(alloc, shelf, name, TEXT_MOST, Which::Catalogue)?;
     match load(alloc, text.as_slice()) {
         Ok(rows) => Ok(rows),
         Err(Stop::Bad(fault)) => Err(Outcome::BadCatalogue { fault }),
@@ -122,7 +114,7 @@ fn fetch_queries<S: Shelf>(
         (S.state shelf.old) (S.state shelf.new)) }
     ensures err { IfErr result (IsScriptStop name.now (S.state shelf.old) (S.state shelf.new)) }
 {
-    let text = fetch_text(alloc, shelf, name, SCRIPT_LIMIT, Which::Script)?;
+    let text = fetch_text(alloc, shelf, name, SCRIPT_TEXT_MOST, Which::Script)?;
     match read_script(alloc, text.as_slice()) {
         Ok(Some(queries)) => Ok(Some(queries)),
         Ok(None) => Err(Outcome::NotBuilt {

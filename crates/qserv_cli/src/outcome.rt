@@ -1,12 +1,12 @@
 //! How the top call ends.
 ghost use Rattle.std.specs.Prelude.{◌≡◌, IfOk, replicate};
-ghost use Rattle.qserv_cli.specs.declared.outcome.EndKind.TheVariants.{Answered};
+ghost use Rattle.session_rules.specs.declared.end.EndKind.TheVariants.{Answered};
 ghost use Rattle.qserv_cli.specs.Outcomes.{status_of};
 
+pub use session_rules::{EndKind, Ends};
 use sky_io::Memory;
 use sky_rules::SkyFault;
 use std::alloc::Global;
-use std::marker::Model;
 use table_rules::LoadFault;
 
 /// One of the texts of a form, in the order in which they are fetched.
@@ -17,46 +17,13 @@ pub enum Which {
     Script,
 }
 
-/// How a query ends.
-#[derive(Clone, Copy, Debug, PartialEq, Eq)]
-pub enum EndKind {
-    Answered,
-    Refused,
-    Cancelled,
-    Spent,
-}
-
-/// The ends of a script's queries, in their order.
-#[derive(Drop)]
-pub struct Ends {
-    ends: Vec<EndKind>,
-}
-
-impl Model for Ends {
-    ghost use Rattle.std.specs.Prelude.{List};
-    ghost use Rattle.qserv_cli.specs.declared.outcome.EndKind.{EndKind};
-
-    ghost Value = { List EndKind };
-
-    ghost view = { λ e. e.ends.items };
-}
-
-impl Ends {
-    /// The ends of so many queries that are all answered. Takes memory.
-    pub fn answered(alloc: Global, count: u32) -> Result<Ends, Memory>
-        ensures { IfOk result (λ ends. ends ≡ replicate count Answered) }
-    {
-        match vec![in alloc; EndKind::Answered; count as usize] {
-            Ok(ends) => Ok(Ends { ends }),
-            Err(_) => Err(Memory),
-        }
-    }
-
-    /// The ends in the queries' order. Takes no memory.
-    pub fn as_slice(&self) -> &[EndKind]
-        ensures { result.now ≡ self.now }
-    {
-        self.ends.as_slice()
+/// The ends of so many queries that are all answered. Takes memory.
+pub fn all_answered(alloc: Global, count: u32) -> Result<Ends, Memory>
+    ensures { IfOk result (λ ends. ends ≡ replicate count Answered) }
+{
+    match vec![in alloc; EndKind::Answered; count as usize] {
+        Ok(ends) => Ok(Ends::from_vec(ends)),
+        Err(_) => Err(Memory),
     }
 }
 

@@ -1,6 +1,6 @@
 //! What no clause says: that the top call ends with its work done where memory is left, over worked examples, and what
 //! each fault of the outside comes to.
-use crate::outcome::{EndKind, Ends, Outcome, Which, status};
+use crate::outcome::{EndKind, Outcome, Which, all_answered, status};
 use crate::told::put_outcome;
 use crate::top::qserv;
 use sky_io::{MemShelf, MemSink, OpenGate, PlainShelf, Shelf};
@@ -198,10 +198,10 @@ fn each_outcome_has_its_line(rt: HostRuntime) -> Result<(), Fail> {
     let alloc = rt.alloc();
     let words = words_of(alloc, &["query", "north", "stars", "two ranges", "0"])?;
     let done = Outcome::Done {
-        ends: Ends::answered(alloc, 2)?,
+        ends: all_answered(alloc, 2)?,
     };
     let torn = Outcome::SinkFault {
-        ends: Ends::answered(alloc, 2)?,
+        ends: all_answered(alloc, 2)?,
     };
     for (outcome, line) in [
         (done, ""),

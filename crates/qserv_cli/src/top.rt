@@ -8,7 +8,7 @@ ghost use Rattle.qserv_cli.specs.Inputs.{job_of};
 ghost use Rattle.qserv_cli.specs.Steps.{IsFlushed, IsWritten};
 
 use crate::inputs::{Inputs, fetch_inputs};
-use crate::outcome::{Ends, Outcome};
+use crate::outcome::{Ends, Outcome, all_answered};
 use crate::words::{TextNames, text_names};
 use answer_text::put_report;
 use chunk_store::Store;
@@ -120,7 +120,7 @@ fn write_report<K: Sink>(alloc: Global, store: &Store, sink: &mut K) -> Outcome
     ensures { IsWritten (record { survey = store.now; ranges = None })
         (K.state sink.old) (K.state sink.new) result }
 {
-    let Ok(ends) = Ends::answered(alloc, 0) else {
+    let Ok(ends) = all_answered(alloc, 0) else {
         return Outcome::Memory;
     };
     match put_report(sink, 0, store, b"") {
@@ -134,7 +134,7 @@ fn write_run<K: Sink>(alloc: Global, run: &Plain<'_>, sink: &mut K) -> Outcome
     ensures { IsWritten (record { survey = run.now.survey; ranges = Some run.now.ranges })
         (K.state sink.old) (K.state sink.new) result }
 {
-    let Ok(ends) = Ends::answered(alloc, run.queries()) else {
+    let Ok(ends) = all_answered(alloc, run.queries()) else {
         return Outcome::Memory;
     };
     match put_plain(sink, run) {

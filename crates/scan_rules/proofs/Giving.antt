@@ -139,7 +139,7 @@ not_given_before before s t d queries rest q r h n =
       served past q d (Close v) k = k
 
 -- in a run over a root, what is taken for a query is asked by the root
-wanted_asked : (asks : ℕ → ℕ → Type 0) (past : Journal) (q c : ℕ) → All (IsAsked asks) past → has (wanted past q) c ≡ true → asks q c
+pub wanted_asked : (asks : ℕ → ℕ → Type 0) (past : Journal) (q c : ℕ) → All (IsAsked asks) past → has (wanted past q) c ≡ true → asks q c
 wanted_asked asks [] q c a h = absurd (false≢true h)
 wanted_asked asks (line ∷ past) q c a h = ⊎_elim
     (λ t. here line (All-head (IsAsked asks) line past a) t)

@@ -5,7 +5,7 @@ use Rattle.scan_rules.specs.declared.journal_line.JournalLine.{JournalLine}
 use Rattle.scan_rules.specs.declared.journal_line.JournalLine.TheVariants.{Attach, Take, Deliver, Cancel, Collect, Close}
 use Rattle.scan_rules.proofs.Lists.{any_cases, any_front, any_later, any_stays, flat_append, flat_push}
 use Rattle.scan_rules.proofs.Numbers.{distinct_fits, distinct_push}
-use Rattle.scan_rules.proofs.Ring.{at_at, at_low, at_off, off_at, off_within, offset}
+use Rattle.scan_rules.proofs.Ring.{at_at, at_low, at_off, off_at, off_within}
 use Rattle.scan_rules.proofs.Runs.{follows_here, front_runs, run_after, wanted_kept}
 use Rattle.scan_rules.proofs.Scan.{Chosen, attached_low, chosen, needed_from, needs_from, place_low, place_other, place_take, taken_wanted, wanted_low}
 use Rattle.scan_rules.proofs.Serving.{needs_takes}
@@ -14,7 +14,7 @@ use Rattle.scan_rules.specs.Lines.{attaches, cancels, chunk_of, loses, serves}
 use Rattle.scan_rules.specs.Numbers.{are_distinct, has}
 use Rattle.scan_rules.specs.Queries.{Journal, is_attached, is_cancelled, is_lost, is_served, wanted}
 use Rattle.scan_rules.specs.Runs.{IsRun, MayFollow}
-use Rattle.scan_rules.specs.Scan.{chunk_at, is_needed, is_wanted, lap_length, needs, place, taken}
+use Rattle.scan_rules.specs.Scan.{chunk_at, is_needed, is_wanted, lap_length, needs, place, taken, offset}
 
 -- the scan is so many steps on from p, over different chunks, and all that q was not served lies ahead
 pub record Lapped (ring p q : ℕ) (front : Journal) (over : List ℕ) : Type 0 where

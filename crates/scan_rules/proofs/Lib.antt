@@ -8,5 +8,12 @@ pub mod Laps
 pub mod Lengths
 pub mod Ends
 pub mod Giving
+pub mod OwnLines
+pub mod Callers
+pub mod Finding
+pub mod Ascending
+pub mod Going
+pub mod Wishes
+pub mod Asked
 pub mod ChunkSets
 pub mod QuerySets

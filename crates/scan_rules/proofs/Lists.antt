@@ -120,11 +120,11 @@ alone_passes p before x rest h few =
     )
 
 -- the elements that pass the one test and not the other
-abbrev less : {X : Type 0} → (X → Bool) → (X → Bool) → X → Bool
+abbrev pub less : {X : Type 0} → (X → Bool) → (X → Bool) → X → Bool
 less p q x = p x && not (q x)
 
 -- what passes the one passes the other too, or it alone
-count_split : {X : Type 0} (p q : X → Bool) (xs : List X) → count_by p xs ≤ count_by q xs + count_by (less p q) xs
+pub count_split : {X : Type 0} (p q : X → Bool) (xs : List X) → count_by p xs ≤ count_by q xs + count_by (less p q) xs
 count_split p q [] = omega arith
 count_split p q (x ∷ xs) =
     let i : count_by p xs ≤ count_by q xs + count_by (less p q) xs = count_split p q xs in

@@ -81,8 +81,8 @@ below_has (suc n) x h = ⊎_elim
     (λ t. ⊎_elim (λ e. let q : n ≡ x = eqb-true n x e in omega (arith, q)) (λ f. absurd (false≢true f)) (or_cases (n == x) false t))
     (any_cases (λ y. y == x) (below n) (n ∷ []) h)
 
--- what the first that passes tells, of numbers from 0 on
-find_append : (p : ℕ → Bool) (xs ys : List ℕ) → list_any p xs ≡ false → find p (xs ++ ys) ≡ find p ys
+-- where none of a front passes, the first that does is of the rest
+pub find_append : (p : ℕ → Bool) (xs ys : List ℕ) → list_any p xs ≡ false → find p (xs ++ ys) ≡ find p ys
 find_append p [] ys h = refl
 find_append p (x ∷ xs) ys h = cond-false (p x) _ _ (or_parts _ _ h).0 ∙ find_append p xs ys (or_parts _ _ h).1
 

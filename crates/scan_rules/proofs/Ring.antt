@@ -1,11 +1,7 @@
 -- Steps around the ring, and how far a chunk lies from a place.
-use Rattle.std.proofs.Common.{◌≡◌, ℕ, ◌+◌, ◌<◌, ◌≤◌, cond, ⊎_elim, arith, ◌-◌, nat_lt, lt-ltb, le-ltb}
+use Rattle.std.proofs.Common.{◌≡◌, ℕ, ◌+◌, ◌<◌, ◌≤◌, ⊎_elim, arith, ◌-◌, nat_lt, lt-ltb, le-ltb}
 use Rattle.std.proofs.lemmas.Bool.{cond-true, cond-false, cases_lt}
-use Rattle.scan_rules.specs.Scan.{chunk_at}
-
--- how many steps a chunk lies from a place, around the ring
-abbrev pub offset : ℕ → ℕ → ℕ → ℕ
-offset ring p c = cond (nat_lt c p) (c + ring - p) (c - p)
+use Rattle.scan_rules.specs.Scan.{chunk_at, offset}
 
 -- steps that stay before the end of the ring
 pub at_low : (ring p d : ℕ) → p + d < ring → chunk_at ring p d ≡ p + d

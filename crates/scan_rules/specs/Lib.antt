@@ -9,4 +9,9 @@ pub mod Serving
 pub mod Laps
 pub mod Ends
 pub mod Giving
+pub mod OwnLines
+pub mod Callers
+pub mod Wishes
+pub mod Asked
+pub mod Delivers
 pub mod Examples

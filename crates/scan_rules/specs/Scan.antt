@@ -30,6 +30,10 @@ taken past = flat_map chunk_of past
 abbrev pub chunk_at : ℕ → ℕ → ℕ → ℕ
 chunk_at ring place steps = cond (nat_lt (place + steps) ring) (place + steps) (place + steps - ring)
 
+-- how many steps the scan makes from a place to a chunk, around the ring
+abbrev pub offset : ℕ → ℕ → ℕ → ℕ
+offset ring place chunk = cond (nat_lt chunk place) (chunk + ring - place) (chunk - place)
+
 -- the place of the scan after a take of this chunk, and 0 before the first one
 abbrev pub place_after : ℕ → Option ℕ → ℕ
 place_after ring None = 0

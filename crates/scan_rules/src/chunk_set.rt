@@ -39,10 +39,7 @@ impl ChunkSet {
         ensures appended { IfOk result (λ _. self.new ≡ self.old ++ c ∷ []) }
         ensures same { OnErr result (self.new ≡ self.old) }
     {
-        if self.chunks.push(c).is_err() {
-            return Err(Memory);
-        }
-        Ok(())
+        Ok(self.chunks.push(c)?)
     }
 
     /// The chunks, ascending. Takes no memory.

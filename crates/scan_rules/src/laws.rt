@@ -2,6 +2,10 @@
 ghost use Rattle.scan_rules.specs.Serving.{ServedOnce, ServedOwnAlone, DoneServedAll, TakeServesAll};
 ghost use Rattle.scan_rules.specs.Laps.{LapServesAll, LapRepeatsNone};
 ghost use Rattle.scan_rules.specs.Ends.{StatesTell, NoLinesRun, FrontsRun, RunsGoOn, RunsAreShort, EndsStay};
+ghost use Rattle.scan_rules.specs.Callers.{NothingIsNeeded, WantedIsAttached};
+ghost use Rattle.scan_rules.specs.OwnLines.{OwnLinesTell};
+ghost use Rattle.scan_rules.specs.Wishes.{FreshHasNothing, GivenGrows, CompleteIsGiven, NoWishNoLoss, LapIsFilled};
+ghost use Rattle.scan_rules.specs.Wishes.{CancelledIsAttached, CollectedRests};
 ghost use Rattle.scan_rules.specs.Giving.{GivenIsWanted, GivenByDeliversAlone, DeliverGives, TicketServes, InFlightIsNotGiven};
 
 /// However the seats take turns, a query is served each chunk at most once.
@@ -61,4 +65,50 @@ pub fn what_is_given_changes_by_delivers_alone()
     ensures more { DeliverGives }
     ensures ticket { TicketServes }
     ensures new { InFlightIsNotGiven }
+{}
+
+/// A task is delivered by the seat that took it alone, so the seat's own lines tell whether it is delivered.
+pub fn own_lines_tell_what_is_delivered()
+    ensures { OwnLinesTell }
+{}
+
+/// Where no chunk is next, each running query was served its whole list.
+pub fn nothing_is_needed_where_no_chunk_is_next()
+    ensures { NothingIsNeeded }
+{}
+
+/// A query wants the list that it was attached with.
+pub fn a_query_wants_what_it_was_attached_with()
+    ensures { WantedIsAttached }
+{}
+
+/// A query that was attached just now was given nothing.
+pub fn a_query_just_attached_was_given_nothing()
+    ensures { FreshHasNothing }
+{}
+
+/// The Deliver of a task adds its chunk to what its queries were given, and none of them had it.
+pub fn a_deliver_adds_its_chunk_to_what_was_given()
+    ensures { GivenGrows }
+{}
+
+/// A query that is complete was given all that it wanted.
+pub fn a_complete_query_was_given_all_it_wanted()
+    ensures { CompleteIsGiven }
+{}
+
+/// A query that wants no chunks is neither cancelled nor lost, in any run.
+pub fn a_query_that_wants_nothing_is_never_cancelled_nor_lost()
+    ensures { NoWishNoLoss }
+{}
+
+/// Where each list has filled chunks alone, one lap has at most as many takes as there are filled chunks.
+pub fn a_lap_is_no_longer_than_the_filled_chunks()
+    ensures { LapIsFilled }
+{}
+
+/// A query that was cancelled was attached, and one that was collected does not run.
+pub fn only_attached_queries_are_cancelled_and_none_is_collected_while_it_runs()
+    ensures cancelled { CancelledIsAttached }
+    ensures collected { CollectedRests }
 {}

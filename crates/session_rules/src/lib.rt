@@ -3,10 +3,11 @@
 //! Callers see the ends as a list, and a query as what holds of it, however its session goes (`specs/Ends.antt`).
 //! Below: `session_script` for the steps of a script.
 //! Above: `transcript_rules`, which says what holds of each query.
-//! No session is run here: definitions, and worked examples that the checker computes.
+//! No session is run here: definitions, their laws, and worked examples that the checker computes.
 #![tactic(auto)]
 
 pub mod end;
 pub mod examples;
+pub mod laws;
 
 pub use end::{EndKind, Ends};

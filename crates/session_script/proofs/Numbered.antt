@@ -1,18 +1,22 @@
 -- The numbers of a script's queries.
-use Rattle.std.proofs.Common.{◌≡◌, refl, sym, ap, ◌∙◌, subst, ℕ, zero, suc, ◌+◌, ◌-◌, ◌<◌, arith, Bool, true, false, cond, List, [], ◌∷◌, length, Option, None, Some, Result, Ok, Err, nat_lt, slice_get}
+use Rattle.std.proofs.Common.{◌≡◌, refl, sym, ap, ◌∙◌, subst, ℕ, zero, suc, ◌+◌, ◌-◌, ◌<◌, arith, Bool, true, false, cond, List, [], ◌∷◌, ◌++◌, length, map, Option, None, Some, Result, Ok, Err, OnOk, OnErr, nat_lt, slice_get}
 use Rattle.std.specs.List.{slice_range}
 use Rattle.std.proofs.lemmas.Grind.{common_steps}
 use Rattle.text_rules.specs.Lines.{Line}
+use Rattle.sky_io.specs.declared.Stop.{Stop}
 use Rattle.sql_token.specs.declared.token.Span.{Span}
 use Rattle.session_script.specs.declared.fault.ScriptFault.{ScriptFault}
 use Rattle.session_script.specs.declared.fault.ScriptFault.TheVariants as fault
+use Rattle.text_rules.specs.declared.limits.TheConstants.{QUERY_TEXT_MOST}
+use Rattle.session_script.specs.declared.limits.TheConstants.{QUERIES_MOST}
 use Rattle.session_script.specs.declared.saying.Saying.{Saying}
 use Rattle.session_script.specs.declared.saying.Saying.TheVariants.{Note, Cancels, Waits, Asks}
 use Rattle.session_script.specs.declared.step.Step.{Step}
 use Rattle.session_script.specs.declared.step.Step.TheVariants as step
-use Rattle.session_script.specs.Laws.{IsQuery, NumberedFrom}
+use Rattle.session_script.specs.Laws.{IsQuery, LinesAreTexts, NumberedFrom}
 use Rattle.session_script.specs.Places.{placed_lines}
-use Rattle.session_script.specs.Scripts.{and_behind, is_query, part_of, put_before, queries_with, query_spans, query_text, said_by, script_of, span_at, step_of, step_said, steps_from}
+use Rattle.session_script.specs.Scripts.{and_behind, is_query, part_of, put_before, queries_with, query_count, query_spans, query_text, said_by, script_of, span_at, step_of, step_said, steps_from}
+use Rattle.session_script.specs.Views.{ScriptView, query_lines}
 use Rattle.session_script.proofs.Judged.{no_line, one_line}
 
 -- one step may stand behind so many queries, before steps that are numbered behind it
@@ -51,7 +55,7 @@ said_stands : (queries place : ℕ) (line : Line) (said : Saying) (t : Step) →
 said_stands queries place line Note t e = absurd (cc e)
 said_stands queries place line (Cancels n) t e = naming_stands queries line n (step.Cancel n) t (is_query queries n) refl (cancel_stands queries n) e
 said_stands queries place line (Waits n) t e = naming_stands queries line n (step.Wait n) t (is_query queries n) refl (wait_stands queries n) e
-said_stands queries place line Asks t e = asking_stands queries place line t (nat_lt queries 255) e
+said_stands queries place line Asks t e = asking_stands queries place line t (nat_lt queries QUERIES_MOST) e
 
 long_stands : (queries place : ℕ) (line : Line) (t : Step) (b : Bool)
     → cond b (Err (fault.LineTooLong line.number)) (step_said queries place line (said_by line.text)) ≡ Ok (Some t) → MayStand queries t
@@ -72,7 +76,7 @@ line_numbered : (queries place : ℕ) (line : Line) (ls : List (ℕ × Line)) (s
 line_numbered queries place line ls ss (Err why) is numbered e = absurd (cc e)
 line_numbered queries place line ls ss (Ok None) is numbered e = numbered queries ss e
 line_numbered queries place line ls ss (Ok (Some s)) is numbered e =
-    put_numbered queries s ss (steps_from (queries_with queries s) ls) (long_stands queries place line s (nat_lt 16384 (length line.text)) is) (numbered (queries_with queries s)) e
+    put_numbered queries s ss (steps_from (queries_with queries s) ls) (long_stands queries place line s (nat_lt QUERY_TEXT_MOST (length line.text)) is) (numbered (queries_with queries s)) e
 
 steps_numbered : (queries : ℕ) (ls : List (ℕ × Line)) (ss : List Step) → steps_from queries ls ≡ Ok ss → NumberedFrom queries ss
 steps_numbered queries [] ss e =
@@ -109,3 +113,39 @@ own_text text ss i n span numbered e =
     let found = found_at 0 ss i n span numbered e in
     let same : n - 0 - 1 ≡ n - 1 = omega arith in
     ap (part_of text) (ap (slice_get (query_spans ss)) (sym same) ∙ found.1)
+
+-- steps that are numbered behind others that are
+pub numbered_behind : (queries : ℕ) (a b : List Step) → NumberedFrom queries a → NumberedFrom (queries + query_count a) b → NumberedFrom queries (a ++ b)
+numbered_behind queries [] b first more = subst (λ q. NumberedFrom q b) (omega arith) more
+numbered_behind queries (step.Query n span ∷ a) b first more =
+    let next : queries + query_count (step.Query n span ∷ a) ≡ queries + 1 + query_count a = omega arith in
+    (first.0, numbered_behind (queries + 1) a b first.1 (subst (λ q. NumberedFrom q b) next more))
+numbered_behind queries (step.Wait n ∷ a) b first more = (first.0, numbered_behind queries a b first.1 more)
+numbered_behind queries (step.Cancel n ∷ a) b first more = (first.0, numbered_behind queries a b first.1 more)
+
+stands_last : (queries : ℕ) (s : Step) → MayStand queries s → NumberedFrom queries (s ∷ [])
+unfolding MayStand
+stands_last queries s stands = stands [] tt
+
+-- the steps stay numbered where the next one is put behind them or memory runs out
+pub numbers_kept : (queries place : ℕ) (line : Line) (o : Option Step) (t : Step) (old new : List Step) (same : Type 0) (result : Result Unit (Stop ScriptFault))
+    → queries ≡ query_count old → Ok o ≡ step_of queries place line → o ≡ Some t → NumberedFrom 0 old
+    → OnOk result (new ≡ old ++ t ∷ []) → OnErr result ((new ≡ old) × same) → NumberedFrom 0 new
+numbers_kept queries place line o t old new same (Err why) count is some numbered put kept = subst (NumberedFrom 0) (sym kept.0) numbered
+numbers_kept queries place line o t old new same (Ok done) count is some numbered put kept =
+    let spec : step_of queries place line ≡ Ok (Some t) = sym is ∙ ap {B = Result (Option Step) ScriptFault} (λ o. Ok o) some in
+    let last : NumberedFrom queries (t ∷ []) = stands_last queries t (long_stands queries place line t (nat_lt QUERY_TEXT_MOST (length line.text)) spec) in
+    let next : queries ≡ 0 + query_count old = omega (arith, count) in
+    subst (NumberedFrom 0) (sym put) (numbered_behind 0 old (t ∷ []) numbered (subst (λ q. NumberedFrom q (t ∷ [])) next last))
+
+-- the texts of spans, one by one
+text_at : (text : List ℕ) (spans : List Span) (i : ℕ) → i < length spans
+    → slice_get (map (λ span. part_of text (Some span)) spans) i ≡ Some (part_of text (slice_get spans i))
+text_at text [] i below = absurd (omega (arith, below))
+text_at text (span ∷ spans) zero below = refl
+text_at text (span ∷ spans) (suc i) below = text_at text spans i (omega (arith, below))
+
+pub lines_are_texts : LinesAreTexts
+lines_are_texts s i below =
+    let place : i ≡ i + 1 - 1 = omega arith in
+    text_at s.text (query_spans s.steps) i below ∙ ap (λ k. Some (part_of s.text (slice_get (query_spans s.steps) k))) place

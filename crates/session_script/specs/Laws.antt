@@ -1,8 +1,10 @@
 -- What holds of the steps of every script, and of the places of every text's lines.
-use Rattle.std.specs.Prelude.{◌≡◌, ⊤, ℕ, ◌+◌, ◌≤◌, List, [], ◌∷◌, length, slice_range}
+use Rattle.std.specs.Prelude.{◌≡◌, ⊤, ℕ, ◌+◌, ◌<◌, ◌≤◌, List, [], ◌∷◌, Some, length, slice_get, slice_range}
 use Rattle.text_rules.specs.Lines.{Line}
 use Rattle.session_script.specs.declared.step.Step.{Step}
 use Rattle.session_script.specs.declared.step.Step.TheVariants as step
+use Rattle.session_script.specs.Scripts.{query_count, query_text}
+use Rattle.session_script.specs.Views.{ScriptView, query_lines}
 
 -- the number is that of one of so many queries
 abbrev pub IsQuery : ℕ → ℕ → Type 0
@@ -18,3 +20,8 @@ NumberedFrom queries (step.Cancel n ∷ ss) = IsQuery queries n × NumberedFrom 
 -- the line's bytes stand in the text at its place
 abbrev pub StandsAt : List ℕ → ℕ × Line → Type 0
 StandsAt text l = slice_range text l.0 (l.0 + length l.1.text) ≡ l.1.text
+
+-- the lines of the queries are their texts, one by one
+abbrev pub LinesAreTexts : Type 0
+LinesAreTexts = (s : ScriptView) (i : ℕ) → i < query_count s.steps
+    → slice_get (query_lines s) i ≡ Some (query_text s.steps s.text (i + 1))

@@ -7,6 +7,8 @@ use Rattle.text_rules.specs.Numbers.{natural}
 use Rattle.sql_token.specs.declared.token.Span.{Span}
 use Rattle.session_script.specs.declared.step.Step.{Step}
 use Rattle.session_script.specs.declared.step.Step.TheVariants as step
+use Rattle.text_rules.specs.declared.limits.TheConstants.{QUERY_TEXT_MOST}
+use Rattle.session_script.specs.declared.limits.TheConstants.{QUERIES_MOST}
 use Rattle.session_script.specs.declared.saying.Saying.{Saying}
 use Rattle.session_script.specs.declared.saying.Saying.TheVariants.{Note, Cancels, Waits, Asks}
 use Rattle.session_script.specs.declared.fault.ScriptFault.{ScriptFault}
@@ -50,7 +52,7 @@ span_at place line = record { from = place; to = place + length line.text }
 -- the step of the next query behind so many
 abbrev pub asking : ℕ → ℕ → Line → Result (Option Step) ScriptFault
 asking queries place line =
-    if nat_lt queries 255 then Ok (Some (step.Query (queries + 1) (span_at place line)))
+    if nat_lt queries QUERIES_MOST then Ok (Some (step.Query (queries + 1) (span_at place line)))
     else Err (fault.TooManyQueries line.number)
 
 -- the step of what a line says, and none of a note
@@ -63,7 +65,7 @@ step_said queries place line Asks = asking queries place line
 -- the step of a line that begins at a place, behind lines with so many queries
 abbrev pub step_of : ℕ → ℕ → Line → Result (Option Step) ScriptFault
 step_of queries place line =
-    if nat_lt 16384 (length line.text) then Err (fault.LineTooLong line.number)
+    if nat_lt QUERY_TEXT_MOST (length line.text) then Err (fault.LineTooLong line.number)
     else step_said queries place line (said_by line.text)
 
 -- how many queries there are up to a step

@@ -1,17 +1,16 @@
 //! The step that a line is, behind the lines before it.
-ghost use Rattle.std.specs.Prelude.{◌≡◌, ◌≤◌, ◌+◌, ◌^◌, length};
+ghost use Rattle.std.specs.Prelude.{◌≡◌, ◌≤◌, ◌+◌, length};
+ghost use Rattle.text_rules.specs.declared.limits.TheConstants.{TEXT_MOST};
 ghost use Rattle.sky_text.specs.LineItems.{line_of};
 ghost use Rattle.session_script.specs.Scripts.{asking, naming, span_at, step_of};
 
 use crate::fault::ScriptFault;
+use crate::limits::QUERIES_MOST;
 use crate::saying::{Saying, said_by};
 use crate::step::Step;
 use sky_text::Line;
 use sql_token::Span;
-
-const MOST_QUERIES: u32 = 255;
-
-const LONGEST_LINE: usize = 16384;
+use text_rules::limits::QUERY_TEXT_MOST;
 
 // The step that names a query by its number.
 fn naming(
@@ -33,7 +32,7 @@ fn naming(
 }
 
 fn span_at(place: usize, line: &Line<'_>) -> Span
-    requires { place + length line.now.text.now ≤ 2 ^ 29 }
+    requires { place + length line.now.text.now ≤ TEXT_MOST }
     ensures { result ≡ span_at place (line_of line.now) }
 {
     Span {
@@ -44,10 +43,10 @@ fn span_at(place: usize, line: &Line<'_>) -> Span
 
 // The step of the next query.
 fn asking(queries: u32, place: usize, line: &Line<'_>) -> Result<Option<Step>, ScriptFault>
-    requires { place + length line.now.text.now ≤ 2 ^ 29 }
+    requires { place + length line.now.text.now ≤ TEXT_MOST }
     ensures { result ≡ asking queries place (line_of line.now) }
 {
-    if queries < MOST_QUERIES {
+    if queries < QUERIES_MOST {
         Ok(Some(Step::Query {
             number: queries + 1,
             span: span_at(place, line),
@@ -63,10 +62,10 @@ pub(crate) fn step_of(
     place: usize,
     line: &Line<'_>,
 ) -> Result<Option<Step>, ScriptFault>
-    requires { place + length line.now.text.now ≤ 2 ^ 29 }
+    requires { place + length line.now.text.now ≤ TEXT_MOST }
     ensures { result ≡ step_of queries place (line_of line.now) }
 {
-    if line.text.len() > LONGEST_LINE {
+    if line.text.len() > QUERY_TEXT_MOST {
         return Err(ScriptFault::LineTooLong { line: line.number });
     }
     match said_by(line.text) {

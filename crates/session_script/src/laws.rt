@@ -3,7 +3,7 @@ ghost use Rattle.std.specs.Prelude.{◌≡◌, ℕ, List, All, Ok, Some, slice_g
 ghost use Rattle.sql_token.specs.declared.token.Span.{Span};
 ghost use Rattle.session_script.specs.declared.step.Step.{Step};
 ghost use Rattle.session_script.specs.declared.step.Step.TheVariants.{Query};
-ghost use Rattle.session_script.specs.Laws.{NumberedFrom, StandsAt};
+ghost use Rattle.session_script.specs.Laws.{LinesAreTexts, NumberedFrom, StandsAt};
 ghost use Rattle.session_script.specs.Places.{placed_lines};
 ghost use Rattle.session_script.specs.Scripts.{query_text, script_of};
 
@@ -25,4 +25,10 @@ pub fn a_query_has_its_own_text()
 #[tactic(auto, using(crate::proofs::Standing::lines_stand))]
 pub fn lines_stand_at_their_places()
     ensures { (text : List ℕ) → All (StandsAt text) (placed_lines text) }
+{}
+
+/// The line of a query, counted from 0, is the text of the query of the next number.
+#[tactic(auto, using(crate::proofs::Numbered::lines_are_texts))]
+pub fn query_lines_are_query_texts()
+    ensures { LinesAreTexts }
 {}

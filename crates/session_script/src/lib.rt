@@ -9,6 +9,7 @@ pub mod examples;
 mod fault;
 mod judge;
 pub mod laws;
+pub mod limits;
 mod saying;
 mod script;
 mod step;
@@ -16,5 +17,6 @@ mod step;
 mod tests;
 
 pub use fault::ScriptFault;
+pub use limits::QUERIES_MOST;
 pub use script::Script;
 pub use step::Step;

@@ -1,8 +1,11 @@
 //! A script: its text and its steps.
-ghost use Rattle.std.specs.Prelude.{◌≡◌, ◌≤◌, ◌<◌, ◌+◌, ◌^◌, [], ◌∷◌, ◌++◌, length, vec_len, vec_capacity};
+ghost use Rattle.std.specs.Prelude.{◌≡◌, ◌≤◌, ◌<◌, ◌+◌, [], ◌∷◌, ◌++◌, length, vec_len, vec_capacity};
 ghost use Rattle.std.specs.Prelude.{IfOk, IfErr, OnOk, OnErr, Ok};
+ghost use Rattle.text_rules.specs.declared.limits.TheConstants.{QUERY_TEXT_MOST, TEXT_MOST};
 ghost use Rattle.sky_text.specs.LineItems.{line_of};
+ghost use Rattle.session_script.specs.declared.limits.TheConstants.{QUERIES_MOST};
 ghost use Rattle.session_script.specs.Answers.{Adds, StopsBy, behind_end};
+ghost use Rattle.session_script.specs.Laws.{NumberedFrom};
 ghost use Rattle.session_script.specs.Scripts.{query_count, query_spans, query_text, script_of, step_of};
 
 use crate::fault::ScriptFault;
@@ -26,6 +29,8 @@ impl<'a> Model for Script<'a> {
     ghost use Rattle.std.specs.Prelude.{◌≡◌, ◌≤◌, All, length};
     ghost use Rattle.session_script.specs.Scripts.{query_spans};
     ghost use Rattle.session_script.specs.Views.{IsLine, ScriptView};
+    ghost use Rattle.session_script.specs.Laws.{NumberedFrom};
+    ghost use Rattle.session_script.specs.declared.limits.TheConstants.{QUERIES_MOST};
 
     ghost Value = { ScriptView };
 
@@ -33,12 +38,13 @@ impl<'a> Model for Script<'a> {
 
     ghost invariant = { λ s. (s.queries.items ≡ query_spans s.steps.items)
         × All (IsLine (length s.text.now)) s.queries.items
-        × (length s.queries.items ≤ 255) };
+        × (length s.queries.items ≤ QUERIES_MOST)
+        × NumberedFrom 0 s.steps.items };
 }
 
 // The place behind the end of a line whose text ends at a place.
 fn behind_end(text: &[u8], end: usize) -> usize
-    requires { end ≤ 2 ^ 29 }
+    requires { end ≤ TEXT_MOST }
     ensures { result ≡ behind_end text.now end }
 {
     match text.get(end) {
@@ -88,7 +94,7 @@ impl<'a> Script<'a> {
     // Puts the step of a line that begins at a place behind the others.
     fn add(&mut self, place: usize, line: &Line<'_>) -> Result<(), Stop<ScriptFault>>
         requires within { place + length line.now.text.now ≤ length self.old.text }
-        requires fits { length self.old.text ≤ 2 ^ 29 }
+        requires fits { length self.old.text ≤ TEXT_MOST }
         ensures { Adds (step_of (query_count self.old.steps) place (line_of line.now))
             self.old self.new result }
     {
@@ -101,7 +107,7 @@ impl<'a> Script<'a> {
 
     /// The steps of a text of at most 2^29 bytes, or its first fault. Want of memory may come in place of any answer.
     pub fn read(alloc: Global, text: &'a [u8]) -> Result<Script<'a>, Stop<ScriptFault>>
-        requires { length text.now ≤ 2 ^ 29 }
+        requires { length text.now ≤ TEXT_MOST }
         ensures text { IfOk result (λ script. script.text ≡ text.now) }
         ensures steps { IfOk result (λ script. script_of text.now ≡ Ok script.steps) }
         ensures fault { IfErr result (StopsBy (script_of text.now)) }
@@ -115,17 +121,19 @@ impl<'a> Script<'a> {
         Ok(script)
     }
 
-    /// The steps, in the order of their lines. Takes no memory.
+    /// The steps, in the order of their lines: queries are numbered from 1, and a wait or a cancel names an earlier one.
+    /// Takes no memory.
     pub fn steps(&self) -> &[Step]
-        ensures { result.now ≡ self.now.steps }
+        ensures steps { result.now ≡ self.now.steps }
+        ensures numbered { NumberedFrom 0 self.now.steps }
     {
         self.steps.as_slice()
     }
 
-    /// How many queries the script has, at most 255. Takes no memory.
+    /// How many queries the script has. Takes no memory.
     pub fn queries(&self) -> u32
         ensures count { result ≡ query_count self.now.steps }
-        ensures few { result ≤ 255 }
+        ensures few { result ≤ QUERIES_MOST }
     {
         self.queries.len() as u32
     }
@@ -135,7 +143,7 @@ impl<'a> Script<'a> {
         requires from { 1 ≤ number }
         requires to { number ≤ query_count self.now.steps }
         ensures text { result.now ≡ query_text self.now.steps self.now.text number }
-        ensures short { length result.now ≤ 16384 }
+        ensures short { length result.now ≤ QUERY_TEXT_MOST }
     {
         let span = self.queries[number as usize - 1];
         &self.text[span.from as usize..span.to as usize]

@@ -1,14 +1,16 @@
 //! What no clause says: that scripts are read with memory left.
-ghost use Rattle.std.specs.Prelude.{◌≤◌, ◌^◌, length};
+ghost use Rattle.std.specs.Prelude.{◌≤◌, length};
+ghost use Rattle.text_rules.specs.declared.limits.TheConstants.{TEXT_MOST};
 
 use crate::{Script, ScriptFault};
 use sky_io::Stop;
 use std::alloc::Global;
 use std::test::Fail;
+use text_rules::limits::TEXT_MOST;
 
 // How many steps and how many queries the script has.
 fn counts_of(alloc: Global, text: &[u8]) -> Result<(usize, u32), Stop<ScriptFault>>
-    requires { length text.now ≤ 2 ^ 29 }
+    requires { length text.now ≤ TEXT_MOST }
 {
     let script = Script::read(alloc, text)?;
     Ok((script.steps().len(), script.queries()))
@@ -58,7 +60,7 @@ fn scripts_at_the_limits_are_read_and_scripts_past_them_refused(
         ),
     ] {
         let text = query_lines(alloc, times)?;
-        assert!(rt; text.len() <= 1 << 29);
+        assert!(rt; text.len() <= TEXT_MOST);
         assert_eq!(rt; counts_of(alloc, text.as_slice()), want, "{times} queries");
     }
     for (byte, bytes, want) in [

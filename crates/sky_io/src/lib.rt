@@ -2,9 +2,13 @@
 //!
 //! Callers see a shelf as a `ShelfState` (`specs/Shelves.antt`) and a sink as a `SinkState` (`specs/Sinks.antt`): what
 //! it holds, where it tells that, and what has failed. What stands in memory tells all, files and streams tell nothing.
-//! Below: std alone. Above: every crate that reads, writes or may want memory; `proofs/Writes.antt` is for those.
+//! Below: std, and `arrayvec` for the notes of a gate. Above: every crate that reads, writes or may want memory;
+//! `proofs/Writes.antt` is for those.
 //! No formats, no SQL, no sky: a text is bytes, and a gate does not look at the work that passes it.
 #![tactic(auto)]
+
+ghost use Rattle.std.specs.Prelude.{◌≡◌};
+ghost use Rattle.sky_io.specs.declared.Stop.TheVariants.{Memory as no_memory};
 
 mod calls;
 pub mod folder_shelf;
@@ -12,10 +16,12 @@ pub mod gate;
 pub mod lineage;
 pub mod mem_shelf;
 pub mod mem_sink;
+pub mod note_gate;
 pub mod plain_shelf;
 pub mod print_sink;
 pub mod shelf;
 pub mod sink;
+pub mod step_gate;
 #[cfg(test)]
 mod tests;
 
@@ -24,10 +30,13 @@ pub use gate::{Gate, OpenGate};
 pub use lineage::Lineage;
 pub use mem_shelf::MemShelf;
 pub use mem_sink::MemSink;
+pub use note_gate::NoteGate;
 pub use plain_shelf::PlainShelf;
 pub use print_sink::{ErrSink, OutSink, PrintSink};
 pub use shelf::{Fetch, Shelf};
 pub use sink::{Put, Sink};
+use std::alloc::{AllocError, AllocFailed};
+pub use step_gate::StepGate;
 
 /// Want of memory, which is no refusal: the same call may succeed later.
 #[derive(Clone, Copy, Debug, PartialEq, Eq)]
@@ -40,4 +49,40 @@ pub enum Stop<F> {
     Memory,
     /// The call's own fault.
     Bad(F),
+}
+
+impl From<AllocError> for Memory {
+    fn from(_: AllocError) -> Memory {
+        Memory
+    }
+}
+
+impl<T: Drop> From<AllocFailed<T>> for Memory {
+    fn from(_: AllocFailed<T>) -> Memory {
+        Memory
+    }
+}
+
+impl<F> From<AllocError> for Stop<F> {
+    ghost from_gives = { λ _ stop. stop ≡ no_memory };
+
+    fn from(_: AllocError) -> Stop<F> {
+        Stop::Memory
+    }
+}
+
+impl<T: Drop, F> From<AllocFailed<T>> for Stop<F> {
+    ghost from_gives = { λ _ stop. stop ≡ no_memory };
+
+    fn from(_: AllocFailed<T>) -> Stop<F> {
+        Stop::Memory
+    }
+}
+
+impl<F> From<Memory> for Stop<F> {
+    ghost from_gives = { λ _ stop. stop ≡ no_memory };
+
+    fn from(_: Memory) -> Stop<F> {
+        Stop::Memory
+    }
 }

@@ -43,16 +43,13 @@ impl MemSink {
     pub fn new(alloc: Global, room: usize, failing: Vec<u64>) -> Result<MemSink, Memory>
         ensures { IfOk result (λ sink. sink ≡ new_sink room failing.items) }
     {
-        match Vec::with_capacity(alloc, room) {
-            Ok(bytes) => Ok(MemSink {
-                bytes,
-                room,
-                calls: Calls { made: 0, failing },
-                faults: 0,
-                dirty: false,
-            }),
-            Err(_) => Err(Memory),
-        }
+        Ok(MemSink {
+            bytes: Vec::with_capacity(alloc, room)?,
+            room,
+            calls: Calls { made: 0, failing },
+            faults: 0,
+            dirty: false,
+        })
     }
 
     /// The bytes written so far.

@@ -4,9 +4,10 @@ ghost use Rattle.std.specs.Prelude.{◌≡◌, []};
 use crate::folder_shelf::read_some;
 use crate::print_sink::send;
 use crate::{
-    ErrSink, Fetch, FolderShelf, MemShelf, MemSink, OutSink, PlainShelf, Put, Shelf, Sink,
+    ErrSink, Fetch, FolderShelf, Gate, MemShelf, MemSink, Memory, NoteGate, OutSink, PlainShelf,
+    Put, Shelf, Sink, StepGate, Stop,
 };
-use std::alloc::Global;
+use std::alloc::{AllocError, Global};
 use std::cell::Cell;
 use std::fmt::Display;
 use std::io;
@@ -212,4 +213,82 @@ fn all_is_sent_but_to_a_stream_that_takes_nothing(rt: HostRuntime) {
         assert_eq!(rt; send(&out, b"abc"), sent, "{at_once} at once");
         assert_eq!(rt; out.taken.get(), taken, "{at_once} at once");
     }
+}
+
+#[test]
+fn a_step_gate_lets_all_pass_where_its_turns_run_out(rt: HostRuntime) {
+    let gate = StepGate::new(2, 3);
+    assert_eq!(rt; (gate.met(), gate.given_up()), (false, false));
+    gate.pass(&rt, 0, 5);
+    assert_eq!(rt; (gate.met(), gate.given_up()), (false, true));
+    gate.pass(&rt, 0, 6);
+    assert_eq!(rt;
+        gate.met(),
+        false,
+        "the two passes did not stand there at the same time"
+    );
+}
+
+fn shares<X: Sync>(_shared: &X) {}
+
+#[test]
+fn a_step_gate_for_one_holds_nobody(rt: HostRuntime) {
+    let gate = StepGate::new(1, 0);
+    shares(&gate);
+    gate.pass(&rt, 0, 5);
+    assert_eq!(rt; (gate.met(), gate.given_up()), (true, false));
+}
+
+#[test]
+fn a_note_gate_notes_its_first_64_passes(rt: HostRuntime) {
+    let mut gate = NoteGate::new();
+    shares(&gate);
+    assert_eq!(rt; gate.noted(0), None);
+    for chunk in 0..66u32 {
+        gate.pass(&rt, 3, 100 + chunk);
+    }
+    assert_eq!(rt;
+        (gate.noted(0), gate.noted(63)),
+        (Some((3, 100)), Some((3, 163)))
+    );
+    assert_eq!(rt; (gate.noted(64), gate.noted(65)), (None, None));
+}
+
+fn ends(what: Result<u8, AllocError>) -> Result<u8, Memory> {
+    Ok(what?)
+}
+
+fn stops(what: Result<u8, AllocError>) -> Result<u8, Stop<u8>> {
+    Ok(what?)
+}
+
+fn goes_on(what: Result<u8, Memory>) -> Result<u8, Stop<u8>> {
+    Ok(what?)
+}
+
+fn pushed(list: &mut Vec<u8>, byte: u8) -> Result<(), Memory> {
+    Ok(list.push(byte)?)
+}
+
+fn pushed_or_stops(list: &mut Vec<u8>, byte: u8) -> Result<(), Stop<u8>> {
+    Ok(list.push(byte)?)
+}
+
+#[test]
+fn want_of_memory_goes_on_as_want_of_memory(rt: HostRuntime) {
+    assert_eq!(rt; (ends(Ok(7)), ends(Err(AllocError))), (Ok(7), Err(Memory)));
+    assert_eq!(rt;
+        (stops(Ok(7)), stops(Err(AllocError))),
+        (Ok(7), Err(Stop::Memory))
+    );
+    assert_eq!(rt;
+        (goes_on(Ok(7)), goes_on(Err(Memory))),
+        (Ok(7), Err(Stop::Memory))
+    );
+    let mut list = Vec::new(rt.alloc());
+    assert_eq!(rt;
+        (pushed(&mut list, 3), pushed_or_stops(&mut list, 4)),
+        (Ok(()), Ok(()))
+    );
+    assert_eq!(rt; list.as_slice(), [3, 4].as_slice());
 }

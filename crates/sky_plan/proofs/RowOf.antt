@@ -1,14 +1,22 @@
 -- The row of subchunks that has a height, by one division.
-use Rattle.std.proofs.Common.{◌≡◌, ℕ, ℤ, pos, ◌+◌, ◌-◌, ◌*◌, ◌/◌, ◌<◌, ◌≤◌, ◌-ℤ◌, ◌≤ℤ◌, ◌<ℤ◌, nat_abs, arith, w64, to_z, of_z, subst, sym}
+use Rattle.std.proofs.Common.{◌≡◌, ℕ, ℤ, pos, ◌+◌, ◌-◌, ◌*◌, ◌/◌, ◌<◌, ◌≤◌, ◌-ℤ◌, ◌≤ℤ◌, ◌<ℤ◌, nat_abs, ◌^◌, arith, w64, to_z, of_z, FitsSigned, subst, sym}
 use Rattle.std.proofs.Math.Nat.{div-mul-le_self, lt-div-mul-add}
-use Rattle.std.proofs.lemmas.Int.{ints}
+use Rattle.std.proofs.lemmas.Int.{ints, to_z-of_z}
+use lib.IntN.{neg_ℤ}
 use Rattle.std.proofs.lemmas.Nat.{le-div, div_below, div-mul-add}
 use Rattle.wedge_rules.proofs.Products.{times_le}
 use Rattle.sky_rules.specs.Partition.{Site, sky_bottom, sky_end}
 use Rattle.sky_rules.specs.Bounds.{height_of, row_start}
 use Rattle.sky_rules.proofs.Rows.{start, start_up, start_end}
-use Rattle.sky_plan.proofs.Headings.{kept}
 use Rattle.sky_plan.specs.Sites.{IsPlaced, HasHeight}
+
+-- a small number is one that 64 bits hold
+fits_small : (z : ℤ) → neg_ℤ (pos (2 ^ 29)) ≤ℤ z → z ≤ℤ pos (2 ^ 29) → FitsSigned w64 z
+fits_small z lo hi = search (arith, ints)
+
+-- so it stays itself
+pub kept : (z : ℤ) → neg_ℤ (pos (2 ^ 29)) ≤ℤ z → z ≤ℤ pos (2 ^ 29) → to_z w64 (of_z w64 z) ≡ z
+kept z lo hi = let fits = fits_small z lo hi in to_z-of_z w64 z fits
 
 -- the row that the division gives for d above the bound of a stripe of height h
 abbrev pub row_at : ℕ → ℕ → ℕ → ℕ
@@ -96,3 +104,24 @@ row_in_sky site t z is le e =
     let low : sky_bottom ≤ℤ z = omega (arith, ints, e, bottom) in
     let high : z ≤ℤ sky_end = omega (arith, ints, e, tall, up, end) in
     rw (kept z (omega (arith, ints, low)) (omega (arith, ints, high))) high
+
+-- a row of the site begins below the next, as the numbers that are passed on
+pub rows_rise : (site : Site) (t : ℕ) (low high : ℤ) → IsPlaced site → t < site.stripe.rows → low ≡ row_start site t → high ≡ row_start site (t + 1)
+    → to_z w64 (of_z w64 low) <ℤ to_z w64 (of_z w64 high)
+rows_rise site t low high is less e f =
+    let h = height_of site in
+    let rows = site.stripe.rows in
+    let some = is.stripe.some_rows in
+    let few = is.stripe.few_rows in
+    let tall = site_height site is in
+    let bottom = is.bottom in
+    let end = is.end in
+    let size = (height_within site is).0 in
+    let quotient = div-mul-le_self (t * h) rows in
+    let enough : (t * h / rows + 1) * rows ≤ (t + 1) * h = omega (arith, quotient, few, size) in
+    let more = le-div (t * h / rows + 1) ((t + 1) * h) rows some enough in
+    let most = start_within site (t + 1) is (omega (arith, less)) in
+    let rise : low <ℤ high = omega (arith, ints, e, f, more) in
+    let above : sky_bottom ≤ℤ low = omega (arith, ints, e, bottom) in
+    let below : high ≤ℤ sky_end = omega (arith, ints, f, tall, most, end) in
+    rw (kept low (omega (arith, ints, above)) (omega (arith, ints, rise, below)), kept high (omega (arith, ints, above, rise)) (omega (arith, ints, below))) rise

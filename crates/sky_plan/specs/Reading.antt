@@ -5,7 +5,8 @@ use Rattle.std.specs.List.{filter, slice_split}
 use Rattle.text_rules.specs.Lines.{Line, is_note}
 use Rattle.sky_rules.specs.SkyWords.{Version, shared, own}
 use Rattle.sky_rules.specs.Partition.{Stripe, Partition, sky_end}
-use Rattle.sky_rules.specs.SkyText.{sky_of_lines, stripes_with, unless_fault, whole_sky}
+use Rattle.sky_rules.specs.SkyText.{sky_of_lines, sky_under}
+use Rattle.sky_rules.specs.declared.limits.TheConstants.{HEIGHT_LEAST}
 use Rattle.sky_rules.specs.declared.fault.SkyFault.{SkyFault}
 
 -- The lines that are left of a text, and the number of the first of them.
@@ -26,9 +27,8 @@ abbrev pub sky_on : LinesLeft → Result Partition SkyFault
 sky_on left = sky_of_lines (behind left) (said_lines left.lines)
 
 -- what these lines say under that version, a stripe each
-abbrev pub sky_under : Version → LinesLeft → Result Partition SkyFault
-sky_under version left =
-    unless_fault (stripes_with version [] (said_lines left.lines)) (whole_sky (behind left))
+abbrev pub sky_left : Version → LinesLeft → Result Partition SkyFault
+sky_left version left = sky_under (behind left) version (said_lines left.lines)
 
 -- the words that are left of a line, and none once all is cut off
 abbrev pub words_left : Option (List ℕ) → List (List ℕ)
@@ -46,7 +46,7 @@ version_of (Some r) = shared r
 
 -- a stripe can begin at z above one that begins at `below`
 abbrev pub is_above : ℤ → ℤ → Bool
-is_above below z = int_le (below +ℤ pos 64) z && int_le (z +ℤ pos 64) sky_end
+is_above below z = int_le (below +ℤ pos HEIGHT_LEAST) z && int_le (z +ℤ pos HEIGHT_LEAST) sky_end
 
 -- the line's stripe, which it was judged to be, stands behind the others
 abbrev pub Adds : Result Stripe SkyFault → List Stripe → List Stripe → Type 0

@@ -1,15 +1,16 @@
 -- Where a chunk of a partition within the limits can stand.
 use Rattle.std.specs.Prelude.{ℕ, ◌+◌, ◌<◌, ℤ, pos, ◌+ℤ◌, ◌≤ℤ◌, ◌<ℤ◌, drop, length}
 use Rattle.sky_rules.specs.Partition.{Partition, Site, sky_bottom, sky_end, floor_of}
+use Rattle.sky_rules.specs.declared.limits.TheConstants.{HEIGHT_LEAST}
 use Rattle.sky_rules.specs.Limits.{IsStripe}
 use Rattle.sky_rules.specs.Bounds.{row_start}
 use Rattle.sky_plan.specs.Plans.{stripe_numbered}
 
--- A site within the limits: at least 64 high, inside the sky, and of a wedge that its stripe has.
+-- A site within the limits: high enough, inside the sky, and of a wedge that its stripe has.
 pub record IsPlaced (site : Site) : Type 0 where
   pub stripe : IsStripe site.stripe
   pub bottom : sky_bottom ≤ℤ site.stripe.z_low
-  pub high : (site.stripe.z_low +ℤ pos 64) ≤ℤ site.end
+  pub high : (site.stripe.z_low +ℤ pos HEIGHT_LEAST) ≤ℤ site.end
   pub end : site.end ≤ℤ sky_end
   pub wedge : site.wedge < site.stripe.chunks
 

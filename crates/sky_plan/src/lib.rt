@@ -6,7 +6,6 @@
 //! No rows and no overlap: which positions are near a chunk is not told here.
 #![tactic(auto)]
 
-mod direction;
 pub mod plan;
 mod reading;
 pub mod region;

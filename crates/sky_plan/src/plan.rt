@@ -1,12 +1,13 @@
 //! The plan of the sky, and the place of a position in it.
 
-ghost use Rattle.std.specs.Prelude.{◌≡◌, ◌+◌, ◌^◌, ◌≤◌, ◌<◌, ◌≤ℤ◌, ◌<ℤ◌, IfOk, IsTrue, length, take};
+ghost use Rattle.std.specs.Prelude.{◌≡◌, ◌+◌, ◌≤◌, ◌<◌, ◌≤ℤ◌, ◌<ℤ◌, IfOk, IsTrue, length, take};
 ghost use Rattle.sky_vector.specs.Points.{IsAdmissible};
 ghost use Rattle.sky_vector.specs.Pos.{point};
 ghost use Rattle.sky_rules.specs.Laws.{IsOnlyPlace};
 ghost use Rattle.sky_rules.specs.Limits.{IsSky, IsStripe};
 ghost use Rattle.sky_rules.specs.Partition.{chunk_count, chunks_in, greatest_overlap, least_overlap};
 ghost use Rattle.sky_rules.specs.Partition.{overlap_at, site_of, sky_bottom, sky_end, sub_count};
+ghost use Rattle.sky_rules.specs.declared.limits.TheConstants.{OVERLAP_MOST};
 ghost use Rattle.sky_rules.specs.Bounds.{in_chunk, in_sub, sub_bounds_of, bounds_of};
 ghost use Rattle.sky_plan.specs.Plans.{AreFirsts, CoversOverlaps, HasChunk, stripe_numbered};
 ghost use Rattle.sky_plan.specs.Places.{IsOnlyChunk, SubHolds};
@@ -18,13 +19,11 @@ use crate::site::Site;
 use crate::stripe::Stripe;
 use crate::sub_place::SubPlace;
 use sky_io::Memory;
+use sky_rules::limits::SKY_END;
 use sky_vector::Pos;
 use std::alloc::Global;
 use std::marker::Model;
 use wedge_rules::wedge_of;
-
-/// The first z above all positions.
-const SKY_END: i64 = 268435473;
 
 /// The greatest overlap radius of these stripes.
 fn greatest_of(stripes: &[Stripe]) -> u32
@@ -37,7 +36,7 @@ fn greatest_of(stripes: &[Stripe]) -> u32
         .unwrap_or(0)
 }
 
-/// A partition of the sky within the limits: 1 to 256 stripes, lowest first, of at most 16,384 chunks in all.
+/// A partition of the sky within the limits: at least 1 stripe, lowest first.
 #[derive(Drop)]
 pub struct SkyPlan {
     stripes: Vec<Stripe>,
@@ -83,18 +82,19 @@ impl SkyPlan {
         })
     }
 
-    /// The overlap radius of a chunk, in grid units, from 0 to 2^24. Takes no memory.
+    /// The overlap radius of a chunk, in grid units. Takes no memory.
     pub fn radius_of(&self, chunk: u32) -> u32
         requires { chunk < chunk_count self.now }
         ensures value { result ≡ overlap_at self.now chunk }
-        ensures most { result ≤ 2 ^ 24 }
+        ensures most { result ≤ OVERLAP_MOST }
     {
         self.site(chunk).radius()
     }
 
     /// The least overlap radius of all chunks. Takes no memory.
     pub fn least_radius(&self) -> u32
-        ensures { result ≡ least_overlap self.now }
+        ensures value { result ≡ least_overlap self.now }
+        ensures most { result ≤ OVERLAP_MOST }
     {
         self.stripes
             .iter()
@@ -103,11 +103,11 @@ impl SkyPlan {
             .unwrap_or(0)
     }
 
-    /// The greatest overlap radius of all chunks, at most 2^24. Takes no memory.
+    /// The greatest overlap radius of all chunks. Takes no memory.
     pub fn greatest_radius(&self) -> u32
         ensures value { result ≡ greatest_overlap self.now }
         ensures covers { CoversOverlaps self.now result }
-        ensures most { result ≤ 2 ^ 24 }
+        ensures most { result ≤ OVERLAP_MOST }
         ensures limits { IsSky self.now }
     {
         self.greatest

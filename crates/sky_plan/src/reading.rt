@@ -7,7 +7,7 @@ ghost use Rattle.sky_rules.specs.SkyText.{judged_version, sky_of};
 ghost use Rattle.sky_rules.specs.Limits.{IsSky};
 ghost use Rattle.sky_rules.specs.SkyWords.{version_on};
 ghost use Rattle.sky_io.specs.Stops.{IfBad};
-ghost use Rattle.sky_plan.specs.Reading.{sky_on, sky_under};
+ghost use Rattle.sky_plan.specs.Reading.{sky_left, sky_on};
 
 mod lines;
 mod numbers;
@@ -82,15 +82,16 @@ fn judged_version(number: u32, text: &[u8]) -> Result<Version, SkyFault>
 }
 
 /// The stripes on the lines behind the first, of which there is at least one.
+#[tactic(auto, using(sky_rules::proofs::Steps::read_line_by_line))]
 fn stripes_under(
     alloc: Global,
     version: &Version,
     mut lines: PlanLines<'_>,
 ) -> Result<Stripes, Stop<SkyFault>>
     ensures ok { IfOk result (λ stripes.
-        sky_under version.now lines.entry ≡ Ok (record { stripes = stripes })) }
+        sky_left version.now lines.entry ≡ Ok (record { stripes = stripes })) }
     ensures bad { IfErr result (λ stop. IfBad stop (λ fault.
-        sky_under version.now lines.entry ≡ Err fault)) }
+        sky_left version.now lines.entry ≡ Err fault)) }
 {
     let mut stripes = Stripes::new(alloc);
     while let Some(line) = lines.next() {

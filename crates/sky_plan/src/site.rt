@@ -1,6 +1,8 @@
 //! Where a chunk stands in the sky, and the parts of it.
 
-ghost use Rattle.std.specs.Prelude.{◌≡◌, ◌+◌, ◌*◌, ◌/◌, ◌%◌, ◌^◌, ◌≤◌, ◌<◌, ◌≤ℤ◌, ◌<ℤ◌};
+ghost use Rattle.std.specs.Prelude.{◌≡◌, ◌+◌, ◌*◌, ◌/◌, ◌%◌, ◌≤◌, ◌<◌, ◌≤ℤ◌, ◌<ℤ◌};
+ghost use Rattle.sky_vector.specs.declared.limits.TheConstants.{COORDINATE_MOST};
+ghost use Rattle.sky_rules.specs.declared.limits.TheConstants.{HEIGHT_LEAST, OVERLAP_MOST};
 ghost use Rattle.sky_rules.specs.Bounds.{chunk_bounds, height_of, row_start, sub_bounds};
 ghost use Rattle.sky_plan.specs.Regions.{bounds_shown};
 ghost use Rattle.sky_plan.specs.Sites.{HasHeight, IsPlaced};
@@ -40,7 +42,7 @@ impl Site {
     /// The overlap radius.
     pub(crate) fn radius(&self) -> u32
         ensures value { result ≡ self.now.stripe.overlap }
-        ensures most { result ≤ 2 ^ 24 }
+        ensures most { result ≤ OVERLAP_MOST }
     {
         self.stripe.overlap
     }
@@ -105,8 +107,8 @@ impl Site {
     /// The height of the stripe.
     fn height(&self) -> u64
         ensures value { result ≡ height_of self.now }
-        ensures some { 64 ≤ result }
-        ensures most { result ≤ 536870945 }
+        ensures some { HEIGHT_LEAST ≤ result }
+        ensures most { result ≤ 2 * COORDINATE_MOST + 1 }
     {
         (self.end - self.stripe.z_low).unsigned_abs()
     }

@@ -1,3 +1,7 @@
 pub mod Ids
 pub mod Kept
-pub mod Columns
+pub mod Names
+pub mod Presence
+pub mod Gathering
+pub mod Keys
+pub mod Rowed

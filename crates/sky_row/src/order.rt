@@ -1,29 +1,75 @@
 //! The order of rows by id.
-ghost use Rattle.std.specs.Prelude.{◌≡◌, ◌↔◌, IsTrue, IfSome, IfNone, List};
-ghost use Rattle.table_rules.specs.Objects.{Obj, IdsAscend, IsTable};
+ghost use Rattle.std.specs.Prelude.{◌≡◌, ◌↔◌, ◌≤◌, ◌^◌, ◌≤ℤ◌, All, IsTrue, IfOk, length, map, pos};
+ghost use Rattle.sky_row.specs.Columns.{AreAscending, ArePlacesById};
+ghost use Rattle.sky_row.specs.Keys.{AreKeys, AreSortedKeys, key, place_in};
+ghost use Rattle.table_rules.specs.declared.limits.TheConstants.{ROWS_MOST};
 
-use crate::row::Row;
+use sky_io::Memory;
+use std::alloc::Global;
+use table_rules::limits::ROWS_MOST;
 
-/// Whether each id is below the next.
-fn ids_ascend(rows: &[Row]) -> bool
-    ensures { IsTrue result ↔ IdsAscend rows.now }
+/// How many places a key tells apart.
+const PLACES: u128 = ROWS_MOST as u128;
+
+/// Whether each id is below the next. Takes no memory.
+pub fn ids_ascend(ids: &[i64]) -> bool
+    ensures { IsTrue result ↔ AreAscending ids.now }
 {
-    rows.is_sorted_by(|a, b| a.id() < b.id())
+    ids.is_sorted_by(|a, b| a < b)
 }
 
-/// The rows in ascending id, or `None` where an id repeats. Sorts them in place, where they aren't in order already.
-#[tactic(auto, using(crate::proofs::Ids::table_of_itself, crate::proofs::Ids::table_of_sorted, crate::proofs::Ids::ascend_as_a_table))]
-pub(crate) fn in_order(mut rows: Vec<Row>) -> Option<Vec<Row>>
-    ensures found { IfSome result (λ table. IsTable rows.items table.items) }
-    ensures none { IfNone result ((table : List Obj) → IsTable rows.items table → ⊥) }
+/// The key of an id at a place.
+fn key_of(id: i64, place: u32) -> u128
+    ensures { result ≡ key id place }
 {
-    if ids_ascend(rows.as_slice()) {
-        return Some(rows);
+    u128::from(id.unsigned_abs()) * PLACES + u128::from(place)
+}
+
+/// The keys of ids, in their order. Takes memory for them, 16 bytes an id.
+fn keys_of(alloc: Global, ids: &[i64]) -> Result<Vec<u128>, Memory>
+    requires few { length ids.now ≤ ROWS_MOST }
+    ensures { IfOk result (λ keys. AreKeys ids.now keys.items) }
+{
+    let Ok(mut keys) = Vec::with_capacity(alloc, ids.len()) else {
+        return Err(Memory);
+    };
+    for (place, id) in ids.iter().enumerate() {
+        keys.push_reserved(key_of(*id, place as u32));
     }
-    rows.sort_unstable_by_key(|row| row.id());
-    if ids_ascend(rows.as_slice()) {
-        Some(rows)
-    } else {
-        None
+    Ok(keys)
+}
+
+/// The keys of ids, in ascending order. Takes memory for them, 16 bytes an id.
+#[tactic(auto, using(crate::proofs::Keys::keys_in_order))]
+fn sorted_keys(alloc: Global, ids: &[i64]) -> Result<Vec<u128>, Memory>
+    requires few { length ids.now ≤ ROWS_MOST }
+    ensures { IfOk result (λ keys. AreSortedKeys ids.now keys.items) }
+{
+    let mut keys = keys_of(alloc, ids)?;
+    keys.sort_unstable();
+    Ok(keys)
+}
+
+/// The places of keys, in their order. Takes memory for them, 4 bytes a key.
+fn places_in(alloc: Global, keys: &[u128]) -> Result<Vec<u32>, Memory>
+    ensures { IfOk result (λ places. places.items ≡ map place_in keys.now) }
+{
+    let Ok(mut places) = Vec::with_capacity(alloc, keys.len()) else {
+        return Err(Memory);
+    };
+    for key in keys {
+        places.push_reserved((*key % PLACES) as u32);
     }
+    Ok(places)
+}
+
+/// The places of ids from 0, in the order of the ids. Takes memory for each id with its place, 16 bytes, and for the places.
+#[tactic(auto, using(crate::proofs::Keys::places_are))]
+pub(crate) fn places_by_id(alloc: Global, ids: &[i64]) -> Result<Vec<u32>, Memory>
+    requires few { length ids.now ≤ ROWS_MOST }
+    requires low { All (λ id. pos 0 ≤ℤ id) ids.now }
+    ensures { IfOk result (λ places. ArePlacesById ids.now places.items) }
+{
+    let keys = sorted_keys(alloc, ids)?;
+    places_in(alloc, keys.as_slice())
 }

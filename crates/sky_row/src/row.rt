@@ -1,14 +1,13 @@
 //! A row of the object table.
-ghost use Rattle.std.specs.Prelude.{◌≡◌, ℕ, ◌+◌, ◌<◌, ◌≤◌, ◌≤ℤ◌, pos, length, IsTrue, IsOk, IfOk};
+ghost use Rattle.std.specs.Prelude.{◌≡◌, ◌+◌, ◌<◌, ◌≤◌, ◌≤ℤ◌, pos, length, IsTrue};
 ghost use Rattle.std.specs.List.{list_all};
 ghost use Rattle.sky_vector.specs.Points.{is_admissible};
 ghost use Rattle.sky_vector.specs.Pos.{point};
 ghost use Rattle.table_rules.specs.Objects.{IsRow, cell, is_further};
+ghost use Rattle.table_rules.specs.declared.limits.TheConstants.{FURTHER_COLUMNS_MOST};
 
 use crate::cells::Cells;
-use sky_io::Memory;
 use sky_vector::Pos;
-use std::alloc::Global;
 use std::marker::Model;
 
 /// An id from 0, an admissible position, and further values, of which `None` is NULL.
@@ -31,38 +30,30 @@ impl Model for Row {
 }
 
 impl Row {
-    /// The row of these parts, which it keeps. Takes no memory.
-    pub fn new(id: i64, at: Pos, further: Vec<Option<i64>>) -> Row
+    /// The row of these parts. Takes no memory.
+    pub fn new(id: i64, at: Pos, further: &[Option<i64>]) -> Row
         requires id { pos 0 ≤ℤ id }
         requires admissible { IsTrue (is_admissible (point at)) }
-        requires further { IsTrue (list_all is_further further.items) }
-        requires few { length further.items ≤ 12 }
-        ensures { result ≡ record { id = id; at = point at; further = further.items } }
+        requires further { IsTrue (list_all is_further further.now) }
+        requires few { length further.now ≤ FURTHER_COLUMNS_MOST }
+        ensures { result ≡ record { id = id; at = point at; further = further.now } }
     {
         Row {
             id,
             at,
-            further: Cells::new(further),
+            further: Cells::from_slice(further),
         }
     }
 
-    /// The row of these parts, of which it copies the further values. Takes memory only where there are more than four.
-    pub fn from_slice(
-        alloc: Global,
-        id: i64,
-        at: Pos,
-        further: &[Option<i64>],
-    ) -> Result<Row, Memory>
+    /// The row of these parts.
+    pub(crate) fn of_cells(id: i64, at: Pos, further: Cells) -> Row
         requires id { pos 0 ≤ℤ id }
         requires admissible { IsTrue (is_admissible (point at)) }
-        requires further { IsTrue (list_all is_further further.now) }
-        requires few { length further.now ≤ 12 }
-        ensures ok { IfOk result (λ row.
-            row ≡ record { id = id; at = point at; further = further.now }) }
-        ensures few { length further.now ≤ 4 → IsOk result }
+        requires further { IsTrue (list_all is_further further) }
+        requires few { length further ≤ FURTHER_COLUMNS_MOST }
+        ensures { result ≡ record { id = id; at = point at; further = further } }
     {
-        let further = Cells::from_slice(alloc, further)?;
-        Ok(Row { id, at, further })
+        Row { id, at, further }
     }
 
     /// The id, from 0. Takes no memory.

@@ -5,20 +5,14 @@ ghost use Rattle.std.specs.Str.{bytes_eq};
 ghost use Rattle.sky_io.specs.Stops.{IfBad};
 ghost use Rattle.table_rules.specs.Names.{can_follow, column_names, column_of};
 ghost use Rattle.table_rules.specs.Objects.{column_bound};
+ghost use Rattle.table_rules.specs.declared.limits.TheConstants.{COLUMNS_MOST, FURTHER_COLUMNS_MOST};
 
 use crate::name::{first_column, further_column, is_name};
 use sky_io::Stop;
+use sky_vector::limits::COORDINATE_MOST;
 use std::alloc::Global;
 use std::marker::Model;
-
-/// The largest size of an id.
-const ID_MOST: i128 = (1 << 63) - 1;
-
-/// The largest size of a coordinate, in grid units: the sphere's radius 2^28 and 16.
-const COORDINATE_MOST: i128 = 268435472;
-
-/// The largest size of a further value.
-const FURTHER_MOST: i128 = 1 << 50;
+use table_rules::limits::{FURTHER_COLUMNS_MOST, FURTHER_MOST, ID_MOST};
 
 /// Why a column can't be added: its name isn't a name, is there already, or 12 further columns are there.
 #[derive(Clone, Copy, Debug, PartialEq, Eq)]
@@ -32,12 +26,13 @@ pub struct Schema {
 
 impl Model for Schema {
     ghost use Rattle.std.specs.Prelude.{ℕ, List, length, map, ◌≤◌};
+    ghost use Rattle.table_rules.specs.declared.limits.TheConstants.{FURTHER_COLUMNS_MOST};
 
     ghost Value = { List (List ℕ) };
 
     ghost view = { λ s. map (λ name. name.items) s.names.items };
 
-    ghost invariant = { λ s. length s.names.items ≤ 12 };
+    ghost invariant = { λ s. length s.names.items ≤ FURTHER_COLUMNS_MOST };
 }
 
 impl Schema {
@@ -79,13 +74,13 @@ impl Schema {
 
     /// Whether fewer than 12 further columns are there.
     fn has_room(&self) -> bool
-        ensures { result ≡ nat_lt (length (column_names self.now)) 16 }
+        ensures { result ≡ nat_lt (length (column_names self.now)) COLUMNS_MOST }
     {
-        self.names.len() < 12
+        self.names.len() < FURTHER_COLUMNS_MOST
     }
 
     /// Whether no column has the name.
-    #[tactic(auto, using(crate::proofs::Columns::free_by_place))]
+    #[tactic(auto, using(crate::proofs::Names::free_by_place))]
     fn is_free(&self, name: &[u8]) -> bool
         ensures { result ≡ not (list_any (bytes_eq name.now) (column_names self.now)) }
     {
@@ -93,7 +88,7 @@ impl Schema {
     }
 
     /// The number of the column with the name, from 0, or `None` where none has it. Takes no memory.
-    #[tactic(auto, using(crate::proofs::Columns::column_first, crate::proofs::Columns::column_behind))]
+    #[tactic(auto, using(crate::proofs::Names::column_first, crate::proofs::Names::column_behind))]
     pub fn column(&self, name: &[u8]) -> Option<u32>
         ensures { result ≡ column_of self.now name.now }
     {
@@ -106,7 +101,7 @@ impl Schema {
     /// How many columns there are, at most 16. Takes no memory.
     pub fn width(&self) -> u32
         ensures count { result ≡ 4 + length self.now }
-        ensures few { length self.now ≤ 12 }
+        ensures few { length self.now ≤ FURTHER_COLUMNS_MOST }
     {
         4 + self.names.len() as u32
     }
@@ -116,9 +111,9 @@ impl Schema {
         ensures { result ≡ column_bound col }
     {
         match col {
-            0 => ID_MOST,
-            1..=3 => COORDINATE_MOST,
-            _ => FURTHER_MOST,
+            0 => ID_MOST as i128,
+            1..=3 => COORDINATE_MOST as i128,
+            _ => FURTHER_MOST as i128,
         }
     }
 }

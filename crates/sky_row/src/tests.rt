@@ -2,13 +2,14 @@
 ghost use Rattle.std.specs.Prelude.{◌≡◌, ◌≤◌, pos, IsTrue, length};
 ghost use Rattle.std.specs.List.{list_all};
 ghost use Rattle.table_rules.specs.Objects.{is_further};
+ghost use Rattle.table_rules.specs.declared.limits.TheConstants.{FURTHER_COLUMNS_MOST};
 ghost use Rattle.sky_vector.specs.Points.{is_admissible};
 ghost use Rattle.sky_vector.specs.Pos.{point};
 
-use crate::{Row, Rows, Schema};
+use crate::{Column, Columns, Row, Rows, Schema};
+use sky_io::Memory;
 use sky_vector::Pos;
 use std::alloc::Global;
-use std::mem::size_of;
 use std::test::Fail;
 
 // Where the first axis meets the sphere.
@@ -19,17 +20,17 @@ fn place() -> Pos
 }
 
 // A row with no further value.
-fn bare(alloc: Global, id: u32) -> Row
+fn bare(id: u32) -> Row
     ensures id { result.id ≡ pos id }
     ensures narrow { length result.further ≡ 0 }
 {
-    Row::new(i64::from(id), place(), Vec::new(alloc))
+    Row::new(i64::from(id), place(), &[])
 }
 
 // The further values of the row, of which there are so many.
 fn further_of(alloc: Global, row: &Row, count: u32) -> Result<Vec<Option<i64>>, Fail>
     requires all { length row.now.further ≡ count }
-    requires few { count ≤ 12 }
+    requires few { count ≤ FURTHER_COLUMNS_MOST }
 {
     let mut values = Vec::new(alloc);
     for i in 0..count {
@@ -38,39 +39,38 @@ fn further_of(alloc: Global, row: &Row, count: u32) -> Result<Vec<Option<i64>>, 
     Ok(values)
 }
 
-// Whether a row that is given the values has them, and one that copies them.
+// Whether a row of the values has them.
 fn are_kept(alloc: Global, values: &[Option<i64>]) -> Result<bool, Fail>
     requires further { IsTrue (list_all is_further values.now) }
-    requires few { length values.now ≤ 12 }
+    requires few { length values.now ≤ FURTHER_COLUMNS_MOST }
 {
     let count = values.len() as u32;
-    let given = Row::new(7, place(), Vec::from_slice(alloc, values)?);
-    let copied = Row::from_slice(alloc, 7, place(), values)?;
-    Ok(
-        further_of(alloc, &given, count)?.as_slice() == values
-            && further_of(alloc, &copied, count)?.as_slice() == values,
-    )
+    let row = Row::new(7, place(), values);
+    Ok(further_of(alloc, &row, count)?.as_slice() == values)
+}
+
+// Three bare rows as they come.
+fn columns_of(alloc: Global, a: u32, b: u32, c: u32) -> Result<Columns, Memory> {
+    let mut columns = Columns::new(alloc, Schema::new(alloc))?;
+    columns.push(&bare(a))?;
+    columns.push(&bare(b))?;
+    columns.push(&bare(c))?;
+    Ok(columns)
 }
 
 // The catalogue of three bare rows.
 fn of_three(alloc: Global, a: u32, b: u32, c: u32) -> Result<Option<Rows>, Fail> {
-    let rows = vec![in alloc; bare(alloc, a), bare(alloc, b), bare(alloc, c)]?;
-    Ok(Rows::in_order(Schema::new(alloc), rows))
-}
-
-// The ids of the rows, as they stand.
-fn ids_of(alloc: Global, rows: &Rows) -> Result<Vec<i64>, Fail> {
-    let mut ids = Vec::new(alloc);
-    for row in rows.as_slice() {
-        ids.push(row.id())?;
-    }
-    Ok(ids)
+    let columns = columns_of(alloc, a, b, c)?;
+    Ok(Rows::in_order(alloc, columns)?)
 }
 
 #[test]
-fn a_row_gives_its_values_and_null(rt: HostRuntime) -> Result<(), Fail> {
-    let further = vec![in rt.alloc(); Some(-1125899906842624), None]?;
-    let row = Row::new(9223372036854775807, place(), further);
+fn a_row_gives_its_values_and_null(rt: HostRuntime) {
+    let row = Row::new(
+        9223372036854775807,
+        place(),
+        &[Some(-1125899906842624), None],
+    );
     assert_eq!(rt; row.value(0), Some(9223372036854775807));
     assert_eq!(rt;
         [row.value(1), row.value(2), row.value(3)],
@@ -80,7 +80,6 @@ fn a_row_gives_its_values_and_null(rt: HostRuntime) -> Result<(), Fail> {
         [row.value(4), row.value(5)],
         [Some(-1125899906842624), None]
     );
-    Ok(())
 }
 
 #[test]
@@ -110,43 +109,13 @@ fn a_row_keeps_few_and_many_further_values(rt: HostRuntime) -> Result<(), Fail> 
 }
 
 #[test]
-fn a_row_copies_its_fifth_value_and_null(rt: HostRuntime) -> Result<(), Fail> {
-    let row = Row::from_slice(
-        rt.alloc(),
-        0,
-        place(),
-        &[Some(1), None, Some(3), Some(4), Some(-5)],
-    )?;
-    assert_eq!(rt;
-        [
-            row.value(4),
-            row.value(5),
-            row.value(6),
-            row.value(7),
-            row.value(8)
-        ],
-        [Some(1), None, Some(3), Some(4), Some(-5)]
-    );
-    Ok(())
-}
-
-#[test]
-fn a_row_has_72_bytes(rt: HostRuntime) {
-    assert_eq!(rt; size_of::<Row>(), 72);
-}
-
-#[test]
 fn rows_in_any_order_come_by_id(rt: HostRuntime) -> Result<(), Fail> {
     let alloc = rt.alloc();
     for (a, b, c) in [(1, 3, 5), (5, 1, 3), (3, 5, 1), (5, 3, 1)] {
         let Some(found) = of_three(alloc, a, b, c)? else {
             panic!(rt; "{a} {b} {c}");
         };
-        assert_eq!(rt;
-            ids_of(alloc, &found)?.as_slice(),
-            [1, 3, 5].as_slice(),
-            "{a} {b} {c}"
-        );
+        assert_eq!(rt; found.ids(), [1, 3, 5].as_slice(), "{a} {b} {c}");
     }
     Ok(())
 }
@@ -163,10 +132,10 @@ fn rows_with_one_id_are_no_catalogue(rt: HostRuntime) -> Result<(), Fail> {
 #[test]
 fn a_row_is_put_behind_the_others(rt: HostRuntime) -> Result<(), Fail> {
     let alloc = rt.alloc();
-    let mut rows = Rows::new(alloc, Schema::new(alloc));
-    rows.push(bare(alloc, 0))?;
-    rows.push(bare(alloc, 7))?;
-    assert_eq!(rt; ids_of(alloc, &rows)?.as_slice(), [0, 7].as_slice());
+    let mut rows = Rows::new(alloc, Schema::new(alloc))?;
+    rows.push(&bare(0))?;
+    rows.push(&bare(7))?;
+    assert_eq!(rt; rows.ids(), [0, 7].as_slice());
     assert_eq!(rt; rows.schema().width(), 4);
     Ok(())
 }
@@ -207,5 +176,26 @@ fn there_are_twelve_further_columns_at_most(rt: HostRuntime) -> Result<(), Fail>
     }
     assert!(rt; schema.push(b"m").is_err());
     assert_eq!(rt; schema.width(), 16);
+    Ok(())
+}
+
+#[test]
+fn a_column_keeps_no_presence_where_each_row_has_a_value(rt: HostRuntime) -> Result<(), Fail> {
+    let alloc = rt.alloc();
+    let mut column = Column::new(alloc);
+    column.push(Some(7))?;
+    assert!(rt; column.present().is_none());
+    column.push(None)?;
+    column.push(Some(9))?;
+    assert_eq!(rt; column.present(), Some([true, false, true].as_slice()));
+    if column.len() != 3 {
+        panic!(rt; "another length");
+    }
+    let whole = column.at(alloc, &[2, 0])?;
+    assert_eq!(rt; whole.values(), [9, 7].as_slice());
+    assert!(rt; whole.present().is_none());
+    let holed = column.at(alloc, &[1, 2])?;
+    assert_eq!(rt; holed.values(), [0, 9].as_slice());
+    assert_eq!(rt; holed.present(), Some([false, true].as_slice()));
     Ok(())
 }

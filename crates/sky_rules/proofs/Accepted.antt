@@ -15,10 +15,12 @@ use Rattle.sky_rules.specs.declared.fault.SkyFault.{SkyFault}
 use Rattle.sky_rules.specs.declared.fault.SkyFault.TheVariants.{Overlap, Order, Count, TooMany}
 use Rattle.sky_rules.specs.Partition.{Stripe, Partition, sky_bottom, sky_end, chunks_in}
 use Rattle.sky_rules.specs.SkyWords.{Version, Said, version_on, said_on}
-use Rattle.sky_rules.specs.SkyText.{is_from, is_overlap, begins_above, is_in_order, is_cut, is_room, stripe_said, judged_stripe, judged_version, unless_fault, stripes_with, whole_sky, sky_of_lines, sky_of}
+use Rattle.sky_rules.specs.SkyText.{is_from, is_overlap, begins_above, is_in_order, is_cut, is_room, stripe_said, judged_stripe, judged_version, sky_under, unless_fault, sky_of_lines, sky_of}
+use Rattle.sky_rules.specs.SkySteps.{stripes_with, whole_sky}
 use Rattle.sky_rules.specs.Limits.{IsStripe, IsSky, AreHigh}
 use Rattle.sky_rules.specs.Laws.{AcceptedIsWithinLimits}
 use Rattle.sky_rules.proofs.Sites.{chunks_more}
+use Rattle.sky_rules.proofs.Steps.{read_line_by_line}
 
 -- what a result without a fault came of
 went_on : {A B : Type 0} (r : Result A SkyFault) (next : A → Result B SkyFault) (b : B) → unless_fault r next ≡ Ok b
@@ -182,8 +184,8 @@ whole_good behind (s ∷ rest) g good h =
 lines_good : (behind : ℕ) (lines : List Line) (g : Partition) → sky_of_lines behind lines ≡ Ok g → IsSky g
 lines_good behind [] g h = absurd (cc)
 lines_good behind (first ∷ rest) g h =
-    let version = went_on (judged_version first.number (version_on first.text)) (λ v. unless_fault (stripes_with v [] rest) (whole_sky behind)) g h in
-    let stripes = went_on (stripes_with version.0 [] rest) (whole_sky behind) g version.2 in
+    let version = went_on (judged_version first.number (version_on first.text)) (λ v. sky_under behind v rest) g h in
+    let stripes = went_on (stripes_with version.0 [] rest) (whole_sky behind) g (sym (read_line_by_line behind version.0 rest) ∙ version.2) in
     whole_good behind stripes.0 g (stripes_good version.0 [] rest stripes.0 none_good stripes.1) stripes.2
 
 -- what a sky text is accepted as is within the limits

@@ -27,7 +27,7 @@ holds_to bounds p h = and_from _ _ (and_from _ _ (le_to _ _ h.low) (le_to _ _ h.
 
 -- the test of the sides is the test of the wedge, by whether there is one wedge alone
 sides_step : (n k : ℕ) (p : Point) (b : Bool) → nat_eq n 1 ≡ b → k < n
-    → in_sides (cond b None (Some (heading n k, heading n (k + 1)))) (nat_eq k 0) p
+    → in_sides (cond b None (Some (record { first = heading n k; second = heading n (k + 1) }))) (nat_eq k 0) p
     ≡ cond b (nat_eq k 0) (cond (is_on_axis p) (nat_eq k 0) (int_le (pos 0) (past (heading n k) p.x p.y) && int_lt (past (heading n (k + 1)) p.x p.y) (pos 0)))
 sides_step n k p true e h = let one = eqb-true n 1 e in sym (eq-eqb k 0 (omega (arith, one, h)))
 sides_step n k p false e h = refl

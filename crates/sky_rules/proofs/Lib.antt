@@ -4,4 +4,5 @@ pub mod Rows
 pub mod Sites
 pub mod InStripe
 pub mod OnlyPlace
+pub mod Steps
 pub mod Accepted

@@ -6,20 +6,25 @@ use Rattle.std.specs.Prelude.{Bool, true, ◌&&◌, ◌||◌, nat_eq, Option, No
 use Rattle.std.specs.Ordering.{int_eq}
 use Rattle.sky_vector.specs.Points.{Point, square}
 use Rattle.sky_vector.specs.Plane.{is_near_line}
-use Rattle.wedge_rules.specs.Heading.{heading, past}
+use Rattle.wedge_rules.specs.Heading.{Direction, heading, past}
 use Rattle.sky_rules.specs.Partition.{Partition, Site, site_of, overlap_at}
 
--- The bounds of a part of the sky: its lowest and its highest z, its two side directions where it does not go all round,
--- and whether the axis x = y = 0 belongs to it.
+-- The two side directions of a part of the sky, the second less than half a turn on from the first.
+pub record Sides : Type 0 where
+  pub first : Direction
+  pub second : Direction
+
+-- The bounds of a part of the sky: its lowest and its highest z, its two sides where it does not go all round, and
+-- whether the axis x = y = 0 belongs to it.
 pub record Bounds : Type 0 where
   pub z_low : ℤ
   pub z_high : ℤ
-  pub sides : Option ((ℤ × ℤ) × (ℤ × ℤ))
+  pub sides : Option Sides
   pub axis : Bool
 
--- the side directions of wedge k of n; a single wedge has none
-abbrev pub sides_of : ℕ → ℕ → Option ((ℤ × ℤ) × (ℤ × ℤ))
-sides_of n k = if nat_eq n 1 then None else Some (heading n k, heading n (k + 1))
+-- the sides of wedge k of n; a single wedge has none
+abbrev pub sides_of : ℕ → ℕ → Option Sides
+sides_of n k = if nat_eq n 1 then None else Some (record { first = heading n k; second = heading n (k + 1) })
 
 -- the bounds of wedge k of n, from z_low up to and without `end`; the axis belongs to wedge 0
 abbrev pub wedge_bounds : ℕ → ℕ → ℤ → ℤ → Bounds
@@ -60,26 +65,26 @@ abbrev pub is_on_axis : Point → Bool
 is_on_axis p = int_eq p.x (pos 0) && int_eq p.y (pos 0)
 
 -- the point is at or past the first side and short of the second; on the axis the bounds tell
-abbrev pub in_sides : Option ((ℤ × ℤ) × (ℤ × ℤ)) → Bool → Point → Bool
+abbrev pub in_sides : Option Sides → Bool → Point → Bool
 in_sides None axis p = true
 in_sides (Some sides) axis p =
     if is_on_axis p then axis
-    else int_le (pos 0) (past sides.0 p.x p.y) && int_lt (past sides.1 p.x p.y) (pos 0)
+    else int_le (pos 0) (past sides.first p.x p.y) && int_lt (past sides.second p.x p.y) (pos 0)
 
 -- the point lies within the bounds
 abbrev pub in_bounds : Bounds → Point → Bool
 in_bounds bounds p = int_le bounds.z_low p.z && int_le p.z bounds.z_high && in_sides bounds.sides bounds.axis p
 
 -- the point is no farther than r from the line of a side, compared as squares
-abbrev pub near_side : ℕ → ℤ × ℤ → Point → Bool
-near_side r d p = is_near_line d.0 d.1 p.x p.y (square (pos r))
+abbrev pub near_side : ℕ → Direction → Point → Bool
+near_side r d p = is_near_line d.dx d.dy p.x p.y (square (pos r))
 
 -- the point is at or past the first side or near it, and short of the second or near it
-abbrev pub near_sides : ℕ → Option ((ℤ × ℤ) × (ℤ × ℤ)) → Point → Bool
+abbrev pub near_sides : ℕ → Option Sides → Point → Bool
 near_sides r None p = true
 near_sides r (Some sides) p =
-    (int_le (pos 0) (past sides.0 p.x p.y) || near_side r sides.0 p)
-    && (int_lt (past sides.1 p.x p.y) (pos 0) || near_side r sides.1 p)
+    (int_le (pos 0) (past sides.first p.x p.y) || near_side r sides.first p)
+    && (int_lt (past sides.second p.x p.y) (pos 0) || near_side r sides.second p)
 
 -- the point is in the near region for the radius r: the points within the bounds and those near them
 abbrev pub near_bounds : ℕ → Bounds → Point → Bool

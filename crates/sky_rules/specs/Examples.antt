@@ -50,8 +50,8 @@ abbrev pub all_stripes : List Stripe
 all_stripes = repeat 256 (south 5 ∷ [])
 
 -- as many chunks as there can be, in sixteen stripes
-abbrev pub all_chunks : List Stripe
-all_chunks = repeat 16 (full_stripe ∷ [])
+abbrev pub most_chunks : List Stripe
+most_chunks = repeat 16 (full_stripe ∷ [])
 
 -- the numbers of one more stripe on the equator, with so many chunks
 abbrev pub one_more : ℕ → Said

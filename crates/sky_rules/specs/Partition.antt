@@ -1,7 +1,8 @@
 -- The partition of the sky: stripes by height, and in each stripe chunks by direction, numbered from 0 through the stripes
 -- upwards and in a stripe by their wedges. Stripes, chunks and subchunks are Qserv's (SC 2011).
-use Rattle.std.specs.Prelude.{ℕ, ◌-◌, ◌*◌, ℤ, pos, negsuc, List, [], ◌∷◌, map, min, max, nat_lt, if◌then◌else◌, unwrap_or}
+use Rattle.std.specs.Prelude.{ℕ, ◌+◌, ◌-◌, ◌*◌, ℤ, pos, neg_ℤ, List, [], ◌∷◌, map, min, max, nat_lt, if◌then◌else◌, unwrap_or}
 use Rattle.std.specs.List.{sum_by, reduce}
+use Rattle.sky_vector.specs.declared.limits.TheConstants.{COORDINATE_MOST}
 
 -- A stripe: its lowest z, its chunks, the columns and rows of subchunks in each chunk, and the radius of its overlap.
 pub record Stripe : Type 0 where
@@ -17,11 +18,11 @@ pub record Partition : Type 0 where
 
 -- the lowest z of a position
 abbrev pub sky_bottom : ℤ
-sky_bottom = negsuc 268435471
+sky_bottom = neg_ℤ (pos COORDINATE_MOST)
 
 -- the first z above all positions
 abbrev pub sky_end : ℤ
-sky_end = pos 268435473
+sky_end = pos (COORDINATE_MOST + 1)
 
 -- where the stripe below these ones ends: at the next stripe's bound, and the last at the end of the sky
 abbrev pub floor_of : List Stripe → ℤ

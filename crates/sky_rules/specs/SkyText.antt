@@ -1,12 +1,16 @@
 -- What a sky text says: a partition, or the first fault.
--- A line is judged by itself and by the lines before it, and of one line the first fault in the order that stands here.
+-- A line is judged by itself and by the stripes that the lines before it say, and of one line the first fault in the order
+-- that stands here.
 use Rattle.std.specs.Prelude.{ℕ, ◌+◌, ℤ, pos, ◌+ℤ◌, nat_abs, int_le, nat_lt, length, Bool, not, ◌&&◌, ◌||◌}
-use Rattle.std.specs.Prelude.{List, [], ◌∷◌, ◌++◌, Option, None, Some, Result, Ok, Err, if◌then◌else◌}
-use Rattle.std.specs.List.{filter, last_or}
+use Rattle.std.specs.Prelude.{List, [], ◌∷◌, ◌++◌, get_or, take, Option, None, Some, option_map, Result, Ok, Err, if◌then◌else◌}
+use Rattle.std.specs.List.{filter, flat_map, last_or, range_with_len}
+use Rattle.std.specs.Option.{option_to_list}
 use Rattle.std.specs.Ordering.{int_eq}
 use Rattle.text_rules.specs.Lines.{Line, lines_of, is_note}
 use Rattle.sky_rules.specs.Partition.{Stripe, Partition, sky_bottom, sky_end, chunks_in}
 use Rattle.sky_rules.specs.SkyWords.{Version, shared, own, Said, version_on, said_on}
+use Rattle.sky_rules.specs.declared.limits.TheConstants.{STRIPES_MOST, CHUNKS_MOST, STRIPE_CHUNKS_MOST}
+use Rattle.sky_rules.specs.declared.limits.TheConstants.{CUTS_MOST, HEIGHT_LEAST, OVERLAP_MOST}
 use Rattle.sky_rules.specs.declared.fault.SkyFault.{SkyFault}
 use Rattle.sky_rules.specs.declared.fault.SkyFault.TheVariants.{Syntax, Overlap, Order, Count, TooMany}
 
@@ -14,30 +18,32 @@ use Rattle.sky_rules.specs.declared.fault.SkyFault.TheVariants.{Syntax, Overlap,
 abbrev pub is_from : ℤ → ℤ → ℤ → Bool
 is_from low high n = int_le low n && int_le n high
 
--- an overlap radius is from 0 to 2^24
+-- an overlap radius is from 0 to the largest
 abbrev pub is_overlap : ℤ → Bool
-is_overlap r = is_from (pos 0) (pos 16777216) r
+is_overlap r = is_from (pos 0) (pos OVERLAP_MOST) r
 
--- the first stripe begins at the bottom of the sky, and each other at least 64 above the one before it
+-- the first stripe begins at the bottom of the sky, and each other at least the least height above the one before it
 abbrev pub begins_above : Option Stripe → ℤ → Bool
 begins_above None z = int_eq z sky_bottom
-begins_above (Some below) z = int_le (below.z_low +ℤ pos 64) z
+begins_above (Some below) z = int_le (below.z_low +ℤ pos HEIGHT_LEAST) z
 
--- the stripe begins where it can behind those before it, and at least 64 below the end of the sky
+-- the stripe begins where it can behind those before it, and at least the least height below the end of
+-- the sky
 abbrev pub is_in_order : List Stripe → ℤ → Bool
-is_in_order before z = begins_above (last_or None before) z && int_le (z +ℤ pos 64) sky_end
+is_in_order before z = begins_above (last_or None before) z && int_le (z +ℤ pos HEIGHT_LEAST) sky_end
 
--- the counts are those that a stripe can have: 1 chunk or 3 to 1,024, 1 to 64 columns and not 2 of one chunk, 1 to 64 rows
+-- the counts are those that a stripe can have: 1 chunk or at least 3, at least 1 column and not 2 of one chunk, at least
+-- 1 row, and not more of each than there can be
 abbrev pub is_cut : Said → Bool
 is_cut said =
-    (int_eq said.chunks (pos 1) || is_from (pos 3) (pos 1024) said.chunks)
-    && is_from (pos 1) (pos 64) said.columns
+    (int_eq said.chunks (pos 1) || is_from (pos 3) (pos STRIPE_CHUNKS_MOST) said.chunks)
+    && is_from (pos 1) (pos CUTS_MOST) said.columns
     && not (int_eq said.chunks (pos 1) && int_eq said.columns (pos 2))
-    && is_from (pos 1) (pos 64) said.rows
+    && is_from (pos 1) (pos CUTS_MOST) said.rows
 
--- there are at most 256 stripes with this one, and at most 16,384 chunks
+-- with this one there are not more stripes, and not more chunks, than there can be
 abbrev pub is_room : List Stripe → ℤ → Bool
-is_room before chunks = nat_lt (length before) 256 && int_le (pos (chunks_in before) +ℤ chunks) (pos 16384)
+is_room before chunks = nat_lt (length before) STRIPES_MOST && int_le (pos (chunks_in before) +ℤ chunks) (pos CHUNKS_MOST)
 
 -- the stripe of these numbers
 abbrev pub stripe_said : Said → Stripe
@@ -59,6 +65,49 @@ judged_stripe line before (Some said) =
     else if not (is_room before said.chunks) then Err (TooMany line)
     else Ok (stripe_said said)
 
+-- the fault of a line that was judged
+abbrev pub fault_of : Result Stripe SkyFault → List SkyFault
+fault_of (Ok stripe) = []
+fault_of (Err fault) = fault ∷ []
+
+-- the stripe that a line says, where it says one
+abbrev pub stripe_on : Version → Line → List Stripe
+stripe_on version line = option_to_list (option_map stripe_said (said_on version line.text))
+
+-- the stripes that these lines say
+abbrev pub stripes_on : Version → List Line → List Stripe
+stripes_on version lines = flat_map (stripe_on version) lines
+
+-- no line
+abbrev pub no_line : Line
+no_line = record { number = 0; text = [] }
+
+-- the fault of a line behind these others
+abbrev pub line_faults : Version → List Line → Line → List SkyFault
+line_faults version earlier line =
+    fault_of (judged_stripe line.number (stripes_on version earlier) (said_on version line.text))
+
+-- the faults of the stripe lines, line by line, each judged behind those before it
+abbrev pub stripe_faults : Version → List Line → List SkyFault
+stripe_faults version lines =
+    flat_map (λ i. line_faults version (take i lines) (get_or lines i no_line)) (range_with_len 0 (length lines))
+
+-- that there is no stripe is a fault behind the last line
+abbrev pub no_stripe_fault : ℕ → List Stripe → List SkyFault
+no_stripe_fault behind [] = Syntax behind ∷ []
+no_stripe_fault behind (stripe ∷ rest) = []
+
+-- the answer of a judgement: the first of the faults, or what was judged where there is none
+abbrev pub judged : {A : Type 0} → List SkyFault → A → Result A SkyFault
+judged [] found = Ok found
+judged (fault ∷ later) found = Err fault
+
+-- the partition that the lines behind the first say; `behind` is the number behind the text's last line
+abbrev pub sky_under : ℕ → Version → List Line → Result Partition SkyFault
+sky_under behind version lines =
+    judged (stripe_faults version lines ++ no_stripe_fault behind (stripes_on version lines))
+    (record { stripes = stripes_on version lines })
+
 -- the version on the first line, or its fault
 abbrev pub judged_version : ℕ → Option Version → Result Version SkyFault
 judged_version line None = Err (Syntax line)
@@ -70,24 +119,11 @@ abbrev pub unless_fault : {A B : Type 0} → Result A SkyFault → (A → Result
 unless_fault (Err fault) next = Err fault
 unless_fault (Ok a) next = next a
 
--- these stripes and those of the lines behind them
-abbrev pub stripes_with : Version → List Stripe → List Line → Result (List Stripe) SkyFault
-stripes_with version before [] = Ok before
-stripes_with version before (line ∷ rest) =
-    unless_fault (judged_stripe line.number before (said_on version line.text))
-    (λ stripe. stripes_with version (before ++ (stripe ∷ [])) rest)
-
--- the partition of these stripes; that there is none is a fault behind the last line
-abbrev pub whole_sky : ℕ → List Stripe → Result Partition SkyFault
-whole_sky behind [] = Err (Syntax behind)
-whole_sky behind (s ∷ rest) = Ok (record { stripes = s ∷ rest })
-
--- the partition that the lines say which are no notes; `behind` is the number behind the text's last line
+-- the partition that the lines say which are no notes, of which the first says the version
 abbrev pub sky_of_lines : ℕ → List Line → Result Partition SkyFault
 sky_of_lines behind [] = Err (Syntax behind)
 sky_of_lines behind (first ∷ rest) =
-    unless_fault (judged_version first.number (version_on first.text))
-    (λ version. unless_fault (stripes_with version [] rest) (whole_sky behind))
+    unless_fault (judged_version first.number (version_on first.text)) (λ version. sky_under behind version rest)
 
 -- the partition that a sky text says, or its first fault
 unfoldable pub sky_of : List ℕ → Result Partition SkyFault

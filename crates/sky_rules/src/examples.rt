@@ -5,7 +5,7 @@ ghost use Rattle.std.specs.List.{filter, range_with_len, repeat};
 ghost use Rattle.sky_rules.specs.Partition.{chunk_count, greatest_overlap, least_overlap, overlap_at, sub_count};
 ghost use Rattle.sky_rules.specs.Bounds.{in_chunk, in_sub, near_chunk};
 ghost use Rattle.sky_rules.specs.SkyText.{is_room, judged_stripe, sky_of};
-ghost use Rattle.sky_rules.specs.Examples.{all_chunks, all_stripes, bottom_twice, eight, full_stripe, halves};
+ghost use Rattle.sky_rules.specs.Examples.{most_chunks, all_stripes, bottom_twice, eight, full_stripe, halves};
 ghost use Rattle.sky_rules.specs.Examples.{north, on_diagonal, on_meridian, one_more, own_overlaps, south};
 ghost use Rattle.sky_rules.specs.Examples.{two_chunks, two_stripes};
 ghost use Rattle.sky_rules.specs.declared.fault.SkyFault.TheVariants.{Count, Order, Overlap, Syntax, TooMany};
@@ -45,7 +45,7 @@ pub fn sky_of_stray_bytes()
 /// The 257th stripe is too many, and so is a chunk more than 16,384; a stripe that fills the sky to both is not.
 pub fn stripes_too_many()
     ensures stripes { judged_stripe 9 all_stripes (Some (one_more 1)) ≡ Err (TooMany 9) }
-    ensures chunks { judged_stripe 9 all_chunks (Some (one_more 1)) ≡ Err (TooMany 9) }
+    ensures chunks { judged_stripe 9 most_chunks (Some (one_more 1)) ≡ Err (TooMany 9) }
     ensures fits { is_room (repeat 15 (full_stripe ∷ [])) (pos 1024) ≡ true }
     ensures last { is_room (repeat 255 (south 5 ∷ [])) (pos 4) ≡ true }
 {}

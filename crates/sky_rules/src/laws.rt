@@ -2,6 +2,13 @@
 
 ghost use Rattle.sky_rules.specs.Laws.{AcceptedIsWithinLimits, ExactlyOnePlace, NearEnough, RowByDivision};
 ghost use Rattle.sky_rules.specs.Laws.{SubLiesInItsChunk};
+ghost use Rattle.sky_rules.specs.SkySteps.{ReadLineByLine};
+
+/// The stripe lines of a sky text, read one after the other behind the stripes so far, say what they say as a whole.
+#[tactic(auto, using(crate::proofs::Steps::read_line_by_line))]
+pub fn read_line_by_line()
+    ensures { ReadLineByLine }
+{}
 
 /// What a sky text is accepted as is a partition within the limits.
 pub fn accepted_is_within_limits()

@@ -10,5 +10,6 @@
 pub mod examples;
 pub mod fault;
 pub mod laws;
+pub mod limits;
 
 pub use fault::SkyFault;

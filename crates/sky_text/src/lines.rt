@@ -1,9 +1,10 @@
 //! The lines of a text, one by one.
-ghost use Rattle.std.specs.Prelude.{◌≡◌, ◌≤◌, ◌^◌, ◌==◌, length};
+ghost use Rattle.std.specs.Prelude.{◌≡◌, ◌≤◌, ◌==◌, length};
 ghost use Rattle.std.specs.Iterator.{YieldsFirstBy, item_count};
 ghost use Rattle.std.specs.Str.Lines.{strip_carriage_return};
 ghost use Rattle.std.specs.List.{list_all, position};
 ghost use Rattle.text_rules.specs.Lines.{begins_with_hash, is_blank, is_note, lines_of};
+ghost use Rattle.text_rules.specs.declared.limits.TheConstants.{TEXT_MOST};
 ghost use Rattle.sky_text.specs.LineItems.{line_of};
 
 use std::marker::Model;
@@ -25,21 +26,22 @@ pub struct Lines<'a> {
 }
 
 impl<'a> Model for Lines<'a> {
-    ghost use Rattle.std.specs.Prelude.{◌+◌, ◌≤◌, ◌^◌, List, length};
+    ghost use Rattle.std.specs.Prelude.{◌+◌, ◌≤◌, List, length};
     ghost use Rattle.std.specs.Str.Lines.{lines};
     ghost use Rattle.text_rules.specs.Lines.{Line as TextLine, numbered};
+    ghost use Rattle.text_rules.specs.declared.limits.TheConstants.{TEXT_MOST};
 
     ghost Value = { List TextLine };
 
     ghost view = { λ l. numbered l.number (lines l.rest.now) };
 
-    ghost invariant = { λ l. l.number + length l.rest.now ≤ 2 ^ 29 + 1 };
+    ghost invariant = { λ l. l.number + length l.rest.now ≤ TEXT_MOST + 1 };
 }
 
 impl<'a> Lines<'a> {
     /// The lines of a text of at most 2^29 bytes. Takes no memory.
     pub fn new(text: &'a [u8]) -> Lines<'a>
-        requires { length text.now ≤ 2 ^ 29 }
+        requires { length text.now ≤ TEXT_MOST }
         ensures { result ≡ lines_of text.now }
     {
         Lines {

@@ -1,2 +1,3 @@
 pub mod Signed
 pub mod Plane
+pub mod Coordinates

@@ -1,6 +1,6 @@
--- Laws of the plane.
+-- Laws of the plane and of positions.
 use Rattle.std.specs.Prelude.{◌≡◌, ℤ, pos, ◌+ℤ◌, ◌*ℤ◌, ◌≤ℤ◌}
-use Rattle.sky_vector.specs.Points.{Point, square, chord_squared}
+use Rattle.sky_vector.specs.Points.{IsAdmissible, IsCoordinate, Point, square, chord_squared}
 use Rattle.sky_vector.specs.Plane.{plane_product, length_squared, IsNearLine}
 
 -- the square of a sum of two products is at most the product of the two squared lengths (Cauchy and Schwarz, in the plane)
@@ -29,3 +29,7 @@ NearAcross =
 -- a chord is as long from either end
 abbrev pub SameChord : Type 0
 SameChord = (p q : Point) → chord_squared p q ≡ chord_squared q p
+
+-- each part of an admissible point is a coordinate
+abbrev pub PartsAreCoordinates : Type 0
+PartsAreCoordinates = (p : Point) → IsAdmissible p → IsCoordinate p.x × IsCoordinate p.y × IsCoordinate p.z

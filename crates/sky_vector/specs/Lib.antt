@@ -4,3 +4,4 @@ pub mod Numbers
 pub mod Pos
 pub mod Laws
 pub mod Examples
+pub mod Roots

@@ -1,5 +1,6 @@
 -- Points of the grid: whole coordinates, and which points are positions of the sky.
-use Rattle.std.specs.Prelude.{◌≡◌, ℤ, pos, negsuc, ◌+ℤ◌, ◌-ℤ◌, ◌*ℤ◌, ◌*◌, ◌≤ℤ◌, int_le, Bool, true, ◌&&◌}
+use Rattle.std.specs.Prelude.{◌≡◌, ℤ, pos, neg_ℤ, ◌+ℤ◌, ◌-ℤ◌, ◌*ℤ◌, ◌*◌, ◌≤ℤ◌, int_le, Bool, true, ◌&&◌}
+use Rattle.sky_vector.specs.declared.limits.TheConstants.{COORDINATE_MOST, LENGTH_LEAST, LENGTH_MOST, PART_MOST}
 
 -- a point in grid units
 pub record Point : Type 0 where
@@ -9,7 +10,11 @@ pub record Point : Type 0 where
 
 -- a part of a point or of a direction is from -2^29 to 2^29
 abbrev pub IsWithin : ℤ → Type 0
-IsWithin part = (negsuc 536870911 ≤ℤ part) × (part ≤ℤ pos 536870912)
+IsWithin part = (neg_ℤ (pos PART_MOST) ≤ℤ part) × (part ≤ℤ pos PART_MOST)
+
+-- a coordinate of a position of the sky is no longer than such a position may be
+abbrev pub IsCoordinate : ℤ → Type 0
+IsCoordinate part = (neg_ℤ (pos COORDINATE_MOST) ≤ℤ part) × (part ≤ℤ pos COORDINATE_MOST)
 
 -- the number times itself
 abbrev pub square : ℤ → ℤ
@@ -22,7 +27,7 @@ square_of p = square p.x +ℤ square p.y +ℤ square p.z
 -- the point lies near enough to the sphere of radius 2^28: its distance from the centre is from 2^28 - 16 to 2^28 + 16
 abbrev pub is_admissible : Point → Bool
 is_admissible p =
-    int_le (pos (268435440 * 268435440)) (square_of p) && int_le (square_of p) (pos (268435472 * 268435472))
+    int_le (pos (LENGTH_LEAST * LENGTH_LEAST)) (square_of p) && int_le (square_of p) (pos (LENGTH_MOST * LENGTH_MOST))
 
 -- the same as a fact
 abbrev pub IsAdmissible : Point → Type 0

@@ -2,6 +2,7 @@
 
 ghost use Rattle.std.specs.Prelude.{◌≡◌, ◌↔◌, ◌-ℤ◌, ◌*ℤ◌, ◌≤◌, ◌^◌, IfNone, IfSome, IsTrue, pos, unsigned_abs};
 ghost use Rattle.sky_vector.specs.Points.{IsWithin, square};
+ghost use Rattle.sky_vector.specs.declared.limits.TheConstants.{CHORD_SQUARED_MOST};
 ghost use Rattle.sky_vector.specs.Plane.{IsNearLine, length_squared, plane_product};
 
 use crate::grid::{is_within, part_squared, product};
@@ -51,7 +52,7 @@ pub fn turn(a: &Dir, b: &Dir) -> i64
 /// Whether the position is, in the plane, no farther from the direction's line than the root of n, for n in squared grid
 /// units of at most 2^62. Compares squares. Takes no memory.
 pub fn within(d: &Dir, p: &Pos, n: u64) -> bool
-    requires { n ≤ 2 ^ 62 }
+    requires { n ≤ CHORD_SQUARED_MOST }
     ensures { IsTrue result ↔ IsNearLine d.now.dx d.now.dy p.now.x p.now.y (pos n) }
 {
     squared(cross(d, p)) <= scaled(squared_length(d), n)
@@ -87,7 +88,7 @@ fn squared(a: i64) -> i128
 /// A squared length times the square of a distance, which 64 bits do not hold.
 fn scaled(length: u64, n: u64) -> i128
     requires length_most { length ≤ 2 ^ 59 }
-    requires n_most { n ≤ 2 ^ 62 }
+    requires n_most { n ≤ CHORD_SQUARED_MOST }
     ensures { result ≡ pos length *ℤ pos n }
 {
     length as i128 * n as i128

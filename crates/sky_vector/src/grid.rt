@@ -3,8 +3,10 @@
 ghost use Rattle.std.specs.Prelude.{◌≡◌, ◌↔◌, ◌*ℤ◌, ◌-ℤ◌, ◌≤◌, ◌≤ℤ◌, ◌^◌, IsTrue, pos, unsigned_abs};
 ghost use Rattle.sky_vector.specs.Points.{IsWithin, square};
 
-/// The largest size of a part, in grid units: twice the radius of the sphere.
-const MOST: i64 = 1 << 29;
+use crate::limits::PART_MOST;
+
+/// The largest size of a part, in grid units.
+const MOST: i64 = PART_MOST as i64;
 
 /// Whether a part of a position or of a direction is from -2^29 to 2^29.
 pub(crate) fn is_within(part: i64) -> bool

@@ -1,6 +1,6 @@
-//! Laws of the plane's products, as functions that do nothing: a caller has what they ensure.
+//! Laws of the plane's products and of positions, as functions that do nothing: a caller has what they ensure.
 
-ghost use Rattle.sky_vector.specs.Laws.{NearAcross, PlaneLaw, SameChord, ThreeTerms};
+ghost use Rattle.sky_vector.specs.Laws.{NearAcross, PartsAreCoordinates, PlaneLaw, SameChord, ThreeTerms};
 
 /// The square of a sum of two products is at most the product of the two squared lengths.
 #[tactic(auto, using(crate::proofs::Plane::plane_law))]
@@ -23,4 +23,9 @@ pub fn near_across()
 #[tactic(auto, using(crate::proofs::Plane::same_chord))]
 pub fn same_chord()
     ensures { SameChord }
+{}
+
+/// Each part of an admissible point is a coordinate.
+pub fn parts_are_coordinates()
+    ensures { PartsAreCoordinates }
 {}

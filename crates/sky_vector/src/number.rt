@@ -3,6 +3,7 @@
 ghost use Rattle.std.specs.Prelude.{◌≡◌, ℤ, IfNone, IfSome};
 ghost use Rattle.sky_vector.specs.Numbers.{IsQueryNumber};
 
+use crate::limits::NUMBER_MOST;
 use std::marker::Model;
 
 /// A whole number from -2^100 to 2^100.
@@ -22,7 +23,7 @@ impl Model for Num {
 }
 
 /// The largest size of a number.
-const MOST: i128 = 1 << 100;
+const MOST: i128 = NUMBER_MOST as i128;
 
 impl Num {
     /// The number with this value, or `None` where it is outside ±2^100. Takes no memory.

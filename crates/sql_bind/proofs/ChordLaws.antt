@@ -6,14 +6,14 @@ use Rattle.std.specs.Str.{bytes_eq}
 use Rattle.std.proofs.lemmas.List.Sums.{fold-append}
 use Rattle.sql_tree.specs.declared.name.Name.{Name}
 use Rattle.bind_rules.specs.Forms.{ChordAt, chord_by, names_both, pairs_both}
-use Rattle.bind_rules.specs.Tops.{Tests}
+use Rattle.sql_bind.specs.Walks.{Founds}
 use Rattle.sql_bind.specs.declared.forms.AnyChord.{AnyChord}
 use Rattle.sql_bind.specs.declared.forms.Chords.TheVariants.{Nowhere, Again}
 use Rattle.sql_bind.specs.declared.forms.ChordsMet.{ChordsMet}
 use Rattle.sql_bind.specs.LoneChord.{with_one, chords_met, is_lone, has_chord}
 
 -- all chord tests of tests are met
-pub met_all : (s : ChordsMet) (fs : Tests) → (fold (λ s f. record s { chords = chords_met s.a.now s.b.now s.chords (chord_by f.test f.top) }) s fs).chords ≡ chords_met s.a.now s.b.now s.chords (flat_map (λ f. chord_by f.test f.top) fs)
+pub met_all : (s : ChordsMet) (fs : Founds) → (fold (λ s f. record s { chords = chords_met s.a.now s.b.now s.chords (chord_by f.test f.top) }) s fs).chords ≡ chords_met s.a.now s.b.now s.chords (flat_map (λ f. chord_by f.test f.top) fs)
 met_all s [] = refl
 met_all s (f ∷ fs) =
     met_all (record s { chords = chords_met s.a.now s.b.now s.chords (chord_by f.test f.top) }) fs
@@ -30,7 +30,7 @@ or_false true = refl
 or_false false = refl
 
 -- some chord test of tests is met
-pub any_met : (s : AnyChord) (fs : Tests) → (fold (λ s f. record { is_there = s.is_there || has_chord (chord_by f.test f.top) }) s fs).is_there ≡ (s.is_there || has_chord (flat_map (λ f. chord_by f.test f.top) fs))
+pub any_met : (s : AnyChord) (fs : Founds) → (fold (λ s f. record { is_there = s.is_there || has_chord (chord_by f.test f.top) }) s fs).is_there ≡ (s.is_there || has_chord (flat_map (λ f. chord_by f.test f.top) fs))
 any_met s [] = or_false s.is_there
 any_met s (f ∷ fs) =
     any_met (record { is_there = s.is_there || has_chord (chord_by f.test f.top) }) fs

@@ -3,11 +3,12 @@ use Rattle.std.proofs.Common.{◌≡◌, ℤ, List, [], ◌∷◌, ◌++◌, Opt
 use Rattle.std.specs.List.{fold, flat_map}
 use Rattle.bind_rules.specs.Binding.{first_or}
 use Rattle.bind_rules.specs.Forms.{first_of}
-use Rattle.bind_rules.specs.Tops.{Found, Tests}
+use Rattle.bind_rules.specs.Tops.{Found}
+use Rattle.sql_bind.specs.Walks.{Founds}
 use Rattle.sql_bind.specs.Behind.{first_behind}
 
 -- each test puts some behind the others, by what stays as it is
-pub appended_by : {S A C : Type 0} (after : S → Found → S) (shown : S → List A) (told : S → C) (adds : C → Found → List A) → ((s : S) (f : Found) → shown (after s f) ≡ shown s ++ adds (told s) f) → ((s : S) (f : Found) → told (after s f) ≡ told s) → (s : S) (fs : Tests) → shown (fold after s fs) ≡ shown s ++ flat_map (adds (told s)) fs
+pub appended_by : {S A C : Type 0} (after : S → Found → S) (shown : S → List A) (told : S → C) (adds : C → Found → List A) → ((s : S) (f : Found) → shown (after s f) ≡ shown s ++ adds (told s) f) → ((s : S) (f : Found) → told (after s f) ≡ told s) → (s : S) (fs : Founds) → shown (fold after s fs) ≡ shown s ++ flat_map (adds (told s)) fs
 appended_by after shown told adds h k s [] = sym (append-nil (shown s))
 appended_by after shown told adds h k s (f ∷ fs) =
     appended_by after shown told adds h k (after s f) fs
@@ -16,7 +17,7 @@ appended_by after shown told adds h k s (f ∷ fs) =
     ∙ append_assoc (shown s) (adds (told s) f) (flat_map (adds (told s)) fs)
 
 -- each test puts some behind the others
-pub appended : {S A : Type 0} (after : S → Found → S) (shown : S → List A) (adds : Found → List A) → ((s : S) (f : Found) → shown (after s f) ≡ shown s ++ adds f) → (s : S) (fs : Tests) → shown (fold after s fs) ≡ shown s ++ flat_map adds fs
+pub appended : {S A : Type 0} (after : S → Found → S) (shown : S → List A) (adds : Found → List A) → ((s : S) (f : Found) → shown (after s f) ≡ shown s ++ adds f) → (s : S) (fs : Founds) → shown (fold after s fs) ≡ shown s ++ flat_map adds fs
 appended after shown adds h = appended_by {C = Unit {0}} after shown (λ s. tt) (λ c. adds) h (λ s f. refl)
 
 behind_none : {A : Type 0} (x : Option A) → first_behind x [] ≡ x
@@ -29,7 +30,7 @@ behind_two None [] ys = refl
 behind_two None (x ∷ xs) ys = refl
 
 -- the first that a test adds is kept
-pub firsts : {S A : Type 0} (after : S → Found → S) (shown : S → Option A) (adds : Found → List A) → ((s : S) (f : Found) → shown (after s f) ≡ first_behind (shown s) (adds f)) → (s : S) (fs : Tests) → shown (fold after s fs) ≡ first_behind (shown s) (flat_map adds fs)
+pub firsts : {S A : Type 0} (after : S → Found → S) (shown : S → Option A) (adds : Found → List A) → ((s : S) (f : Found) → shown (after s f) ≡ first_behind (shown s) (adds f)) → (s : S) (fs : Founds) → shown (fold after s fs) ≡ first_behind (shown s) (flat_map adds fs)
 firsts after shown adds h s [] = sym (behind_none (shown s))
 firsts after shown adds h s (f ∷ fs) =
     firsts after shown adds h (after s f) fs ∙ ap (λ x. first_behind x (flat_map adds fs)) (h s f) ∙ behind_two (shown s) (adds f) (flat_map adds fs)

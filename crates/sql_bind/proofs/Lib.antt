@@ -8,6 +8,7 @@ pub mod Gathered
 pub mod LoneLaws
 pub mod QualifiedLaws
 pub mod TestWalks
+pub mod Walked
 mod Firsts
 mod Unknowns
 mod CondParts

@@ -3,7 +3,7 @@ use Rattle.std.proofs.Common.{Option, None, Some, append-nil, ◌≡◌, ℕ, �
 use Rattle.std.proofs.lemmas.List.{drop_all}
 use Rattle.std.specs.List.{flat_map}
 use Rattle.std.specs.Option.{option_map}
-use Rattle.bind_rules.specs.Conjuncts.{before, all_there}
+use Rattle.bind_rules.specs.Wholes.{before, all_there}
 
 -- the rest from some place on is what stands there, and those behind it
 pub drop_there : {A : Type 0} (xs : List A) (i : ℕ) (d : A) → i < length xs → drop i xs ≡ get_or xs i d ∷ drop (i + 1) xs

@@ -19,7 +19,8 @@ use Rattle.sql_tree.specs.declared.name.Name.{Name}
 use Rattle.bind_rules.specs.Mentions.{joined}
 use Rattle.sql_bind.proofs.Loops.{drop_at}
 use Rattle.bind_rules.proofs.Folds.{fold_group, fold_compare, fold_between, fold_among, fold_null, fold_area, fold_chord}
-use Rattle.bind_rules.specs.Tops.{Test, Area, Chord, Found, Tests, kept_if, is_alone, at_top, tests_at_pred, tests_at_cond, tests_at_conj, tests_at_neg, tests_of}
+use Rattle.bind_rules.specs.Tops.{Test, Area, Chord, Found}
+use Rattle.sql_bind.specs.Walks.{Founds, kept_if, is_alone, at_top, tests_at_pred, tests_at_cond, tests_at_conj, tests_at_neg, tests_of}
 use Rattle.sql_bind.specs.Gathering.{Gathers, tests_of_conj, tests_of_neg, tests_of_pred}
 
 module _ {S : Type 0} (kept : S → Bool) (after : S → Found → S) where
@@ -28,7 +29,7 @@ module _ {S : Type 0} (kept : S → Bool) (after : S → Found → S) where
   nothing_gathered s = record { so = λ k. (k, refl) }
 
   -- tests were looked at, and then others
-  pub gathers_two : (old mid new : S) (ts us : Tests) → Gathers kept after old ts mid → Gathers kept after mid us new → Gathers kept after old (ts ++ us) new
+  pub gathers_two : (old mid new : S) (ts us : Founds) → Gathers kept after old ts mid → Gathers kept after mid us new → Gathers kept after old (ts ++ us) new
   gathers_two old mid new ts us first second = record {
     so = λ k.
         let b = second.so k in
@@ -42,14 +43,14 @@ and_assoc : (a b c : Bool) → (a && (b && c)) ≡ ((a && b) && c)
 and_assoc true b c = refl
 and_assoc false b c = refl
 
-pub kept_twice : (a b : Bool) (ts : Tests) → kept_if a (kept_if b ts) ≡ kept_if (a && b) ts
+pub kept_twice : (a b : Bool) (ts : Founds) → kept_if a (kept_if b ts) ≡ kept_if (a && b) ts
 kept_twice a b [] = refl
 kept_twice a b (t ∷ ts) = rw (kept_twice a b ts, and_assoc a b t.top) refl
 
-pub kept_both : (a : Bool) (ts us : Tests) → kept_if a (ts ++ us) ≡ kept_if a ts ++ kept_if a us
+pub kept_both : (a : Bool) (ts us : Founds) → kept_if a (ts ++ us) ≡ kept_if a ts ++ kept_if a us
 kept_both a ts us = map-append _ ts us
 
-pub kept_at_top : (ts : Tests) → kept_if true ts ≡ ts
+pub kept_at_top : (ts : Founds) → kept_if true ts ≡ ts
 kept_at_top [] = refl
 kept_at_top (t ∷ ts) = ap (λ us. t ∷ us) (kept_at_top ts)
 
@@ -67,7 +68,7 @@ alone_length (x ∷ xs) = grind arith
 pub cond_tests : (top : Bool) (c : Cond) → kept_if top (tests_of c) ≡ kept_if (top && is_alone (out-Cond c).rest) (tests_of_conj (out-Cond c).first) ++ kept_if (top && is_alone (out-Cond c).rest) (joined (map tests_of_conj (out-Cond c).rest))
 unfolding tests_of tests_of_conj
 cond_tests top c =
-    ap (kept_if top) (fold_out-Cond Tests Tests Tests Tests tests_at_pred tests_at_cond tests_at_conj tests_at_neg c)
+    ap (kept_if top) (fold_out-Cond Founds Founds Founds Founds tests_at_pred tests_at_cond tests_at_conj tests_at_neg c)
     ∙ kept_twice top (is_alone (map tests_of_conj (out-Cond c).rest)) (tests_of_conj (out-Cond c).first ++ joined (map tests_of_conj (out-Cond c).rest))
     ∙ ap (λ b. kept_if (top && b) (tests_of_conj (out-Cond c).first ++ joined (map tests_of_conj (out-Cond c).rest))) (alone_after tests_of_conj (out-Cond c).rest)
     ∙ kept_both (top && is_alone (out-Cond c).rest) (tests_of_conj (out-Cond c).first) (joined (map tests_of_conj (out-Cond c).rest))
@@ -75,33 +76,33 @@ cond_tests top c =
 pub conj_tests : (top : Bool) (c : Conj) → kept_if top (tests_of_conj c) ≡ kept_if top (tests_of_neg (out-Conj c).first) ++ kept_if top (joined (map tests_of_neg (out-Conj c).rest))
 unfolding tests_of_conj tests_of_neg
 conj_tests top c =
-    ap (kept_if top) (fold_out-Conj Tests Tests Tests Tests tests_at_pred tests_at_cond tests_at_conj tests_at_neg c)
+    ap (kept_if top) (fold_out-Conj Founds Founds Founds Founds tests_at_pred tests_at_cond tests_at_conj tests_at_neg c)
     ∙ kept_both top (tests_of_neg (out-Conj c).first) (joined (map tests_of_neg (out-Conj c).rest))
 
 pub neg_tests : (top : Bool) (n : Neg) → kept_if top (tests_of_neg n) ≡ kept_if (top && not (out-Neg n).not) (tests_of_pred (out-Neg n).pred)
 unfolding tests_of_neg tests_of_pred
 neg_tests top n =
-    ap (kept_if top) (fold_out-Neg Tests Tests Tests Tests tests_at_pred tests_at_cond tests_at_conj tests_at_neg n)
+    ap (kept_if top) (fold_out-Neg Founds Founds Founds Founds tests_at_pred tests_at_cond tests_at_conj tests_at_neg n)
     ∙ kept_twice top (not (out-Neg n).not) (tests_of_pred (out-Neg n).pred)
 
 -- ---- several parts, one behind another
 
 -- A whole of which some first part is gathered, and this rest isn't.
-abbrev pub Under : {S : Type 0} → (S → Bool) → (S → Found → S) → S → S → Tests → Tests → Type 0
-Under kept after old new rest whole = (done : Tests) × Gathers kept after old done new × (done ++ rest ≡ whole)
+abbrev pub Under : {S : Type 0} → (S → Bool) → (S → Found → S) → S → S → Founds → Founds → Type 0
+Under kept after old new rest whole = (done : Founds) × Gathers kept after old done new × (done ++ rest ≡ whole)
 
 module _ {S : Type 0} (kept : S → Bool) (after : S → Found → S) where
-  pub under_start : (old : S) (whole : Tests) → Under kept after old old whole whole
+  pub under_start : (old : S) (whole : Founds) → Under kept after old old whole whole
   under_start old whole = ([], nothing_gathered kept after old, refl)
 
-  pub under_more : (old mid new : S) (ts rest whole : Tests) → Under kept after old mid (ts ++ rest) whole → Gathers kept after mid ts new → Under kept after old new rest whole
+  pub under_more : (old mid new : S) (ts rest whole : Founds) → Under kept after old mid (ts ++ rest) whole → Gathers kept after mid ts new → Under kept after old new rest whole
   under_more old mid new ts rest whole (done, so_far, is) next = (done ++ ts, gathers_two kept after old mid new done ts so_far next, append_assoc done ts rest ∙ is)
 
-  pub under_end : (old new : S) (whole : Tests) → Under kept after old new [] whole → Gathers kept after old whole new
+  pub under_end : (old new : S) (whole : Founds) → Under kept after old new [] whole → Gathers kept after old whole new
   under_end old new whole (done, so_far, is) = subst (λ w. Gathers kept after old w new) (sym (append-nil done) ∙ is) so_far
 
 -- the tests of the parts from a place on are those of the part there, and of those behind it
-pub next_part : {A : Type 0} (top : Bool) (tests : A → Tests) (xs : List A) (i : ℕ) (x : A) → i < length xs
+pub next_part : {A : Type 0} (top : Bool) (tests : A → Founds) (xs : List A) (i : ℕ) (x : A) → i < length xs
     → x ≡ get_or xs i x
     → kept_if top (joined (map tests (drop i xs)))
     ≡ kept_if top (tests x) ++ kept_if top (joined (map tests (drop (i + 1) xs)))

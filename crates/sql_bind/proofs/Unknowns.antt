@@ -6,7 +6,7 @@ use Rattle.sql_tree.specs.declared.name.Col.{Col}
 use Rattle.sql_tree.specs.declared.query.TableRef.{TableRef}
 use Rattle.sql_tree.specs.Spans.{col_span}
 use Rattle.sql_tree.specs.declared.query.Query.{Query}
-use Rattle.sql_rules.specs.declared.fault.BindFault.TheVariants as fault
+use Rattle.bind_rules.specs.declared.fault.BindFault.TheVariants as fault
 use Rattle.bind_rules.specs.Columns.{is_known, tables}
 use Rattle.bind_rules.specs.Mentions.{Mention, Column, mentions_of}
 use Rattle.bind_rules.specs.Names.{is_unknown, span_of, unknown_name}

@@ -1,7 +1,7 @@
 -- The first fault of a query, from one of the checks on.
 use Rattle.std.specs.Prelude.{ℕ, List, Option}
 use Rattle.sql_tree.specs.declared.query.Query.{Query}
-use Rattle.sql_rules.specs.declared.fault.BindFault.{BindFault}
+use Rattle.bind_rules.specs.declared.fault.BindFault.{BindFault}
 use Rattle.bind_rules.specs.Checks.{or_else, order_name, too_wide}
 use Rattle.bind_rules.specs.Forms.{area_form, join_form}
 use Rattle.bind_rules.specs.Names.{not_grouped}

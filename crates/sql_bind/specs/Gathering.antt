@@ -5,22 +5,22 @@ use Rattle.sql_tree.specs.declared.cond.Conj.{Conj}
 use Rattle.sql_tree.specs.declared.cond.Neg.{Neg}
 use Rattle.sql_tree.specs.declared.cond.Pred.{Pred}
 use Rattle.sql_tree.specs.declared.cond.Pred.TheFolds.{fold-Conj, fold-Neg, fold-Pred}
-use Rattle.bind_rules.specs.Tops.{Test, Area, Chord, Equals, Listed, Found, Tests}
-use Rattle.bind_rules.specs.Tops.{tests_at_pred, tests_at_cond, tests_at_conj, tests_at_neg}
+use Rattle.bind_rules.specs.Tops.{Test, Area, Chord, Equals, Listed, Found}
+use Rattle.sql_bind.specs.Walks.{Founds, tests_at_pred, tests_at_cond, tests_at_conj, tests_at_neg}
 use Rattle.sql_bind.specs.declared.tests_in.TestRef.{TestRef}
 use Rattle.sql_bind.specs.declared.tests_in.TestRef.TheVariants as seen
 
 -- the tests of a predicate
-unfoldable pub tests_of_pred : Pred → Tests
-tests_of_pred = fold-Pred Tests Tests Tests Tests tests_at_pred tests_at_cond tests_at_conj tests_at_neg
+unfoldable pub tests_of_pred : Pred → Founds
+tests_of_pred = fold-Pred Founds Founds Founds Founds tests_at_pred tests_at_cond tests_at_conj tests_at_neg
 
 -- the tests of a predicate with or without NOT
-unfoldable pub tests_of_neg : Neg → Tests
-tests_of_neg = fold-Neg Tests Tests Tests Tests tests_at_pred tests_at_cond tests_at_conj tests_at_neg
+unfoldable pub tests_of_neg : Neg → Founds
+tests_of_neg = fold-Neg Founds Founds Founds Founds tests_at_pred tests_at_cond tests_at_conj tests_at_neg
 
 -- the tests of a conjunction
-unfoldable pub tests_of_conj : Conj → Tests
-tests_of_conj = fold-Conj Tests Tests Tests Tests tests_at_pred tests_at_cond tests_at_conj tests_at_neg
+unfoldable pub tests_of_conj : Conj → Founds
+tests_of_conj = fold-Conj Founds Founds Founds Founds tests_at_pred tests_at_cond tests_at_conj tests_at_neg
 
 -- the test that is shown
 abbrev pub test_of : TestRef → Test
@@ -34,6 +34,6 @@ abbrev pub found_of : TestRef → Bool → Found
 found_of t top = record { test = test_of t; top = top }
 
 -- Where all is kept afterwards, all was kept before, and the new state is the old one with these tests behind it.
-pub record Gathers {S : Type 0} (kept : S → Bool) (after : S → Found → S) (old : S) (tests : Tests) (new : S)
+pub record Gathers {S : Type 0} (kept : S → Bool) (after : S → Found → S) (old : S) (tests : Founds) (new : S)
     : Type 0 where
   pub so : kept new ≡ true → (kept old ≡ true) × (new ≡ fold after old tests)

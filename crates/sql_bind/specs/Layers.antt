@@ -1,5 +1,6 @@
 -- The parts of an expression and of a condition, bound.
-use Rattle.std.specs.Prelude.{List, Option}
+use Rattle.std.specs.Prelude.{false, List, Option, option_to_list}
+use Rattle.std.specs.List.{flat_map}
 use Rattle.sql_bound.specs.declared.query.BoundItem.{BoundItem}
 use Rattle.sql_tree.specs.declared.query.Item.{Item}
 use Rattle.bind_rules.specs.Binding.{bound_item}
@@ -8,12 +9,15 @@ use Rattle.sql_bound.specs.declared.expr.BoundExpr.{BoundExpr}
 use Rattle.sql_bound.specs.declared.expr.BoundFactor.{BoundFactor}
 use Rattle.sql_bound.specs.declared.expr.BoundProd.{BoundProd}
 use Rattle.sql_bound.specs.declared.expr.BoundSigned.{BoundSigned}
-use Rattle.sql_bound.specs.declared.cond.BoundAll.{BoundAll}
 use Rattle.sql_bound.specs.declared.cond.BoundCond.{BoundCond}
+use Rattle.sql_bound.specs.declared.cond.BoundPred.{BoundPred}
+use Rattle.sql_tree.specs.declared.cond.Cond.{Cond}
 use Rattle.sql_tree.specs.declared.cond.Conj.{Conj}
 use Rattle.sql_tree.specs.declared.cond.Neg.{Neg}
+use Rattle.sql_tree.specs.declared.cond.Pred.{Pred}
 use Rattle.sql_tree.specs.declared.expr.Atom.{Atom}
-use Rattle.bind_rules.specs.Conjuncts.{conjuncts_in, taken_conj, taken_neg, whole_of}
+use Rattle.bind_rules.specs.Conjuncts.{conjuncts, conjuncts_of_conj, conjuncts_of_neg, conjuncts_of_pred}
+use Rattle.bind_rules.specs.Wholes.{bound_conjunct, neg_by}
 use Rattle.sql_tree.specs.declared.expr.Atom.TheFolds.{fold-Atom, fold-Factor, fold-Prod, fold-Signed}
 use Rattle.sql_tree.specs.declared.expr.Factor.{Factor}
 use Rattle.sql_tree.specs.declared.expr.Prod.{Prod}
@@ -44,17 +48,25 @@ bound_signed s =
     fold-Signed BoundAtom BoundExpr BoundFactor BoundProd BoundSigned (bound_atom_step s) bound_expr_step
     bound_factor_step bound_prod_step bound_signed_step
 
--- a conjunction as a whole, where it is no chord test and holds none
-abbrev pub whole_conj : Scope → Conj → Option BoundAll
-whole_conj s c = whole_of (taken_conj s c)
+-- a bound predicate as a condition
+abbrev pub as_cond : Option BoundPred → List BoundCond
+as_cond p = option_to_list (neg_by false p)
 
--- a predicate with or without NOT as a whole, where it is no chord test and holds none
-abbrev pub whole_neg : Scope → Neg → Option BoundCond
-whole_neg s n = whole_of (taken_neg s n)
+-- the bound conjuncts of a condition
+abbrev pub conds_of_cond : Scope → Cond → List BoundCond
+conds_of_cond s c = flat_map (bound_conjunct s) (conjuncts c)
 
--- the conjuncts that a predicate with or without NOT is taken apart into
-abbrev pub conjuncts_of_neg : Scope → Neg → List BoundCond
-conjuncts_of_neg s n = conjuncts_in (taken_neg s n)
+-- the bound conjuncts of a conjunction
+abbrev pub conds_of_conj : Scope → Conj → List BoundCond
+conds_of_conj s c = flat_map (bound_conjunct s) (conjuncts_of_conj c)
+
+-- the bound conjuncts of a predicate with or without NOT
+abbrev pub conds_of_neg : Scope → Neg → List BoundCond
+conds_of_neg s n = flat_map (bound_conjunct s) (conjuncts_of_neg n)
+
+-- the bound conjuncts of a predicate
+abbrev pub conds_of_pred : Scope → Pred → List BoundCond
+conds_of_pred s p = flat_map (bound_conjunct s) (conjuncts_of_pred p)
 
 -- the bound item, without its alias
 abbrev pub item_in : Scope → Item → BoundItem

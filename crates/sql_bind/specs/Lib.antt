@@ -1,3 +1,4 @@
+pub mod Walks
 pub mod Layers
 pub mod Faults
 pub mod Behind

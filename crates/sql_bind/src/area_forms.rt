@@ -2,7 +2,7 @@
 ghost use Rattle.std.specs.Prelude.{◌≡◌, [], ◌∷◌, ◌&&◌, ◌^◌, pos, int_le, map, option_to_list};
 ghost use Rattle.std.specs.Option.{option_map};
 ghost use Rattle.sql_tree.specs.declared.cond.AreaKind.TheVariants as area;
-ghost use Rattle.sql_rules.specs.declared.fault.BindFault.TheVariants as fault;
+ghost use Rattle.bind_rules.specs.declared.fault.BindFault.TheVariants as fault;
 ghost use Rattle.bind_rules.specs.Forms.{area_form, bad_area, int_value, is_area_form, values_of};
 ghost use Rattle.sql_bind.specs.Gathering.{test_of};
 ghost use Rattle.sql_bind.specs.Turns.{is_turn_left, turns_left};

@@ -6,7 +6,7 @@ ghost use Rattle.sql_bound.specs.declared.area.AreaTest.TheVariants as test;
 ghost use Rattle.bind_rules.specs.Areas.{area_test, dir_of, pos_of, where_some};
 ghost use Rattle.bind_rules.specs.Forms.{int_value, values_of};
 ghost use Rattle.bind_rules.specs.IdTests.{areas_by};
-ghost use Rattle.bind_rules.specs.Tops.{tests_in};
+ghost use Rattle.bind_rules.specs.Tops.{top_tests};
 ghost use Rattle.sql_bind.specs.Gathering.{test_of};
 ghost use Rattle.sql_bind.specs.Held.{AreHeld};
 
@@ -159,13 +159,14 @@ struct AreaList {
 impl Gather for AreaList {
     ghost use Rattle.std.specs.Prelude.{◌++◌};
     ghost use Rattle.bind_rules.specs.IdTests.{areas_by};
+    ghost use Rattle.sql_bind.specs.Behind.{top_only};
 
     ghost kept = { λ s. s.is_whole };
 
-    ghost after = { λ s f. record { areas = s.areas ++ areas_by f.test; is_whole = s.is_whole } };
+    ghost after = { λ s f. record { areas = s.areas ++ top_only areas_by f; is_whole = s.is_whole } };
 
-    fn look(&mut self, test: &TestRef<'_>, _top: bool) {
-        if self.is_whole {
+    fn look(&mut self, test: &TestRef<'_>, top: bool) {
+        if self.is_whole && top {
             self.is_whole = push_test(&mut self.areas, test);
         }
     }
@@ -194,8 +195,7 @@ fn push_area(areas: &mut Areas, test: Result<Option<AreaTest>, Memory>) -> bool
 
 /// The area tests of a query, in the order of the text. Takes memory for them.
 pub(crate) fn areas_of(alloc: Global, query: &Query) -> Result<Areas, Memory>
-    ensures { IfOk result (λ areas. areas ≡
-        flat_map (λ f. areas_by f.test) (tests_in query.now.cond)) }
+    ensures { IfOk result (λ areas. areas ≡ flat_map areas_by (top_tests query.now.cond)) }
 {
     let mut list = AreaList {
         areas: Items::new(alloc),

@@ -5,10 +5,10 @@ ghost use Rattle.bind_rules.specs.Binding.{bound_of};
 
 use crate::first_fault::first_fault;
 use crate::query::bound_query;
+use bind_rules::BindFault;
 use sky_io::Stop;
 use sky_row::Schema;
 use sql_bound::Bound;
-use sql_rules::BindFault;
 use sql_tree::Query;
 use std::alloc::Global;
 

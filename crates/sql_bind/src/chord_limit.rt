@@ -3,7 +3,7 @@ ghost use Rattle.std.specs.Prelude.{◌≡◌, ◌-ℤ◌, if◌then◌else◌, 
 ghost use Rattle.std.specs.Int.{w64};
 ghost use Rattle.std.specs.List.{flat_map};
 ghost use Rattle.bind_rules.specs.Binding.{chord_limit, first_or};
-ghost use Rattle.bind_rules.specs.Tops.{tests_in};
+ghost use Rattle.bind_rules.specs.Tops.{top_tests};
 ghost use Rattle.sql_bind.specs.Gathering.{test_of};
 
 use crate::tests_in::{Gather, TestRef, walk};
@@ -26,7 +26,7 @@ fn test_limit(test: &TestRef<'_>) -> Option<i128>
     }
 }
 
-// The limit of the first chord test.
+// The limit of the first chord test at the top.
 #[derive(Drop)]
 struct FirstLimit {
     limit: Option<i128>,
@@ -35,25 +35,25 @@ struct FirstLimit {
 impl Gather for FirstLimit {
     ghost use Rattle.std.specs.Prelude.{true};
     ghost use Rattle.bind_rules.specs.Binding.{chord_limit};
-    ghost use Rattle.sql_bind.specs.Behind.{first_behind};
+    ghost use Rattle.sql_bind.specs.Behind.{first_behind, top_only};
 
     ghost kept = { λ _. true };
 
-    ghost after = { λ s f. record { limit = first_behind s.limit (chord_limit f.test) } };
+    ghost after = { λ s f. record { limit = first_behind s.limit (top_only chord_limit f) } };
 
-    fn look(&mut self, test: &TestRef<'_>, _top: bool) {
-        if self.limit.is_none() {
+    fn look(&mut self, test: &TestRef<'_>, top: bool) {
+        if top && self.limit.is_none() {
             self.limit = test_limit(test);
         }
     }
 }
 
-/// The largest squared chord that the first chord test of a query accepts, and 0 where it has none; or `None` where 64
+/// The largest squared chord that the first chord test among the conjuncts of a query accepts, and 0 where it has none; or `None` where 64
 /// bits do not hold it, as below -2^63, which no text gives. Takes no memory.
 pub(crate) fn chord_limit(query: &Query) -> Option<i64>
     ensures { SomeIff result
-        (FitsSigned w64 (first_or (pos 0) (flat_map (λ f. chord_limit f.test) (tests_in query.now.cond))))
-        (first_or (pos 0) (flat_map (λ f. chord_limit f.test) (tests_in query.now.cond))) }
+        (FitsSigned w64 (first_or (pos 0) (flat_map chord_limit (top_tests query.now.cond))))
+        (first_or (pos 0) (flat_map chord_limit (top_tests query.now.cond))) }
 {
     let mut first = FirstLimit { limit: None };
     walk(&mut first, &query.cond);

@@ -1,8 +1,7 @@
 //! Conditions with columns in place of names, as a whole. One function binds one layer. A condition that holds a chord
 //! test, or an area test whose arguments do not fit, is none.
 ghost use Rattle.std.specs.Prelude.{◌≡◌, map, IfOk};
-ghost use Rattle.bind_rules.specs.Conjuncts.{all_there, taken_cond, taken_conj, taken_neg, taken_pred, whole_of};
-ghost use Rattle.sql_bind.specs.Layers.{whole_conj, whole_neg};
+ghost use Rattle.bind_rules.specs.Wholes.{all_there, bound_all, bound_any, bound_cond, bound_pred};
 
 use crate::preds::{among, area, between, compare, is_null};
 use crate::scope::Scope;
@@ -19,7 +18,7 @@ pub(crate) fn whole_cond(
     scope: &Scope<'_>,
     cond: &Cond,
 ) -> Result<Option<BoundAny>, AllocError>
-    ensures { IfOk result (λ whole. whole ≡ whole_of (taken_cond scope.now cond.now)) }
+    ensures { IfOk result (λ whole. whole ≡ bound_any scope.now cond.now) }
 {
     let Some(first) = whole_conj(alloc, scope, &cond.first)? else {
         return Ok(None);
@@ -38,7 +37,7 @@ fn whole_conjs(
     scope: &Scope<'_>,
     rest: &[Conj],
 ) -> Result<Option<Items<BoundAll>>, AllocError>
-    ensures { IfOk result (λ whole. whole ≡ all_there (map (whole_conj scope.now) rest.now)) }
+    ensures { IfOk result (λ whole. whole ≡ all_there (map (bound_all scope.now) rest.now)) }
 {
     let mut found = Items::new(alloc);
     for conj in rest {
@@ -54,7 +53,7 @@ fn whole_conjs(
 #[cycle(whole)]
 #[tactic(auto, using(crate::proofs::CondLayers::conj_whole))]
 fn whole_conj(alloc: Global, scope: &Scope<'_>, conj: &Conj) -> Result<Option<BoundAll>, AllocError>
-    ensures { IfOk result (λ whole. whole ≡ whole_of (taken_conj scope.now conj.now)) }
+    ensures { IfOk result (λ whole. whole ≡ bound_all scope.now conj.now) }
 {
     let Some(first) = whole_neg(alloc, scope, &conj.first)? else {
         return Ok(None);
@@ -73,7 +72,7 @@ fn whole_negs(
     scope: &Scope<'_>,
     rest: &[Neg],
 ) -> Result<Option<Items<BoundCond>>, AllocError>
-    ensures { IfOk result (λ whole. whole ≡ all_there (map (whole_neg scope.now) rest.now)) }
+    ensures { IfOk result (λ whole. whole ≡ all_there (map (bound_cond scope.now) rest.now)) }
 {
     let mut found = Items::new(alloc);
     for neg in rest {
@@ -93,7 +92,7 @@ pub(crate) fn whole_neg(
     scope: &Scope<'_>,
     neg: &Neg,
 ) -> Result<Option<BoundCond>, AllocError>
-    ensures { IfOk result (λ whole. whole ≡ whole_of (taken_neg scope.now neg.now)) }
+    ensures { IfOk result (λ whole. whole ≡ bound_cond scope.now neg.now) }
 {
     match whole_pred(alloc, scope, &neg.pred)? {
         Some(pred) => Ok(Some(BoundCond { not: neg.not, pred })),
@@ -109,7 +108,7 @@ pub(crate) fn whole_pred(
     scope: &Scope<'_>,
     pred: &Pred,
 ) -> Result<Option<BoundPred>, AllocError>
-    ensures { IfOk result (λ whole. whole ≡ whole_of (taken_pred scope.now pred.now)) }
+    ensures { IfOk result (λ whole. whole ≡ bound_pred scope.now pred.now) }
 {
     match pred {
         Pred::Bracket(cond) => whole_group(alloc, scope, cond.get()),
@@ -136,7 +135,7 @@ fn whole_group(
     cond: &Cond,
 ) -> Result<Option<BoundPred>, AllocError>
     ensures { IfOk result (λ whole.
-        whole ≡ whole_of (taken_pred scope.now (Pred.Bracket cond.now))) }
+        whole ≡ bound_pred scope.now (Pred.Bracket cond.now)) }
 {
     match whole_cond(alloc, scope, cond)? {
         Some(inner) => Ok(Some(BoundPred::Bracket(Boxed::new(alloc, inner)?))),

@@ -2,10 +2,8 @@
 //! taken apart, NOT is not looked into. A chord test is left out.
 ghost use Rattle.std.specs.Prelude.{◌≡◌, ◌++◌, IfOk, OnOk, Some, option_to_list};
 ghost use Rattle.std.specs.List.{flat_map};
-ghost use Rattle.bind_rules.specs.Binding.{conds_in};
-ghost use Rattle.bind_rules.specs.Conjuncts.{bracket, conjuncts_in, plain, taken_cond, taken_conj};
-ghost use Rattle.bind_rules.specs.Conjuncts.{taken_neg, taken_pred, whole_of};
-ghost use Rattle.sql_bind.specs.Layers.{conjuncts_of_neg};
+ghost use Rattle.bind_rules.specs.Wholes.{bound_any, bound_cond, bound_pred, bracket, conds_in};
+ghost use Rattle.sql_bind.specs.Layers.{as_cond, conds_of_cond, conds_of_conj, conds_of_neg, conds_of_pred};
 
 use crate::conds::{whole_cond, whole_neg, whole_pred};
 use crate::scope::Scope;
@@ -41,7 +39,7 @@ fn add_cond(
     cond: &Cond,
     found: &mut BoundConds,
 ) -> Result<(), AllocError>
-    ensures { OnOk result (found.new ≡ found.old ++ conjuncts_in (taken_cond scope.now cond.now)) }
+    ensures { OnOk result (found.new ≡ found.old ++ conds_of_cond scope.now cond.now) }
 {
     if cond.rest.is_empty() {
         add_conj(alloc, scope, &cond.first, found)
@@ -58,7 +56,7 @@ fn add_bracket(
     found: &mut BoundConds,
 ) -> Result<(), AllocError>
     ensures { OnOk result (found.new
-        ≡ found.old ++ plain (bracket (whole_of (taken_cond scope.now cond.now)))) }
+        ≡ found.old ++ as_cond (bracket (bound_any scope.now cond.now))) }
 {
     match whole_cond(alloc, scope, cond)? {
         Some(inner) => add_plain(found, BoundPred::Bracket(Boxed::new(alloc, inner)?)),
@@ -68,7 +66,7 @@ fn add_bracket(
 
 // Adds a predicate without NOT.
 fn add_plain(found: &mut BoundConds, pred: BoundPred) -> Result<(), AllocError>
-    ensures { OnOk result (found.new ≡ found.old ++ plain (Some pred)) }
+    ensures { OnOk result (found.new ≡ found.old ++ as_cond (Some pred)) }
 {
     found.push(BoundCond { not: false, pred })?;
     Ok(())
@@ -83,7 +81,7 @@ fn add_conj(
     conj: &Conj,
     found: &mut BoundConds,
 ) -> Result<(), AllocError>
-    ensures { OnOk result (found.new ≡ found.old ++ conjuncts_in (taken_conj scope.now conj.now)) }
+    ensures { OnOk result (found.new ≡ found.old ++ conds_of_conj scope.now conj.now) }
 {
     add_neg(alloc, scope, &conj.first, found)?;
     add_negs(alloc, scope, conj.rest.as_slice(), found)
@@ -99,7 +97,7 @@ fn add_negs(
     found: &mut BoundConds,
 ) -> Result<(), AllocError>
     ensures { OnOk result (found.new
-        ≡ found.old ++ flat_map (conjuncts_of_neg scope.now) rest.now) }
+        ≡ found.old ++ flat_map (conds_of_neg scope.now) rest.now) }
 {
     for neg in rest {
         add_neg(alloc, scope, neg, found)?;
@@ -116,7 +114,7 @@ fn add_neg(
     neg: &Neg,
     found: &mut BoundConds,
 ) -> Result<(), AllocError>
-    ensures { OnOk result (found.new ≡ found.old ++ conjuncts_of_neg scope.now neg.now) }
+    ensures { OnOk result (found.new ≡ found.old ++ conds_of_neg scope.now neg.now) }
 {
     if neg.not {
         add_whole_neg(alloc, scope, neg, found)
@@ -133,7 +131,7 @@ fn add_whole_neg(
     found: &mut BoundConds,
 ) -> Result<(), AllocError>
     ensures { OnOk result (found.new
-        ≡ found.old ++ option_to_list (whole_of (taken_neg scope.now neg.now))) }
+        ≡ found.old ++ option_to_list (bound_cond scope.now neg.now)) }
 {
     match whole_neg(alloc, scope, neg)? {
         Some(cond) => {
@@ -153,7 +151,7 @@ fn add_pred(
     pred: &Pred,
     found: &mut BoundConds,
 ) -> Result<(), AllocError>
-    ensures { OnOk result (found.new ≡ found.old ++ conjuncts_in (taken_pred scope.now pred.now)) }
+    ensures { OnOk result (found.new ≡ found.old ++ conds_of_pred scope.now pred.now) }
 {
     match pred {
         Pred::Bracket(cond) => add_cond(alloc, scope, cond.get(), found),
@@ -174,7 +172,7 @@ fn add_lone(
     found: &mut BoundConds,
 ) -> Result<(), AllocError>
     ensures { OnOk result (found.new
-        ≡ found.old ++ plain (whole_of (taken_pred scope.now pred.now))) }
+        ≡ found.old ++ as_cond (bound_pred scope.now pred.now)) }
 {
     match whole_pred(alloc, scope, pred)? {
         Some(pred) => add_plain(found, pred),

@@ -9,8 +9,8 @@ use crate::grouping::first_ungrouped;
 use crate::names::first_unknown;
 use crate::order_key::bad_order_key;
 use crate::widths::is_some_too_wide;
+use bind_rules::BindFault;
 use sky_row::Schema;
-use sql_rules::BindFault;
 use sql_tree::Query;
 
 // The order key.

@@ -3,7 +3,7 @@
 ghost use Rattle.std.specs.Prelude.{◌≡◌, ◌&&◌, Bool, false, None, Some, if◌then◌else◌, not};
 ghost use Rattle.std.specs.List.{list_all};
 ghost use Rattle.std.specs.Str.{bytes_eq};
-ghost use Rattle.sql_rules.specs.declared.fault.BindFault.TheVariants as fault;
+ghost use Rattle.bind_rules.specs.declared.fault.BindFault.TheVariants as fault;
 ghost use Rattle.bind_rules.specs.Forms.{chord_by, chords_of, is_join_form, join_form, names_both, pairs_both};
 ghost use Rattle.sql_bind.specs.Gathering.{test_of};
 ghost use Rattle.sql_bind.specs.LoneChord.{chords_met, is_lone, with_one};

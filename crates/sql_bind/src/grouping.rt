@@ -2,7 +2,7 @@
 ghost use Rattle.std.specs.Prelude.{◌≡◌, not};
 ghost use Rattle.std.specs.List.{flat_map, list_any};
 ghost use Rattle.std.specs.Option.{option_map};
-ghost use Rattle.sql_rules.specs.declared.fault.BindFault.TheVariants.{NotGrouped};
+ghost use Rattle.bind_rules.specs.declared.fault.BindFault.TheVariants.{NotGrouped};
 ghost use Rattle.sql_tree.specs.Spans.{col_span};
 ghost use Rattle.bind_rules.specs.Columns.{is_same_column};
 ghost use Rattle.bind_rules.specs.Mentions.{items_of};

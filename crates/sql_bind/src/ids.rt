@@ -2,7 +2,7 @@
 ghost use Rattle.std.specs.Prelude.{◌≡◌, ◌∷◌, ◌++◌, [], true, Some, IfOk, IsOkAnd, IsTrue, option_to_list};
 ghost use Rattle.std.specs.List.{flat_map};
 ghost use Rattle.bind_rules.specs.IdTests.{LoneCol, ids_by, int_of, is_first_id, lone_of};
-ghost use Rattle.bind_rules.specs.Tops.{Equals, Listed, tests_in};
+ghost use Rattle.bind_rules.specs.Tops.{Equals, Listed, top_tests};
 ghost use Rattle.sql_bind.specs.Gathering.{test_of};
 ghost use Rattle.sql_bind.specs.LoneParts.{lone_of_atom, lone_of_factor, lone_of_prod, scope_of};
 
@@ -110,7 +110,7 @@ fn int_of(e: &Expr) -> Option<i64>
 // Puts the ids of an equation behind the others, and says whether there was memory for them.
 fn push_one(ids: &mut IdTests, alloc: Global, scope: &Scope<'_>, left: &Expr, right: &Expr) -> bool
     ensures { IsTrue result →
-        ids.new ≡ ids.old ++ ids_by scope.now (Equals left.now right.now) true }
+        ids.new ≡ ids.old ++ ids_by scope.now (Equals left.now right.now) }
 {
     match int_of(right) {
         Some(n) => !is_id(scope, left) || push_id(ids, alloc, n),
@@ -137,7 +137,7 @@ fn push_listed(
     list: &IntList,
 ) -> bool
     ensures { IsTrue result →
-        ids.new ≡ ids.old ++ ids_by scope.now (Listed value.now list.now) true }
+        ids.new ≡ ids.old ++ ids_by scope.now (Listed value.now list.now) }
 {
     !is_id(scope, value) || push_list(ids, values_of(alloc, list))
 }
@@ -154,7 +154,7 @@ fn push_list(ids: &mut IdTests, list: Result<Ids, Memory>) -> bool
 
 // Puts the ids of a test at the top behind the others, and says whether there was memory for them.
 fn push_test(ids: &mut IdTests, alloc: Global, scope: &Scope<'_>, test: &TestRef<'_>) -> bool
-    ensures { IsTrue result → ids.new ≡ ids.old ++ ids_by scope.now (test_of test.now) true }
+    ensures { IsTrue result → ids.new ≡ ids.old ++ ids_by scope.now (test_of test.now) }
 {
     match test {
         TestRef::Equals { left, right } => push_one(ids, alloc, scope, left, right),
@@ -175,10 +175,11 @@ struct IdList<'a> {
 impl<'a> Gather for IdList<'a> {
     ghost use Rattle.std.specs.Prelude.{◌++◌};
     ghost use Rattle.bind_rules.specs.IdTests.{ids_by};
+    ghost use Rattle.sql_bind.specs.Behind.{top_only};
 
     ghost kept = { λ s. s.is_whole };
 
-    ghost after = { λ s f. record s { ids = s.ids ++ ids_by s.scope.now f.test f.top } };
+    ghost after = { λ s f. record s { ids = s.ids ++ top_only (ids_by s.scope.now) f } };
 
     fn look(&mut self, test: &TestRef<'_>, top: bool) {
         if self.is_whole && top {
@@ -190,7 +191,7 @@ impl<'a> Gather for IdList<'a> {
 /// The id tests of a query over a schema, in the order of the text. Takes memory for them.
 pub(crate) fn ids_of(alloc: Global, query: &Query, schema: &Schema) -> Result<IdTests, Memory>
     ensures { IfOk result (λ ids. ids ≡
-        flat_map (λ f. ids_by (scope_of schema.now query.now) f.test f.top) (tests_in query.now.cond)) }
+        flat_map (ids_by (scope_of schema.now query.now)) (top_tests query.now.cond)) }
 {
     let scope = Scope::new(query, schema);
     let mut list = IdList {

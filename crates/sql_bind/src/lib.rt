@@ -38,4 +38,6 @@ mod tests_in;
 mod unknown;
 mod widths;
 
+pub use bind_rules::BindFault;
 pub use binder::bind;
+pub use sql_bound::Bound;

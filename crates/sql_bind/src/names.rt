@@ -2,7 +2,7 @@
 ghost use Rattle.std.specs.Prelude.{◌≡◌, [], ◌∷◌, ℕ, List, map};
 ghost use Rattle.std.specs.List.{flat_map};
 ghost use Rattle.std.specs.Option.{option_map};
-ghost use Rattle.sql_rules.specs.declared.fault.BindFault.TheVariants.{UnknownName};
+ghost use Rattle.bind_rules.specs.declared.fault.BindFault.TheVariants.{UnknownName};
 ghost use Rattle.sql_tree.specs.declared.query.Query.{Query};
 ghost use Rattle.bind_rules.specs.Columns.{tables};
 ghost use Rattle.bind_rules.specs.Mentions.{Table, items_of, mentions_of};

@@ -2,7 +2,7 @@
 ghost use Rattle.std.specs.Prelude.{◌≡◌, ◌∷◌, None, Some, ◌||◌, not};
 ghost use Rattle.std.specs.List.{position};
 ghost use Rattle.std.specs.Option.{is_some, option_map};
-ghost use Rattle.sql_rules.specs.declared.fault.BindFault.TheVariants.{OrderName};
+ghost use Rattle.bind_rules.specs.declared.fault.BindFault.TheVariants.{OrderName};
 ghost use Rattle.sql_tree.specs.Spans.{col_span};
 ghost use Rattle.bind_rules.specs.Checks.{alias_place, is_named, is_sortable, order_fault, order_name};
 ghost use Rattle.bind_rules.specs.Columns.{is_join};

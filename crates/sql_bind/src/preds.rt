@@ -3,7 +3,7 @@ ghost use Rattle.std.specs.Prelude.{◌≡◌, IfErr, IfOk};
 ghost use Rattle.sql_bound.specs.declared.cond.BoundPred.TheVariants as bound;
 ghost use Rattle.bind_rules.specs.Areas.{area_test};
 ghost use Rattle.bind_rules.specs.Bounds.{bound_expr};
-ghost use Rattle.bind_rules.specs.Conjuncts.{area_pred};
+ghost use Rattle.bind_rules.specs.Wholes.{area_pred};
 ghost use Rattle.bind_rules.specs.Forms.{values_of};
 ghost use Rattle.sql_bind.specs.Held.{AreHeld};
 

@@ -3,7 +3,7 @@ ghost use Rattle.std.specs.Prelude.{◌≡◌, IfOk};
 ghost use Rattle.std.specs.List.{flat_map};
 ghost use Rattle.bind_rules.specs.Binding.{bound_items, bound_query, bound_shape};
 ghost use Rattle.bind_rules.specs.IdTests.{areas_by, ids_by};
-ghost use Rattle.bind_rules.specs.Tops.{tests_in};
+ghost use Rattle.bind_rules.specs.Tops.{top_tests};
 ghost use Rattle.sql_bind.specs.LoneParts.{scope_of};
 
 use crate::areas::areas_of;
@@ -31,9 +31,8 @@ fn front(alloc: Global, scope: &Scope<'_>, query: &Query) -> Result<(Shape, Boun
 // The area tests and the id tests.
 fn tests(alloc: Global, query: &Query, schema: &Schema) -> Result<(Areas, IdTests), AllocError>
     ensures { IfOk result (λ tests.
-        (tests.0 ≡ flat_map (λ f. areas_by f.test) (tests_in query.now.cond))
-        × (tests.1 ≡ flat_map (λ f. ids_by (scope_of schema.now query.now) f.test f.top)
-        (tests_in query.now.cond))) }
+        (tests.0 ≡ flat_map areas_by (top_tests query.now.cond))
+        × (tests.1 ≡ flat_map (ids_by (scope_of schema.now query.now)) (top_tests query.now.cond))) }
 {
     match areas_of(alloc, query) {
         Err(_) => Err(AllocError),

@@ -1,10 +1,13 @@
 //! The tests of WHERE in the order of the text, each with whether it is a conjunct at the top. Whoever asks for them is
 //! shown one test after another.
 ghost use Rattle.std.specs.Prelude.{◌≡◌, ◌&&◌, Bool, [], ◌∷◌, map};
+ghost use Rattle.std.specs.List.{flat_map};
 ghost use Rattle.bind_rules.specs.Mentions.{joined};
 ghost use Rattle.sql_tree.specs.declared.cond.Pred.TheOpen.{Pred-F};
-ghost use Rattle.bind_rules.specs.Tops.{Found, kept_if, tests_at_pred, tests_in, tests_of};
+ghost use Rattle.bind_rules.specs.Conjuncts.{conjuncts};
+ghost use Rattle.bind_rules.specs.Tops.{Found, found_in, tests_in};
 ghost use Rattle.sql_bind.specs.Gathering.{Gathers, found_of, tests_of_conj, tests_of_neg, tests_of_pred};
+ghost use Rattle.sql_bind.specs.Walks.{kept_if, tests_at_pred, tests_of};
 
 use sql_token::Span;
 use sql_tree::{AreaKind, Cmp, Cond, Conj, Expr, IntList, Name, Neg, Pred};
@@ -53,8 +56,16 @@ pub(crate) fn walk<G: Gather>(gather: &mut G, cond: &Option<Cond>)
     ensures { Gathers G.kept G.after gather.old (tests_in cond.now) gather.new }
 {
     if let Some(cond) = cond {
-        walk_cond(gather, cond, true);
+        walk_top(gather, cond);
     }
+}
+
+// Shows the tests of a condition that stands at the top.
+fn walk_top<G: Gather>(gather: &mut G, cond: &Cond)
+    ensures { Gathers G.kept G.after gather.old
+        (flat_map found_in (conjuncts cond.now)) gather.new }
+{
+    walk_cond(gather, cond, true);
 }
 
 // Both hold.

@@ -1,6 +1,6 @@
 //! Whether an expression of a query is too wide.
 ghost use Rattle.std.specs.Prelude.{◌≡◌, None, Some, if◌then◌else◌};
-ghost use Rattle.sql_rules.specs.declared.fault.BindFault.TheVariants.{TooWide};
+ghost use Rattle.bind_rules.specs.declared.fault.BindFault.TheVariants.{TooWide};
 ghost use Rattle.bind_rules.specs.Checks.{too_wide};
 ghost use Rattle.bind_rules.specs.Widths.{is_too_wide};
 

@@ -1,5 +1,5 @@
 -- How a tree is printed, part by part; and the parts from some place on.
-use Rattle.std.proofs.Common.{codes, ◌≡◌, ℕ, ℤ, ◌+◌, ◌<◌, Bool, List, [], ◌++◌, map, length, drop, get_or, refl, sym, ap, ◌∙◌, subst, append_assoc, drop-cons, add-one}
+use Rattle.std.proofs.Common.{codes, ◌≡◌, ℤ, Bool, [], ◌++◌, map, refl, ap, ◌∙◌, append_assoc}
 use Rattle.std.specs.Fmt.{signed_decimal}
 use Rattle.std.specs.Prelude.{if◌then◌else◌}
 use Rattle.sql_tree.specs.declared.cond.Cmp.{Cmp}
@@ -95,16 +95,3 @@ nine a b c d e f g h i = simp append_assoc refl
 pub printed_parts : (q : Query) → printed q ≡ codes "SELECT " ++ from_items q
 unfolding printed from_items from_first from_second from_where from_group from_order
 printed_parts q = nine (codes "SELECT ") (print_items q.items) (codes " FROM ") (print_table q.first) (print_second q.second) (print_where q.cond) (print_group q.group) (print_order q.order) (print_limit q.limit)
-
--- ---- several parts, each behind the same text
-
--- the parts from a place on are the one there, and those behind it
-pub next_at : {A : Type 0} (lead : Bytes) (text : A → Bytes) (xs : List A) (i : ℕ) (d : A) → i < length xs
-    → behind_each lead (map text (drop i xs)) ≡ (lead ++ text (get_or xs i d)) ++ behind_each lead (map text (drop (i + 1) xs))
-next_at lead text xs i d low = rw add-one (ap (λ ys. behind_each lead (map text ys)) (drop-cons xs i d low))
-
--- the same, of a part that is the one there
-pub next_part : {A : Type 0} (lead : Bytes) (text : A → Bytes) (xs : List A) (i : ℕ) (x : A) → i < length xs → x ≡ get_or xs i x
-    → behind_each lead (map text (drop i xs)) ≡ (lead ++ text x) ++ behind_each lead (map text (drop (i + 1) xs))
-next_part lead text xs i x low is =
-    subst (λ y. behind_each lead (map text (drop i xs)) ≡ (lead ++ text y) ++ behind_each lead (map text (drop (i + 1) xs))) (sym is) (next_at lead text xs i x low)

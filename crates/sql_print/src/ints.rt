@@ -12,14 +12,14 @@ use sky_text::put_int;
 use sql_tree::{IntList, SignedInt};
 
 /// Writes an int that is not negative.
-pub(crate) fn put_size<K: Sink>(sink: &mut K, size: &i64) -> Put
+pub fn put_size<K: Sink>(sink: &mut K, size: &i64) -> Put
     ensures { Wrote (K.state sink.old) (K.state sink.new) (signed_decimal size.now) result }
 {
     put_int(sink, i128::from(*size))
 }
 
 /// Writes words, and an int behind them.
-pub(crate) fn put_led_size<K: Sink>(sink: &mut K, words: &[u8], size: &i64) -> Put
+pub fn put_led_size<K: Sink>(sink: &mut K, words: &[u8], size: &i64) -> Put
     ensures { Wrote (K.state sink.old) (K.state sink.new) (words.now ++ signed_decimal size.now)
         result }
 {

@@ -9,8 +9,8 @@ use crate::parts::{put_led_name, put_name};
 use sky_io::{Put, Sink};
 use sql_tree::{Expr, Item, ItemKind, ItemList, Name, Selection};
 
-// The word of a function, and its expression in brackets.
-fn put_call<K: Sink>(sink: &mut K, word: &[u8], e: &Expr) -> Put
+/// Writes the word of a function, and its expression in brackets.
+pub fn put_call<K: Sink>(sink: &mut K, word: &[u8], e: &Expr) -> Put
     ensures { Wrote (K.state sink.old) (K.state sink.new)
         (word.now ++ in_brackets (print_expr e.now)) result }
 {

@@ -2,7 +2,8 @@
 //!
 //! Callers see what a call writes as the printed text that `sql_rules` defines, appended to the sink.
 //! Below: `sql_tree` for trees, `sql_rules` for their printed texts, `sky_text` for numbers, `sky_io` for the sink.
-//! Above: the texts of answers. One function writes one rule of the printed form, and takes no memory.
+//! Above: the texts of answers, which write chunk queries and tables by the same rules. One function writes one rule of
+//! the printed form, and takes no memory.
 #![tactic(auto)]
 
 mod conds;
@@ -15,5 +16,7 @@ mod query;
 
 pub use conds::put_cond;
 pub use exprs::put_expr;
-pub use items::{put_heading, put_kind};
-pub use query::put_query;
+pub use ints::{put_led_size, put_size};
+pub use items::{put_call, put_heading, put_kind};
+pub use parts::{put_col, put_if};
+pub use query::{put_alias, put_cols, put_group, put_limit, put_query, put_where};

@@ -7,7 +7,7 @@ use sky_io::{Put, Sink};
 use sql_tree::{Col, Name};
 
 /// Writes words where they stand.
-pub(crate) fn put_if<K: Sink>(sink: &mut K, there: bool, words: &[u8]) -> Put
+pub fn put_if<K: Sink>(sink: &mut K, there: bool, words: &[u8]) -> Put
     ensures { Wrote (K.state sink.old) (K.state sink.new) (text_if there words.now) result }
 {
     if there { sink.put(words) } else { Put::Done }
@@ -51,7 +51,7 @@ fn put_qualifier<K: Sink>(sink: &mut K, table: &Option<Name>) -> Put
 }
 
 /// Writes a column, with its qualifier where it has one.
-pub(crate) fn put_col<K: Sink>(sink: &mut K, col: &Col) -> Put
+pub fn put_col<K: Sink>(sink: &mut K, col: &Col) -> Put
     ensures { Wrote (K.state sink.old) (K.state sink.new) (print_col col.now) result }
 {
     match put_qualifier(sink, &col.table) {

@@ -13,8 +13,8 @@ use crate::parts::{put_col, put_if, put_led_col, put_led_name, put_name};
 use sky_io::{Put, Sink};
 use sql_tree::{Col, Cond, Name, OrderBy, Query, TableRef};
 
-// The alias of a table, where it has one.
-fn put_alias<K: Sink>(sink: &mut K, alias: &Option<Name>) -> Put
+/// Writes the alias of a table, where it has one.
+pub fn put_alias<K: Sink>(sink: &mut K, alias: &Option<Name>) -> Put
     ensures { Wrote (K.state sink.old) (K.state sink.new) (print_alias alias.now) result }
 {
     match alias {
@@ -64,8 +64,8 @@ fn put_where_cond<K: Sink>(sink: &mut K, cond: &Cond) -> Put
     }
 }
 
-// WHERE, where it stands.
-fn put_where<K: Sink>(sink: &mut K, cond: &Option<Cond>) -> Put
+/// Writes WHERE, where it stands.
+pub fn put_where<K: Sink>(sink: &mut K, cond: &Option<Cond>) -> Put
     ensures { Wrote (K.state sink.old) (K.state sink.new) (print_where cond.now) result }
 {
     match cond {
@@ -88,8 +88,8 @@ fn put_further_cols<K: Sink>(sink: &mut K, rest: &[Col]) -> Put
     Put::Done
 }
 
-// Columns to group by.
-fn put_cols<K: Sink>(sink: &mut K, first: &Col, rest: &[Col]) -> Put
+/// Writes columns, with commas between them.
+pub fn put_cols<K: Sink>(sink: &mut K, first: &Col, rest: &[Col]) -> Put
     ensures { Wrote (K.state sink.old) (K.state sink.new)
         (print_col first.now ++ behind_each (codes ",") (map print_col rest.now)) result }
 {
@@ -110,8 +110,8 @@ fn put_group_cols<K: Sink>(sink: &mut K, first: &Col, rest: &[Col]) -> Put
     }
 }
 
-// GROUP BY, where it stands.
-fn put_group<K: Sink>(sink: &mut K, group: &[Col]) -> Put
+/// Writes GROUP BY, where it stands.
+pub fn put_group<K: Sink>(sink: &mut K, group: &[Col]) -> Put
     ensures { Wrote (K.state sink.old) (K.state sink.new) (print_group group.now) result }
 {
     match group {
@@ -151,8 +151,8 @@ fn put_order<K: Sink>(sink: &mut K, order: &Option<OrderBy>) -> Put
     }
 }
 
-// LIMIT, where it stands.
-fn put_limit<K: Sink>(sink: &mut K, limit: &Option<i64>) -> Put
+/// Writes LIMIT, where it stands.
+pub fn put_limit<K: Sink>(sink: &mut K, limit: &Option<i64>) -> Put
     ensures { Wrote (K.state sink.old) (K.state sink.new) (print_limit limit.now) result }
 {
     match limit {

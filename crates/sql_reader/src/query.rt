@@ -1,6 +1,7 @@
 //! Whole queries.
 ghost use Rattle.std.specs.Prelude.{◌≡◌, ◌≤◌, length, IfOk, IfErr, Ok, Err, Some, None, if◌then◌else◌};
 ghost use Rattle.sky_io.specs.Stops.{IfBad};
+ghost use Rattle.text_rules.specs.declared.limits.TheConstants.{QUERY_TEXT_MOST};
 ghost use Rattle.sql_rules.specs.Queries.{second_span};
 ghost use Rattle.sql_rules.specs.Readers.{Got};
 ghost use Rattle.sql_rules.specs.Trees.{from_at, front_at, query_at, query_of, query_with, tree_of, whole};
@@ -195,7 +196,7 @@ fn stop_of(stop: TokenStop) -> Stop<SqlFault>
 /// Takes memory for the tree and its names; the text is not kept.
 #[tactic(auto, unfolding(sql_rules::specs::Trees::tree_of))]
 pub fn read(alloc: Global, text: &[u8]) -> Result<Query, Stop<SqlFault>>
-    requires { length text.now ≤ 16384 }
+    requires { length text.now ≤ QUERY_TEXT_MOST }
     ensures ok { IfOk result (λ query. tree_of text.now ≡ Ok query) }
     ensures bad { IfErr result (λ stop. IfBad stop (λ fault. tree_of text.now ≡ Err fault)) }
 {

@@ -4,12 +4,11 @@ use sky_io::Stop;
 use sql_rules::SqlFault;
 use std::alloc::{AllocError, Global};
 use std::test::Fail;
-
-const MOST_BYTES: usize = 16384;
+use text_rules::limits::QUERY_TEXT_MOST;
 
 // Why the text is not read. A text that is too long counts as want of memory, which no row asks for.
 fn stop_of(alloc: Global, text: &[u8]) -> Option<Stop<SqlFault>> {
-    if text.len() > MOST_BYTES {
+    if text.len() > QUERY_TEXT_MOST {
         return Some(Stop::Memory);
     }
     match read(alloc, text) {

@@ -10,3 +10,4 @@ pub mod Depth
 pub mod AgainQuery
 pub mod Law
 pub mod PrintOpened
+pub mod Listed

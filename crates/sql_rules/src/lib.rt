@@ -1,4 +1,4 @@
-//! The language: which text is which query, how a query is printed, and what a text or a query may have wrong.
+//! The language: which text is which query, how a query is printed, and what a text may have wrong.
 //!
 //! Callers see a text as its one tree or its first fault (`specs/Trees.antt`), which is the grammar of
 //! `specs/Spelling.antt`, `specs/SpellingConds.antt` and `specs/Queries.antt`: the law says so both ways.
@@ -10,4 +10,4 @@ pub mod examples;
 pub mod fault;
 pub mod laws;
 
-pub use fault::{BindFault, SqlFault};
+pub use fault::SqlFault;

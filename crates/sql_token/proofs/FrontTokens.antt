@@ -51,18 +51,22 @@ word_read place m b bs k fits word is longest =
 small : (n : ℕ) → n ≤ 2 ^ 63 - 1 → small_int n ≡ Some (pos n)
 small n le = rw (le-leb n (2 ^ 63 - 1) le) refl
 
-int_read : (place m b : ℕ) (bs : List ℕ) → suc m ≤ length (b ∷ bs) → list_all is_digit (b ∷ take m bs) ≡ true
-    → value_after 0 (b ∷ take m bs) ≤ 2 ^ 63 - 1 → Longest (b ∷ bs) (suc m) → Reads place (suc m) (b ∷ bs) (kind.Int (pos (value_after 0 (b ∷ take m bs))))
-int_read place m b bs fits all le longest =
+-- as many digits as stand at the front are an int, or one that is too large
+pub int_begins : (place m b : ℕ) (bs : List ℕ) → suc m ≤ length (b ∷ bs) → list_all is_digit (b ∷ take m bs) ≡ true → Longest (b ∷ bs) (suc m)
+    → token_at place (b ∷ bs) ≡ int_token place (suc m) (small_int (value_after 0 (b ∷ take m bs)))
+int_begins place m b bs fits all longest =
     let digit = (both (is_digit b) (list_all is_digit (take m bs)) all).0 in
     let all_of = take_while is_digit (b ∷ bs) in
     let most : suc m < prefix_len is_digit (b ∷ bs) → ⊥ = λ more. longest (prefix_len is_digit (b ∷ bs)) more
     (prefix_len-le-length is_digit (b ∷ bs)) (kind.Int (pos (value_after 0 all_of))) (all_digits (b ∷ bs), refl) in
     let exact : prefix_len is_digit (b ∷ bs) ≡ suc m = exact_front is_digit (suc m) (b ∷ bs) fits all most in
     let begins : token_at place (b ∷ bs) ≡ int_at place (b ∷ bs) = rw (no_word b digit, digit) refl in
-    let sized : int_at place (b ∷ bs) ≡ int_token place (suc m) (small_int (value_after 0 (take (suc m) (b ∷ bs)))) =
-    ap (λ n. int_token place n (small_int (value_after 0 (take n (b ∷ bs))))) exact in
-    begins ∙ (sized ∙ ap (int_token place (suc m)) (small (value_after 0 (b ∷ take m bs)) le))
+    begins ∙ ap (λ n. int_token place n (small_int (value_after 0 (take n (b ∷ bs))))) exact
+
+int_read : (place m b : ℕ) (bs : List ℕ) → suc m ≤ length (b ∷ bs) → list_all is_digit (b ∷ take m bs) ≡ true
+    → value_after 0 (b ∷ take m bs) ≤ 2 ^ 63 - 1 → Longest (b ∷ bs) (suc m) → Reads place (suc m) (b ∷ bs) (kind.Int (pos (value_after 0 (b ∷ take m bs))))
+int_read place m b bs fits all le longest =
+    int_begins place m b bs fits all longest ∙ ap (int_token place (suc m)) (small (value_after 0 (b ∷ take m bs)) le)
 
 -- what begins with a sign is no word and no int
 no_letter : (b : ℕ) (bs : List ℕ) (s : Sign) (x : Bool) → sign_of (b ∷ bs) ≡ Some s → begins_word b ≡ x → begins_word b ≡ false
@@ -108,7 +112,7 @@ front_read place m b bs (kind.Int z) fits written longest =
 front_read place m b bs (kind.Sign s) fits written longest = sign_read place m b bs s fits written longest
 
 -- what is written has its shape
-shaped_of : (k : TokenKind) (bytes : List ℕ) → IsWritten k bytes → IsShaped k bytes
+pub shaped_of : (k : TokenKind) (bytes : List ℕ) → IsWritten k bytes → IsShaped k bytes
 shaped_of (kind.Keyword k) bytes written = written
 shaped_of kind.Name bytes written = written
 shaped_of (kind.Int z) bytes written = written.0

@@ -9,3 +9,5 @@ pub mod Written
 pub mod Stand
 pub mod FrontTokens
 pub mod Only
+pub mod Unread
+pub mod Faulty

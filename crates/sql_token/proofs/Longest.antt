@@ -28,7 +28,7 @@ word_longest b bs begins (suc n) more fits k shaped =
     let most = at_most_front continues_word (suc n) (b ∷ bs) fits (word_shape k b (take n bs) begins shaped) in
     omega (arith, more, most)
 
-int_longest : (b : ℕ) (bs : List ℕ) → is_digit b ≡ true → Longest (b ∷ bs) (prefix_len is_digit (b ∷ bs))
+pub int_longest : (b : ℕ) (bs : List ℕ) → is_digit b ≡ true → Longest (b ∷ bs) (prefix_len is_digit (b ∷ bs))
 int_longest b bs digit zero more fits k shaped = omega arith
 int_longest b bs digit (suc n) more fits k shaped =
     let most = at_most_front is_digit (suc n) (b ∷ bs) fits (digit_shape k b (take n bs) digit shaped) in

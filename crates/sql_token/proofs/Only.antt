@@ -15,7 +15,7 @@ use Rattle.sql_token.proofs.Scans.{token_next}
 use Rattle.sql_token.proofs.Steps.{behind_blank, no_byte}
 
 -- so many blanks are passed over
-some_blanks : (place n : ℕ) (bs : List ℕ) → n ≤ length bs → list_all is_blank (take n bs) ≡ true → tokens_from place 0 bs ≡ tokens_from (place + n) 0 (drop n bs)
+pub some_blanks : (place n : ℕ) (bs : List ℕ) → n ≤ length bs → list_all is_blank (take n bs) ≡ true → tokens_from place 0 bs ≡ tokens_from (place + n) 0 (drop n bs)
 some_blanks place zero bs fits all = ap (λ p. tokens_from p 0 bs) (sym (add-zero place))
 some_blanks place (suc n) [] fits all = absurd (omega arith)
 some_blanks place (suc n) (b ∷ bs) fits all =
@@ -40,7 +40,7 @@ read_here text from size b bs t same at end fits written longest =
     front_read from size b bs t.kind fits written longest ∙ ap {B = Result Token TokenFault} (λ u. Ok u) is
 
 -- the first token is read, and then the rest
-first_read : (text : List ℕ) (place : ℕ) (t : Token) → IsFirst text place t → behind text place ≡ put_before t (behind text t.span.to)
+pub first_read : (text : List ℕ) (place : ℕ) (t : Token) → IsFirst text place t → behind text place ≡ put_before t (behind text t.span.to)
 first_read text place t first =
     let from = t.span.from in
     let size = t.span.to - from - 1 in

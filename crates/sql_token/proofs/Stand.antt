@@ -13,7 +13,7 @@ use Rattle.sql_token.proofs.Steps.{behind_blank, behind_token, in_token, no_byte
 use Rattle.sql_token.proofs.Written.{written_in}
 
 -- The bytes stand in the text from a place on.
-record At (text : List ℕ) (place b : ℕ) (bs : List ℕ) : Type 0 where
+pub record At (text : List ℕ) (place b : ℕ) (bs : List ℕ) : Type 0 where
   pub within : place < length text
   pub here : b ≡ get_or text place 0
   pub rest : bs ≡ drop (place + 1) text
@@ -21,49 +21,50 @@ record At (text : List ℕ) (place b : ℕ) (bs : List ℕ) : Type 0 where
 none_left : (text : List ℕ) (place : ℕ) → [] ≡ drop place text → length text ≤ place
 none_left text place e = omega (arith, length-drop place text, ap length e)
 
-at_place : (text : List ℕ) (place b : ℕ) (bs : List ℕ) → b ∷ bs ≡ drop place text → At text place b bs
+pub at_place : (text : List ℕ) (place b : ℕ) (bs : List ℕ) → b ∷ bs ≡ drop place text → At text place b bs
 at_place text place b bs e =
     let within : place < length text = omega (arith, length-drop place text, ap length e) in
     let split = drop_more text place 0 within in
     let same : b ∷ bs ≡ get_or text place 0 ∷ drop (place + 1) text = e ∙ split in
     record { within = within; here = cc same; rest = cc same }
 
+-- one blank more in front of a token
+pub first_before : (text : List ℕ) (place b : ℕ) (bs : List ℕ) (t : Token) → At text place b bs → is_blank b ≡ true → IsFirst text (place + 1) t
+    → IsFirst text place t
+first_before text place b bs t here blank first =
+    let split = drop_more text place 0 here.within in
+    let more : t.span.from - place ≡ suc (t.span.from - (place + 1)) = omega (arith, first.after) in
+    let range : slice_range text place t.span.from ≡ get_or text place 0 ∷ slice_range text (place + 1) t.span.from =
+    ap (λ n. take n (drop place text)) more ∙ ap (take (suc (t.span.from - (place + 1)))) split in
+    let front : is_blank (get_or text place 0) ≡ true = ap is_blank (sym here.here) ∙ blank in
+    record {
+      after = omega (arith, first.after);
+      blanks = rw (range, front) first.blanks;
+      some = first.some;
+      within = first.within;
+      written = first.written;
+      longest = first.longest;
+    }
+
 -- one blank more in front
 blank_before : (text : List ℕ) (place b : ℕ) (bs : List ℕ) (ts : List Token) → At text place b bs → b ∷ bs ≡ drop place text → is_blank b ≡ true
     → StandFrom text (place + 1) ts → StandFrom text place ts
 blank_before text place b bs [] here same blank stand =
     subst (λ rest. list_all is_blank rest ≡ true) same (rw (blank, here.rest, stand) refl)
-blank_before text place b bs (t ∷ ts) here same blank stand =
-    let first = stand.0 in
-    let split = drop_more text place 0 here.within in
-    let more : t.span.from - place ≡ suc (t.span.from - (place + 1)) = omega (arith, first.after) in
-    let range : slice_range text place t.span.from ≡ get_or text place 0 ∷ slice_range text (place + 1) t.span.from =
-    ap (λ n. take n (drop place text)) more ∙ ap (take (suc (t.span.from - (place + 1)))) split in
-    let front : is_blank (get_or text place 0) ≡ true = ap is_blank (sym here.here) ∙ blank in (
-      record {
-        after = omega (arith, first.after);
-        blanks = rw (range, front) first.blanks;
-        some = first.some;
-        within = first.within;
-        written = first.written;
-        longest = first.longest;
-      },
-      stand.1,
-    )
+blank_before text place b bs (t ∷ ts) here same blank stand = (first_before text place b bs t here blank stand.0, stand.1)
 
--- a token in front of the tokens behind it
-token_before : (text : List ℕ) (place b : ℕ) (bs : List ℕ) (ts rest : List Token) (t : Token) → At text place b bs → b ∷ bs ≡ drop place text
-    → token_at place (b ∷ bs) ≡ Ok t → StandFrom text (place + 1 + (t.span.to - t.span.from - 1)) rest → t ∷ rest ≡ ts → StandFrom text place ts
-token_before text place b bs ts rest t here same read stand is =
+-- the token that is read is the first one there
+pub first_here : (text : List ℕ) (place b : ℕ) (bs : List ℕ) (t : Token) → At text place b bs → b ∷ bs ≡ drop place text → token_at place (b ∷ bs) ≡ Ok t
+    → IsFirst text place t
+first_here text place b bs t here same read =
     let stands = stands_in place (b ∷ bs) t read in
-    let end : place + 1 + (t.span.to - t.span.from - 1) ≡ t.span.to = omega (arith, stands.from, stands.some) in
     let size : length (b ∷ bs) ≡ length text - place = ap length same ∙ length-drop place text in
     let none : t.span.from - place ≡ 0 = omega (arith, stands.from) in
     let empty : slice_range text place t.span.from ≡ [] = ap (λ n. take n (drop place text)) none in
     let bytes : b ∷ bs ≡ drop t.span.from text = same ∙ ap (λ p. drop p text) (sym stands.from) in
     let most = subst (λ bs. Longest bs (t.span.to - t.span.from)) bytes (longest_in place (b ∷ bs) t read) in
     let left : length (drop t.span.from text) ≡ length text - t.span.from = length-drop t.span.from text in
-    let first : IsFirst text place t = record {
+    record {
       after = omega (arith, stands.from);
       blanks = rw empty refl;
       some = omega (arith, stands.from, stands.some);
@@ -71,8 +72,20 @@ token_before text place b bs ts rest t here same read stand is =
       written = subst (λ bs. IsWritten t.kind (take (t.span.to - t.span.from) bs)) bytes (written_in place (b ∷ bs) t read);
       longest = λ to more fits k shaped. most (to - t.span.from)
           (omega (arith, stands.from, stands.some, more)) (omega (arith, fits, left)) k shaped;
-    } in
-    subst (StandFrom text place) is (first, subst (λ p. StandFrom text p rest) end stand)
+    }
+
+-- the place behind its bytes is its end
+pub end_here : (place b : ℕ) (bs : List ℕ) (t : Token) → token_at place (b ∷ bs) ≡ Ok t → place + 1 + (t.span.to - t.span.from - 1) ≡ t.span.to
+end_here place b bs t read =
+    let stands = stands_in place (b ∷ bs) t read in
+    omega (arith, stands.from, stands.some)
+
+-- a token in front of the tokens behind it
+token_before : (text : List ℕ) (place b : ℕ) (bs : List ℕ) (ts rest : List Token) (t : Token) → At text place b bs → b ∷ bs ≡ drop place text
+    → token_at place (b ∷ bs) ≡ Ok t → StandFrom text (place + 1 + (t.span.to - t.span.from - 1)) rest → t ∷ rest ≡ ts → StandFrom text place ts
+token_before text place b bs ts rest t here same read stand is =
+    subst (StandFrom text place) is
+    (first_here text place b bs t here same read, subst (λ p. StandFrom text p rest) (end_here place b bs t read) stand)
 
 -- what is known of the text behind a byte
 abbrev Behind : List ℕ → ℕ → List ℕ → Type 0
@@ -103,7 +116,7 @@ front_by text place b bs ts false is same behind e =
 same_tokens : (ts us : List Token) → ◌≡◌ {A = Result (List Token) TokenFault} (Ok ts) (Ok us) → ts ≡ us
 same_tokens ts us e = cc e
 
-stand_from : (text : List ℕ) (place inside : ℕ) (bs : List ℕ) (ts : List Token) → bs ≡ drop place text → tokens_from place inside bs ≡ Ok ts
+pub stand_from : (text : List ℕ) (place inside : ℕ) (bs : List ℕ) (ts : List Token) → bs ≡ drop place text → tokens_from place inside bs ≡ Ok ts
     → StandFrom text (place + inside) ts
 stand_from text place inside [] ts same e =
     let end : length text ≤ place + inside = omega (arith, none_left text place same) in

@@ -5,4 +5,5 @@ pub mod Faults
 pub mod Tokens
 pub mod Answers
 pub mod Laws
+pub mod Faulty
 pub mod Examples

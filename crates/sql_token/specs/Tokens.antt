@@ -3,6 +3,7 @@ use Rattle.std.specs.Prelude.{ℕ, zero, suc, ◌+◌, ◌-◌, ◌^◌, Bool, t
 use Rattle.std.specs.Prelude.{List, [], ◌∷◌, length, take_while, Option, None, Some, Result, Ok, Err, ℤ, pos}
 use Rattle.std.specs.List.{prefix_len}
 use Rattle.text_rules.specs.Numbers.{is_digit, value_after}
+use Rattle.sql_token.specs.declared.limits.TheConstants.{TOKENS_MOST, BRACKETS_MOST}
 use Rattle.sql_token.specs.declared.keyword.Keyword.{Keyword}
 use Rattle.sql_token.specs.declared.sign.Sign.{Sign}
 use Rattle.sql_token.specs.declared.sign.Sign.TheVariants as sign
@@ -124,7 +125,7 @@ open_behind depth t =
 unfoldable pub too_deep : ℕ → List Token → Option ℕ
 too_deep depth [] = None
 too_deep depth (t ∷ ts) =
-    if opens t.kind && nat_le 32 depth then Some t.span.from else too_deep (open_behind depth t) ts
+    if opens t.kind && nat_le BRACKETS_MOST depth then Some t.span.from else too_deep (open_behind depth t) ts
 
 -- the tokens, where no bracket is too deep
 abbrev pub if_flat : List Token → Option ℕ → Result (List Token) TokenFault
@@ -133,7 +134,7 @@ if_flat ts None = Ok ts
 
 -- the tokens, where they are at most 2,048 and at most 32 brackets are open at a time
 abbrev pub within_limits : List Token → Result (List Token) TokenFault
-within_limits ts = if nat_lt 2048 (length ts) then Err TooMany else if_flat ts (too_deep 0 ts)
+within_limits ts = if nat_lt TOKENS_MOST (length ts) then Err TooMany else if_flat ts (too_deep 0 ts)
 
 -- what follows where there are tokens
 abbrev pub and_then : Result (List Token) TokenFault

@@ -1,11 +1,11 @@
 //! How many brackets are open at a token.
 ghost use Rattle.std.specs.Prelude.{◌≡◌, ◌≤◌, true};
+ghost use Rattle.sql_token.specs.declared.limits.TheConstants.{TOKENS_MOST};
 ghost use Rattle.sql_token.specs.Tokens.{opens, closes, open_behind, too_deep};
 
+use crate::limits::BRACKETS_MOST;
 use crate::sign::Sign;
 use crate::token::{Token, TokenKind};
-
-const MOST_OPEN: u32 = 32;
 
 fn opens(token: &Token) -> bool
     ensures { result ≡ opens token.now.kind }
@@ -21,7 +21,7 @@ fn closes(token: &Token) -> bool
 
 // How many brackets are open behind a token.
 fn open_behind(depth: u32, token: &Token) -> u32
-    requires { depth ≤ 2048 }
+    requires { depth ≤ TOKENS_MOST }
     ensures { result ≡ open_behind depth token.now }
 {
     if opens(token) {
@@ -40,7 +40,7 @@ pub(crate) fn too_deep(tokens: &[Token]) -> Option<u32>
 {
     let mut depth = 0;
     for token in tokens {
-        if opens(token) && depth >= MOST_OPEN {
+        if opens(token) && depth >= BRACKETS_MOST {
             return Some(token.span.from);
         }
         depth = open_behind(depth, token);

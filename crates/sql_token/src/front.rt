@@ -2,6 +2,7 @@
 ghost use Rattle.std.specs.Prelude.{◌≡◌, ◌+◌, ◌≤◌, ◌<◌, Ok, length, true, pos};
 ghost use Rattle.std.specs.List.{list_all};
 ghost use Rattle.text_rules.specs.Numbers.{is_digit, value_after};
+ghost use Rattle.text_rules.specs.declared.limits.TheConstants.{QUERY_TEXT_MOST};
 ghost use Rattle.sql_token.specs.Answers.{Gives};
 ghost use Rattle.sql_token.specs.Bytes.{is_blank};
 ghost use Rattle.sql_token.specs.Tokens.{token, word_at, int_at, small_int, sign_at, short_at, token_at};
@@ -13,7 +14,7 @@ use crate::sign::{long_sign, short_sign};
 use crate::token::{Span, Token, TokenKind, TokenStop};
 
 fn token(kind: TokenKind, place: u32, bytes: usize) -> Token
-    requires { place + bytes ≤ 16384 }
+    requires { place + bytes ≤ QUERY_TEXT_MOST }
     ensures { result ≡ token kind place bytes }
 {
     Token {
@@ -26,7 +27,7 @@ fn token(kind: TokenKind, place: u32, bytes: usize) -> Token
 }
 
 fn word_at(place: u32, text: &[u8]) -> Token
-    requires { place + length text.now ≤ 16384 }
+    requires { place + length text.now ≤ QUERY_TEXT_MOST }
     ensures { result ≡ word_at place text.now }
 {
     let bytes = word_len(text);
@@ -51,7 +52,7 @@ fn small_int(digits: &[u8]) -> Option<i64>
 
 #[tactic(auto, using(crate::proofs::Ints::all_digits))]
 fn int_at(place: u32, text: &[u8]) -> Result<Token, TokenStop>
-    requires { place + length text.now ≤ 16384 }
+    requires { place + length text.now ≤ QUERY_TEXT_MOST }
     ensures { Gives (int_at place text.now) result }
 {
     let bytes = digits_len(text);
@@ -62,7 +63,7 @@ fn int_at(place: u32, text: &[u8]) -> Result<Token, TokenStop>
 }
 
 fn short_at(place: u32, byte: u8) -> Result<Token, TokenStop>
-    requires { place < 16384 }
+    requires { place < QUERY_TEXT_MOST }
     ensures { Gives (short_at place (short_sign byte)) result }
 {
     match short_sign(byte) {
@@ -73,7 +74,7 @@ fn short_at(place: u32, byte: u8) -> Result<Token, TokenStop>
 
 fn sign_at(place: u32, text: &[u8]) -> Result<Token, TokenStop>
     requires some { 0 < length text.now }
-    requires short { place + length text.now ≤ 16384 }
+    requires short { place + length text.now ≤ QUERY_TEXT_MOST }
     ensures { Gives (sign_at place text.now) result }
 {
     if text.len() == 1 {
@@ -88,7 +89,7 @@ fn sign_at(place: u32, text: &[u8]) -> Result<Token, TokenStop>
 /// The token that begins at a place, of the text from there on. Takes no memory.
 pub(crate) fn token_at(place: u32, text: &[u8]) -> Result<Token, TokenStop>
     requires some { 0 < length text.now }
-    requires short { place + length text.now ≤ 16384 }
+    requires short { place + length text.now ≤ QUERY_TEXT_MOST }
     ensures { Gives (token_at place text.now) result }
 {
     if begins_word(text[0]) {

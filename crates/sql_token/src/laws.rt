@@ -1,6 +1,8 @@
 //! What the definition of tokens comes to, as functions that do nothing: each ensures a law.
-ghost use Rattle.std.specs.Prelude.{◌≡◌, ℕ, List, Ok};
+ghost use Rattle.std.specs.Prelude.{◌≡◌, ◌↔◌, ℕ, List, Ok, Err};
 ghost use Rattle.sql_token.specs.declared.token.Token.{Token};
+ghost use Rattle.sql_token.specs.Faults.{BadByte, Literal, TooMany};
+ghost use Rattle.sql_token.specs.Faulty.{IsBadByte, IsLargeInt, IsTooMany};
 ghost use Rattle.sql_token.specs.Laws.{StandFrom};
 ghost use Rattle.sql_token.specs.Tokens.{tokens_from, tokens_of, within_limits};
 
@@ -17,4 +19,15 @@ pub fn tokens_that_stand_are_read()
         → tokens_from 0 0 text ≡ Ok ts }
     ensures within { (text : List ℕ) (ts : List Token) → StandFrom text 0 ts
         → within_limits ts ≡ Ok ts → tokens_of text ≡ Ok ts }
+{}
+
+/// A fault is told by where it stands: tokens stand up to a bad byte, at which none begins, or up to an int above
+/// 2^63 - 1; or the whole text is tokens, more than 2,048 of them. No text stands so that does not have the fault.
+#[tactic(auto, using(crate::proofs::Faulty::too_many))]
+pub fn faults_stand_in_their_text()
+    ensures bad_byte { (text : List ℕ) (place : ℕ)
+        → (tokens_of text ≡ Err (BadByte place)) ↔ IsBadByte text place }
+    ensures literal { (text : List ℕ) (place : ℕ)
+        → (tokens_of text ≡ Err (Literal place)) ↔ IsLargeInt text place }
+    ensures too_many { (text : List ℕ) → (tokens_of text ≡ Err TooMany) ↔ IsTooMany text }
 {}

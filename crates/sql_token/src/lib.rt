@@ -11,6 +11,7 @@ pub mod examples;
 mod front;
 mod keyword;
 pub mod laws;
+pub mod limits;
 mod scan;
 mod sign;
 #[cfg(test)]

@@ -1,5 +1,6 @@
 //! All tokens of a text.
 ghost use Rattle.std.specs.Prelude.{◌≡◌, ◌≤◌, ◌<◌, length, slice_index, false};
+ghost use Rattle.text_rules.specs.declared.limits.TheConstants.{QUERY_TEXT_MOST};
 ghost use Rattle.sql_token.specs.Answers.{behind, Gives, GivesNext};
 ghost use Rattle.sql_token.specs.Bytes.{is_blank};
 
@@ -22,7 +23,7 @@ fn after_blanks(text: &[u8], place: usize) -> usize
 
 // The next token from a place on.
 fn next_token(text: &[u8], place: usize) -> Result<Option<Token>, TokenStop>
-    requires short { length text.now ≤ 16384 }
+    requires short { length text.now ≤ QUERY_TEXT_MOST }
     requires within { place ≤ length text.now }
     ensures { GivesNext text.now place result }
 {
@@ -38,7 +39,7 @@ fn next_token(text: &[u8], place: usize) -> Result<Option<Token>, TokenStop>
 
 /// All tokens of a text, or the first byte where none can be read.
 pub(crate) fn scan(alloc: Global, text: &[u8]) -> Result<Tokens, TokenStop>
-    requires { length text.now ≤ 16384 }
+    requires { length text.now ≤ QUERY_TEXT_MOST }
     ensures { Gives (behind text.now 0) result }
 {
     let mut tokens = Tokens::new(alloc);

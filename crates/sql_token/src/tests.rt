@@ -1,5 +1,6 @@
 //! What no clause says: that texts are read with memory left.
 ghost use Rattle.std.specs.Prelude.{◌≤◌, length};
+ghost use Rattle.text_rules.specs.declared.limits.TheConstants.{QUERY_TEXT_MOST};
 
 use crate::{Keyword, Sign, TokenKind, TokenStop, Tokens};
 use std::alloc::Global;
@@ -7,7 +8,7 @@ use std::test::Fail;
 
 // How many tokens the text has.
 fn count_of(alloc: Global, text: &[u8]) -> Result<usize, TokenStop>
-    requires { length text.now ≤ 16384 }
+    requires { length text.now ≤ QUERY_TEXT_MOST }
 {
     let tokens = Tokens::read(alloc, text)?;
     Ok(tokens.as_slice().len())

@@ -1,15 +1,15 @@
 //! The list of the tokens of a text.
 ghost use Rattle.std.specs.Prelude.{◌≡◌, ◌≤◌, ◌∷◌, [], ◌++◌, length, IfOk, IfErr, OnOk, Ok};
+ghost use Rattle.text_rules.specs.declared.limits.TheConstants.{QUERY_TEXT_MOST};
 ghost use Rattle.sql_token.specs.Answers.{StopsBy};
 ghost use Rattle.sql_token.specs.Tokens.{tokens_of};
 
 use crate::depth::too_deep;
+use crate::limits::TOKENS_MOST;
 use crate::scan::scan;
 use crate::token::{Token, TokenStop};
 use std::alloc::Global;
 use std::marker::Model;
-
-const MOST_TOKENS: usize = 2048;
 
 /// Tokens in the order of their text.
 #[derive(Drop)]
@@ -47,12 +47,12 @@ impl Tokens {
 
     /// The tokens of a text of at most 16,384 bytes, or its first fault. Want of memory may come in place of any answer.
     pub fn read(alloc: Global, text: &[u8]) -> Result<Tokens, TokenStop>
-        requires { length text.now ≤ 16384 }
+        requires { length text.now ≤ QUERY_TEXT_MOST }
         ensures tokens { IfOk result (λ tokens. tokens_of text.now ≡ Ok tokens) }
         ensures fault { IfErr result (StopsBy (tokens_of text.now)) }
     {
         let tokens = scan(alloc, text)?;
-        if tokens.list.len() > MOST_TOKENS {
+        if tokens.list.len() > TOKENS_MOST {
             return Err(TokenStop::TooMany);
         }
         match too_deep(tokens.as_slice()) {

@@ -1,5 +1,5 @@
 -- What records are accepted as is a catalogue, and its rows are the data rows.
-use Rattle.std.proofs.Common.{◌≡◌, ◌∙◌, sym, refl, ap, subst, ℕ, ◌+◌, ◌-◌, ◌^◌, ◌<◌, ◌≤◌, zero, suc, arith, inl, inr, Bool, true, false, not, ◌==◌, nat_lt, nat_le, List, [], ◌∷◌, ◌++◌, length, map, get_or, take, drop, Option, None, Some, Ok, ℤ, pos, negsuc, ◌≤ℤ◌, int_le, ltb-true, max, unwrap_or}
+use Rattle.std.proofs.Common.{◌≡◌, ◌∙◌, sym, refl, ap, subst, ℕ, ◌+◌, ◌<◌, ◌≤◌, zero, suc, arith, inl, inr, Bool, true, false, not, ◌==◌, nat_lt, nat_le, List, [], ◌∷◌, ◌++◌, length, map, get_or, take, drop, Option, None, Some, Ok, ℤ, pos, neg_ℤ, ◌≤ℤ◌, int_le, ltb-true, max, unwrap_or}
 use Rattle.std.specs.Prelude.{All, IsTrue}
 use Rattle.std.specs.List.{IsDistinct, flat_map, range_with_len}
 use Rattle.std.specs.List.Sorted.{IsPermutation}
@@ -13,6 +13,7 @@ use Rattle.std.proofs.lemmas.List.Sums.{list_all-from_AllPass}
 use Rattle.std.proofs.lemmas.Map.Keys.{IsDistinct-push}
 use Rattle.text_rules.specs.Numbers.{int_of}
 use Rattle.sky_vector.specs.Points.{is_admissible}
+use Rattle.table_rules.specs.declared.limits.TheConstants.{COLUMNS_MOST, FURTHER_MOST, ID_MOST, ROWS_MOST}
 use Rattle.table_rules.specs.declared.fault.LoadFault.TheVariants.{Range, TooManyRows, FieldCount, Length, Repeated, Header}
 use Rattle.table_rules.specs.Objects.{Obj, Catalogue, IsRow, IsCatalogue, is_further, column_bound}
 use Rattle.table_rules.specs.Ordered.{by_id, has_id, AreApart}
@@ -23,19 +24,19 @@ use Rattle.table_rules.proofs.Tables.{id_of, by_id_same, apart_have_a_table}
 abbrev Fields : Type 0
 Fields = List (List ℕ)
 
--- a header that is right has at most 16 fields
-few_fields : (header : Fields) → header_faults header ≡ [] → length header ≤ 16
-few_fields header h = elim (cases_lt 16 (length header)) [
+-- a header that is right has not too many fields
+few_fields : (header : Fields) → header_faults header ≡ [] → length header ≤ COLUMNS_MOST
+few_fields header h = elim (cases_lt COLUMNS_MOST (length header)) [
   | inl long ↦
-      let right = right_unless (is_right header 16) (Header 17) (none_in (λ col. unless (is_right header col) (Header (col + 1))) (max 4 (length header)) 16 h (omega (arith, long))) in
-      let low = ltb-true (length (take 16 header)) 16 (and_parts _ _ (and_parts _ _ right).0).0 in
-      absurd (omega (arith, low, length-take-le 16 header (omega (arith, long))))
+      let right = right_unless (is_right header COLUMNS_MOST) (Header (COLUMNS_MOST + 1)) (none_in (λ col. unless (is_right header col) (Header (col + 1))) (max 4 (length header)) COLUMNS_MOST h (omega (arith, long))) in
+      let low = ltb-true (length (take COLUMNS_MOST header)) COLUMNS_MOST (and_parts _ _ (and_parts _ _ right).0).0 in
+      absurd (omega (arith, low, length-take-le COLUMNS_MOST header (omega (arith, long))))
   | inr short ↦ short
 ]
 
 -- A data row without a fault.
 record Stands (width : ℕ) (earlier : List Obj) (fields : Fields) : Type 0 where
-  few : length earlier < 4194304
+  few : length earlier < ROWS_MOST
   wide : length fields ≡ width
   each : (col : ℕ) → col < length fields → field_faults (length earlier + 1) col (field_in fields col) ≡ []
   apart : has_id earlier (row_of fields).id ≡ false
@@ -51,7 +52,7 @@ same_number m n h = grind (arith)
 stands : (width : ℕ) (earlier : List Obj) (fields : Fields) → row_faults width earlier fields ≡ [] → Stands width earlier fields
 stands width earlier fields h =
     let row = length earlier + 1 in
-    let full = unless (nat_lt (length earlier) 4194304) TooManyRows in
+    let full = unless (nat_lt (length earlier) ROWS_MOST) TooManyRows in
     let own = own_faults width row fields in
     let again = unless (not (has_id earlier (row_of fields).id)) (Repeated row (row_of fields).id) in
     let count = unless (length fields == width) (FieldCount row (length fields)) in
@@ -82,16 +83,16 @@ number_by row col (Some z) h = (z, refl, right_unless (is_in_range col z) (Range
 le_from : (a b : ℤ) → int_le a b ≡ true → a ≤ℤ b
 le_from a b h = grind (arith, ints)
 
-from_zero : (z : ℤ) → is_in_range 0 z ≡ true → (pos 0 ≤ℤ z) × (z ≤ℤ pos (2 ^ 63 - 1))
-from_zero z h = let parts = and_parts _ _ h in (le_from (pos 0) z parts.0, le_from z (pos (2 ^ 63 - 1)) parts.1)
+from_zero : (z : ℤ) → is_in_range 0 z ≡ true → (pos 0 ≤ℤ z) × (z ≤ℤ pos ID_MOST)
+from_zero z h = let parts = and_parts _ _ h in (le_from (pos 0) z parts.0, le_from z (pos ID_MOST) parts.1)
 
 filled : (col b : ℕ) (bs : List ℕ) → is_null col (b ∷ bs) ≡ false
 filled col b bs = grind (arith)
 
-bound_from : (col : ℕ) → 4 ≤ col → column_bound col ≡ pos (2 ^ 50)
+bound_from : (col : ℕ) → 4 ≤ col → column_bound col ≡ pos FURTHER_MOST
 bound_from col low = grind (arith)
 
-least_from : (col : ℕ) → 4 ≤ col → column_least col ≡ negsuc (2 ^ 50 - 1)
+least_from : (col : ℕ) → 4 ≤ col → column_least col ≡ neg_ℤ (pos FURTHER_MOST)
 least_from col low =
     let e : (col == 0) ≡ false = grind (arith) in
     let f : nat_le col 3 ≡ false = grind (arith) in
@@ -108,14 +109,14 @@ further_by row col (b ∷ bs) low h =
     ap is_further e ∙ further_in col z low within
 
 -- the id of a row that stands
-id_by : (row : ℕ) (fields : Fields) → field_faults row 0 (field_in fields 0) ≡ [] → (pos 0 ≤ℤ number_in fields 0) × (number_in fields 0 ≤ℤ pos (2 ^ 63 - 1))
+id_by : (row : ℕ) (fields : Fields) → field_faults row 0 (field_in fields 0) ≡ [] → (pos 0 ≤ℤ number_in fields 0) × (number_in fields 0 ≤ℤ pos ID_MOST)
 id_by row fields h =
     let (z, e, within) = number_by row 0 (int_of (field_in fields 0)) h in
     let same : number_in fields 0 ≡ z = ap (λ o. unwrap_or o (pos 0)) e in
-    subst (λ n. (pos 0 ≤ℤ n) × (n ≤ℤ pos (2 ^ 63 - 1))) (sym same) (from_zero z within)
+    subst (λ n. (pos 0 ≤ℤ n) × (n ≤ℤ pos ID_MOST)) (sym same) (from_zero z within)
 
 -- the row of a record that stands is within its limits
-within_limits : (width : ℕ) (earlier : List Obj) (fields : Fields) → width ≤ 16 → Stands width earlier fields → IsRow (row_of fields)
+within_limits : (width : ℕ) (earlier : List Obj) (fields : Fields) → width ≤ COLUMNS_MOST → Stands width earlier fields → IsRow (row_of fields)
 within_limits width earlier [] low st = record {
   id = omega (arith, ints);
   most = omega (arith, ints);
@@ -154,8 +155,8 @@ apart_front width rows h (suc n) low =
 pub apart : (width : ℕ) (rows : List Fields) → data_faults width rows ≡ [] → AreApart (map row_of rows)
 apart width rows h = subst (λ l. AreApart (map row_of l)) (take_all (length rows) rows (omega arith)) (apart_front width rows h (length rows) (omega arith))
 
--- there are at most 2^22 of them
-few_rows : (width : ℕ) (rows : List Fields) → data_faults width rows ≡ [] → length rows ≤ 2 ^ 22
+-- there are not too many of them
+few_rows : (width : ℕ) (rows : List Fields) → data_faults width rows ≡ [] → length rows ≤ ROWS_MOST
 few_rows width [] h = omega arith
 few_rows width (r ∷ rs) h =
     let st = each_stands width (r ∷ rs) (length rs) h (omega arith) in
@@ -173,21 +174,20 @@ wide_row header earlier fields st =
 
 -- rows without a fault under a header without one are a catalogue within the limits
 limits : (header : Fields) (rows : List Fields) → header_faults header ≡ [] → data_faults (length header) rows ≡ []
-    → IsCatalogue (catalogue_under header rows) × All IsRow (by_id (map row_of rows))
+    → IsCatalogue (catalogue_under header rows)
 limits header rows named h =
     let few = few_fields header named in
     let table = apart_have_a_table (map row_of rows) (apart (length header) rows h) in
-    let moved = by_id_same (map row_of rows) in (
-      record {
-        few_names = omega (arith, few, length-drop 4 header);
-        few = omega (arith, few_rows (length header) rows h, length_permutation _ _ moved, length-map rows row_of);
-        ascend = table.ascend;
-        wide = All-permutation (λ o. length o.further ≡ length (drop 4 header)) (map row_of rows) (by_id (map row_of rows)) moved
-            (each_row (length header) rows h (λ o. length o.further ≡ length (drop 4 header)) (wide_row header));
-      },
-      All-permutation IsRow (map row_of rows) (by_id (map row_of rows)) moved
-          (each_row (length header) rows h IsRow (λ earlier fields st. within_limits (length header) earlier fields few st)),
-    )
+    let moved = by_id_same (map row_of rows) in
+    record {
+      few_names = omega (arith, few, length-drop 4 header);
+      few = omega (arith, few_rows (length header) rows h, length_permutation _ _ moved, length-map rows row_of);
+      ascend = table.ascend;
+      wide = All-permutation (λ o. length o.further ≡ length (drop 4 header)) (map row_of rows) (by_id (map row_of rows)) moved
+          (each_row (length header) rows h (λ o. length o.further ≡ length (drop 4 header)) (wide_row header));
+      rows = All-permutation IsRow (map row_of rows) (by_id (map row_of rows)) moved
+          (each_row (length header) rows h IsRow (λ earlier fields st. within_limits (length header) earlier fields few st));
+    }
 
 -- records that are accepted have a header and data rows without a fault
 pub no_fault : (header : Fields) (rows : List Fields) (c : Catalogue) → catalogue_of_records (header ∷ rows) ≡ Ok c
@@ -197,11 +197,11 @@ no_fault header rows c h =
     let both = none_of_both (header_faults header) (data_faults (length header) rows) none in
     (both.0, both.1, same)
 
-pub accepted_is_catalogue : (records : List Fields) (c : Catalogue) → catalogue_of_records records ≡ Ok c → IsCatalogue c × All IsRow c.objects
+pub accepted_is_catalogue : (records : List Fields) (c : Catalogue) → catalogue_of_records records ≡ Ok c → IsCatalogue c
 accepted_is_catalogue [] c h = absurd (cc h)
 accepted_is_catalogue (header ∷ rows) c h =
     let (named, none, same) = no_fault header rows c h in
-    subst (λ c. IsCatalogue c × All IsRow c.objects) same (limits header rows named none)
+    subst IsCatalogue same (limits header rows named none)
 
 pub objects_are_the_data_rows : (header : Fields) (rows : List Fields) (c : Catalogue) → catalogue_of_records (header ∷ rows) ≡ Ok c → IsPermutation (map row_of rows) c.objects
 objects_are_the_data_rows header rows c h =

@@ -1,15 +1,14 @@
 -- Laws of accepted catalogues and of tables in ascending id.
-use Rattle.std.specs.Prelude.{◌≡◌, ℕ, List, ◌∷◌, map, All, Ok}
+use Rattle.std.specs.Prelude.{◌≡◌, ℕ, List, ◌∷◌, map, Ok}
 use Rattle.std.specs.List.Sorted.{IsPermutation}
-use Rattle.table_rules.specs.Objects.{Obj, Catalogue, IsRow, IsCatalogue, IsTable}
+use Rattle.table_rules.specs.Objects.{Obj, Catalogue, IsCatalogue, IsTable}
 use Rattle.table_rules.specs.Ordered.{by_id, AreApart}
 use Rattle.table_rules.specs.Records.{catalogue_of_records, row_of}
 
--- what records are accepted as is a catalogue, and each of its rows is within the limits
+-- what records are accepted as is a catalogue
 abbrev pub AcceptedIsCatalogue : Type 0
 AcceptedIsCatalogue =
-    (records : List (List (List ℕ))) (c : Catalogue) → catalogue_of_records records ≡ Ok c
-    → IsCatalogue c × All IsRow c.objects
+    (records : List (List (List ℕ))) (c : Catalogue) → catalogue_of_records records ≡ Ok c → IsCatalogue c
 
 -- the rows of an accepted catalogue are those of its data rows, each once
 abbrev pub ObjectsAreTheDataRows : Type 0

@@ -3,6 +3,7 @@ use Rattle.std.specs.Prelude.{ℕ, Bool, false, not, ◌&&◌, ◌||◌, ◌==�
 use Rattle.std.specs.Char.{is_ascii_alphabetic, is_ascii_digit}
 use Rattle.std.specs.List.{list_all, list_any, position}
 use Rattle.std.specs.Str.{byte, bytes_eq}
+use Rattle.table_rules.specs.declared.limits.TheConstants.{COLUMNS_MOST, NAME_MOST}
 
 -- a name begins with the byte: it is a letter of ASCII or an underscore
 abbrev pub begins_name : ℕ → Bool
@@ -19,7 +20,7 @@ begins_as_a_name (b ∷ bs) = begins_name b
 
 -- the text is a name: a letter or an underscore, then letters, digits and underscores, 1 to 32 bytes in all
 abbrev pub is_name : List ℕ → Bool
-is_name text = begins_as_a_name text && list_all continues_name text && nat_le (length text) 32
+is_name text = begins_as_a_name text && list_all continues_name text && nat_le (length text) NAME_MOST
 
 -- the names of the columns that every catalogue has
 abbrev pub first_names : List (List ℕ)
@@ -31,7 +32,7 @@ column_names names = first_names ++ names
 
 -- one more column behind these can have the text as its name: it is a name and none of theirs, and they are fewer than 16
 abbrev pub can_follow : List (List ℕ) → List ℕ → Bool
-can_follow columns text = nat_lt (length columns) 16 && is_name text && not (list_any (bytes_eq text) columns)
+can_follow columns text = nat_lt (length columns) COLUMNS_MOST && is_name text && not (list_any (bytes_eq text) columns)
 
 -- the number of the column with this name, from 0, and None where none has it
 abbrev pub column_of : List (List ℕ) → List ℕ → Option ℕ

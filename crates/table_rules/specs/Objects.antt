@@ -1,10 +1,12 @@
 -- The object table: a flat list of rows, each with an id, a position and further values.
-use Rattle.std.specs.Prelude.{◌≡◌, ℕ, ◌-◌, ◌^◌, ◌≤◌, Bool, true, ◌&&◌, List, length, All, AllPairs}
+use Rattle.std.specs.Prelude.{◌≡◌, ℕ, ◌-◌, ◌≤◌, Bool, true, ◌&&◌, List, length, All, AllPairs}
 use Rattle.std.specs.Prelude.{Option, None, Some, unwrap_or, slice_get, if◌then◌else◌, nat_le, ◌==◌}
-use Rattle.std.specs.Prelude.{ℤ, pos, negsuc, int_le, ◌≤ℤ◌, ◌<ℤ◌, IsTrue}
+use Rattle.std.specs.Prelude.{ℤ, pos, neg_ℤ, int_le, ◌≤ℤ◌, ◌<ℤ◌, IsTrue}
 use Rattle.std.specs.List.{list_all}
 use Rattle.std.specs.List.Sorted.{IsPermutation}
 use Rattle.sky_vector.specs.Points.{Point, is_admissible}
+use Rattle.sky_vector.specs.declared.limits.TheConstants.{COORDINATE_MOST}
+use Rattle.table_rules.specs.declared.limits.TheConstants.{FURTHER_COLUMNS_MOST, FURTHER_MOST, ID_MOST, ROWS_MOST}
 
 -- A row: its id, its position, and its further values, of which None is NULL.
 pub record Obj : Type 0 where
@@ -29,33 +31,35 @@ cell o col =
 -- the largest size of a value in a column
 abbrev pub column_bound : ℕ → ℤ
 column_bound col =
-    if col == 0 then pos (2 ^ 63 - 1)
-    else if nat_le col 3 then pos 268435472
-    else pos (2 ^ 50)
+    if col == 0 then pos ID_MOST
+    else if nat_le col 3 then pos COORDINATE_MOST
+    else pos FURTHER_MOST
 
--- a further value is NULL or within ±2^50
+-- a further value is NULL or no larger than the bound
 abbrev pub is_further : Option ℤ → Bool
 is_further None = true
-is_further (Some z) = int_le (negsuc (2 ^ 50 - 1)) z && int_le z (pos (2 ^ 50))
+is_further (Some z) = int_le (neg_ℤ (pos FURTHER_MOST)) z && int_le z (pos FURTHER_MOST)
 
 -- A row within the limits of its columns.
 pub record IsRow (o : Obj) : Type 0 where
   pub id : pos 0 ≤ℤ o.id
-  pub most : o.id ≤ℤ pos (2 ^ 63 - 1)
+  pub most : o.id ≤ℤ pos ID_MOST
   pub at : IsTrue (is_admissible o.at)
   pub further : IsTrue (list_all is_further o.further)
-  pub few : length o.further ≤ 12
+  pub few : length o.further ≤ FURTHER_COLUMNS_MOST
 
 -- the ids ascend strictly, so no two rows have one
 abbrev pub IdsAscend : List Obj → Type 0
 IdsAscend objects = AllPairs (λ a b. a.id <ℤ b.id) objects
 
--- Rows that are a table: at most 2^22, in strictly ascending id, each with a value for each further column.
+-- Rows that are a table: not too many, in strictly ascending id, each within the limits of its columns and with a value for
+-- each further column.
 pub record IsCatalogue (c : Catalogue) : Type 0 where
-  pub few_names : length c.names ≤ 12
-  pub few : length c.objects ≤ 2 ^ 22
+  pub few_names : length c.names ≤ FURTHER_COLUMNS_MOST
+  pub few : length c.objects ≤ ROWS_MOST
   pub ascend : IdsAscend c.objects
   pub wide : All (λ o. length o.further ≡ length c.names) c.objects
+  pub rows : All IsRow c.objects
 
 -- The table of these rows: the same rows in strictly ascending id. Where an id repeats there is none.
 pub record IsTable (rows table : List Obj) : Type 0 where

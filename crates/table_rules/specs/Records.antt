@@ -11,6 +11,7 @@ use Rattle.sky_vector.specs.Points.{is_admissible}
 use Rattle.table_rules.specs.Objects.{Obj, Catalogue, column_bound}
 use Rattle.table_rules.specs.Names.{first_names, can_follow}
 use Rattle.table_rules.specs.Ordered.{by_id, has_id}
+use Rattle.table_rules.specs.declared.limits.TheConstants.{ROWS_MOST}
 use Rattle.table_rules.specs.declared.fault.LoadFault.{LoadFault}
 use Rattle.table_rules.specs.declared.fault.LoadFault.TheVariants.{Header, FieldCount, Number, Range, Length, Repeated, TooManyRows}
 
@@ -79,10 +80,10 @@ own_faults width row fields =
     ++ flat_map (λ col. field_faults row col (field_in fields col)) (range_with_len 0 (length fields))
     ++ unless (is_admissible (row_of fields).at) (Length row)
 
--- the faults of a record behind these rows: there may be 2^22 rows, and no two of one id
+-- the faults of a record behind these rows: there are not too many, and no two of one id
 abbrev pub row_faults : ℕ → List Obj → List (List ℕ) → List LoadFault
 row_faults width earlier fields =
-    unless (nat_lt (length earlier) 4194304) TooManyRows
+    unless (nat_lt (length earlier) ROWS_MOST) TooManyRows
     ++ own_faults width (length earlier + 1) fields
     ++ unless (not (has_id earlier (row_of fields).id)) (Repeated (length earlier + 1) (row_of fields).id)
 

@@ -7,3 +7,4 @@
 #![tactic(auto)]
 
 pub mod examples;
+pub mod limits;

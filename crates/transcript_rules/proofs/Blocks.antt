@@ -7,7 +7,7 @@ use Rattle.table_rules.specs.Objects.{Catalogue}
 use Rattle.sky_rules.specs.Partition.{Partition}
 use Rattle.sql_rules.specs.PrintedExprs.{Bytes}
 use Rattle.session_script.specs.Scripts.{query_spans}
-use Rattle.session_script.specs.Views.{ScriptView}
+use Rattle.session_script.specs.Views.{ScriptView, query_lines}
 use Rattle.session_script.specs.declared.step.Step.{Step}
 use Rattle.session_rules.specs.Ends.{Judged, may_end, may_end_from}
 use Rattle.session_rules.specs.declared.end.EndKind.{EndKind}
@@ -16,7 +16,7 @@ use Rattle.transcript_rules.specs.Explained.{explain_block, explain_blocks_from}
 use Rattle.transcript_rules.specs.Laws.{OneBlockEach, BlocksInOrder, BlocksAreNumbered, OneExplainedEach}
 use Rattle.transcript_rules.specs.Laws.{ExplainedInOrder}
 use Rattle.transcript_rules.specs.RefusalLines.{quoted}
-use Rattle.transcript_rules.specs.Transcripts.{query_lines, blocks_from, judged_of, FitEnds}
+use Rattle.transcript_rules.specs.Transcripts.{blocks_from, judged_of, FitEnds}
 
 -- both parts of what holds together
 pub split_and : (a b : Bool) → (a && b) ≡ true → (a ≡ true) × (b ≡ true)

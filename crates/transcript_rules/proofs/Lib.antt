@@ -1,13 +1,9 @@
 pub mod Blocks
-pub mod Deep
-pub mod DemoQueries
+pub mod ChunkOrders
 pub mod Ended
-pub mod GroupQueries
 pub mod Keyed
 pub mod Reading
 pub mod Shown
 pub mod KeyedItems
-pub mod RowQueries
 pub mod Steps
 pub mod Texts
-pub mod Written

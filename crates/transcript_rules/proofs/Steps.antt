@@ -1,26 +1,25 @@
 -- The block of a query, step by step: its tree, what it is bound to, its refusal or its answer, and its plan.
 use Rattle.std.proofs.Common.{◌≡◌, ℕ, ℤ, List, Result, Ok, Err, Option, None, Some, ◌++◌, length, ap, ◌∙◌, option_map}
-use Rattle.std.proofs.Common.{refl, codes, true, false}
+use Rattle.std.proofs.Common.{refl, sym, codes, true, false, not, ◌&&◌, [], ◌∷◌}
 use Rattle.std.specs.Option.{is_some}
 use Rattle.table_rules.specs.Objects.{Catalogue}
 use Rattle.sky_rules.specs.Partition.{Partition}
 use Rattle.sql_tree.specs.declared.query.Query.{Query}
-use Rattle.sql_rules.specs.Examples.{twice_less}
 use Rattle.sql_rules.specs.PrintedExprs.{Bytes}
 use Rattle.sql_rules.specs.Trees.{tree_of}
-use Rattle.sql_rules.specs.declared.fault.BindFault.{BindFault}
+use Rattle.bind_rules.specs.declared.fault.BindFault.{BindFault}
 use Rattle.sql_rules.specs.declared.fault.SqlFault.{SqlFault}
 use Rattle.sql_bound.specs.declared.query.Bound.{Bound}
 use Rattle.bind_rules.specs.Binding.{bound_of}
 use Rattle.answer_rules.specs.Answers.{Answer, flat_answer}
 use Rattle.answer_rules.specs.Plans.{plan_of, radius_refusal}
-use Rattle.answer_rules.specs.Rewriting.{merge_plan_of}
+use Rattle.answer_rules.specs.Rewriting.{chunk_query_of, merge_plan_of}
 use Rattle.answer_rules.specs.declared.refusal.Radius.{Radius}
 use Rattle.answer_rules.specs.declared.value.Value.{Value}
-use Rattle.session_rules.specs.declared.end.EndKind.TheVariants.{Answered, Refused, Cancelled}
+use Rattle.session_rules.specs.declared.end.EndKind.TheVariants.{Answered, Refused, Cancelled, Spent}
 use Rattle.transcript_rules.specs.declared.refusal.Refusal.{Refusal}
 use Rattle.transcript_rules.specs.declared.refusal.Refusal.TheVariants as refusal
-use Rattle.transcript_rules.specs.Refusals.{understood, with_tree, with_bound, early_by, early_refusal}
+use Rattle.transcript_rules.specs.Refusals.{Understood, understood, with_tree, with_bound, early_by, early_refusal}
 use Rattle.transcript_rules.specs.Refusals.{total_by as total_by_answer, total_refusal_by, total_refusal, or_else}
 use Rattle.transcript_rules.specs.Refusals.{refusal_of}
 use Rattle.transcript_rules.specs.RefusalLines.{line, refusal_line}
@@ -30,11 +29,8 @@ use Rattle.transcript_rules.specs.Transcripts.{is_none_of, is_idle, judged_of}
 use Rattle.transcript_rules.specs.ChunkLines.{chunk_line}
 use Rattle.transcript_rules.specs.MergeLines.{merge_line}
 use Rattle.transcript_rules.specs.Explained.{chunks_line, plan_lines, explain_lines, explain_block}
-
--- the tree that was read; where there is none, any
-abbrev pub tree_in : Result Query SqlFault → Query
-tree_in (Ok q) = q
-tree_in (Err why) = twice_less
+use Rattle.transcript_rules.specs.Laws.{AnsweredIsItsTable, ExplainedIsItsPlan, SpentIsItsLine, WorkIsAPlan}
+use Rattle.session_rules.specs.Ends.{has_work}
 
 -- a query whose tree and bound query are known is understood
 pub understood_by : (names : List Bytes) (text : Bytes) (q : Query) (b : Bound)
@@ -124,13 +120,13 @@ pub explained_by : (g : Partition) (c : Catalogue) (k : ℕ) (text : Bytes) (q :
     (printed merged : Bytes)
     → understood c.names text ≡ Ok (record { tree = q; bound = b }) → radius_refusal g c.objects b ≡ None
     → plan_of g c.objects b ≡ chunks
-    → chunk_line c.names q b.shape ≡ printed → merge_line (merge_plan_of b) ≡ merged
+    → chunk_line c.names q (chunk_query_of b) ≡ printed → merge_line (merge_plan_of b) ≡ merged
     → explain_block g c k text ≡ number_line k ++ (printed ++ (merged ++ chunks_line chunks))
 unfolding explain_block
 explained_by g c k text q b chunks printed merged known near planned is joins =
     ap (λ r. number_line k ++ explain_lines g c text r) (early_known g c text q b None known near)
     ∙ ap (λ u. number_line k ++ plan_lines g c u) known
-    ∙ ap (λ cs. number_line k ++ (chunk_line c.names q b.shape
+    ∙ ap (λ cs. number_line k ++ (chunk_line c.names q (chunk_query_of b)
     ++ (merge_line (merge_plan_of b) ++ chunks_line cs))) planned
     ∙ ap (λ x. number_line k ++ (x ++ (merge_line (merge_plan_of b) ++ chunks_line chunks))) is
     ∙ ap (λ x. number_line k ++ (printed ++ (x ++ chunks_line chunks))) joins
@@ -215,3 +211,36 @@ pub radius_told_by : (g : Partition) (c : Catalogue) (k : ℕ) (text : Bytes) (q
     → explain_block g c k text ≡ number_line k ++ refusal_line text (refusal.Radius why)
 radius_told_by g c k text q b why known far =
     told_by g c k text (refusal.Radius why) (early_known g c text q b (Some why) known far)
+
+-- the block of a query that is out of memory
+pub spent_by : SpentIsItsLine
+unfolding block
+spent_by g c k text = refl
+
+-- the block of a query that has an answer
+pub answered_is_its_table : AnsweredIsItsTable
+answered_is_its_table g c k text u rows known answered =
+    answered_by g c k text u.tree u.bound (headings c.names u.tree) rows (plan_of g c.objects u.bound) known refl answered refl
+
+-- the block that explains a query which is planned
+pub explained_is_its_plan : ExplainedIsItsPlan
+unfolding explain_block
+explained_is_its_plan g c k text u known none =
+    ap (λ r. number_line k ++ explain_lines g c text r) none ∙ ap (λ x. number_line k ++ plan_lines g c x) known
+
+-- whether a query that is planned has work
+work_is : (g : Partition) (c : Catalogue) (text : Bytes) (u : Understood) → understood c.names text ≡ Ok u
+    → early_refusal g c text ≡ None → has_work (judged_of g c text) ≡ not (is_none_of (plan_of g c.objects u.bound))
+unfolding judged_of
+work_is g c text u known none =
+    ap (λ r. not (is_some r) && not (is_idle g c.objects (understood c.names text))) none
+    ∙ ap (λ x. not (is_idle g c.objects x)) known
+
+no_chunks : (chunks : List ℕ) → not (is_none_of chunks) ≡ false → chunks ≡ []
+no_chunks [] h = refl
+no_chunks (c ∷ chunks) h = absurd (cc h)
+
+pub work_is_a_plan : WorkIsAPlan
+work_is_a_plan g c text u known none =
+    let is = work_is g c text u known none in
+    (λ idle. no_chunks (plan_of g c.objects u.bound) (sym is ∙ idle), λ empty. is ∙ ap (λ chunks. not (is_none_of chunks)) empty)

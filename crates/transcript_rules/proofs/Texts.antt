@@ -24,8 +24,8 @@ use Rattle.sql_tree.specs.declared.query.Selection.TheVariants as selection
 use Rattle.sql_tree.specs.declared.query.TableRef.{TableRef}
 use Rattle.sql_rules.specs.Printed.{print_kind}
 use Rattle.sql_rules.specs.PrintedExprs.{Bytes, print_col}
-use Rattle.sql_rules.specs.declared.fault.BindFault.{BindFault}
-use Rattle.sql_rules.specs.declared.fault.BindFault.TheVariants as fault
+use Rattle.bind_rules.specs.declared.fault.BindFault.{BindFault}
+use Rattle.bind_rules.specs.declared.fault.BindFault.TheVariants as fault
 use Rattle.bind_rules.specs.Binding.{columns_from, star_items, bound_item, bound_items, bound_order, key_by}
 use Rattle.bind_rules.specs.Binding.{bound_query, bound_of, by_fault, chord_limit, first_or}
 use Rattle.bind_rules.specs.Bounds.{Scope, bound_col}
@@ -33,7 +33,7 @@ use Rattle.bind_rules.specs.Checks.{alias_place, is_named, bind_fault, or_else}
 use Rattle.bind_rules.specs.Columns.{is_join, qualifier}
 use Rattle.bind_rules.specs.Forms.{is_join_form, join_form}
 use Rattle.bind_rules.specs.Mentions.{items_of}
-use Rattle.bind_rules.specs.Tops.{tests_in}
+use Rattle.bind_rules.specs.Tops.{top_tests}
 use Rattle.bind_rules.specs.Names.{is_aggregate, is_grouped, has_keys}
 use Rattle.answer_rules.specs.declared.rewritten.ChunkItem.{ChunkItem}
 use Rattle.answer_rules.specs.declared.rewritten.ChunkItem.TheVariants as part
@@ -337,7 +337,7 @@ of_query : (names : List Bytes) (q : Query) → join_form q ≡ None
 unfolding bound_query
 of_query names q none =
     shape_each names q (record { names = names; second = q.second }) q.second (is_grouped q)
-    (first_or (pos 0) (flat_map (λ f. chord_limit f.test) (tests_in q.cond))) refl refl refl none
+    (first_or (pos 0) (flat_map chord_limit (top_tests q.cond))) refl refl refl none
 
 -- one text for each column
 pub one_text_each : OneTextEach

@@ -1,7 +1,7 @@
 -- The line that explains what runs on each chunk: the chunk query, printed with the names that the query has.
 -- A query per partition, over a table of that partition, is Qserv's idea (SC 2011); how it is printed is a rule of this
 -- repository.
-use Rattle.std.specs.Prelude.{ℕ, List, [], ◌∷◌, ◌++◌, map, Option, None, Some, slice_get, codes}
+use Rattle.std.specs.Prelude.{ℕ, ◌+◌, ℤ, List, [], ◌∷◌, ◌++◌, map, length, Option, None, Some, slice_get, codes}
 use Rattle.std.specs.List.{flat_map}
 use Rattle.sql_bound.specs.declared.query.Shape.{Shape}
 use Rattle.sql_bound.specs.declared.query.Shape.TheVariants.{Rows, Pairs, Groups}
@@ -14,11 +14,14 @@ use Rattle.sql_tree.specs.declared.query.Query.{Query}
 use Rattle.sql_tree.specs.declared.query.Selection.{Selection}
 use Rattle.sql_tree.specs.declared.query.Selection.TheVariants as selection
 use Rattle.sql_tree.specs.declared.query.TableRef.{TableRef}
-use Rattle.sql_rules.specs.Printed.{print_kind, print_alias, print_where, print_group}
-use Rattle.sql_rules.specs.PrintedExprs.{Bytes, print_col}
+use Rattle.sql_rules.specs.Printed.{print_kind, print_alias, print_where, print_group, print_limit}
+use Rattle.sql_rules.specs.PrintedExprs.{Bytes, print_col, text_if}
+use Rattle.answer_rules.specs.declared.rewritten.ChunkOrder.{ChunkOrder}
+use Rattle.answer_rules.specs.declared.rewritten.ChunkQuery.{ChunkQuery}
 use Rattle.bind_rules.specs.Checks.{alias_place}
 use Rattle.bind_rules.specs.Columns.{qualifier}
 use Rattle.bind_rules.specs.Mentions.{items_of}
+use Rattle.transcript_rules.specs.ColumnNames.{column_name, place_names, clause, id_count, id_names}
 use Rattle.transcript_rules.specs.RefusalLines.{line}
 use Rattle.transcript_rules.specs.Tables.{by_commas, qualified, star_columns}
 
@@ -79,8 +82,23 @@ chunk_tables first None = codes "Object_c" ++ print_alias first.alias
 chunk_tables first (Some second) =
     codes "Object_c_s" ++ (print_alias first.alias ++ (codes ",Object_c_s_near" ++ print_alias second.alias))
 
--- the chunk query, with the WHERE and the GROUP BY of the query
-unfoldable pub chunk_line : List Bytes → Query → Shape → Bytes
-chunk_line names q shape =
-    line (codes "chunk: SELECT " ++ (by_commas (chunk_texts names q shape) ++ (codes " FROM "
-    ++ (chunk_tables q.first q.second ++ (print_where q.cond ++ print_group q.group)))))
+-- the order key, which is the column at this place, and its way, where there is one
+abbrev pub chunk_key_names : ℕ → Option ChunkOrder → List Bytes
+chunk_key_names place None = []
+chunk_key_names place (Some o) = (column_name place ++ text_if o.down (codes " DESC")) ∷ []
+
+-- the order of a chunk query of rows or pairs by its columns: the key, which stands behind the ids, and then the ids
+abbrev pub chunk_order_names : ChunkQuery → List Bytes
+chunk_order_names cq =
+    chunk_key_names (length cq.items + id_count cq.shape) cq.order ++ id_names (length cq.items) cq.shape
+
+-- the order and the LIMIT of a chunk query that has a LIMIT: its first rows are those that the merge may need
+abbrev pub chunk_limit : ChunkQuery → Option ℤ → Bytes
+chunk_limit cq None = []
+chunk_limit cq (Some n) = clause (codes " ORDER BY ") (chunk_order_names cq) ++ print_limit (Some n)
+
+-- the chunk query, with the WHERE and the GROUP BY of the query, and with an order where it has a LIMIT
+unfoldable pub chunk_line : List Bytes → Query → ChunkQuery → Bytes
+chunk_line names q cq =
+    line (codes "chunk: SELECT " ++ (by_commas (chunk_texts names q cq.shape) ++ (codes " FROM "
+    ++ (chunk_tables q.first q.second ++ (print_where q.cond ++ (print_group q.group ++ chunk_limit cq cq.limit))))))

@@ -6,13 +6,13 @@ use Rattle.table_rules.specs.Objects.{Catalogue}
 use Rattle.sky_rules.specs.Partition.{Partition}
 use Rattle.sql_rules.specs.PrintedExprs.{Bytes}
 use Rattle.answer_rules.specs.Plans.{plan_of}
-use Rattle.answer_rules.specs.Rewriting.{merge_plan_of}
-use Rattle.session_script.specs.Views.{ScriptView}
+use Rattle.answer_rules.specs.Rewriting.{chunk_query_of, merge_plan_of}
+use Rattle.session_script.specs.Views.{ScriptView, query_lines}
 use Rattle.transcript_rules.specs.declared.refusal.Refusal.{Refusal}
 use Rattle.transcript_rules.specs.Refusals.{Understood, understood, early_refusal}
 use Rattle.transcript_rules.specs.RefusalLines.{line, refusal_line}
 use Rattle.transcript_rules.specs.Blocks.{number_line}
-use Rattle.transcript_rules.specs.Transcripts.{query_lines, joined}
+use Rattle.transcript_rules.specs.Transcripts.{joined}
 use Rattle.transcript_rules.specs.ChunkLines.{chunk_line}
 use Rattle.transcript_rules.specs.MergeLines.{merge_line}
 
@@ -23,7 +23,7 @@ chunks_line chunks = line (codes "chunks:" ++ flat_map (λ c. codes " " ++ decim
 -- the three lines of a query that is understood
 abbrev pub plan_lines : Partition → Catalogue → Result Understood Refusal → Bytes
 plan_lines g c (Ok u) =
-    chunk_line c.names u.tree u.bound.shape
+    chunk_line c.names u.tree (chunk_query_of u.bound)
     ++ (merge_line (merge_plan_of u.bound) ++ chunks_line (plan_of g c.objects u.bound))
 plan_lines g c (Err why) = []
 

@@ -9,7 +9,8 @@ use Rattle.sql_rules.specs.PrintedExprs.{Bytes, in_brackets, print_expr_step, pr
 use Rattle.sql_rules.specs.PrintedExprs.{print_signed_step}
 use Rattle.bind_rules.specs.Bounds.{Scope, bound_col, bound_expr}
 use Rattle.answer_rules.specs.Rewriting.{key_place}
-use Rattle.transcript_rules.specs.MergeLines.{column_name, key_expr_text}
+use Rattle.transcript_rules.specs.ColumnNames.{column_name}
+use Rattle.transcript_rules.specs.MergeLines.{key_expr_text}
 
 -- an atom, printed with the column of the first key that is the same
 abbrev pub keyed_step : Scope → List BoundCol → Atom-F Bytes Bytes Bytes Bytes Bytes → Bytes

@@ -3,10 +3,11 @@ pub mod RefusalLines
 pub mod Tables
 pub mod Blocks
 pub mod Transcripts
+pub mod ColumnNames
 pub mod ChunkLines
 pub mod MergeLines
 pub mod Explained
+pub mod Written
 pub mod Examples
 pub mod KeyedTexts
 pub mod Laws
-pub mod DemoExamples

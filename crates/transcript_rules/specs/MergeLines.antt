@@ -2,8 +2,7 @@
 -- are named c1, c2 and so on.
 use Rattle.std.specs.Prelude.{ℕ, ◌+◌, List, [], ◌∷◌, ◌++◌, map, length, Option, None, Some, unwrap_or, slice_get}
 use Rattle.std.specs.Prelude.{if◌then◌else◌, codes}
-use Rattle.std.specs.Fmt.{decimal, signed_decimal}
-use Rattle.std.specs.List.{range_with_len}
+use Rattle.std.specs.Fmt.{signed_decimal}
 use Rattle.sql_bound.specs.declared.expr.BoundAtom.TheFolds.{fold-BoundExpr}
 use Rattle.sql_bound.specs.declared.expr.BoundAtom.TheOpen.{BoundAtom-F, BoundExpr-F, BoundFactor-F}
 use Rattle.sql_bound.specs.declared.expr.BoundAtom.TheOpen.{BoundProd-F, BoundSigned-F}
@@ -20,12 +19,9 @@ use Rattle.answer_rules.specs.declared.rewritten.MergeKey.{MergeKey}
 use Rattle.answer_rules.specs.declared.rewritten.MergeKey.TheVariants.{ChunkKey, Item, Key}
 use Rattle.answer_rules.specs.declared.rewritten.MergeOrder.{MergeOrder}
 use Rattle.answer_rules.specs.declared.rewritten.MergePlan.{MergePlan}
+use Rattle.transcript_rules.specs.ColumnNames.{column_name, place_names, clause, id_count, id_names}
 use Rattle.transcript_rules.specs.RefusalLines.{line}
 use Rattle.transcript_rules.specs.Tables.{by_commas}
-
--- the name of the column at a place, from 0
-abbrev pub column_name : ℕ → Bytes
-column_name place = codes "c" ++ decimal (place + 1)
 
 -- ---- a plain item of a grouping
 
@@ -85,25 +81,10 @@ merged_texts m = map (merged_over (keys_of m.shape)) m.items
 
 -- ---- GROUP BY and ORDER BY
 
--- the names c1, c2 and so on of so many columns from a place on
-abbrev pub place_names : ℕ → ℕ → List Bytes
-place_names place count = map column_name (range_with_len place count)
-
--- words and what follows them parted by commas, where anything does
-abbrev pub clause : Bytes → List Bytes → Bytes
-clause word [] = []
-clause word (text ∷ texts) = word ++ by_commas (text ∷ texts)
-
--- how many ids stand behind the items of a chunk query
-abbrev pub id_count : Shape → ℕ
-id_count Rows = 1
-id_count (Pairs limit) = 2
-id_count (Groups keys) = 0
-
 -- what ties are ordered by: the ids behind the items of rows and pairs, and all keys of a grouping
 abbrev pub tie_names : MergePlan → Shape → List Bytes
-tie_names m Rows = place_names (length m.items) 1
-tie_names m (Pairs limit) = place_names (length m.items) 2
+tie_names m Rows = id_names (length m.items) Rows
+tie_names m (Pairs limit) = id_names (length m.items) (Pairs limit)
 tie_names m (Groups keys) = place_names 0 (length keys)
 
 -- the order key: the column behind the ids, a merged item, or a key's column
@@ -117,10 +98,13 @@ abbrev pub order_key_texts : MergePlan → Option MergeOrder → List Bytes
 order_key_texts m None = []
 order_key_texts m (Some o) = (order_key_text m o.key ++ text_if o.down (codes " DESC")) ∷ []
 
+-- the order of the merge: the key where there is one, and then what ties are ordered by
+abbrev pub merge_order_texts : MergePlan → List Bytes
+merge_order_texts m = order_key_texts m m.order ++ tie_names m m.shape
+
 -- the merge
 unfoldable pub merge_line : MergePlan → Bytes
 merge_line m =
     line (codes "merge: SELECT " ++ (by_commas (merged_texts m) ++ (codes " FROM pieces"
     ++ (clause (codes " GROUP BY ") (place_names 0 (length (keys_of m.shape)))
-    ++ (clause (codes " ORDER BY ") (order_key_texts m m.order ++ tie_names m m.shape)
-    ++ print_limit m.limit)))))
+    ++ (clause (codes " ORDER BY ") (merge_order_texts m) ++ print_limit m.limit)))))

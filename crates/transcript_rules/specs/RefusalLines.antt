@@ -5,8 +5,8 @@ use Rattle.sql_token.specs.declared.token.Span.{Span}
 use Rattle.sql_rules.specs.PrintedExprs.{Bytes}
 use Rattle.sql_rules.specs.declared.fault.SqlFault.{SqlFault}
 use Rattle.sql_rules.specs.declared.fault.SqlFault.TheVariants as sql
-use Rattle.sql_rules.specs.declared.fault.BindFault.{BindFault}
-use Rattle.sql_rules.specs.declared.fault.BindFault.TheVariants as bind
+use Rattle.bind_rules.specs.declared.fault.BindFault.{BindFault}
+use Rattle.bind_rules.specs.declared.fault.BindFault.TheVariants as bind
 use Rattle.answer_rules.specs.declared.refusal.Radius.{Radius}
 use Rattle.answer_rules.specs.declared.refusal.TotalOut.{TotalOut}
 use Rattle.transcript_rules.specs.declared.refusal.Refusal.{Refusal}

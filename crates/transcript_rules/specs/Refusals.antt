@@ -5,7 +5,7 @@ use Rattle.sky_rules.specs.Partition.{Partition}
 use Rattle.sql_tree.specs.declared.query.Query.{Query}
 use Rattle.sql_rules.specs.Trees.{tree_of}
 use Rattle.sql_rules.specs.declared.fault.SqlFault.{SqlFault}
-use Rattle.sql_rules.specs.declared.fault.BindFault.{BindFault}
+use Rattle.bind_rules.specs.declared.fault.BindFault.{BindFault}
 use Rattle.sql_bound.specs.declared.query.Bound.{Bound}
 use Rattle.bind_rules.specs.Binding.{bound_of}
 use Rattle.answer_rules.specs.Answers.{Answer, flat_answer}

@@ -1,22 +1,17 @@
 -- The transcript of a script, and which ends fit it.
-use Rattle.std.specs.Prelude.{◌≡◌, ℕ, ◌+◌, Bool, true, false, List, [], ◌∷◌, map, Some, Result, Ok, Err}
+use Rattle.std.specs.Prelude.{◌≡◌, ℕ, ◌+◌, Bool, true, false, List, [], ◌∷◌, map, Result, Ok, Err}
 use Rattle.std.specs.List.{flat_map}
 use Rattle.std.specs.Option.{is_some}
 use Rattle.table_rules.specs.Objects.{Obj, Catalogue}
 use Rattle.sky_rules.specs.Partition.{Partition}
 use Rattle.sql_rules.specs.PrintedExprs.{Bytes}
 use Rattle.answer_rules.specs.Plans.{plan_of}
-use Rattle.session_script.specs.Scripts.{part_of, query_spans}
-use Rattle.session_script.specs.Views.{ScriptView}
+use Rattle.session_script.specs.Views.{ScriptView, query_lines}
 use Rattle.session_rules.specs.Ends.{Judged, fit}
 use Rattle.session_rules.specs.declared.end.EndKind.{EndKind}
 use Rattle.transcript_rules.specs.declared.refusal.Refusal.{Refusal}
 use Rattle.transcript_rules.specs.Refusals.{Understood, understood, early_refusal, total_refusal}
 use Rattle.transcript_rules.specs.Blocks.{block}
-
--- the lines of a script's queries, in their order
-abbrev pub query_lines : ScriptView → List Bytes
-query_lines s = map (λ span. part_of s.text (Some span)) (query_spans s.steps)
 
 -- texts one behind the other
 abbrev pub joined : List Bytes → Bytes

@@ -4,6 +4,9 @@ ghost use Rattle.transcript_rules.specs.KeyedTexts.{PlainItemsByKeys};
 ghost use Rattle.transcript_rules.specs.Laws.{AnsweredShowsItsTable, BlocksAreNumbered, BlocksInOrder, EarlyIsTold};
 ghost use Rattle.transcript_rules.specs.Laws.{AnsweredUnlessCancelledOrSpent, CancelledIsAskedFor};
 ghost use Rattle.transcript_rules.specs.Laws.{EqualQueriesAreAlike, ExplainedInOrder, OneBlockEach, OneExplainedEach};
+ghost use Rattle.transcript_rules.specs.Laws.{AnsweredIsItsTable, CancelledIsItsLine, ExplainedIsItsPlan};
+ghost use Rattle.transcript_rules.specs.Laws.{ExplainedIsItsRefusal, LimitedInTheMergesOrder, RefusedIsItsLine};
+ghost use Rattle.transcript_rules.specs.Laws.{SpentIsItsLine, WorkIsAPlan};
 ghost use Rattle.transcript_rules.specs.Laws.{OneTextEach, RefusedHasItsReason, RefusedShowsNoRows};
 
 /// There is one block for each query, in the order of the script, and each begins with `query K`.
@@ -44,6 +47,30 @@ pub fn equal_queries_are_alike()
 pub fn explained_in_order()
     ensures each { OneExplainedEach }
     ensures order { ExplainedInOrder }
+{}
+
+/// The block of a query is told by its end: the table of its answer, the line of its refusal, or one of two words.
+pub fn an_end_is_its_block()
+    ensures answered { AnsweredIsItsTable }
+    ensures refused { RefusedIsItsLine }
+    ensures cancelled { CancelledIsItsLine }
+    ensures spent { SpentIsItsLine }
+{}
+
+/// The block that explains a query is its three lines, or the line of the refusal that comes before it is run.
+pub fn a_plan_is_its_block()
+    ensures planned { ExplainedIsItsPlan }
+    ensures refused { ExplainedIsItsRefusal }
+{}
+
+/// A query that is planned has work exactly where its plan has chunks.
+pub fn work_is_a_plan()
+    ensures { WorkIsAPlan }
+{}
+
+/// Where a chunk query is limited, it is in the order of the merge, so that its first rows are those that may be needed.
+pub fn limited_in_the_order_of_the_merge()
+    ensures { LimitedInTheMergesOrder }
 {}
 
 /// A chunk query is printed with one text for each of its columns, so that `cK` names the one at place K.

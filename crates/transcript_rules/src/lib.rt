@@ -5,16 +5,12 @@
 //! table (`specs/Transcripts.antt`).
 //! Below: `sql_rules`, `bind_rules` and `answer_rules` for a query's tree, meaning and answer, `session_rules` for how
 //! queries may end. Above: the printers of blocks, the czar and the top call.
-//! No algorithm: a type that more than one crate names, definitions, worked examples and laws.
+//! No algorithm: a type that more than one crate names, definitions, laws, and short examples of single lines. Whole
+//! queries are worked out in `transcript_examples`.
 #![tactic(auto)]
 
-pub mod demo_examples;
-pub mod explain_examples;
-pub mod group_examples;
+pub mod examples;
 pub mod laws;
 pub mod refusal;
-pub mod refusal_examples;
-pub mod row_examples;
-pub mod session_examples;
 
 pub use refusal::Refusal;

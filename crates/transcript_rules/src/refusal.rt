@@ -1,7 +1,8 @@
 //! Why a query is refused.
 
 use answer_rules::{Radius, TotalOut};
-use sql_rules::{BindFault, SqlFault};
+use bind_rules::BindFault;
+use sql_rules::SqlFault;
 
 /// Why a query is refused, in the order in which it is judged.
 #[derive(Clone, Copy, Debug, PartialEq, Eq)]

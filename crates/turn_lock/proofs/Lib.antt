@@ -5,3 +5,4 @@ pub mod Entering
 pub mod Publishing
 pub mod Splitting
 pub mod Joining
+pub mod Ends

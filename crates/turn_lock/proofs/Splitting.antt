@@ -4,12 +4,12 @@ use Rattle.std.proofs.Common.{slice_set, Contains}
 use Rattle.atomic_table.proofs.Lists.{set_else, at_longer}
 use Rattle.atomic_table.specs.Table.{Me, Splits}
 use Rattle.turn_lock.specs.Rule.{Kept, Fits, AreApart, IsHeld, HasView, TurnState}
-use Rattle.turn_lock.specs.Views.{splitting, split_off, IsResting}
+use Rattle.turn_lock.specs.Views.{splitting, split_off, IsResting, ViewKnows}
 use Rattle.turn_lock.specs.declared.view.View.{View}
 use Rattle.turn_lock.proofs.PastLemmas.{none_before}
 use Rattle.turn_lock.proofs.ViewLemmas.{each_set, each_more, apart_set, not_holder, false_not_true}
 
-no_member : {A : Type 0} (x : A) → Contains [] x → ⊥
+pub no_member : {A : Type 0} (x : A) → Contains [] x → ⊥
 no_member x h = omega (arith, h.1)
 
 fewer : (m n : ℕ) → m + 1 ≤ n → m ≤ n
@@ -34,6 +34,15 @@ module _ {R E : Type 0} {seat_of : E → ℕ} where
               (fewer old.0.made n h);
         };
       })
+
+  -- and the seat that is made has seen none of its own lines, and none of ended ones
+  pub made_knows : (v : View R E) → v.number ≡ 0 → ViewKnows seat_of v → ViewKnows seat_of (split_off v)
+  made_knows v zero_is k = record {
+    mine = k.above zero_is v.made (omega arith);
+    ended = λ n es h. absurd (no_member (n, es) h);
+    first = λ z. let some : 0 < v.made = k.first zero_is in absurd (omega (arith, some, z));
+    above = λ z n h. let some : 0 < v.made = k.first zero_is in absurd (omega (arith, some, z));
+  }
 
   -- a view other than seat 0's fits as well where one more seat is made
   still_fits : {root : R} {now : List E} {made : ℕ} (w : View R E) → w.number ≢ 0 → Fits seat_of root now made w

@@ -16,6 +16,7 @@
 //! or made up; and who leaves makes its entry a part of what all others will find.
 #![tactic(auto)]
 
+pub mod laws;
 mod lends;
 mod pass;
 mod plays;

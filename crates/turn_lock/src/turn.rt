@@ -128,6 +128,7 @@ impl<T: Lineage> Turn<T> {
         requires room { seat.old.made < 2 ^ 32 - 1 }
         ensures kept { seat.new ≡ one_more_made seat.old }
         ensures next { result ≡ next_seat seat.old }
+        ensures known { Knows T.seat_of seat.new × Knows T.seat_of result }
     {
         let number = seat.made;
         let inner = self.table.shared.split_seat::<Splits>(&mut seat.inner);

@@ -4,3 +4,4 @@ pub mod Negation
 pub mod Within
 pub mod Cells
 pub mod Ranges
+pub mod ColumnTests

@@ -1,7 +1,7 @@
 -- Negations, BETWEEN, and the tables of three truths.
 use Rattle.std.proofs.Common.{◌≡◌, true, false, Some, None, refl}
 use Rattle.value_rules.specs.Truth.{truth_and, truth_or}
-use Rattle.value_rules.specs.Laws.{AndTable, OrTable, NotTable, NotIsNegation, NotBetween, NotAmong, NotNull, BetweenIsTwoComparisons}
+use Rattle.value_rules.specs.Laws.{AndTable, OrTable, NotTable, NotIsNegation, NotBetween, NotAmong, IsNotNull, BetweenIsTwoComparisons}
 use Rattle.value_rules.proofs.Trees.{trees}
 
 pub not_is_negation : NotIsNegation
@@ -13,7 +13,7 @@ not_between p v low high = simp trees refl
 pub not_among : NotAmong
 not_among p v list = simp trees refl
 
-pub not_null : NotNull
+pub not_null : IsNotNull
 not_null p v = simp trees refl
 
 pub between_is_two_comparisons : BetweenIsTwoComparisons

@@ -20,7 +20,7 @@ use Rattle.sql_bound.specs.declared.cond.BoundPred.TheVariants as pred
 use Rattle.sql_bound.specs.declared.cond.BoundPred.TheOpen.{BoundAll-F, BoundAny-F, BoundCond-F, BoundPred-F}
 use Rattle.sql_bound.specs.declared.cond.BoundPred.TheFolds.{fold-roll-BoundAll, fold-roll-BoundAny, fold-roll-BoundCond, fold-roll-BoundPred}
 use Rattle.value_rules.specs.Terms.{Term, SignedTerm, Number, Column, Minus, sum_from, product_from, at_atom, at_expr, at_factor, at_prod, at_signed, term_of, term_of_atom, term_of_factor, term_of_prod, term_of_signed}
-use Rattle.value_rules.specs.Formulas.{Formula, Compares, IsAmong, HasNoValue, LiesIn, And, negated_if, all_from, any_from, at_pred, at_all, at_any, at_cond, formula_of, formula_of_pred, formula_of_all, formula_of_any}
+use Rattle.value_rules.specs.Formulas.{Formula, Compares, Among, IsNull, LiesIn, And, negated_if, all_from, any_from, at_pred, at_all, at_any, at_cond, formula_of, formula_of_pred, formula_of_all, formula_of_any}
 
 pub term_int : (n : ℤ) → term_of_atom (atom.Int n) ≡ Number n
 term_int n = ap term_of_atom (sym (atom.rolls-Int n)) ∙ fold-roll-BoundAtom Term Term Term Term SignedTerm at_atom at_expr at_factor at_prod at_signed (BoundAtom-F.Int n)
@@ -54,10 +54,10 @@ formula_compare left op right = ap formula_of_pred (sym (pred.rolls-Compare left
 pub formula_between : (negated : Bool) (value low high : BoundExpr) → formula_of_pred (pred.Between negated value low high) ≡ negated_if negated (And (Compares AtMost (term_of low) (term_of value)) (Compares AtMost (term_of value) (term_of high)))
 formula_between negated value low high = ap formula_of_pred (sym (pred.rolls-Between negated value low high)) ∙ fold-roll-BoundPred Formula Formula Formula Formula at_pred at_all at_any at_cond (BoundPred-F.Between negated value low high)
 
-pub formula_among : (negated : Bool) (value : BoundExpr) (list : List ℤ) → formula_of_pred (pred.Among negated value list) ≡ negated_if negated (IsAmong (term_of value) list)
+pub formula_among : (negated : Bool) (value : BoundExpr) (list : List ℤ) → formula_of_pred (pred.Among negated value list) ≡ negated_if negated (Among (term_of value) list)
 formula_among negated value list = ap formula_of_pred (sym (pred.rolls-Among negated value list)) ∙ fold-roll-BoundPred Formula Formula Formula Formula at_pred at_all at_any at_cond (BoundPred-F.Among negated value list)
 
-pub formula_null : (negated : Bool) (value : BoundExpr) → formula_of_pred (pred.IsNull negated value) ≡ negated_if negated (HasNoValue (term_of value))
+pub formula_null : (negated : Bool) (value : BoundExpr) → formula_of_pred (pred.IsNull negated value) ≡ negated_if negated (IsNull (term_of value))
 formula_null negated value = ap formula_of_pred (sym (pred.rolls-IsNull negated value)) ∙ fold-roll-BoundPred Formula Formula Formula Formula at_pred at_all at_any at_cond (BoundPred-F.IsNull negated value)
 
 pub formula_area : (test : AreaTest) → formula_of_pred (pred.Area test) ≡ LiesIn test

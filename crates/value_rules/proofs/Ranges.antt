@@ -14,7 +14,7 @@ use Rattle.sql_bound.specs.declared.query.BoundItem.{BoundItem}
 use Rattle.sql_bound.specs.declared.query.BoundItem.TheVariants as item
 use Rattle.sql_bound.specs.declared.query.Shape.{Shape}
 use Rattle.sql_bound.specs.declared.query.Shape.TheVariants.{Rows, Pairs, Groups}
-use Rattle.value_rules.specs.Formulas.{Formula, Compares, IsAmong, HasNoValue, LiesIn, Not, And, Or, formula_of}
+use Rattle.value_rules.specs.Formulas.{Formula, Compares, Among, IsNull, LiesIn, Not, And, Or, formula_of}
 use Rattle.value_rules.specs.Laws.{RowIsWithin, PairIsWithin, SoundValueIsInRange, SoundIsInRange}
 use Rattle.value_rules.specs.Ranges.{subterms_of, tested_terms, item_terms, IsTermInRange, IsInRange}
 use Rattle.value_rules.specs.Sound.{columns_at, is_sound_at, is_sound_formula, is_sound_cond, is_sound_item, may_aggregate, is_plain_col, has_col, is_paired}
@@ -105,8 +105,8 @@ formula_in_range : (allowed : BoundCol → Bool) (p : Pick) → ((c : BoundCol) 
 formula_in_range allowed p b (Compares op t u) h =
     let two = and_parts (is_sound_at allowed t) (is_sound_at allowed u) h in
     (term_in_range allowed p b t two.0, (term_in_range allowed p b u two.1, tt))
-formula_in_range allowed p b (IsAmong t list) h = (term_in_range allowed p b t h, tt)
-formula_in_range allowed p b (HasNoValue t) h = (term_in_range allowed p b t h, tt)
+formula_in_range allowed p b (Among t list) h = (term_in_range allowed p b t h, tt)
+formula_in_range allowed p b (IsNull t) h = (term_in_range allowed p b t h, tt)
 formula_in_range allowed p b (LiesIn area) h = tt
 formula_in_range allowed p b (Not f) h = formula_in_range allowed p b f h
 formula_in_range allowed p b (And f g) h =

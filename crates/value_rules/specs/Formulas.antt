@@ -15,8 +15,8 @@ use Rattle.value_rules.specs.Terms.{Term, term_of}
 -- A formula: a test of terms or of the sky, or what is said of formulas.
 pub data Formula : Type 0 where
   Compares : Cmp → Term → Term → Formula
-  IsAmong : Term → List ℤ → Formula
-  HasNoValue : Term → Formula
+  Among : Term → List ℤ → Formula
+  IsNull : Term → Formula
   LiesIn : AreaTest → Formula
   Not : Formula → Formula
   And : Formula → Formula → Formula
@@ -43,8 +43,8 @@ at_pred (BoundPred-F.Compare left op right) = Compares op (term_of left) (term_o
 at_pred (BoundPred-F.Between negated value low high) =
     negated_if negated
     (And (Compares AtMost (term_of low) (term_of value)) (Compares AtMost (term_of value) (term_of high)))
-at_pred (BoundPred-F.Among negated value list) = negated_if negated (IsAmong (term_of value) list)
-at_pred (BoundPred-F.IsNull negated value) = negated_if negated (HasNoValue (term_of value))
+at_pred (BoundPred-F.Among negated value list) = negated_if negated (Among (term_of value) list)
+at_pred (BoundPred-F.IsNull negated value) = negated_if negated (IsNull (term_of value))
 at_pred (BoundPred-F.Area test) = LiesIn test
 
 -- a condition is its predicate, or with NOT its negation

@@ -59,8 +59,8 @@ NotAmong =
     ≡ truth_not (truth_of (cond_of false (pred.Among false v list)) p)
 
 -- IS NOT NULL is the negation of IS NULL
-abbrev pub NotNull : Type 0
-NotNull =
+abbrev pub IsNotNull : Type 0
+IsNotNull =
     (p : Pick) (v : BoundExpr)
     → truth_of (cond_of false (pred.IsNull true v)) p
     ≡ truth_not (truth_of (cond_of false (pred.IsNull false v)) p)

@@ -7,6 +7,9 @@ pub mod Widths
 pub mod Sound
 pub mod Tested
 pub mod Ranges
+pub mod ColumnTests
 pub mod Laws
+pub mod ColumnLaws
 pub mod Examples
+pub mod ColumnExamples
 pub mod Comparisons

@@ -4,7 +4,7 @@ use Rattle.std.specs.List.{flat_map}
 use Rattle.sql_bound.specs.declared.query.Bound.{Bound}
 use Rattle.sql_bound.specs.declared.query.BoundItem.{BoundItem}
 use Rattle.sql_bound.specs.declared.query.BoundItem.TheVariants as item
-use Rattle.value_rules.specs.Formulas.{Formula, Compares, IsAmong, HasNoValue, LiesIn, Not, And, Or, formula_of}
+use Rattle.value_rules.specs.Formulas.{Formula, Compares, Among, IsNull, LiesIn, Not, And, Or, formula_of}
 use Rattle.value_rules.specs.Terms.{Term, Number, Column, Minus, Plus, Less, Times, term_of}
 use Rattle.value_rules.specs.Values.{Pick, cell_of, value_at}
 use Rattle.value_rules.specs.Widths.{IsOfSize, most}
@@ -21,8 +21,8 @@ subterms_of (Times t u) = Times t u ∷ (subterms_of t ++ subterms_of u)
 -- the terms whose values a formula tests
 abbrev pub tested_terms : Formula → List Term
 tested_terms (Compares op t u) = t ∷ u ∷ []
-tested_terms (IsAmong t list) = t ∷ []
-tested_terms (HasNoValue t) = t ∷ []
+tested_terms (Among t list) = t ∷ []
+tested_terms (IsNull t) = t ∷ []
 tested_terms (LiesIn area) = []
 tested_terms (Not f) = tested_terms f
 tested_terms (And f g) = tested_terms f ++ tested_terms g

@@ -17,7 +17,7 @@ use Rattle.sql_bound.specs.declared.query.BoundKey.TheVariants.{Item, Column as 
 use Rattle.sql_bound.specs.declared.query.BoundOrder.{BoundOrder}
 use Rattle.sql_bound.specs.declared.query.Shape.{Shape}
 use Rattle.sql_bound.specs.declared.query.Shape.TheVariants.{Rows, Pairs, Groups}
-use Rattle.value_rules.specs.Formulas.{Formula, Compares, IsAmong, HasNoValue, LiesIn, Not, And, Or, formula_of}
+use Rattle.value_rules.specs.Formulas.{Formula, Compares, Among, IsNull, LiesIn, Not, And, Or, formula_of}
 use Rattle.value_rules.specs.Terms.{Term, Number, Column, Minus, Plus, Less, Times, term_of}
 use Rattle.value_rules.specs.Widths.{widest_at, most}
 
@@ -55,8 +55,8 @@ is_sound_area (Boxed lo hi a b) = int_lt (pos 0) (plane_product a.dx a.dy b.dx b
 -- each term and each area of the formula is sound
 abbrev pub is_sound_formula : (BoundCol → Bool) → Formula → Bool
 is_sound_formula allowed (Compares op t u) = is_sound_at allowed t && is_sound_at allowed u
-is_sound_formula allowed (IsAmong t list) = is_sound_at allowed t
-is_sound_formula allowed (HasNoValue t) = is_sound_at allowed t
+is_sound_formula allowed (Among t list) = is_sound_at allowed t
+is_sound_formula allowed (IsNull t) = is_sound_at allowed t
 is_sound_formula allowed (LiesIn area) = is_sound_area area
 is_sound_formula allowed (Not f) = is_sound_formula allowed f
 is_sound_formula allowed (And f g) = is_sound_formula allowed f && is_sound_formula allowed g

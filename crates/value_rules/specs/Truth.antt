@@ -8,7 +8,7 @@ use Rattle.sql_tree.specs.declared.cond.Cmp.TheVariants.{Equal, Differs, Less, A
 use Rattle.sql_bound.specs.declared.cond.BoundCond.{BoundCond}
 use Rattle.sql_bound.specs.declared.expr.BoundCol.{BoundCol}
 use Rattle.value_rules.specs.Areas.{area_holds}
-use Rattle.value_rules.specs.Formulas.{Formula, Compares, IsAmong, HasNoValue, LiesIn, Not, And, Or, formula_of}
+use Rattle.value_rules.specs.Formulas.{Formula, Compares, Among, IsNull, LiesIn, Not, And, Or, formula_of}
 use Rattle.value_rules.specs.Values.{Pick, cell_of, value_at}
 
 -- how two numbers compare
@@ -31,8 +31,8 @@ abbrev pub is_one_of : List ℤ → ℤ → Bool
 is_one_of list a = list_any (λ n. int_eq n a) list
 
 -- IN is unknown where the value is NULL
-abbrev pub is_listed : Option ℤ → List ℤ → Option Bool
-is_listed value list = option_map (is_one_of list) value
+abbrev pub among : Option ℤ → List ℤ → Option Bool
+among value list = option_map (is_one_of list) value
 
 -- NOT exchanges true and false and keeps unknown
 abbrev pub truth_not : Option Bool → Option Bool
@@ -57,8 +57,8 @@ truth_or None None = None
 -- the truth of a formula where the columns have these values and the first row lies at this point
 abbrev pub truth_at : (BoundCol → Option ℤ) → Point → Formula → Option Bool
 truth_at cells at (Compares op t u) = compared op (value_at cells t) (value_at cells u)
-truth_at cells at (IsAmong t list) = is_listed (value_at cells t) list
-truth_at cells at (HasNoValue t) = Some (is_none (value_at cells t))
+truth_at cells at (Among t list) = among (value_at cells t) list
+truth_at cells at (IsNull t) = Some (is_none (value_at cells t))
 truth_at cells at (LiesIn area) = Some (area_holds area at)
 truth_at cells at (Not f) = truth_not (truth_at cells at f)
 truth_at cells at (And f g) = truth_and (truth_at cells at f) (truth_at cells at g)

@@ -4,6 +4,11 @@ ghost use Rattle.std.specs.Prelude.{◌≡◌, ◌^◌, [], ◌∷◌, None, Som
 ghost use Rattle.sql_bound.specs.Trees.{both, either};
 ghost use Rattle.sql_bound.specs.declared.area.AreaTest.TheVariants.{Band, Boxed, Cap};
 ghost use Rattle.sql_tree.specs.declared.cond.Cmp.TheVariants.{AtLeast, AtMost, Differs, Equal, Less, More};
+ghost use Rattle.value_rules.specs.ColumnExamples.{bright, bright_from_the_left, faint, faint_range, flux_col};
+ghost use Rattle.value_rules.specs.ColumnExamples.{from_below_zero, from_the_id, id_is_flux, in_area, not_between};
+ghost use Rattle.value_rules.specs.ColumnExamples.{not_bright, of_no_range, of_two_columns, product_is_bright};
+ghost use Rattle.value_rules.specs.ColumnExamples.{two_numbers, which_are_within, which_pass};
+ghost use Rattle.value_rules.specs.ColumnTests.{column_range_of, column_test_of, height_col};
 ghost use Rattle.value_rules.specs.Comparisons.{among, beside_2, beside_null, less_flux, not_among, up_to_meridian};
 ghost use Rattle.value_rules.specs.Examples.{column, east, faint_or_second, flux, flux_times_id, id_times_flux, ids_in};
 ghost use Rattle.value_rules.specs.Examples.{ids_that_meet, is_bright, middle_box, is_second, is_third, no_flux, north};
@@ -89,4 +94,41 @@ pub fn null_is_among_nothing()
 /// A box holds what lies on its second side, and nothing past it: 1, 3 and 5 lie on the first meridian, 2 past it.
 pub fn a_box_holds_its_second_side()
     ensures { ids_in up_to_meridian ≡ pos 1 ∷ pos 3 ∷ pos 4 ∷ pos 5 ∷ [] }
+{}
+
+/// A column beside a number is a test of it; a negation, a second column and what is computed are none.
+pub fn tests_of_columns()
+    ensures right { column_test_of is_bright ≡ Some bright }
+    ensures left { column_test_of bright_from_the_left ≡ Some bright }
+    ensures minus { column_test_of from_below_zero
+        ≡ Some (record { col = flux_col; op = AtLeast; number = negsuc 4 }) }
+    ensures negated { column_test_of not_bright ≡ None }
+    ensures columns { column_test_of id_is_flux ≡ None }
+    ensures numbers { column_test_of two_numbers ≡ None }
+    ensures computed { column_test_of product_is_bright ≡ None }
+    ensures range { column_test_of (faint false) ≡ None }
+{}
+
+/// A column BETWEEN two numbers and a band are ranges; a negation, two columns, a bound that is none and other areas are
+/// not.
+pub fn ranges_of_columns()
+    ensures between { column_range_of (faint false) ≡ Some faint_range }
+    ensures negated { column_range_of (faint true) ≡ None }
+    ensures not_between { column_range_of not_between ≡ None }
+    ensures computed { column_range_of from_the_id ≡ None }
+    ensures columns { column_range_of of_two_columns ≡ None }
+    ensures turned { column_range_of of_no_range ≡ None }
+    ensures band { column_range_of (in_area (Band (negsuc 0) (pos 4)))
+        ≡ Some (record { col = height_col; low = negsuc 0; high = pos 4 }) }
+    ensures boxed { column_range_of (in_area middle_box) ≡ None }
+    ensures test { column_range_of is_bright ≡ None }
+{}
+
+/// A test and a range beside values at their borders, and NULL.
+pub fn values_beside_borders()
+    ensures test { which_pass bright (Some (pos 20) ∷ Some (pos 21) ∷ None ∷ [])
+        ≡ false ∷ true ∷ false ∷ [] }
+    ensures range { which_are_within faint_range
+        (Some (negsuc 5) ∷ Some (negsuc 4) ∷ Some (pos 10) ∷ Some (pos 11) ∷ None ∷ [])
+        ≡ false ∷ true ∷ true ∷ false ∷ false ∷ [] }
 {}

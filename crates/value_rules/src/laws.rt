@@ -1,7 +1,7 @@
 //! Laws of values and of truth, as functions that do nothing: a caller has what they ensure.
 
 ghost use Rattle.value_rules.specs.Laws.{AndTable, BetweenIsTwoComparisons, CellIsWithin, NotAmong, NotBetween};
-ghost use Rattle.value_rules.specs.Laws.{NotIsNegation, NotNull, NotTable, OrTable, PairIsWithin, RowIsWithin};
+ghost use Rattle.value_rules.specs.Laws.{NotIsNegation, IsNotNull, NotTable, OrTable, PairIsWithin, RowIsWithin};
 ghost use Rattle.value_rules.specs.Laws.{SoundIsInRange, SoundValueIsInRange, ValueIsWithin};
 
 /// The value of an expression is NULL or within its width.
@@ -33,7 +33,7 @@ pub fn not_is_negation()
     ensures not { NotIsNegation }
     ensures between { NotBetween }
     ensures among { NotAmong }
-    ensures null { NotNull }
+    ensures null { IsNotNull }
 {}
 
 /// `v BETWEEN low AND high` is `low <= v AND v <= high`.

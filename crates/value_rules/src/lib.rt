@@ -6,5 +6,6 @@
 //! No code: definitions, worked examples and laws.
 #![tactic(auto)]
 
+pub mod column_laws;
 pub mod examples;
 pub mod laws;

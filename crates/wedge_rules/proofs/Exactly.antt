@@ -43,7 +43,7 @@ off_not x y a b (inr (inr h)) e f = omega (arith, ints, h, f)
 axis_only : (n j : ℕ) (x y : ℤ) → x ≡ pos 0 → y ≡ pos 0 → InWedge n j x y → j ≡ 0
 axis_only n j x y e f (whole a b) = b
 axis_only n j x y e f (axis a b c d) = d
-axis_only n j x y e f (between a h) = let z = past_axis (heading n (j + 1)).0 (heading n (j + 1)).1 x y e f in let g = h.1 in omega (arith, ints, z, g)
+axis_only n j x y e f (between a h) = let z = past_axis (heading n (j + 1)).dx (heading n (j + 1)).dy x y e f in let g = h.1 in omega (arith, ints, z, g)
 
 -- only one wedge holds a point off the axis
 off_only : (n j k : ℕ) (x y : ℤ) → 3 ≤ n → j < n → IsOffAxis x y → ((i : ℕ) → i < n → LiesBetween n i x y → i ≡ k) → InWedge n j x y → j ≡ k

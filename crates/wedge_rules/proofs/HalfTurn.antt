@@ -4,7 +4,7 @@ use Rattle.std.proofs.lemmas.Bool.{cases_lt}
 use Rattle.std.proofs.lemmas.Int.{ints}
 use borrow.Author.Differences.{up, down}
 use lib.IntN.{neg_ℤ}
-use Rattle.wedge_rules.specs.Heading.{walk, heading, past}
+use Rattle.wedge_rules.specs.Heading.{Direction, walk, heading, past}
 use Rattle.wedge_rules.specs.Laws.{LessThanHalfATurn}
 use Rattle.sky_vector.proofs.Signed.{of, whole, of-pos, of-same, differences}
 use Rattle.wedge_rules.proofs.Products.{order, swap}
@@ -54,11 +54,11 @@ own_low n r hn lo hi = rw (neg_neg (pos n)) (own n r hn lo hi)
 
 -- step t lies ahead of step s
 abbrev Ahead : ℕ → ℕ → ℕ → Type 0
-Ahead n s t = pos 0 <ℤ past (walk n s) (walk n t).0 (walk n t).1
+Ahead n s t = pos 0 <ℤ past (walk n s) (walk n t).dx (walk n t).dy
 
 -- which the sign at t tells, for the point that s is
-from_place : (n s t : ℕ) (d : ℤ × ℤ) → walk n s ≡ d → past (walk n t) d.0 d.1 <ℤ pos 0 → Ahead n s t
-from_place n s t d e h = rw e (let f = swap d.0 d.1 (walk n t).0 (walk n t).1 in omega (arith, ints, f, h))
+from_place : (n s t : ℕ) (d : Direction) → walk n s ≡ d → past (walk n t) d.dx d.dy <ℤ pos 0 → Ahead n s t
+from_place n s t d e h = rw e (let f = swap d.dx d.dy (walk n t).dx (walk n t).dy in omega (arith, ints, f, h))
 
 -- a later step lies ahead, while it is less than half the walk later
 pub ahead_walk : (n s t : ℕ) → 0 < n → s < t → t ≤ 8 * n → t < s + 4 * n → Ahead n s t

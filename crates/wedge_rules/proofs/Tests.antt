@@ -57,7 +57,7 @@ to_test n k x y true b e f (between g h) = let one = eqb-true n 1 e in eq-eqb k 
 to_test n k x y false b e f (whole g h) = absurd (true≢false (sym (eq-eqb n 1 g) ∙ e))
 to_test n k x y false true e f (axis g p q h) = eq-eqb k 0 h
 to_test n k x y false false e f (axis g p q h) = absurd (true≢false (sym (and_from _ _ (eq_to x (pos 0) p) (eq_to y (pos 0) q)) ∙ f))
-to_test n k x y false true e f (between g h) = let p = and_parts _ _ f in let z = past_axis (heading n (k + 1)).0 (heading n (k + 1)).1 x y (eq_from x (pos 0) p.0) (eq_from y (pos 0) p.1) in let w = h.1 in eq-eqb k 0 (omega (arith, ints, z, w))
+to_test n k x y false true e f (between g h) = let p = and_parts _ _ f in let z = past_axis (heading n (k + 1)).dx (heading n (k + 1)).dy x y (eq_from x (pos 0) p.0) (eq_from y (pos 0) p.1) in let w = h.1 in eq-eqb k 0 (omega (arith, ints, z, w))
 to_test n k x y false false e f (between g h) = and_from _ _ (le_to _ _ h.0) (lt_to _ _ h.1)
 
 -- the test is the fact

@@ -3,35 +3,35 @@ use Rattle.std.proofs.Common.{◌≡◌, ℕ, ℤ, pos, ◌*◌, ◌≤◌, ◌<
 use Rattle.std.proofs.lemmas.Bool.{cases_lt}
 use Rattle.std.proofs.lemmas.Int.{ints}
 use lib.IntN.{neg_ℤ}
-use Rattle.wedge_rules.specs.Heading.{walk, past}
+use Rattle.wedge_rules.specs.Heading.{towards, walk, past}
 use Rattle.wedge_rules.proofs.Sides.{side_right, side_top, side_left, side_bottom}
 
 -- the steps on the upper half of the right side
-pub walk_right : (n s : ℕ) → s < n → walk n s ≡ (pos n, pos s)
+pub walk_right : (n s : ℕ) → s < n → walk n s ≡ towards (pos n) (pos s)
 unfolding walk
 walk_right n s h = rw (lt-ltb s n h) refl
 
 -- on the upper side
-pub walk_top : (n s : ℕ) → n ≤ s → s < 3 * n → walk n s ≡ (neg_ℤ (pos s -ℤ pos (2 * n)), pos n)
+pub walk_top : (n s : ℕ) → n ≤ s → s < 3 * n → walk n s ≡ towards (neg_ℤ (pos s -ℤ pos (2 * n))) (pos n)
 unfolding walk
 walk_top n s h k =
     let e : pos (2 * n) -ℤ pos s ≡ neg_ℤ (pos s -ℤ pos (2 * n)) = omega (arith, ints) in
     rw (le-ltb s n h, lt-ltb s (3 * n) k, e) refl
 
 -- on the left side
-pub walk_left : (n s : ℕ) → 3 * n ≤ s → s < 5 * n → walk n s ≡ (neg_ℤ (pos n), neg_ℤ (pos s -ℤ pos (4 * n)))
+pub walk_left : (n s : ℕ) → 3 * n ≤ s → s < 5 * n → walk n s ≡ towards (neg_ℤ (pos n)) (neg_ℤ (pos s -ℤ pos (4 * n)))
 unfolding walk
 walk_left n s h k =
     let e : pos (4 * n) -ℤ pos s ≡ neg_ℤ (pos s -ℤ pos (4 * n)) = omega (arith, ints) in
     rw (le-ltb s n (omega (arith, h)), le-ltb s (3 * n) h, lt-ltb s (5 * n) k, e) refl
 
 -- on the lower side
-pub walk_bottom : (n s : ℕ) → 5 * n ≤ s → s < 7 * n → walk n s ≡ (pos s -ℤ pos (6 * n), neg_ℤ (pos n))
+pub walk_bottom : (n s : ℕ) → 5 * n ≤ s → s < 7 * n → walk n s ≡ towards (pos s -ℤ pos (6 * n)) (neg_ℤ (pos n))
 unfolding walk
 walk_bottom n s h k = rw (le-ltb s n (omega (arith, h)), le-ltb s (3 * n) (omega (arith, h)), le-ltb s (5 * n) h, lt-ltb s (7 * n) k) refl
 
 -- on the lower half of the right side
-pub walk_right_again : (n s : ℕ) → 7 * n ≤ s → walk n s ≡ (pos n, pos s -ℤ pos (8 * n))
+pub walk_right_again : (n s : ℕ) → 7 * n ≤ s → walk n s ≡ towards (pos n) (pos s -ℤ pos (8 * n))
 unfolding walk
 walk_right_again n s h = rw (le-ltb s n (omega (arith, h)), le-ltb s (3 * n) (omega (arith, h)), le-ltb s (5 * n) (omega (arith, h)), le-ltb s (7 * n) h) refl
 

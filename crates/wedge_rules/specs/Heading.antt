@@ -3,28 +3,42 @@
 -- rule of this repository.
 use Rattle.std.specs.Prelude.{ℕ, ℤ, pos, neg_ℤ, ◌+◌, ◌*◌, ◌-ℤ◌, ◌*ℤ◌, ◌≤ℤ◌, ◌<ℤ◌, nat_lt, if◌then◌else◌}
 use Rattle.sky_vector.specs.Plane.{plane_product}
+use Rattle.sky_vector.specs.declared.direction.Dir.{Dir}
+
+-- A direction of the plane of x and y, as the point that it leads to from the centre.
+pub record Direction : Type 0 where
+  pub dx : ℤ
+  pub dy : ℤ
+
+-- the direction that leads to (x, y)
+abbrev pub towards : ℤ → ℤ → Direction
+towards x y = record { dx = x; dy = y }
+
+-- the direction that a `Dir` stands for
+abbrev pub direction_shown : Dir → Direction
+direction_shown d = towards d.dx d.dy
 
 -- the point of the square of half side n that lies s steps of its perimeter from the middle of the right side, upwards
-unfoldable pub walk : ℕ → ℕ → ℤ × ℤ
+unfoldable pub walk : ℕ → ℕ → Direction
 walk n s =
-    if nat_lt s n then (pos n, pos s)
-    else if nat_lt s (3 * n) then (pos (2 * n) -ℤ pos s, pos n)
-    else if nat_lt s (5 * n) then (neg_ℤ (pos n), pos (4 * n) -ℤ pos s)
-    else if nat_lt s (7 * n) then (pos s -ℤ pos (6 * n), neg_ℤ (pos n))
-    else (pos n, pos s -ℤ pos (8 * n))
+    if nat_lt s n then towards (pos n) (pos s)
+    else if nat_lt s (3 * n) then towards (pos (2 * n) -ℤ pos s) (pos n)
+    else if nat_lt s (5 * n) then towards (neg_ℤ (pos n)) (pos (4 * n) -ℤ pos s)
+    else if nat_lt s (7 * n) then towards (pos s -ℤ pos (6 * n)) (neg_ℤ (pos n))
+    else towards (pos n) (pos s -ℤ pos (8 * n))
 
 -- the direction at which wedge k of n begins: the perimeter is 8 n steps long, and a wedge takes 8 of them
-unfoldable pub heading : ℕ → ℕ → ℤ × ℤ
+unfoldable pub heading : ℕ → ℕ → Direction
 heading n k = walk n (8 * k)
 
 -- how far the point (x, y) lies past a direction, which is their plane product: below 0 where it lies short of it
-abbrev pub past : ℤ × ℤ → ℤ → ℤ → ℤ
-past d x y = plane_product d.0 d.1 x y
+abbrev pub past : Direction → ℤ → ℤ → ℤ
+past d x y = plane_product d.dx d.dy x y
 
 -- the point lies at or past the direction of wedge k, and short of the next one's
 abbrev pub LiesBetween : ℕ → ℕ → ℤ → ℤ → Type 0
 LiesBetween n k x y = (pos 0 ≤ℤ past (heading n k) x y) × (past (heading n (k + 1)) x y <ℤ pos 0)
 
 -- a direction, so many times as long
-abbrev pub scaled : ℕ → ℤ × ℤ → ℤ × ℤ
-scaled m d = (pos m *ℤ d.0, pos m *ℤ d.1)
+abbrev pub scaled : ℕ → Direction → Direction
+scaled m d = towards (pos m *ℤ d.dx) (pos m *ℤ d.dy)

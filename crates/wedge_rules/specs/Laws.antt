@@ -30,7 +30,7 @@ PlanesAgree = (c m w : ℕ) → 0 < m → heading (c * m) (w * m) ≡ scaled m (
 abbrev pub LessThanHalfATurn : Type 0
 LessThanHalfATurn =
     (n k : ℕ) → 3 ≤ n → k < n
-    → pos 0 <ℤ past (heading n k) (heading n (k + 1)).0 (heading n (k + 1)).1
+    → pos 0 <ℤ past (heading n k) (heading n (k + 1)).dx (heading n (k + 1)).dy
 
 -- the test is true exactly where the wedge holds the point
 abbrev pub TestIsTheFact : Type 0

@@ -1,7 +1,7 @@
 //! The direction of a wedge, by the five parts of the walk round the square.
 
 ghost use Rattle.std.specs.Prelude.{◌≡◌, ◌+◌, ◌^◌, ◌≤◌, ◌-ℤ◌, pos};
-ghost use Rattle.wedge_rules.specs.Heading.{heading};
+ghost use Rattle.wedge_rules.specs.Heading.{direction_shown, heading};
 
 use sky_vector::Dir;
 
@@ -28,8 +28,7 @@ fn of_steps(right: u64, left: u64, up: u64, down: u64) -> Dir
 pub fn direction_of(wedges: u32, k: u32) -> Dir
     requires few { wedges ≤ 2 ^ 29 }
     requires there { k ≤ wedges }
-    ensures x { result.dx ≡ (heading wedges k).0 }
-    ensures y { result.dy ≡ (heading wedges k).1 }
+    ensures { direction_shown result ≡ heading wedges k }
 {
     let n = u64::from(wedges);
     let s = 8 * u64::from(k);

@@ -13,22 +13,17 @@ use crate::reading::said::{Said, Version, said_on};
 use crate::stripe::Stripe;
 use sky_io::{Memory, Stop};
 use sky_rules::SkyFault;
+use sky_rules::limits::{
+    CHUNKS_MOST, CUTS_MOST, HEIGHT_LEAST, OVERLAP_MOST, SKY_BOTTOM, SKY_END, STRIPE_CHUNKS_MOST,
+    STRIPES_MOST,
+};
 use std::alloc::Global;
 use std::marker::Model;
 
-/// The lowest z of all positions.
-const SKY_BOTTOM: i64 = -268435472;
+/// The highest z at which a stripe can begin: it leaves the least height up to the end of the sky.
+const HIGHEST: i128 = SKY_END as i128 - HEIGHT_LEAST as i128;
 
-/// The highest z at which a stripe can begin: it leaves 64 up to the end of the sky.
-const HIGHEST: i128 = 268435409;
-
-/// The most stripes of a sky.
-const MOST_STRIPES: usize = 256;
-
-/// The most chunks of a sky.
-const MOST_CHUNKS: u32 = 16384;
-
-/// The stripes read so far, lowest first, of at most 16,384 chunks in all.
+/// The stripes read so far, lowest first, of not more chunks than there can be.
 #[derive(Drop)]
 pub(crate) struct Stripes {
     list: Vec<Stripe>,
@@ -38,12 +33,13 @@ pub(crate) struct Stripes {
 impl Model for Stripes {
     ghost use Rattle.std.specs.Prelude.{◌≡◌, ◌≤◌, List};
     ghost use Rattle.sky_rules.specs.Partition.{Stripe as StripeShown, chunks_in};
+    ghost use Rattle.sky_rules.specs.declared.limits.TheConstants.{CHUNKS_MOST};
 
     ghost Value = { List StripeShown };
 
     ghost view = { λ s. s.list.items };
 
-    ghost invariant = { λ s. (s.chunks ≡ chunks_in s.list.items) × (s.chunks ≤ 16384) };
+    ghost invariant = { λ s. (s.chunks ≡ chunks_in s.list.items) × (s.chunks ≤ CHUNKS_MOST) };
 }
 
 impl Stripes {
@@ -99,7 +95,7 @@ impl Stripes {
     #[tactic(auto, using(crate::proofs::Judged::room_left))]
     fn judged(&self, line: u32, said: &Said) -> Result<Stripe, SkyFault>
         ensures value { result ≡ judged_stripe line self.now (Some said.now) }
-        ensures room { IfOk result (λ stripe. chunks_in self.now + stripe.chunks ≤ 16384) }
+        ensures room { IfOk result (λ stripe. chunks_in self.now + stripe.chunks ≤ CHUNKS_MOST) }
     {
         if !is_overlap(said.overlap) {
             return Err(SkyFault::Overlap { line });
@@ -133,12 +129,12 @@ impl Stripes {
     fn has_room(&self, said: &Said) -> bool
         ensures { result ≡ is_room self.now said.now.chunks }
     {
-        self.list.len() < MOST_STRIPES && said.chunks <= i128::from(MOST_CHUNKS - self.chunks)
+        self.list.len() < STRIPES_MOST && said.chunks <= i128::from(CHUNKS_MOST - self.chunks)
     }
 
     /// Puts a stripe behind the others.
     fn push(&mut self, stripe: Stripe) -> Result<(), Memory>
-        requires { chunks_in self.old + stripe.chunks ≤ 16384 }
+        requires { chunks_in self.old + stripe.chunks ≤ CHUNKS_MOST }
         ensures { IfOk result (λ _. self.new ≡ self.old ++ stripe ∷ []) }
     {
         let chunks = self.chunks + stripe.chunks;
@@ -155,7 +151,7 @@ fn bound_above(below: i64, z: i128) -> Option<i64>
     ensures some { IfSome result (λ bound. IsTrue (is_above below z) × (bound ≡ z)) }
     ensures none { IfNone result (is_above below z ≡ false) }
 {
-    if i128::from(below) + 64 <= z && z <= HIGHEST {
+    if i128::from(below) + i128::from(HEIGHT_LEAST) <= z && z <= HIGHEST {
         Some(z as i64)
     } else {
         None
@@ -169,18 +165,18 @@ fn is_from(low: i128, high: i128, n: i128) -> bool
     low <= n && n <= high
 }
 
-/// Whether the number is an overlap radius, in grid units: from 0 to 2^24.
+/// Whether the number is an overlap radius, in grid units.
 pub(crate) fn is_overlap(r: i128) -> bool
     ensures { result ≡ is_overlap r }
 {
-    is_from(0, 16777216, r)
+    is_from(0, i128::from(OVERLAP_MOST), r)
 }
 
 /// Whether a stripe can have so many chunks.
 fn is_chunks(chunks: i128) -> bool
-    ensures { result ≡ (int_eq chunks (pos 1) || is_from (pos 3) (pos 1024) chunks) }
+    ensures { result ≡ (int_eq chunks (pos 1) || is_from (pos 3) (pos STRIPE_CHUNKS_MOST) chunks) }
 {
-    chunks == 1 || is_from(3, 1024, chunks)
+    chunks == 1 || is_from(3, i128::from(STRIPE_CHUNKS_MOST), chunks)
 }
 
 /// Whether a chunk that goes all round is cut in two columns, which are no wedges.
@@ -195,9 +191,9 @@ fn is_cut(said: &Said) -> bool
     ensures { result ≡ is_cut said.now }
 {
     is_chunks(said.chunks)
-        && is_from(1, 64, said.columns)
+        && is_from(1, i128::from(CUTS_MOST), said.columns)
         && !is_halved(said.chunks, said.columns)
-        && is_from(1, 64, said.rows)
+        && is_from(1, i128::from(CUTS_MOST), said.rows)
 }
 
 /// The stripe of these numbers, whose height is given once more.

@@ -10,15 +10,11 @@ use Rattle.sql_rules.specs.ReadQueries.{item_list_at, items_at, alias_at, table_
 use Rattle.sql_rules.specs.ReadQueries.{group_at, way_at, sorted_at, order_at, limit_at}
 use Rattle.sql_rules.specs.Trees.{from_at, front_at, query_at, query_of, tree_of}
 use Rattle.bind_rules.specs.Mentions.{columns_of, mentions_of_cond}
-use Rattle.bind_rules.specs.Tops.{tests_of}
 use Rattle.bind_rules.specs.Widths.{width_of, exprs_of}
 use Rattle.bind_rules.specs.Names.{unknown_name, not_grouped}
 use Rattle.bind_rules.specs.Forms.{join_form, area_form}
 use Rattle.bind_rules.specs.Checks.{too_wide, order_name, bind_fault}
-use Rattle.sql_tree.specs.declared.expr.Atom.TheFolds.{fold-roll-Factor, fold-roll-Prod, fold-roll-Signed, fold-roll-Expr}
-use Rattle.sql_tree.specs.declared.cond.Pred.TheFolds.{fold-roll-Neg, fold-roll-Conj, fold-roll-Cond}
-use Rattle.bind_rules.proofs.Folds.{fold_int, fold_col, fold_bracket, fold_group, fold_compare}
-use Rattle.bind_rules.proofs.Folds.{fold_between, fold_among, fold_null, fold_area, fold_chord}
+use Rattle.bind_rules.proofs.Worked.{written}
 use Rattle.bind_rules.proofs.first_faults.first_of_its_kind.Goals as goal
 
 pub returns-clause-column : goal.returns-clause-column
@@ -26,53 +22,15 @@ unfolding keyword_of tokens_from too_deep many col_at bracket_with atom_with fac
     sum_with expr_at int_at more_ints_at ints_at between_with range_with null_at said_with chord_behind chord_at
     area_with group_with other_with pred_with neg_with conj_with any_with cond_at argument_at counted_at plain_at
     high_at kind_at as_at item_at item_list_at items_at alias_at table_at second_at where_at cols_at group_at way_at
-    sorted_at order_at limit_at from_at front_at query_at query_of tree_of columns_of mentions_of_cond tests_of
+    sorted_at order_at limit_at from_at front_at query_at query_of tree_of columns_of mentions_of_cond
     width_of exprs_of unknown_name not_grouped join_form area_form too_wide order_name bind_fault
-returns-clause-column c =
-    simp (
-      fold_int,
-      fold_col,
-      fold_bracket,
-      fold_group,
-      fold_compare,
-      fold_between,
-      fold_among,
-      fold_null,
-      fold_area,
-      fold_chord,
-      fold-roll-Factor,
-      fold-roll-Prod,
-      fold-roll-Signed,
-      fold-roll-Expr,
-      fold-roll-Neg,
-      fold-roll-Conj,
-      fold-roll-Cond,
-    )
+returns-clause-column c = simp written
 
 pub returns-clause-area : goal.returns-clause-area
 unfolding keyword_of tokens_from too_deep many col_at bracket_with atom_with factor_with prod_with signed_with
     sum_with expr_at int_at more_ints_at ints_at between_with range_with null_at said_with chord_behind chord_at
     area_with group_with other_with pred_with neg_with conj_with any_with cond_at argument_at counted_at plain_at
     high_at kind_at as_at item_at item_list_at items_at alias_at table_at second_at where_at cols_at group_at way_at
-    sorted_at order_at limit_at from_at front_at query_at query_of tree_of columns_of mentions_of_cond tests_of
+    sorted_at order_at limit_at from_at front_at query_at query_of tree_of columns_of mentions_of_cond
     width_of exprs_of unknown_name not_grouped join_form area_form too_wide order_name bind_fault
-returns-clause-area c =
-    simp (
-      fold_int,
-      fold_col,
-      fold_bracket,
-      fold_group,
-      fold_compare,
-      fold_between,
-      fold_among,
-      fold_null,
-      fold_area,
-      fold_chord,
-      fold-roll-Factor,
-      fold-roll-Prod,
-      fold-roll-Signed,
-      fold-roll-Expr,
-      fold-roll-Neg,
-      fold-roll-Conj,
-      fold-roll-Cond,
-    )
+returns-clause-area c = simp written

@@ -1,4 +1,4 @@
-use Rattle.bind_rules.proofs.AreasTaken.{areas_are_conjuncts}
+use Rattle.bind_rules.proofs.TopAreas.{areas_are_conjuncts}
 use Rattle.bind_rules.proofs.laws.areas_are_conjuncts.Goals as goal
 
 pub returns : goal.returns

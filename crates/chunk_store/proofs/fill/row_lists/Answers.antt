@@ -25,13 +25,13 @@ loop-place-preserved c =
     let g = c.args.plan.now in
     let objects = c.args.rows.now.objects in
     let place = c.loop-place.place in
-    let row = c.get-row.result.now in
+    let row = c.get-row.result in
     let d = c.chunk_of-chunk.result in
     let holds = subst (λ (p : Point). IsTrue (in_chunk g d p)) c.pos.ensures.value c.chunk_of-chunk.ensures.holds in
     let only = subst (λ (p : Point). IsOnlyChunk g d p) c.pos.ensures.value c.chunk_of-chunk.ensures.only in
     record {
       own = lists_more (own_test g) (chunk_count g) objects place (d ∷ []) c.loop-place.own c.push.new.self
-          c.loop-place.invariant.own c.in_ok-push.ensures (own_often g objects place d row c.get-row.ensures holds only);
+          c.loop-place.invariant.own c.in_ok-push.ensures (own_often g objects place d row c.get-row.ensures.value holds only);
       overlap = lists_more (overlap_test g) (chunk_count g) objects place (near_others g row.at) c.loop-place.overlap c.push_near.new.lists
-          c.loop-place.invariant.overlap c.in_ok-push_near.ensures (near_often g objects place row c.get-row.ensures);
+          c.loop-place.invariant.overlap c.in_ok-push_near.ensures (near_often g objects place row c.get-row.ensures.value);
     }

@@ -7,6 +7,5 @@ abbrev pub invariant-loop-query : goal.invariant-loop-query
 invariant-loop-query g l = record {
   number : l.number ≡ l.query-index + 1;
   short : length l.queries ≤ 255;
-  few : length l.rows ≤ 2 ^ 22;
-  under : Under (g.K.Sink.state l.fn.sink) (g.K.Sink.state l.sink) (blocks l.rows l.chunks l.number (drop l.query-index l.queries)) (blocks l.rows l.chunks 1 l.queries);
+  under : Under (g.K.Sink.state l.fn.sink) (g.K.Sink.state l.sink) (blocks l.rows.objects l.chunks l.number (drop l.query-index l.queries)) (blocks l.rows.objects l.chunks 1 l.queries);
 }

@@ -1,5 +1,5 @@
 use Rattle.std.proofs.Common.{Some, ap, replicate, ◌∙◌}
-use Rattle.qserv_cli.specs.declared.outcome.EndKind.TheVariants.{Answered}
+use Rattle.session_rules.specs.declared.end.EndKind.TheVariants.{Answered}
 use Rattle.qserv_cli.proofs.Writing.{written}
 use Rattle.qserv_cli.proofs.top.write_run.Goals as goal
 

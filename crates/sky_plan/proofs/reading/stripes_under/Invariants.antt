@@ -1,5 +1,5 @@
 use Rattle.std.proofs.Common.{◌≡◌, [], length}
-use Rattle.sky_rules.specs.SkyText.{stripes_with}
+use Rattle.sky_rules.specs.SkySteps.{stripes_with}
 use Rattle.sky_plan.specs.Reading.{behind, said_lines}
 use Rattle.sky_plan.proofs.reading.stripes_under.Given as goal
 

@@ -1,6 +1,6 @@
 use Rattle.std.proofs.Common.{None, refl, ap, ◌∙◌}
 use Rattle.std.specs.Option.{option_map}
-use Rattle.sql_rules.specs.declared.fault.BindFault.TheVariants as fault
+use Rattle.bind_rules.specs.declared.fault.BindFault.TheVariants as fault
 use Rattle.bind_rules.specs.Forms.{bad_area, area_form}
 use Rattle.bind_rules.specs.Tops.{tests_in}
 use Rattle.sql_bind.specs.declared.area_forms.FirstBad.{FirstBad}

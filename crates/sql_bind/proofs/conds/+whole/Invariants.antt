@@ -1,11 +1,10 @@
 use Rattle.std.proofs.Common.{◌≡◌, ◌++◌, map, drop}
 use Rattle.std.specs.Option.{option_map}
-use Rattle.bind_rules.specs.Conjuncts.{all_there}
-use Rattle.sql_bind.specs.Layers.{whole_conj, whole_neg}
+use Rattle.bind_rules.specs.Wholes.{all_there, bound_all, bound_cond}
 use Rattle.sql_bind.proofs.conds.+whole.Given as goal
 
 abbrev pub invariant-whole_conjs-loop-conj : goal.invariant-whole_conjs-loop-conj
-invariant-whole_conjs-loop-conj l = all_there (map (whole_conj l.scope) l.rest) ≡ option_map (λ ys. l.found ++ ys) (all_there (map (whole_conj l.scope) (drop l.conj-index l.rest)))
+invariant-whole_conjs-loop-conj l = all_there (map (bound_all l.scope) l.rest) ≡ option_map (λ ys. l.found ++ ys) (all_there (map (bound_all l.scope) (drop l.conj-index l.rest)))
 
 abbrev pub invariant-whole_negs-loop-neg : goal.invariant-whole_negs-loop-neg
-invariant-whole_negs-loop-neg l = all_there (map (whole_neg l.scope) l.rest) ≡ option_map (λ ys. l.found ++ ys) (all_there (map (whole_neg l.scope) (drop l.neg-index l.rest)))
+invariant-whole_negs-loop-neg l = all_there (map (bound_cond l.scope) l.rest) ≡ option_map (λ ys. l.found ++ ys) (all_there (map (bound_cond l.scope) (drop l.neg-index l.rest)))

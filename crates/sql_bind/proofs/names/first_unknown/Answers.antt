@@ -1,6 +1,6 @@
 use Rattle.std.proofs.Common.{◌∙◌, ap}
 use Rattle.std.specs.Option.{option_map}
-use Rattle.sql_rules.specs.declared.fault.BindFault.TheVariants as fault
+use Rattle.bind_rules.specs.declared.fault.BindFault.TheVariants as fault
 use Rattle.sql_bind.proofs.Unknowns.{as_unknown_name}
 use Rattle.sql_bind.proofs.names.first_unknown.Goals as goal
 

@@ -2,7 +2,7 @@ use Rattle.std.proofs.Common.{ap, ◌∙◌, length, map}
 use Rattle.std.specs.Prelude.{◌&&◌, ◌==◌}
 use Rattle.sql_tree.specs.declared.cond.Cond.{out-Cond}
 use Rattle.bind_rules.specs.Mentions.{joined}
-use Rattle.bind_rules.specs.Tops.{kept_if, is_alone}
+use Rattle.sql_bind.specs.Walks.{kept_if, is_alone}
 use Rattle.sql_bind.specs.Gathering.{tests_of_conj, tests_of_neg}
 use Rattle.sql_bind.proofs.TestWalks.{nothing_gathered, gathers_two, under_more, next_part, alone_length, cond_tests, conj_tests, neg_tests, group_tests, compare_tests, between_tests, among_tests, null_tests, area_tests, chord_tests}
 use Rattle.sql_bind.proofs.tests_in.+walk.Goals as goal

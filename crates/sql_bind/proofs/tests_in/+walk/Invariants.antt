@@ -1,6 +1,6 @@
 use Rattle.std.proofs.Common.{map, drop}
 use Rattle.bind_rules.specs.Mentions.{joined}
-use Rattle.bind_rules.specs.Tops.{kept_if}
+use Rattle.sql_bind.specs.Walks.{kept_if}
 use Rattle.sql_bind.specs.Gathering.{tests_of_conj, tests_of_neg}
 use Rattle.sql_bind.proofs.TestWalks.{Under}
 use Rattle.sql_bind.proofs.tests_in.+walk.Given as goal

@@ -2,7 +2,8 @@ use Rattle.std.proofs.Common.{codes}
 use Rattle.sky_io.proofs.Writes.{under_fail, under_more, wrote_one, wrote_two}
 use Rattle.sql_rules.proofs.PrintOpened.{print_bracket_pred, print_area_pred}
 use Rattle.sql_rules.specs.PrintedConds.{print_conj, print_neg}
-use Rattle.sql_print.proofs.Printing.{next_part, compare_pred, between_pred, among_pred, null_pred, chord_pred, cond_parts, conj_parts, neg_parts}
+use Rattle.sql_rules.proofs.Listed.{next_part}
+use Rattle.sql_print.proofs.Printing.{compare_pred, between_pred, among_pred, null_pred, chord_pred, cond_parts, conj_parts, neg_parts}
 use Rattle.sql_print.proofs.conds.+put.Goals as goal
 
 pub put_cond-returns-in-Failed : goal.put_cond-returns-in-Failed

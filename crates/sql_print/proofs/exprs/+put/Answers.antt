@@ -2,7 +2,8 @@ use Rattle.std.proofs.Common.{codes, []}
 use Rattle.sky_io.proofs.Writes.{under_fail, under_more, wrote_one, wrote_two}
 use Rattle.sql_rules.proofs.PrintOpened.{print_int_atom, print_col_atom, print_bracket_atom}
 use Rattle.sql_rules.specs.PrintedExprs.{print_factor, print_signed}
-use Rattle.sql_print.proofs.Printing.{next_part, expr_parts, factor_parts, prod_parts, signed_parts}
+use Rattle.sql_rules.proofs.Listed.{next_part}
+use Rattle.sql_print.proofs.Printing.{expr_parts, factor_parts, prod_parts, signed_parts}
 use Rattle.sql_print.proofs.exprs.+put.Goals as goal
 
 pub put_expr-returns-in-Failed : goal.put_expr-returns-in-Failed

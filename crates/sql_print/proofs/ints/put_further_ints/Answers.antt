@@ -1,7 +1,7 @@
 use Rattle.std.proofs.Common.{codes, false, pos}
 use Rattle.sky_io.proofs.Writes.{under_fail, under_more}
 use Rattle.sql_rules.specs.PrintedConds.{print_int}
-use Rattle.sql_print.proofs.Printing.{next_at}
+use Rattle.sql_rules.proofs.Listed.{next_at}
 use Rattle.sql_print.proofs.ints.put_further_ints.Goals as goal
 
 pub returns-in-Failed : goal.returns-in-Failed

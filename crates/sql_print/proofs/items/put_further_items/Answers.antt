@@ -1,7 +1,7 @@
 use Rattle.std.proofs.Common.{codes}
 use Rattle.sky_io.proofs.Writes.{under_fail, under_more}
 use Rattle.sql_rules.specs.Printed.{print_item}
-use Rattle.sql_print.proofs.Printing.{next_part}
+use Rattle.sql_rules.proofs.Listed.{next_part}
 use Rattle.sql_print.proofs.items.put_further_items.Goals as goal
 
 pub returns-in-Failed : goal.returns-in-Failed

@@ -3,7 +3,7 @@ use Rattle.std.specs.List.{All}
 use Rattle.std.proofs.lemmas.List.{take_all}
 use Rattle.table_rules.specs.Objects.{Obj}
 use Rattle.sky_rules.specs.Bounds.{in_sub}
-use Rattle.chunk_store.specs.Places.{passes}
+use Rattle.chunk_rules.specs.Places.{passes}
 use Rattle.chunk_store.proofs.Ranges.{places_there}
 use Rattle.chunk_store.proofs.Subs.{sub_of_chunk}
 use Rattle.chunk_store.proofs.store.Store.sub.Goals as goal

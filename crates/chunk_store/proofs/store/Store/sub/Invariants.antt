@@ -1,6 +1,6 @@
 use Rattle.std.proofs.Common.{◌≡◌, filter, take, slice_get}
 use Rattle.sky_rules.specs.Bounds.{in_sub}
-use Rattle.chunk_store.specs.Places.{passes}
+use Rattle.chunk_rules.specs.Places.{passes}
 use Rattle.chunk_store.proofs.store.Store.sub.Given as goal
 
 abbrev pub invariant-loop-place : goal.invariant-loop-place

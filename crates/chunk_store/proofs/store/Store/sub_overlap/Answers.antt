@@ -6,7 +6,8 @@ use Rattle.table_rules.specs.Objects.{Obj}
 use Rattle.sky_rules.specs.Bounds.{in_sub, near_sub}
 use Rattle.chunk_store.specs.Lists.{kept_if}
 use Rattle.chunk_store.specs.Merged.{merged}
-use Rattle.chunk_store.specs.Places.{passes, in_sub_overlap}
+use Rattle.chunk_rules.specs.Places.{passes}
+use Rattle.chunk_store.specs.Places.{in_sub_overlap}
 use Rattle.chunk_store.proofs.Ranges.{kept_front, places_there}
 use Rattle.chunk_store.proofs.Subs.{near_rows_there, sub_overlap_of}
 use Rattle.chunk_store.proofs.store.Store.sub_overlap.Goals as goal

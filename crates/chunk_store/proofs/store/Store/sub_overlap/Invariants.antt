@@ -1,7 +1,8 @@
 use Rattle.std.proofs.Common.{◌≡◌, ◌<◌, ◌++◌, ◌&&◌, not, filter, slice_get, length}
 use Rattle.std.specs.List.{All}
 use Rattle.sky_rules.specs.Bounds.{in_sub, near_sub}
-use Rattle.chunk_store.specs.Places.{passes, sub_overlap_rows}
+use Rattle.chunk_rules.specs.Places.{passes}
+use Rattle.chunk_store.specs.Places.{sub_overlap_rows}
 use Rattle.chunk_store.proofs.store.Store.sub_overlap.Given as goal
 
 abbrev pub invariant-loop-place : goal.invariant-loop-place

@@ -1,6 +1,7 @@
 use Rattle.std.proofs.Common.{take}
 use Rattle.object_index.specs.Indexes.{IsIndexOf}
+use Rattle.object_index.specs.Pairs.{entries_of}
 use Rattle.object_index.proofs.index.Index.build.Given as goal
 
-abbrev pub invariant-loop-row : goal.invariant-loop-row
-invariant-loop-row l = IsIndexOf l.fn.plan (take l.row-index l.fn.rows.objects) l.chunks.entries
+abbrev pub invariant-loop-place : goal.invariant-loop-place
+invariant-loop-place l = IsIndexOf l.plan (take l.place l.rows.objects) (entries_of l.chunks.entries)

@@ -1,4 +1,5 @@
-use Rattle.std.proofs.Common.{◌≡◌, ◌≤◌, ◌^◌, length}
+use Rattle.std.proofs.Common.{◌≡◌, ◌≤◌, length}
+use Rattle.text_rules.specs.declared.limits.TheConstants.{TEXT_MOST}
 use Rattle.session_script.proofs.Judged.{Judged}
 use Rattle.session_script.proofs.script.Script.read.Given as goal
 
@@ -8,5 +9,5 @@ invariant-loop-line l = record {
   is_finite : (goal.iterator-loop-line).is_finite l.line-iterator;
   judged : Judged l.text l.place l.line-iterator l.script.steps;
   same : l.script.text ≡ l.text;
-  short : length l.text ≤ 2 ^ 29;
+  short : length l.text ≤ TEXT_MOST;
 }

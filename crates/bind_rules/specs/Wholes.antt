@@ -1,0 +1,115 @@
+-- Conditions with columns in place of names, as they stand. A chord test has no place in a bound condition, nor has what
+-- holds one; nor an area test whose arguments do not fit.
+use Rattle.std.specs.Prelude.{Bool, List, [], ◌∷◌, Option, None, Some, option_to_list}
+use Rattle.std.specs.List.{flat_map}
+use Rattle.sql_bound.specs.declared.area.AreaTest.{AreaTest}
+use Rattle.sql_bound.specs.declared.cond.BoundAll.{BoundAll, roll-BoundAll}
+use Rattle.sql_bound.specs.declared.cond.BoundAny.{BoundAny, roll-BoundAny}
+use Rattle.sql_bound.specs.declared.cond.BoundCond.{BoundCond, roll-BoundCond}
+use Rattle.sql_bound.specs.declared.cond.BoundPred.{BoundPred}
+use Rattle.sql_bound.specs.declared.cond.BoundPred.TheVariants as bound
+use Rattle.sql_tree.specs.declared.cond.Cond.{Cond}
+use Rattle.sql_tree.specs.declared.cond.Conj.{Conj}
+use Rattle.sql_tree.specs.declared.cond.Neg.{Neg}
+use Rattle.sql_tree.specs.declared.cond.Pred.{Pred}
+use Rattle.sql_tree.specs.declared.cond.Pred.TheFolds.{fold-Cond, fold-Conj, fold-Neg, fold-Pred}
+use Rattle.sql_tree.specs.declared.cond.Pred.TheOpen.{Cond-F, Conj-F, Neg-F, Pred-F}
+use Rattle.bind_rules.specs.Forms.{values_of}
+use Rattle.bind_rules.specs.Areas.{area_test}
+use Rattle.bind_rules.specs.Bounds.{Scope, bound_expr}
+use Rattle.bind_rules.specs.Conjuncts.{where_conjuncts}
+
+-- an area test as a predicate
+abbrev pub area_pred : Option AreaTest → Option BoundPred
+area_pred None = None
+area_pred (Some t) = Some (bound.Area t)
+
+-- a condition in brackets
+abbrev pub bracket : Option BoundAny → Option BoundPred
+bracket None = None
+bracket (Some c) = Some (bound.Bracket c)
+
+-- a layer of a condition whose parts are bound
+abbrev pub Bound-F : (Type 0 → Type 0 → Type 0 → Type 0 → Type 0) → Type 0
+Bound-F F = F (Option BoundPred) (Option BoundAny) (Option BoundAll) (Option BoundCond)
+
+-- the bound predicate, of the condition that it holds
+abbrev pub bound_at_pred : Scope → Bound-F Pred-F → Option BoundPred
+bound_at_pred s (Pred-F.Bracket c) = bracket c
+bound_at_pred s (Pred-F.Compare left op right) = Some (bound.Compare (bound_expr s left) op (bound_expr s right))
+bound_at_pred s (Pred-F.Between without value low high) =
+    Some (bound.Between without (bound_expr s value) (bound_expr s low) (bound_expr s high))
+bound_at_pred s (Pred-F.Among without value list) =
+    Some (bound.Among without (bound_expr s value) (values_of list))
+bound_at_pred s (Pred-F.IsNull without value) = Some (bound.IsNull without (bound_expr s value))
+bound_at_pred s (Pred-F.Area kind span args) = area_pred (area_test kind (values_of args))
+bound_at_pred s (Pred-F.Chord left right strict n) = None
+
+-- one before the others, where all are there
+abbrev pub before : {A : Type 0} → Option A → Option (List A) → Option (List A)
+before (Some x) (Some xs) = Some (x ∷ xs)
+before _ _ = None
+
+-- all of them, where each is there
+abbrev pub all_there : {A : Type 0} → List (Option A) → Option (List A)
+all_there [] = Some []
+all_there (x ∷ xs) = before x (all_there xs)
+
+-- a conjunction of its parts, where all are there
+abbrev pub conj_by : Option BoundCond → Option (List BoundCond) → Option BoundAll
+conj_by (Some c) (Some cs) = Some (roll-BoundAll (record { first = c; rest = cs }))
+conj_by _ _ = None
+
+-- a condition of its parts, where all are there
+abbrev pub any_by : Option BoundAll → Option (List BoundAll) → Option BoundAny
+any_by (Some c) (Some cs) = Some (roll-BoundAny (record { first = c; rest = cs }))
+any_by _ _ = None
+
+-- the predicate, with or without NOT
+abbrev pub neg_by : Bool → Option BoundPred → Option BoundCond
+neg_by without None = None
+neg_by without (Some p) = Some (roll-BoundCond (record { not = without; pred = p }))
+
+-- a predicate with or without NOT
+abbrev pub bound_at_neg : Bound-F Neg-F → Option BoundCond
+bound_at_neg n = neg_by n.not n.pred
+
+-- a conjunction
+abbrev pub bound_at_conj : Bound-F Conj-F → Option BoundAll
+bound_at_conj c = conj_by c.first (all_there c.rest)
+
+-- a condition
+abbrev pub bound_at_cond : Bound-F Cond-F → Option BoundAny
+bound_at_cond c = any_by c.first (all_there c.rest)
+
+-- the bound predicate
+unfoldable pub bound_pred : Scope → Pred → Option BoundPred
+bound_pred s =
+    fold-Pred (Option BoundPred) (Option BoundAny) (Option BoundAll) (Option BoundCond) (bound_at_pred s) bound_at_cond
+    bound_at_conj bound_at_neg
+
+-- the bound condition
+unfoldable pub bound_any : Scope → Cond → Option BoundAny
+bound_any s =
+    fold-Cond (Option BoundPred) (Option BoundAny) (Option BoundAll) (Option BoundCond) (bound_at_pred s) bound_at_cond
+    bound_at_conj bound_at_neg
+
+-- the bound conjunction
+unfoldable pub bound_all : Scope → Conj → Option BoundAll
+bound_all s =
+    fold-Conj (Option BoundPred) (Option BoundAny) (Option BoundAll) (Option BoundCond) (bound_at_pred s) bound_at_cond
+    bound_at_conj bound_at_neg
+
+-- the bound predicate with or without NOT
+unfoldable pub bound_cond : Scope → Neg → Option BoundCond
+bound_cond s =
+    fold-Neg (Option BoundPred) (Option BoundAny) (Option BoundAll) (Option BoundCond) (bound_at_pred s) bound_at_cond
+    bound_at_conj bound_at_neg
+
+-- the bound conjunct, where it has a place in a bound condition
+abbrev pub bound_conjunct : Scope → Neg → List BoundCond
+bound_conjunct s n = option_to_list (bound_cond s n)
+
+-- the bound conjuncts of WHERE; the chord test is left out
+abbrev pub conds_in : Scope → Option Cond → List BoundCond
+conds_in s w = flat_map (bound_conjunct s) (where_conjuncts w)

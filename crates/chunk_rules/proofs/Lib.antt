@@ -1,0 +1,2 @@
+pub mod FilledChunks
+pub mod RowsTaken

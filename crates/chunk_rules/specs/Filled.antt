@@ -1,0 +1,26 @@
+-- The chunks of a partition, and which of them hold a row of a table.
+use Rattle.std.specs.Prelude.{ℕ, ◌<◌, Bool, List, All, AllPairs, filter}
+use Rattle.std.specs.List.{list_any, range_with_len}
+use Rattle.table_rules.specs.Objects.{Obj}
+use Rattle.sky_rules.specs.Partition.{Partition, chunk_count}
+use Rattle.sky_rules.specs.Bounds.{in_chunk}
+
+-- the numbers of all chunks, ascending
+abbrev pub all_chunks : Partition → List ℕ
+all_chunks g = range_with_len 0 (chunk_count g)
+
+-- the chunk holds a row
+abbrev pub is_filled : Partition → List Obj → ℕ → Bool
+is_filled g table c = list_any (λ o. in_chunk g c o.at) table
+
+-- the chunks, ascending, that hold a row
+abbrev pub filled_chunks : Partition → List Obj → List ℕ
+filled_chunks g table = filter (λ c. is_filled g table c) (all_chunks g)
+
+-- those are chunks of the partition
+abbrev pub FilledAreChunks : Type 0
+FilledAreChunks = (g : Partition) (table : List Obj) → All (λ c. c < chunk_count g) (filled_chunks g table)
+
+-- and they ascend
+abbrev pub FilledAscend : Type 0
+FilledAscend = (g : Partition) (table : List Obj) → AllPairs (λ a b. a < b) (filled_chunks g table)

@@ -1,0 +1,14 @@
+use Rattle.std.proofs.Common.{ℕ, ◌<◌, List, sym, subst}
+use Rattle.std.specs.Prelude.{All, AllPairs}
+use Rattle.sky_rules.specs.Partition.{chunk_count}
+use Rattle.chunk_rules.proofs.FilledChunks.{filled_are_chunks, filled_ascend}
+use Rattle.chunk_store.proofs.store.Store.filled.Goals as goal
+
+pub returns-clause-there : goal.returns-clause-there
+returns-clause-there c =
+    let g = c.args.self.now.plan in
+    subst (λ l. All (λ k. k < chunk_count g) l) (sym c.filled_list.ensures) (filled_are_chunks g c.args.self.now.rows.objects)
+
+pub returns-clause-ascend : goal.returns-clause-ascend
+returns-clause-ascend c =
+    subst (λ l. AllPairs (λ a b. a < b) l) (sym c.filled_list.ensures) (filled_ascend c.args.self.now.plan c.args.self.now.rows.objects)

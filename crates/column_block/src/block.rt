@@ -1,0 +1,92 @@
+//! The columns of some rows of a table.
+ghost use Rattle.std.specs.Prelude.{◌≡◌, ◌+◌, ◌<◌, ◌≤◌, length, map, All, IfOk};
+ghost use Rattle.sky_vector.specs.Points.{IsWithin};
+ghost use Rattle.table_rules.specs.Objects.{IsRow};
+ghost use Rattle.sky_row.specs.Columns.{column_in, objects_at};
+
+use sky_io::Memory;
+use sky_row::{Column, Lists, Rows};
+use std::alloc::Global;
+use std::marker::Model;
+
+/// The ids, the parts of the positions and the further columns of some rows.
+#[derive(Drop)]
+pub struct Block {
+    lists: Lists,
+}
+
+impl Model for Block {
+    ghost use Rattle.std.specs.Prelude.{length};
+    ghost use Rattle.sky_row.specs.Columns.{AreRows, objects_of};
+    ghost use Rattle.column_block.specs.Blocks.{Stored};
+
+    ghost Value = { Stored };
+
+    ghost view = { λ b. record { width = length b.lists.further; objects = objects_of b.lists } };
+
+    ghost invariant = { λ b. AreRows b.lists };
+}
+
+impl Block {
+    /// The block of the rows at these places in the table, counted from 0, in the order of the places. Takes memory for each
+    /// column once.
+    pub fn build(alloc: Global, rows: &Rows, places: &[u32]) -> Result<Block, Memory>
+        requires { All (λ place. place < length rows.now.objects) places.now }
+        ensures { IfOk result (λ block. block ≡ record {
+          width = length rows.now.names;
+          objects = objects_at rows.now.objects places.now;
+        }) }
+    {
+        let lists = rows.lists().at(alloc, places)?;
+        Ok(Block { lists })
+    }
+
+    /// How many rows there are. Takes no memory.
+    pub fn len(&self) -> usize
+        ensures count { result ≡ length self.now.objects }
+        ensures rows { All IsRow self.now.objects }
+        ensures wide { All (λ o. length o.further ≡ self.now.width) self.now.objects }
+    {
+        self.lists.ids().len()
+    }
+
+    /// The ids of the rows. Takes no memory.
+    pub fn ids(&self) -> &[i64]
+        ensures { result.now ≡ map (λ o. o.id) self.now.objects }
+    {
+        self.lists.ids()
+    }
+
+    /// The x of the rows. Takes no memory.
+    pub fn xs(&self) -> &[i32]
+        ensures value { result.now ≡ map (λ o. o.at.x) self.now.objects }
+        ensures within { All IsWithin result.now }
+    {
+        self.lists.xs()
+    }
+
+    /// The y of the rows. Takes no memory.
+    pub fn ys(&self) -> &[i32]
+        ensures value { result.now ≡ map (λ o. o.at.y) self.now.objects }
+        ensures within { All IsWithin result.now }
+    {
+        self.lists.ys()
+    }
+
+    /// The z of the rows. Takes no memory.
+    pub fn zs(&self) -> &[i32]
+        ensures value { result.now ≡ map (λ o. o.at.z) self.now.objects }
+        ensures within { All IsWithin result.now }
+    {
+        self.lists.zs()
+    }
+
+    /// A further column by its number among all columns, so from 4: its numbers, and which rows have a value. Takes no memory.
+    pub fn further(&self, col: u32) -> &Column
+        requires first { 4 ≤ col }
+        requires last { col < 4 + self.now.width }
+        ensures { result.now ≡ column_in self.now.objects col }
+    {
+        self.lists.further((col - 4) as usize)
+    }
+}

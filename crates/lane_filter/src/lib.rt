@@ -1,0 +1,20 @@
+//! Tests of a column at once: each clears a mask, a truth for each row, where its plain test is false.
+//!
+//! A loop here goes over equal slices, one row a turn, with no branch and no call that is not laid into it, since that is
+//! what the compiler turns into vector code. The places that are left are listed without a branch too.
+//! Below: `sky_vector` for positions and chords, `sql_tree` for what a comparison is. Above: the scan of a chunk.
+#![tactic(auto)]
+
+mod compare;
+mod near;
+mod pick;
+mod range;
+mod wide;
+
+pub use compare::{keep, keep_narrow};
+pub use near::keep_near;
+pub use pick::{keep_present, picked};
+pub use range::{keep_between, keep_between_narrow};
+
+#[cfg(test)]
+mod tests;

@@ -1,0 +1,36 @@
+//! Tests of a column against a range.
+ghost use Rattle.std.specs.Prelude.{◌≡◌, length, get_or, pos};
+ghost use Rattle.lane_filter.specs.Tests.{IsKeptBy, is_from_to};
+
+use crate::wide::{Between, keep_by};
+
+/// Clears the mask where the value is not from the first number to the last. Takes no memory.
+pub fn keep_between(values: &[i64], first: i64, last: i64, mask: &mut [bool])
+    requires { length values.now ≡ length mask.old }
+    ensures len { length mask.new ≡ length mask.old }
+    ensures each { IsKeptBy (λ k. is_from_to first last (get_or values.now k (pos 0)))
+        mask.old mask.new }
+{
+    keep_by(&Between { first, last }, values, mask);
+}
+
+/// Clears the mask where the value is not from the first number to the last. The values have 32 bits. Takes no memory.
+pub fn keep_between_narrow(values: &[i32], first: i32, last: i32, mask: &mut [bool])
+    requires { length values.now ≡ length mask.old }
+    ensures len { length mask.new ≡ length mask.old }
+    ensures each { IsKeptBy (λ k. is_from_to first last (get_or values.now k (pos 0)))
+        mask.old mask.new }
+{
+    for i in 0..values.len() {
+        mask[i] = mask[i] & is_from_to_narrow(values[i], first, last);
+    }
+}
+
+/// Whether the value is from the first number to the last.
+#[inline(always)]
+#[tactic(auto, unfolding(crate::specs::Tests::is_from_to))]
+fn is_from_to_narrow(value: i32, first: i32, last: i32) -> bool
+    ensures { result ≡ is_from_to first last value }
+{
+    (first <= value) & (value <= last)
+}

@@ -1,0 +1,186 @@
+//! Masks over columns of 64-bit numbers, sixteen rows a turn.
+//!
+//! A plain loop that makes a byte of two 64-bit numbers becomes three times slower than it need be: the compiler takes two
+//! or four rows a turn, as many as a register has numbers, and packs them one by one. So the truths of sixteen rows are
+//! written as 32-bit flags first and packed from there, and the test is a type of its own, so that one pair of loops
+//! serves all of them.
+ghost use Rattle.std.specs.Prelude.{◌≡◌, ◌+◌, ◌<◌, ◌≤◌, ℕ, ℤ, Bool, false, ◌&&◌, length, get_or, pos, cond, int_le, int_lt, not};
+ghost use Rattle.std.specs.Ordering.{int_eq};
+ghost use Rattle.lane_filter.specs.Tests.{IsKeptBy, is_from_to};
+
+/// How many rows are tested before their truths are packed.
+const BLOCK: usize = 16;
+
+/// A test of a number.
+pub(crate) trait WideTest {
+    /// What passes.
+    ghost passes: { Self → ℤ → Bool };
+
+    /// Whether the number passes.
+    fn passes(&self, value: i64) -> bool
+        ensures { result ≡ passes self.now value };
+}
+
+/// Clears the mask where the value does not pass the test.
+pub(crate) fn keep_by<T: WideTest>(test: &T, values: &[i64], mask: &mut [bool])
+    requires { length values.now ≡ length mask.old }
+    ensures len { length mask.new ≡ length mask.old }
+    ensures each { IsKeptBy (λ k. T.passes test.now (get_or values.now k (pos 0)))
+        mask.old mask.new }
+{
+    let blocks = values.len() / BLOCK;
+    for block in 0..blocks {
+        keep_block(test, values, BLOCK * block, mask);
+    }
+    for i in BLOCK * blocks..values.len() {
+        mask[i] = mask[i] & test.passes(values[i]);
+    }
+}
+
+/// The same for the sixteen rows from this one on.
+#[inline(always)]
+#[tactic(auto, using(crate::proofs::Picking::flag_told))]
+fn keep_block<T: WideTest>(test: &T, values: &[i64], from: usize, mask: &mut [bool])
+    requires len { length values.now ≡ length mask.old }
+    requires there { from + 16 ≤ length values.now }
+    ensures len { length mask.new ≡ length mask.old }
+    ensures before { (k : ℕ) → k < from → get_or mask.new k false ≡ get_or mask.old k false }
+    ensures block { (k : ℕ) → from ≤ k → k < from + 16 → get_or mask.new k false
+        ≡ (get_or mask.old k false && T.passes test.now (get_or values.now k (pos 0))) }
+    ensures behind { (k : ℕ) → from + 16 ≤ k → get_or mask.new k false ≡ get_or mask.old k false }
+{
+    let flags = flags_of(test, values, from);
+    for j in 0..BLOCK {
+        let i = from + j;
+        mask[i] = mask[i] & (flags[j] != 0);
+    }
+}
+
+/// For each of sixteen rows 1 where its value passes the test, else 0.
+#[inline(always)]
+fn flags_of<T: WideTest>(test: &T, values: &[i64], from: usize) -> [i32; BLOCK]
+    requires { from + 16 ≤ length values.now }
+    ensures { (j : ℕ) → j < 16 → get_or result j (pos 0)
+        ≡ cond (T.passes test.now (get_or values.now (from + j) (pos 0))) (pos 1) (pos 0) }
+{
+    let mut flags = [0; BLOCK];
+    for j in 0..BLOCK {
+        flags[j] = flag(test.passes(values[from + j]));
+    }
+    flags
+}
+
+/// 1 for a truth, 0 else.
+#[inline(always)]
+fn flag(truth: bool) -> i32
+    ensures { result ≡ cond truth (pos 1) (pos 0) }
+{
+    i32::from(truth)
+}
+
+/// Whether a value is the number.
+#[derive(Clone, Copy)]
+pub(crate) struct Equals {
+    pub n: i64,
+}
+
+impl WideTest for Equals {
+    ghost passes = { λ t value. int_eq value t.n };
+
+    #[inline(always)]
+    fn passes(&self, value: i64) -> bool {
+        value == self.n
+    }
+}
+
+/// Whether a value is another than the number.
+#[derive(Clone, Copy)]
+pub(crate) struct Differs {
+    pub n: i64,
+}
+
+impl WideTest for Differs {
+    ghost passes = { λ t value. not (int_eq value t.n) };
+
+    #[inline(always)]
+    fn passes(&self, value: i64) -> bool {
+        value != self.n
+    }
+}
+
+/// Whether a value is below the number.
+#[derive(Clone, Copy)]
+pub(crate) struct Below {
+    pub n: i64,
+}
+
+impl WideTest for Below {
+    ghost passes = { λ t value. int_lt value t.n };
+
+    #[inline(always)]
+    fn passes(&self, value: i64) -> bool {
+        value < self.n
+    }
+}
+
+/// Whether a value is at most the number.
+#[derive(Clone, Copy)]
+pub(crate) struct AtMost {
+    pub n: i64,
+}
+
+impl WideTest for AtMost {
+    ghost passes = { λ t value. int_le value t.n };
+
+    #[inline(always)]
+    fn passes(&self, value: i64) -> bool {
+        value <= self.n
+    }
+}
+
+/// Whether a value is above the number.
+#[derive(Clone, Copy)]
+pub(crate) struct Above {
+    pub n: i64,
+}
+
+impl WideTest for Above {
+    ghost passes = { λ t value. int_lt t.n value };
+
+    #[inline(always)]
+    fn passes(&self, value: i64) -> bool {
+        value > self.n
+    }
+}
+
+/// Whether a value is at least the number.
+#[derive(Clone, Copy)]
+pub(crate) struct AtLeast {
+    pub n: i64,
+}
+
+impl WideTest for AtLeast {
+    ghost passes = { λ t value. int_le t.n value };
+
+    #[inline(always)]
+    fn passes(&self, value: i64) -> bool {
+        value >= self.n
+    }
+}
+
+/// Whether a value is from the first number to the last.
+#[derive(Clone, Copy)]
+pub(crate) struct Between {
+    pub first: i64,
+    pub last: i64,
+}
+
+impl WideTest for Between {
+    ghost passes = { λ t value. is_from_to t.first t.last value };
+
+    #[inline(always)]
+    #[tactic(auto, unfolding(crate::specs::Tests::is_from_to))]
+    fn passes(&self, value: i64) -> bool {
+        (self.first <= value) & (value <= self.last)
+    }
+}

@@ -1,0 +1,188 @@
+//! A board that seats share.
+//!
+//! Between two calls of a seat others may call too, so a seat knows a beginning of the journal alone: what it had seen
+//! when it left last. A call enters the turn and finds the whole journal, which goes on from what was seen and has just
+//! those lines of the seat's own number that the seat made. The board answers on that journal, and the seat has seen all
+//! of it, and the call's own line, when it leaves.
+ghost use Rattle.std.specs.Prelude.{◌≡◌, ◌≢◌, ◌-◌, ◌<◌, ◌≤◌, ◌^◌, [], All, IfOk};
+ghost use mathlib.Core.List.{IsPrefix};
+ghost use Rattle.scan_rules.specs.Lines.{seat_of};
+ghost use Rattle.scan_core.specs.Answers.{AnswersAttach, AnswersTake, AnswersCollect, IfTask};
+ghost use Rattle.scan_core.specs.Delivering.{DeliversTask, PiecesFit};
+ghost use Rattle.turn_lock.specs.Seats.{Knows, first_seat, joined, next_seat, one_more_made};
+ghost use Rattle.scan_core.specs.Boards.{IsLawful};
+ghost use Rattle.scan_board.specs.Calls.{AnswersCancel, AnswersClose, Called, HasTask};
+ghost use Rattle.scan_board.specs.Calls.{IsAskedFor, IsOwed};
+
+use scan_core::{Attach, Board, BoardRoot, ChunkSet, Collect, Take, Task, Work};
+use sky_io::Memory;
+use std::alloc::Global;
+use std::marker::Model;
+use std::sync::Wait;
+use turn_lock::{Seat, Turn};
+
+/// A board behind a turn. Contracts see which turn it is.
+#[derive(Drop)]
+pub struct SharedBoard<P: Work> {
+    turn: Turn<Board<P>>,
+}
+
+impl<P: Work> Model for SharedBoard<P> {
+    ghost use Rattle.atomic_table.specs.Seated.{TableId};
+
+    ghost Value = { TableId };
+
+    ghost view = { λ b. b.turn };
+}
+
+impl<P: Work> SharedBoard<P> {
+    /// A shared board without lines, and its seat 0. Takes memory; on Memory the board is dropped.
+    pub fn new(alloc: Global, board: Board<P>) -> Result<(SharedBoard<P>, Seat<Board<P>>), Memory>
+        requires { board.past ≡ [] }
+        ensures first { IfOk result (λ r.
+            r.1 ≡ first_seat r.0 (record { root = board.root; ring = board.ring })) }
+        ensures lawful { IsLawful P.asks board }
+    {
+        // the ring tells that the board is lawful
+        let _ring = board.ring();
+        let (turn, seat) = Turn::new(alloc, board)?;
+        Ok((SharedBoard { turn }, seat))
+    }
+
+    /// A query is attached, as the board does. Waits for the turn. Takes memory.
+    pub fn attach<R: Wait>(
+        &self,
+        rt: &R,
+        seat: Seat<Board<P>>,
+        q: u32,
+        chunks: ChunkSet,
+        empty: P,
+    ) -> (Attach<P>, Seat<Board<P>>)
+        requires own { seat.turn ≡ self.now }
+        requires from_1 { 1 ≤ q }
+        requires to_255 { q ≤ 255 }
+        requires in_ring { All (λ chunk. chunk < seat.root.ring) chunks }
+        requires asked { All (P.asks seat.root.root q) chunks }
+        requires nothing { P.stands seat.root.root q [] empty }
+        ensures called { Called P.asks
+            (λ before after. AnswersAttach seat.number before q chunks empty result.0 after)
+            seat result.1 }
+    {
+        let number = seat.number();
+        let mut pass = self.turn.enter(rt, seat);
+        let attached = pass.value().attach(number, q, chunks, empty);
+        (attached, pass.leave())
+    }
+
+    /// Hands out the next chunk of the lap, as the board does. Waits for the turn. Takes no memory.
+    pub fn take<R: Wait>(&self, rt: &R, seat: Seat<Board<P>>) -> (Take, Seat<Board<P>>)
+        requires own { seat.turn ≡ self.now }
+        ensures called { Called P.asks
+            (λ before after. AnswersTake seat.number before result.0 after) seat result.1 }
+        ensures holds { IfTask result.0 (λ task. HasTask result.1 task) }
+        ensures asked { IfTask result.0 (λ task. IsAskedFor P.asks seat task) }
+    {
+        let number = seat.number();
+        let mut pass = self.turn.enter(rt, seat);
+        let taken = pass.value().take(number);
+        (taken, pass.leave())
+    }
+
+    /// Takes a task's pieces in, as the board does. Waits for the turn. Only absorbing takes memory.
+    pub fn deliver<R: Wait>(
+        &self,
+        rt: &R,
+        seat: Seat<Board<P>>,
+        task: Task,
+        pieces: Vec<Option<P>>,
+    ) -> Seat<Board<P>>
+        requires own { seat.turn ≡ self.now }
+        requires holds { HasTask seat task }
+        requires stand { PiecesFit (P.stands seat.root.root) task.chunk task.queries pieces.items }
+        ensures called { Called P.asks
+            (λ before after. DeliversTask seat.number task pieces.items before after)
+            seat result }
+    {
+        let number = seat.number();
+        let mut pass = self.turn.enter(rt, seat);
+        deliver_owed(pass.value(), number, task, pieces);
+        pass.leave()
+    }
+
+    /// A running query is cancelled. True exactly where it ran. Waits for the turn. Takes no memory.
+    pub fn cancel<R: Wait>(&self, rt: &R, seat: Seat<Board<P>>, q: u32) -> (bool, Seat<Board<P>>)
+        requires own { seat.turn ≡ self.now }
+        ensures called { Called P.asks
+            (λ before after. AnswersCancel seat.number before q result.0 after) seat result.1 }
+    {
+        let number = seat.number();
+        let mut pass = self.turn.enter(rt, seat);
+        let ran = pass.value().cancel(number, q);
+        (ran, pass.leave())
+    }
+
+    /// Hands out the end of a query, once, as the board does. Waits for the turn. Takes no memory.
+    pub fn collect<R: Wait>(
+        &self,
+        rt: &R,
+        seat: Seat<Board<P>>,
+        q: u32,
+    ) -> (Collect<P>, Seat<Board<P>>)
+        requires own { seat.turn ≡ self.now }
+        ensures called { Called P.asks
+            (λ before after. AnswersCollect P.stands seat.number before q result.0 after)
+            seat result.1 }
+    {
+        let number = seat.number();
+        let mut pass = self.turn.enter(rt, seat);
+        let end = pass.value().collect(number, q);
+        (end, pass.leave())
+    }
+
+    /// No query is attached from then on. Waits for the turn. Takes no memory.
+    pub fn close<R: Wait>(&self, rt: &R, seat: Seat<Board<P>>) -> Seat<Board<P>>
+        requires own { seat.turn ≡ self.now }
+        ensures called { Called P.asks (AnswersClose seat.number) seat result }
+    {
+        let number = seat.number();
+        let mut pass = self.turn.enter(rt, seat);
+        pass.value().close(number);
+        pass.leave()
+    }
+
+    /// Makes one more seat, with the next number, out of seat 0. Takes no memory.
+    pub fn split(&self, seat: &mut Seat<Board<P>>) -> Seat<Board<P>>
+        requires own { seat.old.turn ≡ self.now }
+        requires first { seat.old.number ≡ 0 }
+        requires room { seat.old.made < 2 ^ 32 - 1 }
+        ensures kept { seat.new ≡ one_more_made seat.old }
+        ensures next { result ≡ next_seat seat.old }
+        ensures known { Knows seat_of seat.new × Knows seat_of result }
+    {
+        self.turn.split(seat)
+    }
+
+    /// Ends another seat in this one, which has seen the longer of both journals then. Takes no memory.
+    pub fn join(&self, seat: &mut Seat<Board<P>>, other: Seat<Board<P>>)
+        requires own { (seat.old.turn ≡ self.now) × (other.turn ≡ self.now) }
+        requires not_first { other.number ≢ 0 }
+        ensures joined { seat.new ≡ joined seat.old other }
+        ensures own_seen { IsPrefix seat.old.seen seat.new.seen }
+        ensures other_seen { IsPrefix other.seen seat.new.seen }
+        ensures known { Knows seat_of seat.new }
+    {
+        self.turn.join(seat, other)
+    }
+}
+
+/// Delivers a task that is not delivered by the seat's own lines.
+fn deliver_owed<P: Work>(board: &mut Board<P>, seat: u32, task: Task, pieces: Vec<Option<P>>)
+    requires owed { IsOwed board.old.past seat task }
+    requires stand { PiecesFit (P.stands board.old.root) task.chunk task.queries pieces.items }
+    ensures delivered { DeliversTask seat task pieces.items board.old board.new }
+    ensures lawful { IsLawful P.asks board.new }
+{
+    // the ring tells that the journal is a run: so no other seat can have delivered the task
+    let _ring = board.ring();
+    board.deliver(seat, task, pieces)
+}

@@ -1,0 +1,99 @@
+-- What a deliver is given, and what it changes in the pieces and in the slots.
+use Rattle.std.specs.Prelude.{◌≡◌, ℕ, ◌+◌, ◌<◌, ◌≤◌, List, [], ◌∷◌, AllPairs, Contains, length, get_or}
+use Rattle.std.specs.Prelude.{Bool, true, false, ◌||◌, Option, Some, None, IfSome}
+use Rattle.scan_rules.specs.declared.journal_line.JournalLine.TheVariants.{Take, Deliver}
+use Rattle.scan_rules.specs.Numbers.{has}
+use Rattle.scan_rules.specs.Queries.{Journal, is_delivered, is_running}
+use Rattle.scan_rules.specs.Delivers.{LosesWithoutPiece, entry_of, query_of}
+use Rattle.scan_rules.specs.Runs.{MayDeliver}
+use Rattle.scan_core.specs.declared.slot.Slot.{Slot}
+use Rattle.scan_core.specs.Boards.{BoardState, TaskState, gains}
+use Rattle.scan_core.specs.Changes.{Beside}
+use Rattle.scan_core.specs.Pieces.{MayAbsorb}
+use Rattle.scan_core.specs.Slots.{runs}
+
+-- the task was taken from this seat, and is not delivered
+pub record InFlight (past : Journal) (seat : ℕ) (task : TaskState) : Type 0 where
+  pub taken : Contains past (Take seat task.ticket task.chunk task.queries)
+  pub undelivered : is_delivered past task.ticket ≡ false
+
+-- there are at most as many entries as queries, and each piece stands for the chunk and the query of its turn
+pub record PiecesFit {P : Type 0} (stands : ℕ → List ℕ → P → Type 0) (chunk : ℕ) (queries : List ℕ)
+    (entries : List (Option P)) : Type 0 where
+  pub few : length entries ≤ length queries
+  pub each : (turn : ℕ) → turn < length entries
+      → IfSome (entry_of entries turn) (λ piece. stands (query_of queries turn) (chunk ∷ []) piece)
+
+-- the line of a deliver, and the board after it: a running query without a piece is lost
+pub record DeliversTask {R P : Type 0} (seat : ℕ) (task : TaskState) (entries : List (Option P))
+    (old new : BoardState R) : Type 0 where
+  pub lost : List ℕ
+  pub may : MayDeliver old.past seat task.ticket lost
+  pub line : new ≡ gains old (Deliver seat task.ticket lost)
+  pub loses : LosesWithoutPiece old.past task.queries entries lost
+
+-- a piece has taken in the one that came
+pub record Absorbed {P : Type 0} (absorbs : P → P → P → Type 0) (entry old new : Option P) : Type 0 where
+  pub mine : P
+  pub other : P
+  pub it : P
+  pub was : old ≡ Some mine
+  pub came : entry ≡ Some other
+  pub now : new ≡ Some it
+  pub joined : absorbs mine other it
+
+-- each query of the first n that runs has absorbed its entry, or is lost; the pieces of all others stay
+pub record HandedIn {P : Type 0} (absorbs : P → P → P → Type 0) (slots : List Slot) (queries : List ℕ)
+    (entries old new : List (Option P)) (lost : List ℕ) (n : ℕ) : Type 0 where
+  pub len : length new ≡ length old
+  pub other : (j : ℕ) (d : Option P) → ((turn : ℕ) → turn < n → query_of queries turn ≡ j → ⊥)
+      → get_or new j d ≡ get_or old j d
+  pub each : (turn : ℕ) (d : Slot) → turn < n → runs (get_or slots (query_of queries turn) d) ≡ true
+      → has lost (query_of queries turn) ≡ false
+      → Absorbed absorbs (entry_of entries turn) (entry_of old (query_of queries turn)) (entry_of new (query_of queries turn))
+  pub losable : (j : ℕ) → has lost j ≡ true
+      → (turn : ℕ) × (turn < n) × (query_of queries turn ≡ j) × ((d : Slot) → runs (get_or slots j d) ≡ true)
+
+-- a slot is owed one chunk less, and needs nothing more where its query is lost
+pub record Paid (lost : Bool) (old new : Slot) : Type 0 where
+  pub attached : new.attached ≡ old.attached
+  pub cancelled : new.cancelled ≡ old.cancelled
+  pub gone : new.lost ≡ (old.lost || lost)
+  pub collected : new.collected ≡ old.collected
+  pub owed : new.owed + 1 ≡ old.owed
+  pub cleared : lost ≡ true → new.ahead.items ≡ []
+  pub kept : lost ≡ false → new.ahead.items ≡ old.ahead.items
+
+-- that slot alone
+pub record PaidAt (lost : Bool) (old new : List Slot) (q : ℕ) : Type 0 where
+  pub beside : Beside old new q
+  pub here : (d : Slot) → Paid lost (get_or old q d) (get_or new q d)
+
+-- so the slots of the first n queries, and no other
+pub record PaidAll (queries lost : List ℕ) (old new : List Slot) (n : ℕ) : Type 0 where
+  pub len : length new ≡ length old
+  pub other : (j : ℕ) (d : Slot) → ((turn : ℕ) → turn < n → query_of queries turn ≡ j → ⊥)
+      → get_or new j d ≡ get_or old j d
+  pub each : (turn : ℕ) (d : Slot) → turn < n
+      → Paid (has lost (query_of queries turn)) (get_or old (query_of queries turn) d) (get_or new (query_of queries turn) d)
+
+-- where both pieces are there, the one may take in the other
+abbrev pub Fitting : {R P : Type 0} → (R → ℕ → List ℕ → P → Type 0) → Option P → Option P → Type 0
+Fitting stands (Some mine) (Some other) = MayAbsorb stands mine other
+Fitting stands _ _ = Unit {0}
+
+-- so for each query that runs, and its entry
+pub record FitAll {R P : Type 0} (stands : R → ℕ → List ℕ → P → Type 0) (slots : List Slot) (queries : List ℕ)
+    (entries pieces : List (Option P)) : Type 0 where
+  pub each : (turn : ℕ) (d : Slot) → turn < length queries → runs (get_or slots (query_of queries turn) d) ≡ true
+      → Fitting stands (entry_of pieces (query_of queries turn)) (entry_of entries turn)
+
+-- the queries of a task ascend, and have numbers from 1 to 255
+pub record AreTasked (queries : List ℕ) : Type 0 where
+  pub ascend : AllPairs (λ a b. a < b) queries
+  pub from_1 : (turn : ℕ) → turn < length queries → 1 ≤ query_of queries turn
+  pub to_255 : (turn : ℕ) → turn < length queries → query_of queries turn < 256
+
+-- each of them is owed a chunk
+pub record AllOwed (slots : List Slot) (queries : List ℕ) : Type 0 where
+  pub each : (turn : ℕ) (d : Slot) → turn < length queries → 1 ≤ (get_or slots (query_of queries turn) d).owed

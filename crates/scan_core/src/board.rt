@@ -1,0 +1,271 @@
+//! The board of the shared scan.
+//!
+//! A query is attached with the chunks that it wants. The scan goes round the ring of chunks; each take hands out the
+//! next chunk that some running query was not served yet, for all such queries at once, and a query that comes in
+//! mid-lap is served what it missed on the next round. A task is delivered with a piece for each of its queries, and
+//! a query that has all its chunks is done. The journal has a line for each call that changed something, and every
+//! field is a word on it (`specs/Kept.antt`).
+ghost use Rattle.std.specs.Prelude.{◌≡◌, ◌<◌, ◌≤◌, ◌+◌, ◌*◌, ◌^◌, [], All, IfOk, IsTrue, true, false, vec_capacity};
+ghost use Rattle.scan_rules.specs.declared.journal_line.JournalLine.TheVariants.{Cancel as CancelLine};
+ghost use Rattle.scan_rules.specs.declared.journal_line.JournalLine.TheVariants.{Close as CloseLine};
+ghost use Rattle.scan_rules.specs.Lines.{seat_of};
+ghost use Rattle.scan_rules.specs.Queries.{is_closed, is_running};
+ghost use Rattle.scan_core.specs.Boards.{gains, IsLawful};
+ghost use Rattle.scan_core.specs.Answers.{AnswersAttach, AnswersTake, AnswersCollect, IfTask};
+ghost use Rattle.scan_core.specs.Delivering.{DeliversTask, InFlight, PiecesFit};
+
+use crate::ahead::ahead_of;
+use crate::answers::{Attach, Collect, Take};
+use crate::board_root::BoardRoot;
+use crate::deliveries::{hand_all, pay_all};
+use crate::next::{chunk_at, least_step, pop_all, takers_at, takers_set};
+use crate::pieces::{end_of, no_pieces, put_at, take_at};
+use crate::slot::Slot;
+use crate::slots::{
+    attached_at, blank_slots, cancelled_at, collect_at, enter_at, lost_at, running_in, runs_at,
+    stop_at, waits_at,
+};
+use crate::task::Task;
+use crate::work::Work;
+use scan_rules::{ChunkSet, JournalLine};
+use sky_io::{Lineage, Memory};
+use std::alloc::Global;
+use std::marker::Model;
+
+/// How many queries run at once, at most: as many as a task has room for.
+const MOST_RUNNING: u32 = 64;
+
+/// A board over a ring of chunks, from 0. The root is kept and never looked into.
+#[derive(Drop)]
+pub struct Board<P: Work> {
+    root: P::Root,
+    ring: u32,
+    /// The chunk that the scan looks at next.
+    place: u32,
+    /// How many chunks were taken.
+    tickets: u32,
+    /// How many tasks are taken and not delivered.
+    flights: u32,
+    closed: bool,
+    /// One for each query number below 256; number 0 is no query's.
+    slots: Vec<Slot>,
+    /// The piece of each query, by its number.
+    pieces: Vec<Option<P>>,
+    journal: Vec<JournalLine>,
+}
+
+impl<P: Work> Model for Board<P> {
+    ghost use Rattle.scan_core.specs.Boards.{BoardState};
+
+    ghost Value = { BoardState P.Root };
+
+    ghost use Rattle.std.specs.Prelude.{vec_capacity};
+    ghost use Rattle.scan_core.specs.Stored.{Stored};
+
+    ghost view = { λ b. record { root = b.root; ring = b.ring; past = b.journal.items } };
+
+    ghost invariant = { λ b. Stored (P.asks b.root) (P.stands b.root)
+        b.ring b.place b.tickets b.flights b.closed b.slots.items b.pieces.items
+        (vec_capacity b.journal) b.journal.items };
+}
+
+impl<P: Work> Board<P> {
+    /// A board without queries over a ring of so many chunks. Takes memory; on `Err` the root is dropped.
+    pub fn new(alloc: Global, ring: u32, root: P::Root) -> Result<Board<P>, Memory>
+        requires { ring ≤ 16384 }
+        ensures board { IfOk result (λ board.
+            board ≡ record { root = root; ring = ring; past = [] }) }
+        ensures lawful { IfOk result (λ board. IsLawful P.asks board) }
+    {
+        let slots = blank_slots(alloc)?;
+        let pieces = no_pieces(alloc)?;
+        let journal = room_for_close(alloc)?;
+        Ok(Board {
+            root,
+            ring,
+            place: 0,
+            tickets: 0,
+            flights: 0,
+            closed: false,
+            slots,
+            pieces,
+            journal,
+        })
+    }
+
+    /// The number of chunks. Tells that the journal is a run over them and the root. Takes no memory.
+    pub fn ring(&self) -> u32
+        ensures ring { result ≡ self.now.ring }
+        ensures lawful { IsLawful P.asks self.now }
+    {
+        self.ring
+    }
+
+    /// A query is attached with the chunks that it wants and an empty piece. Takes memory, also for all that follows.
+    pub fn attach(&mut self, seat: u32, q: u32, chunks: ChunkSet, empty: P) -> Attach<P>
+        requires from_1 { 1 ≤ q }
+        requires to_255 { q ≤ 255 }
+        requires in_ring { All (λ chunk. chunk < self.old.ring) chunks }
+        requires asked { All (P.asks self.old.root q) chunks }
+        requires nothing { P.stands self.old.root q [] empty }
+        ensures answer { AnswersAttach seat self.old q chunks empty result self.new }
+        ensures lawful { IsLawful P.asks self.new }
+    {
+        if self.closed {
+            return Attach::Closed { chunks, empty };
+        }
+        if attached_at(&self.slots, q as usize) {
+            return Attach::Again { chunks, empty };
+        }
+        if running_in(&self.slots) >= MOST_RUNNING {
+            return Attach::Full { chunks, empty };
+        }
+        let list = chunks.as_slice();
+        let owed = list.len() as u32;
+        let Ok(ahead) = ahead_of(*self.journal.allocator(), self.place, list) else {
+            return Attach::Memory { chunks, empty };
+        };
+        let room = room_after_attach(self.ring, self.flights);
+        if self.journal.reserve(room).is_err() {
+            return Attach::Memory { chunks, empty };
+        }
+        self.journal
+            .push_reserved(JournalLine::Attach { seat, q, chunks });
+        enter_at(&mut self.slots, q as usize, owed, ahead);
+        put_at(&mut self.pieces, q as usize, empty);
+        Attach::Attached
+    }
+
+    /// No query is attached from then on. A second close changes nothing. Takes no memory.
+    pub fn close(&mut self, seat: u32)
+        ensures first { is_closed self.old.past ≡ false
+            → self.new ≡ gains self.old (CloseLine seat) }
+        ensures second { is_closed self.old.past ≡ true → self.new ≡ self.old }
+        ensures lawful { IsLawful P.asks self.new }
+    {
+        if self.closed {
+            return;
+        }
+        self.journal.push_reserved(JournalLine::Close { seat });
+        self.closed = true;
+    }
+
+    /// A running query is cancelled. True exactly where it ran. Takes no memory.
+    pub fn cancel(&mut self, seat: u32, q: u32) -> bool
+        ensures ran { result ≡ is_running self.old.past q }
+        ensures cancelled { IsTrue result → self.new ≡ gains self.old (CancelLine seat q) }
+        ensures same { result ≡ false → self.new ≡ self.old }
+        ensures lawful { IsLawful P.asks self.new }
+    {
+        if !runs_at(&self.slots, q) {
+            return false;
+        }
+        self.journal.push_reserved(JournalLine::Cancel { seat, q });
+        stop_at(&mut self.slots, q as usize);
+        let _dropped = take_at(&mut self.pieces, q as usize);
+        true
+    }
+
+    /// Hands out the next chunk of the lap, for all queries that need it. Takes no memory.
+    pub fn take(&mut self, seat: u32) -> Take
+        ensures answer { AnswersTake seat self.old result self.new }
+        ensures flies { IfTask result (λ task. InFlight self.new.past seat task) }
+        ensures lawful { IsLawful P.asks self.new }
+    {
+        let step = least_step(self.ring, self.place, &self.slots);
+        if step >= self.ring {
+            if self.closed {
+                return Take::Ended;
+            }
+            return Take::Idle;
+        }
+        let chunk = chunk_at(self.ring, self.place, step);
+        let queries = takers_at(&self.slots, chunk);
+        let set = takers_set(&self.slots, chunk);
+        let ticket = self.tickets;
+        self.journal.push_reserved(JournalLine::Take {
+            seat,
+            ticket,
+            chunk,
+            queries: set,
+        });
+        pop_all(&mut self.slots, chunk);
+        self.place = chunk_at(self.ring, chunk, 1);
+        self.tickets = ticket + 1;
+        self.flights += 1;
+        Take::Task(Task::new(ticket, chunk, queries))
+    }
+
+    /// Hands out the end of a query, once: its piece where it is done. Takes no memory.
+    pub fn collect(&mut self, seat: u32, q: u32) -> Collect<P>
+        ensures answer { AnswersCollect P.stands seat self.old q result self.new }
+        ensures lawful { IsLawful P.asks self.new }
+    {
+        if runs_at(&self.slots, q) {
+            return Collect::NotYet;
+        }
+        if !waits_at(&self.slots, q) {
+            return Collect::Gone;
+        }
+        let cancelled = cancelled_at(&self.slots, q as usize);
+        let lost = lost_at(&self.slots, q as usize);
+        self.journal.push_reserved(JournalLine::Collect { seat, q });
+        collect_at(&mut self.slots, q as usize);
+        let piece = take_at(&mut self.pieces, q as usize);
+        end_of(cancelled, lost, piece)
+    }
+
+    /// Takes a task's pieces in, the query of each by its turn; a running query without a piece, or without memory for
+    /// it, is lost. The pieces of other queries are dropped. Only absorbing takes memory.
+    pub fn deliver(&mut self, seat: u32, task: Task, pieces: Vec<Option<P>>)
+        requires in_flight { InFlight self.old.past seat task }
+        requires stand { PiecesFit (P.stands self.old.root) task.chunk task.queries pieces.items }
+        ensures delivered { DeliversTask seat task pieces.items self.old self.new }
+        ensures lawful { IsLawful P.asks self.new }
+    {
+        let lost = hand_all(&self.slots, &mut self.pieces, task.queries(), pieces);
+        self.journal.push_reserved(JournalLine::Deliver {
+            seat,
+            ticket: task.ticket(),
+            lost,
+        });
+        pay_all(&mut self.slots, task.queries(), &lost);
+        self.flights -= 1;
+    }
+}
+
+impl<P: Work> Lineage for Board<P> {
+    type Root = BoardRoot<P::Root>;
+
+    type Entry = JournalLine;
+
+    ghost root = { λ board. record { root = board.root; ring = board.ring } };
+
+    ghost past = { λ board. board.past };
+
+    ghost seat_of = { seat_of };
+
+    fn past_len(&self) -> u64 {
+        self.journal.len() as u64
+    }
+}
+
+/// An empty journal with room for a Close. Takes memory.
+fn room_for_close(alloc: Global) -> Result<Vec<JournalLine>, Memory>
+    ensures { IfOk result (λ journal. (journal.items ≡ []) × (1 ≤ vec_capacity journal)) }
+{
+    let mut journal = Vec::new(alloc);
+    journal.reserve(1)?;
+    Ok(journal)
+}
+
+/// How many lines may come with an Attach and after it, until the next one: the Attach; a Take and a Deliver for each
+/// chunk of the ring; a Deliver for each task in flight; a Cancel for each of 64 queries; a Collect for each slot;
+/// and a Close.
+fn room_after_attach(ring: u32, flights: u32) -> usize
+    requires small { ring ≤ 16384 }
+    requires few { flights < 2 ^ 23 }
+    ensures { result ≡ 322 + 2 * ring + flights }
+{
+    1 + 2 * ring as usize + flights as usize + 64 + 256 + 1
+}

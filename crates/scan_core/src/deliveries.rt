@@ -1,0 +1,155 @@
+//! What a deliver does with the pieces of a task, and with the slots of its queries.
+ghost use Rattle.std.specs.Prelude.{◌≡◌, ℕ, ◌<◌, ◌≤◌, List, [], ◌∷◌, ◌++◌, cond, length, get_or, true, false};
+ghost use Rattle.std.specs.Prelude.{Option, Some, None, IfSome};
+ghost use Rattle.std.specs.List.{last_or};
+ghost use Rattle.scan_rules.specs.Numbers.{has};
+ghost use Rattle.scan_core.specs.declared.slot.Slot.{Slot};
+ghost use Rattle.scan_core.specs.Slots.{runs};
+ghost use Rattle.scan_core.specs.Changes.{Beside};
+ghost use Rattle.scan_core.specs.Pieces.{MayAbsorb, Absorbs};
+ghost use Rattle.scan_core.specs.Delivering.{Absorbed, AllOwed, AreTasked, FitAll, Fitting, HandedIn, Paid, PaidAt};
+ghost use Rattle.scan_core.specs.Delivering.{PaidAll};
+ghost use Rattle.scan_rules.specs.Delivers.{entry_of};
+
+use crate::pieces::take_at;
+use crate::slot::Slot;
+use crate::slots::runs_at;
+use crate::work::Work;
+use scan_rules::QuerySet;
+
+/// Takes out the entry of a turn, and None where there is none.
+fn entry_at<P: Work>(entries: &mut Vec<Option<P>>, turn: usize) -> Option<P>
+    ensures entry { result ≡ entry_of entries.old.items turn }
+    ensures beside { Beside entries.old.items entries.new.items turn }
+{
+    if turn >= entries.len() {
+        return None;
+    }
+    let entry = &mut entries[turn];
+    entry.take()
+}
+
+/// The piece takes in the one that came. False where there is none of the two, or no memory.
+fn absorb<P: Work>(piece: &mut Option<P>, entry: Option<P>) -> bool
+    requires { Fitting P.stands piece.old entry }
+    ensures { result ≡ true → Absorbed (Absorbs P.stands) entry piece.old piece.new }
+{
+    match entry {
+        None => false,
+        Some(other) => match piece {
+            None => false,
+            Some(mine) => mine.absorb(other).is_ok(),
+        },
+    }
+}
+
+/// So for the piece of one query.
+fn absorb_at<P: Work>(pieces: &mut Vec<Option<P>>, q: usize, entry: Option<P>) -> bool
+    requires low { q < length pieces.old.items }
+    requires fit { Fitting P.stands (entry_of pieces.old.items q) entry }
+    ensures beside { Beside pieces.old.items pieces.new.items q }
+    ensures absorbed { result ≡ true
+        → Absorbed (Absorbs P.stands) entry (entry_of pieces.old.items q) (entry_of pieces.new.items q) }
+{
+    let piece = &mut pieces[q];
+    absorb(piece, entry)
+}
+
+/// Hands an entry in. True where its query runs and is lost, for it took no piece in; then its own piece goes too.
+fn hand_in<P: Work>(
+    slots: &Vec<Slot>,
+    pieces: &mut Vec<Option<P>>,
+    q: u32,
+    entry: Option<P>,
+) -> bool
+    requires full { length slots.now.items ≡ 256 }
+    requires held { length pieces.old.items ≡ 256 }
+    requires low { q < 256 }
+    requires fit { (d : Slot) → runs (get_or slots.now.items q d) ≡ true
+        → Fitting P.stands (entry_of pieces.old.items q) entry }
+    ensures beside { Beside pieces.old.items pieces.new.items q }
+    ensures ran { result ≡ true → (d : Slot) → runs (get_or slots.now.items q d) ≡ true }
+    ensures joined { result ≡ false → (d : Slot) → runs (get_or slots.now.items q d) ≡ true
+        → Absorbed (Absorbs P.stands) entry (entry_of pieces.old.items q) (entry_of pieces.new.items q) }
+{
+    if !runs_at(slots, q) {
+        return false;
+    }
+    if absorb_at(pieces, q as usize, entry) {
+        return false;
+    }
+    let _dropped = take_at(pieces, q as usize);
+    true
+}
+
+/// Puts the query into the set where it is lost.
+fn note_lost(lost: &mut QuerySet, q: u32, is_lost: bool)
+    requires from_1 { 1 ≤ q }
+    requires to_255 { q < 256 }
+    requires above { IfSome (last_or None lost.old) (λ last. last < q) }
+    ensures { lost.new ≡ lost.old ++ cond is_lost (q ∷ []) [] }
+{
+    if is_lost {
+        lost.add(q);
+    }
+}
+
+/// Hands the entries in, each to the piece of the query of its turn. The queries that are lost by it.
+pub fn hand_all<P: Work>(
+    slots: &Vec<Slot>,
+    pieces: &mut Vec<Option<P>>,
+    queries: &[u32],
+    entries: Vec<Option<P>>,
+) -> QuerySet
+    requires full { length slots.now.items ≡ 256 }
+    requires held { length pieces.old.items ≡ 256 }
+    requires tasked { AreTasked queries.now }
+    requires fit { FitAll P.stands slots.now.items queries.now entries.items pieces.old.items }
+    ensures { HandedIn (Absorbs P.stands) slots.now.items queries.now entries.items
+        pieces.old.items pieces.new.items result (length queries.now) }
+{
+    let mut lost = QuerySet::new();
+    let mut left = entries;
+    for turn in 0..queries.len() {
+        let q = queries[turn];
+        let entry = entry_at(&mut left, turn);
+        let is_lost = hand_in(slots, pieces, q, entry);
+        note_lost(&mut lost, q, is_lost);
+    }
+    lost
+}
+
+/// The query has one chunk more, and needs nothing more where it is lost.
+fn pay(slot: &mut Slot, is_lost: bool)
+    requires { 1 ≤ slot.old.owed }
+    ensures { Paid is_lost slot.old slot.new }
+{
+    slot.owed -= 1;
+    if is_lost {
+        slot.lost = true;
+        slot.ahead.clear();
+    }
+}
+
+/// So for the query of one slot.
+fn pay_at(slots: &mut Vec<Slot>, q: usize, is_lost: bool)
+    requires low { q < length slots.old.items }
+    requires owed { (d : Slot) → 1 ≤ (get_or slots.old.items q d).owed }
+    ensures { PaidAt is_lost slots.old.items slots.new.items q }
+{
+    let slot = &mut slots[q];
+    pay(slot, is_lost);
+}
+
+/// And for all queries of a task.
+pub fn pay_all(slots: &mut Vec<Slot>, queries: &[u32], lost: &QuerySet)
+    requires full { length slots.old.items ≡ 256 }
+    requires tasked { AreTasked queries.now }
+    requires owed { AllOwed slots.old.items queries.now }
+    ensures { PaidAll queries.now lost.now slots.old.items slots.new.items (length queries.now) }
+{
+    for turn in 0..queries.len() {
+        let q = queries[turn];
+        pay_at(slots, q as usize, lost.has(q));
+    }
+}

@@ -1,0 +1,19 @@
+//! Laws of tasks in flight and of what is asked. A call here does nothing: its clause is the law.
+ghost use Rattle.scan_rules.specs.Asked.{WantedIsAsked, ServedIsAsked, FrontsAreAsked};
+ghost use Rattle.scan_core.specs.Flights.{TakenFlies, FliesOn};
+
+use crate::work::Work;
+
+/// A task is in flight once it is taken, and stays so through each line but its own Deliver.
+pub fn a_task_is_in_flight_until_it_is_delivered()
+    ensures start { TakenFlies }
+    ensures on { FliesOn }
+{}
+
+/// In a run over a root, each chunk that a query was attached with and each that it is served was asked of it by the
+/// root; and a front of such a run is one.
+pub fn what_is_wanted_and_served_was_asked<P: Work>()
+    ensures wanted { WantedIsAsked P.asks }
+    ensures served { ServedIsAsked P.asks }
+    ensures front { FrontsAreAsked P.asks }
+{}

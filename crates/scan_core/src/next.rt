@@ -1,0 +1,156 @@
+//! Which chunk the scan takes next, and for which queries: read off the slots, whatever the ring's length.
+ghost use Rattle.std.specs.Prelude.{◌≡◌, ℕ, ◌<◌, ◌≤◌, List, [], ◌∷◌, ◌++◌, length, get_or, true, cond, IfSome, None};
+ghost use Rattle.std.specs.List.{last_or};
+ghost use Rattle.scan_rules.specs.Scan.{chunk_at, offset};
+ghost use Rattle.scan_core.specs.declared.slot.Slot.{Slot};
+ghost use Rattle.scan_core.specs.Taking.{next_of, first_step, least_from, is_next, served, CanServe, Popped};
+ghost use Rattle.scan_core.specs.Taking.{PoppedAt, PoppedAll};
+
+use crate::slot::Slot;
+use arrayvec::ArrayVec;
+use scan_rules::QuerySet;
+
+/// How many steps the scan makes from a place to a chunk, around the ring.
+fn offset(ring: u32, place: u32, chunk: u32) -> u32
+    requires low { place ≤ ring }
+    ensures { result ≡ offset ring place chunk }
+{
+    if chunk < place {
+        ring - place + chunk
+    } else {
+        chunk - place
+    }
+}
+
+/// The chunk so many steps on from a place, around the ring.
+pub fn chunk_at(ring: u32, place: u32, steps: u32) -> u32
+    requires small { ring ≤ 16384 }
+    requires low { place < ring }
+    requires step { steps ≤ ring }
+    ensures { result ≡ chunk_at ring place steps }
+{
+    if place + steps < ring {
+        place + steps
+    } else {
+        place + steps - ring
+    }
+}
+
+/// The chunk that a query needs next.
+fn next_of(slot: &Slot) -> Option<u32>
+    ensures { result ≡ next_of slot.now }
+{
+    match slot.ahead.last() {
+        None => None,
+        Some(chunk) => Some(*chunk),
+    }
+}
+
+/// How many steps on it lies, and the ring's length where there is none.
+fn first_step(ring: u32, place: u32, slot: &Slot) -> u32
+    requires { place ≤ ring }
+    ensures { result ≡ first_step ring place slot.now }
+{
+    match next_of(slot) {
+        None => ring,
+        Some(chunk) => offset(ring, place, chunk),
+    }
+}
+
+/// How many steps on the next needed chunk lies, and the ring's length where none is needed.
+pub fn least_step(ring: u32, place: u32, slots: &[Slot]) -> u32
+    requires { place ≤ ring }
+    ensures { result ≡ least_from ring place ring slots.now }
+{
+    let mut best = ring;
+    for slot in slots {
+        best = best.min(first_step(ring, place, slot));
+    }
+    best
+}
+
+/// Whether this chunk is the one that the query needs next.
+fn is_next(slot: &Slot, chunk: u32) -> bool
+    ensures { result ≡ is_next chunk slot.now }
+{
+    match next_of(slot) {
+        None => false,
+        Some(next) => next == chunk,
+    }
+}
+
+/// Appends the query where it needs this chunk next.
+fn add_next(queries: &mut ArrayVec<u32, 64>, slot: &Slot, q: u32, chunk: u32)
+    requires room { is_next chunk slot.now ≡ true → length queries.old.items < 64 }
+    ensures { queries.new.items ≡ queries.old.items ++ cond (is_next chunk slot.now) (q ∷ []) [] }
+{
+    if is_next(slot, chunk) {
+        queries.push(q);
+    }
+}
+
+/// The queries that need this chunk next, ascending.
+pub fn takers_at(slots: &Vec<Slot>, chunk: u32) -> ArrayVec<u32, 64>
+    requires full { length slots.now.items ≡ 256 }
+    requires few { CanServe slots.now.items chunk }
+    ensures { (d : Slot) → result.items ≡ served slots.now.items d chunk 256 }
+{
+    let mut queries = ArrayVec::new();
+    for q in 0..256u32 {
+        add_next(&mut queries, &slots[q as usize], q, chunk);
+    }
+    queries
+}
+
+/// Puts the query into the set where it needs this chunk next.
+fn note_next(queries: &mut QuerySet, slot: &Slot, q: u32, chunk: u32)
+    requires from_1 { is_next chunk slot.now ≡ true → 1 ≤ q }
+    requires to_255 { q < 256 }
+    requires above { IfSome (last_or None queries.old) (λ last. last < q) }
+    ensures { queries.new ≡ queries.old ++ cond (is_next chunk slot.now) (q ∷ []) [] }
+{
+    if is_next(slot, chunk) {
+        queries.add(q);
+    }
+}
+
+/// The same queries as a set.
+pub fn takers_set(slots: &Vec<Slot>, chunk: u32) -> QuerySet
+    requires full { length slots.now.items ≡ 256 }
+    requires few { CanServe slots.now.items chunk }
+    ensures { (d : Slot) → result ≡ served slots.now.items d chunk 256 }
+{
+    let mut queries = QuerySet::new();
+    for q in 0..256u32 {
+        note_next(&mut queries, &slots[q as usize], q, chunk);
+    }
+    queries
+}
+
+/// A query that needs this chunk next has been served it.
+fn pop_next(slot: &mut Slot, chunk: u32)
+    ensures { Popped chunk slot.old slot.new }
+{
+    if is_next(slot, chunk) {
+        slot.ahead.pop();
+    }
+}
+
+/// So for the query of one slot.
+fn pop_at(slots: &mut Vec<Slot>, q: usize, chunk: u32)
+    requires { q < length slots.old.items }
+    ensures { PoppedAt chunk slots.old.items slots.new.items q }
+{
+    let slot = &mut slots[q];
+    pop_next(slot, chunk);
+}
+
+/// And for each query that needs the chunk next.
+pub fn pop_all(slots: &mut Vec<Slot>, chunk: u32)
+    requires { length slots.old.items ≡ 256 }
+    ensures { PoppedAll chunk slots.old.items slots.new.items 256 }
+{
+    for q in 0..256usize {
+        pop_at(slots, q, chunk);
+    }
+}

@@ -1,0 +1,60 @@
+//! The pieces of a board, one a query, by its number.
+ghost use Rattle.std.specs.Prelude.{◌≡◌, ◌<◌, ◌+◌, length, get_or, false, Option, Some, IsSome, IfOk};
+ghost use Rattle.scan_core.specs.Changes.{Beside};
+ghost use Rattle.scan_core.specs.Answers.{EndsAs};
+
+use crate::answers::Collect;
+use crate::work::Work;
+use sky_io::Memory;
+use std::alloc::Global;
+
+/// Takes the piece of a query out.
+pub fn take_at<P: Work>(pieces: &mut Vec<Option<P>>, q: usize) -> Option<P>
+    requires { q < length pieces.old.items }
+    ensures beside { Beside pieces.old.items pieces.new.items q }
+    ensures taken { (d : Option P) → result ≡ get_or pieces.old.items q d }
+{
+    let piece = &mut pieces[q];
+    piece.take()
+}
+
+/// The end of a query that is attached and does not run. A piece is there where it is done.
+pub fn end_of<P: Work>(cancelled: bool, lost: bool, piece: Option<P>) -> Collect<P>
+    requires { cancelled ≡ false → lost ≡ false → IsSome piece }
+    ensures { EndsAs cancelled lost piece result }
+{
+    if cancelled {
+        return Collect::Cancelled;
+    }
+    if lost {
+        return Collect::Spent;
+    }
+    Collect::Piece(piece.unwrap())
+}
+
+/// The piece of a query that is attached.
+pub fn put_at<P: Work>(pieces: &mut Vec<Option<P>>, q: usize, piece: P)
+    requires { q < length pieces.old.items }
+    ensures beside { Beside pieces.old.items pieces.new.items q }
+    ensures here { (d : Option P) → get_or pieces.new.items q d ≡ Some piece }
+{
+    pieces[q] = Some(piece);
+}
+
+/// Appends no piece. Takes memory.
+fn push_none<P: Work>(pieces: &mut Vec<Option<P>>) -> Result<(), Memory>
+    ensures { IfOk result (λ _. length pieces.new.items ≡ length pieces.old.items + 1) }
+{
+    Ok(pieces.push(None)?)
+}
+
+/// The pieces of a new board, none. Takes memory.
+pub fn no_pieces<P: Work>(alloc: Global) -> Result<Vec<Option<P>>, Memory>
+    ensures { IfOk result (λ pieces. length pieces.items ≡ 256) }
+{
+    let mut pieces = Vec::new(alloc);
+    for turn in 0..256usize {
+        push_none(&mut pieces)?;
+    }
+    Ok(pieces)
+}

@@ -1,0 +1,141 @@
+//! The slots of a board: what they say of a query, and what each call changes in them.
+ghost use Rattle.std.specs.Prelude.{◌≡◌, ◌<◌, ◌≤◌, [], ◌∷◌, ◌++◌, length, get_or, false, cond, IfOk};
+ghost use Rattle.scan_core.specs.declared.slot.Slot.{Slot};
+ghost use Rattle.scan_core.specs.Slots.{runs, running_below, waits};
+ghost use Rattle.scan_core.specs.Changes.{AreBlank, CollectedAt, EnteredAt, IsBlank, StoppedAt};
+
+use crate::slot::Slot;
+use sky_io::Memory;
+use std::alloc::Global;
+
+/// Whether the query runs. One that has no slot does not.
+pub fn runs_at(slots: &Vec<Slot>, q: u32) -> bool
+    requires full { length slots.now.items ≡ 256 }
+    ensures known { q < 256 → (d : Slot) → result ≡ runs (get_or slots.now.items q d) }
+    ensures beyond { 256 ≤ q → result ≡ false }
+{
+    if q >= 256 {
+        return false;
+    }
+    let slot = &slots[q as usize];
+    slot.attached && !slot.cancelled && !slot.lost && slot.owed > 0
+}
+
+/// Whether the query was attached and not collected. One that has no slot was not.
+pub fn waits_at(slots: &Vec<Slot>, q: u32) -> bool
+    requires full { length slots.now.items ≡ 256 }
+    ensures known { q < 256 → (d : Slot) → result ≡ waits (get_or slots.now.items q d) }
+    ensures beyond { 256 ≤ q → result ≡ false }
+{
+    if q >= 256 {
+        return false;
+    }
+    let slot = &slots[q as usize];
+    slot.attached && !slot.collected
+}
+
+/// Whether the query was cancelled.
+pub fn cancelled_at(slots: &Vec<Slot>, q: usize) -> bool
+    requires { q < length slots.now.items }
+    ensures { (d : Slot) → result ≡ (get_or slots.now.items q d).cancelled }
+{
+    let slot = &slots[q];
+    slot.cancelled
+}
+
+/// Whether the query was lost.
+pub fn lost_at(slots: &Vec<Slot>, q: usize) -> bool
+    requires { q < length slots.now.items }
+    ensures { (d : Slot) → result ≡ (get_or slots.now.items q d).lost }
+{
+    let slot = &slots[q];
+    slot.lost
+}
+
+/// The query needs nothing more, for it is cancelled.
+pub fn stop_at(slots: &mut Vec<Slot>, q: usize)
+    requires { q < length slots.old.items }
+    ensures { StoppedAt slots.old.items slots.new.items q }
+{
+    let slot = &mut slots[q];
+    slot.cancelled = true;
+    slot.ahead.clear();
+}
+
+/// The query is collected.
+pub fn collect_at(slots: &mut Vec<Slot>, q: usize)
+    requires { q < length slots.old.items }
+    ensures { CollectedAt slots.old.items slots.new.items q }
+{
+    let slot = &mut slots[q];
+    slot.collected = true;
+}
+
+/// Whether the query was attached.
+pub fn attached_at(slots: &Vec<Slot>, q: usize) -> bool
+    requires { q < length slots.now.items }
+    ensures { (d : Slot) → result ≡ (get_or slots.now.items q d).attached }
+{
+    let slot = &slots[q];
+    slot.attached
+}
+
+/// 1 where the query runs, else 0.
+fn count_at(slots: &Vec<Slot>, q: u32) -> u32
+    requires full { length slots.now.items ≡ 256 }
+    requires low { q < 256 }
+    ensures count { (d : Slot) → result ≡ cond (runs (get_or slots.now.items q d)) 1 0 }
+    ensures one { result ≤ 1 }
+{
+    if runs_at(slots, q) { 1 } else { 0 }
+}
+
+/// How many queries run.
+pub fn running_in(slots: &Vec<Slot>) -> u32
+    requires full { length slots.now.items ≡ 256 }
+    ensures { (d : Slot) → result ≡ running_below slots.now.items d 256 }
+{
+    let mut count = 0u32;
+    for q in 0..256u32 {
+        count += count_at(slots, q);
+    }
+    count
+}
+
+/// The query is attached: it is owed so many chunks, and needs those ahead.
+pub fn enter_at(slots: &mut Vec<Slot>, q: usize, owed: u32, ahead: Vec<u32>)
+    requires { q < length slots.old.items }
+    ensures { EnteredAt owed ahead.items slots.old.items slots.new.items q }
+{
+    let slot = &mut slots[q];
+    slot.attached = true;
+    slot.owed = owed;
+    slot.ahead = ahead;
+}
+
+/// Appends a slot of no query. Takes memory.
+fn push_blank(alloc: Global, slots: &mut Vec<Slot>) -> Result<(), Memory>
+    ensures { IfOk result (λ _. (slot : Slot)
+        × (slots.new.items ≡ slots.old.items ++ slot ∷ []) × IsBlank slot) }
+{
+    let blank = Slot {
+        attached: false,
+        cancelled: false,
+        lost: false,
+        collected: false,
+        owed: 0,
+        ahead: Vec::new(alloc),
+    };
+    Ok(slots.push(blank)?)
+}
+
+/// The slots of a new board. Takes memory.
+pub fn blank_slots(alloc: Global) -> Result<Vec<Slot>, Memory>
+    ensures { IfOk result (λ slots. AreBlank slots.items 256) }
+{
+    let mut slots = Vec::new(alloc);
+    for turn in 0..256usize {
+        push_blank(alloc, &mut slots)?;
+    }
+    Ok(slots)
+}

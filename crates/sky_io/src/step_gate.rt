@@ -1,0 +1,69 @@
+//! A gate that holds its passes until enough of them stand in it at the same time.
+
+use crate::gate::Gate;
+use std::sync::Wait;
+use std::sync::atomic::{AtomicBool, AtomicU32, Ordering};
+use std::thread;
+
+/// Holds every pass until `at_once` passes have stood in it at the same time, and lets all pass from then on: a test
+/// sees by it that threads met. A held pass gives the processor away at most `turns` times, and where its turns run
+/// out all pass from then on, so no test hangs.
+#[derive(Drop)]
+pub struct StepGate {
+    at_once: u32,
+    turns: u32,
+    standing: AtomicU32,
+    has_met: AtomicBool,
+    has_given_up: AtomicBool,
+}
+
+impl StepGate {
+    /// A gate that nobody has passed. Takes no memory.
+    pub fn new(at_once: u32, turns: u32) -> StepGate {
+        StepGate {
+            at_once,
+            turns,
+            standing: AtomicU32::new(0),
+            has_met: AtomicBool::new(false),
+            has_given_up: AtomicBool::new(false),
+        }
+    }
+
+    /// Whether as many passes as it waits for have stood in it at the same time.
+    pub fn met(&self) -> bool {
+        self.has_met.load(Ordering::SeqCst)
+    }
+
+    /// Whether the turns of a held pass ran out.
+    pub fn given_up(&self) -> bool {
+        self.has_given_up.load(Ordering::SeqCst)
+    }
+
+    fn is_open(&self) -> bool {
+        self.met() || self.given_up()
+    }
+
+    // Gives the processor away until the gate is open, or the turns have run out.
+    fn hold(&self) {
+        for _ in 0..self.turns {
+            if self.is_open() {
+                return;
+            }
+            thread::yield_now();
+        }
+        if !self.is_open() {
+            self.has_given_up.store(true, Ordering::SeqCst);
+        }
+    }
+}
+
+impl Gate for StepGate {
+    fn pass<R: Wait>(&self, _rt: &R, _worker: u32, _chunk: u32) {
+        let others = self.standing.fetch_add(1, Ordering::SeqCst);
+        if others.saturating_add(1) >= self.at_once {
+            self.has_met.store(true, Ordering::SeqCst);
+        }
+        self.hold();
+        self.standing.fetch_sub(1, Ordering::SeqCst);
+    }
+}

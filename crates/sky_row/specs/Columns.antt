@@ -1,0 +1,157 @@
+-- Rows as columns: a list of values for each column, of which the same place is the same row.
+use Rattle.std.specs.Prelude.{◌≡◌, ℕ, ◌+◌, ◌<◌, ◌≤◌, ◌≤ℤ◌, ◌<ℤ◌, AllPairs, Bool, true, false, ◌⊎◌, List, [], ◌∷◌, ◌++◌, length, map, take, replicate, get_or, All, Option, None, Some, unwrap_or, if◌then◌else◌, ℤ, pos, FitsSigned}
+use Rattle.std.specs.List.{range_with_len}
+use Rattle.std.specs.List.Sorted.{IsPermutation}
+use Rattle.sky_vector.specs.Points.{IsWithin}
+use Rattle.table_rules.specs.Objects.{Obj, Catalogue, IsRow, cell}
+use Rattle.table_rules.specs.declared.limits.TheConstants.{FURTHER_COLUMNS_MOST, ROWS_MOST}
+
+-- the value at a place of a column: where no presence is kept each row has one, else those that it is true of
+abbrev pub cell_at : List ℤ → List Bool → ℕ → Option ℤ
+cell_at values present i = if get_or present i true then Some (get_or values i (pos 0)) else None
+
+-- all values of a column
+abbrev pub cells_of : List ℤ → List Bool → List (Option ℤ)
+cells_of values present = map (cell_at values present) (range_with_len 0 (length values))
+
+-- the number that is kept for a value, and 0 for NULL
+abbrev pub or_zero : Option ℤ → ℤ
+or_zero cell = unwrap_or cell (pos 0)
+
+-- A column as it is kept: a presence for each row or none at all, and 0 for NULL.
+pub record IsKept (values : List ℤ) (present : List Bool) : Type 0 where
+  pub presence : (present ≡ []) ⊎ (length present ≡ length values)
+  pub zero : (i : ℕ) → get_or present i true ≡ false → get_or values i (pos 0) ≡ pos 0
+
+-- the first values found, so many, are those at the first places
+abbrev pub GathersUpTo : {X : Type 0} → ℕ → List X → List ℕ → List X → Type 0
+GathersUpTo {X} n values places found = (k : ℕ) (d : X) → k < n → get_or found k d ≡ get_or values (get_or places k 0) d
+
+-- Values at places of a list, in the order of the places.
+pub record IsGathered {X : Type 0} (values : List X) (places : List ℕ) (found : List X) : Type 0 where
+  pub count : length found ≡ length places
+  pub each : GathersUpTo (length places) values places found
+
+-- The presence at places: none where none was kept, else that of each place.
+pub record IsPresenceAt (present : List Bool) (places : List ℕ) (found : List Bool) : Type 0 where
+  pub presence : (found ≡ []) ⊎ (length found ≡ length places)
+  pub each : (k : ℕ) → k < length places → get_or found k true ≡ get_or present (get_or places k 0) true
+
+-- The columns of rows: their ids, the parts of their positions, and a list for each further column.
+pub record Parts : Type 0 where
+  pub ids : List ℤ
+  pub xs : List ℤ
+  pub ys : List ℤ
+  pub zs : List ℤ
+  pub further : List (List (Option ℤ))
+
+-- the values of one row in each column
+abbrev pub cells_in : List (List (Option ℤ)) → ℕ → List (Option ℤ)
+cells_in columns i = map (λ column. get_or column i None) columns
+
+-- the row at a place
+abbrev pub row_at : Parts → ℕ → Obj
+row_at p i = record {
+  id = get_or p.ids i (pos 0);
+  at = record { x = get_or p.xs i (pos 0); y = get_or p.ys i (pos 0); z = get_or p.zs i (pos 0) };
+  further = cells_in p.further i;
+}
+
+-- all rows, by their places
+abbrev pub objects_of : Parts → List Obj
+objects_of p = map (row_at p) (range_with_len 0 (length p.ids))
+
+-- so many further columns over no row
+abbrev pub no_rows : ℕ → Parts
+no_rows width = record { ids = []; xs = []; ys = []; zs = []; further = replicate width [] }
+
+-- each further column with a value more, of which there is one a column
+unfoldable pub cells_behind : List (List (Option ℤ)) → List (Option ℤ) → List (List (Option ℤ))
+cells_behind [] cells = []
+cells_behind (column ∷ columns) [] = column ∷ columns
+cells_behind (column ∷ columns) (value ∷ values) = (column ++ value ∷ []) ∷ cells_behind columns values
+
+-- the columns with a row more
+abbrev pub row_behind : Parts → Obj → Parts
+row_behind p o = record {
+  ids = p.ids ++ o.id ∷ [];
+  xs = p.xs ++ o.at.x ∷ [];
+  ys = p.ys ++ o.at.y ∷ [];
+  zs = p.zs ++ o.at.z ∷ [];
+  further = cells_behind p.further o.further;
+}
+
+-- the first rows, so many
+abbrev pub first_rows : ℕ → Parts → Parts
+first_rows n p = record {
+  ids = take n p.ids;
+  xs = take n p.xs;
+  ys = take n p.ys;
+  zs = take n p.zs;
+  further = map (take n) p.further;
+}
+
+-- Columns of one length.
+pub record AreAligned (p : Parts) : Type 0 where
+  pub xs : length p.xs ≡ length p.ids
+  pub ys : length p.ys ≡ length p.ids
+  pub zs : length p.zs ≡ length p.ids
+  pub further : All (λ column. length column ≡ length p.ids) p.further
+
+-- a list that begins with another
+abbrev pub IsFront : {X : Type 0} → List X → List X → Type 0
+IsFront {X} front whole = take (length front) whole ≡ front
+
+-- Columns that begin as others do: whose first rows, so many as there were, are theirs.
+abbrev pub Begins : Parts → Parts → Type 0
+Begins old new = first_rows (length old.ids) new ≡ old
+
+-- the rows at these places
+abbrev pub rows_at : Parts → List ℕ → Parts
+rows_at p places = record {
+  ids = map (λ place. get_or p.ids place (pos 0)) places;
+  xs = map (λ place. get_or p.xs place (pos 0)) places;
+  ys = map (λ place. get_or p.ys place (pos 0)) places;
+  zs = map (λ place. get_or p.zs place (pos 0)) places;
+  further = map (λ column. map (λ place. get_or column place None) places) p.further;
+}
+
+-- Columns of one length, whose rows are rows.
+pub record AreRows (p : Parts) : Type 0 where
+  pub aligned : AreAligned p
+  pub rows : (i : ℕ) → i < length p.ids → IsRow (row_at p i)
+
+-- the values that rows have in a column
+abbrev pub column_in : List Obj → ℕ → List (Option ℤ)
+column_in objects col = map (λ o. cell o col) objects
+
+-- any row
+abbrev pub no_row : Obj
+no_row = record { id = pos 0; at = record { x = pos 0; y = pos 0; z = pos 0 }; further = [] }
+
+-- the objects at these places
+abbrev pub objects_at : List Obj → List ℕ → List Obj
+objects_at objects places = map (λ place. get_or objects place no_row) places
+
+-- Columns under their names.
+pub record AreColumns (names : List (List ℕ)) (p : Parts) : Type 0 where
+  pub few_names : length names ≤ FURTHER_COLUMNS_MOST
+  pub few : length p.ids ≤ ROWS_MOST
+  pub wide : length p.further ≡ length names
+  pub rows : AreRows p
+
+-- Rows in any order: not too many, each within the limits of its columns and with a value for each further column.
+pub record AreListed (c : Catalogue) : Type 0 where
+  pub few_names : length c.names ≤ FURTHER_COLUMNS_MOST
+  pub few : length c.objects ≤ ROWS_MOST
+  pub wide : All (λ o. length o.further ≡ length c.names) c.objects
+  pub rows : All IsRow c.objects
+
+-- the ids ascend strictly
+abbrev pub AreAscending : List ℤ → Type 0
+AreAscending ids = AllPairs (λ a b. a <ℤ b) ids
+
+-- Places of ids in the order of the ids: each place once, and no id above the one behind it.
+pub record ArePlacesById (ids : List ℤ) (places : List ℕ) : Type 0 where
+  pub each : IsPermutation (range_with_len 0 (length ids)) places
+  pub order : (k : ℕ) → k + 1 < length places → get_or ids (get_or places k 0) (pos 0) ≤ℤ get_or ids (get_or places (k + 1) 0) (pos 0)

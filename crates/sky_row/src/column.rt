@@ -1,0 +1,253 @@
+//! A further column: a number for each row, and which rows have a value.
+//!
+//! Where each row has one, no presence is kept, so a scan of such a column reads nothing beside its numbers.
+ghost use Rattle.std.specs.Prelude.{ℕ, true, ◌≡◌, ◌≤◌, ◌<◌, ◌^◌, [], ◌∷◌, ◌++◌, All, IfOk, IfSome, IfNone, OnOk, OnErr, IsTrue, Some, None, ◌⊎◌};
+ghost use Rattle.std.specs.Prelude.{length, map, take, get_or, slice_get};
+ghost use Rattle.std.specs.Option.{is_some};
+ghost use Rattle.sky_row.specs.Columns.{cell_at, cells_of, or_zero, IsKept, IsPresenceAt};
+
+use crate::places::gather;
+use sky_io::Memory;
+use std::alloc::Global;
+use std::marker::Model;
+
+/// The values that rows have in a further column, of which `None` is NULL.
+#[derive(Drop)]
+pub struct Column {
+    /// A number for each row, and 0 for NULL.
+    values: Vec<i64>,
+    /// Which rows have a value, or nothing where all have.
+    present: Vec<bool>,
+}
+
+impl Model for Column {
+    ghost use Rattle.std.specs.Prelude.{ℤ, List, Option};
+    ghost use Rattle.sky_row.specs.Columns.{cells_of, IsKept};
+
+    ghost Value = { List (Option ℤ) };
+
+    ghost view = { λ c. cells_of c.values.items c.present.items };
+
+    ghost invariant = { λ c. IsKept c.values.items c.present.items };
+}
+
+impl Column {
+    /// A column over no row. Takes no memory.
+    pub fn new(alloc: Global) -> Column
+        ensures { result ≡ [] }
+    {
+        Column {
+            values: Vec::new(alloc),
+            present: Vec::new(alloc),
+        }
+    }
+
+    /// How many rows there are. Takes no memory.
+    pub fn len(&self) -> usize
+        ensures { result ≡ length self.now }
+    {
+        self.values.len()
+    }
+
+    /// The value at this place, from 0. Takes no memory.
+    pub fn get(&self, i: usize) -> Option<i64>
+        requires { i < length self.now }
+        ensures { result ≡ get_or self.now i None }
+    {
+        value_at(self.values.as_slice(), self.present.as_slice(), i)
+    }
+
+    /// A number for each row: its value, and 0 for NULL. Takes no memory.
+    pub fn values(&self) -> &[i64]
+        ensures { result.now ≡ map or_zero self.now }
+    {
+        self.values.as_slice()
+    }
+
+    /// Which rows have a value, or `None` where all have. Takes no memory.
+    pub fn present(&self) -> Option<&[bool]>
+        ensures some { IfSome result (λ present. present.now ≡ map is_some self.now) }
+        ensures none { IfNone result (All (λ cell. IsTrue (is_some cell)) self.now) }
+    {
+        let present = self.present.as_slice();
+        if present.is_empty() {
+            None
+        } else {
+            Some(present)
+        }
+    }
+
+    /// Puts a value behind the others. Takes memory; where there is none, nothing changes.
+    pub fn push(&mut self, value: Option<i64>) -> Result<(), Memory>
+        ensures ok { OnOk result (self.new ≡ self.old ++ value ∷ []) }
+        ensures err { OnErr result (self.new ≡ self.old) }
+    {
+        if self.present.is_empty() {
+            push_to_whole(&mut self.values, &mut self.present, value)
+        } else {
+            push_present(&mut self.values, &mut self.present, value)
+        }
+    }
+
+    /// The column of the rows at these places, counted from 0, in the order of the places. Takes memory for it once.
+    pub fn at(&self, alloc: Global, places: &[u32]) -> Result<Column, Memory>
+        requires { All (λ place. place < length self.now) places.now }
+        ensures { IfOk result (λ column.
+            column ≡ map (λ place. get_or self.now place None) places.now) }
+    {
+        let values = gather(alloc, self.values.as_slice(), places)?;
+        let present = presence_at(alloc, self.present.as_slice(), places, self.values.len())?;
+        Ok(of_parts(values, present))
+    }
+
+    /// Cuts the column behind so many rows. Takes no memory.
+    pub fn truncate(&mut self, count: usize)
+        ensures { self.new ≡ take count self.old }
+    {
+        self.values.truncate(count);
+        self.present.truncate(count);
+    }
+}
+
+/// The column of these numbers and this presence.
+fn of_parts(values: Vec<i64>, present: Vec<bool>) -> Column
+    requires { IsKept values.items present.items }
+    ensures { result ≡ cells_of values.items present.items }
+{
+    Column { values, present }
+}
+
+/// The presence, or none where each row has a value.
+#[tactic(auto, using(crate::proofs::Presence::whole_is_true))]
+fn unless_whole(found: Vec<bool>) -> Vec<bool>
+    ensures presence { (result.items ≡ []) ⊎ (length result.items ≡ length found.items) }
+    ensures each { (k : ℕ) → get_or result.items k true ≡ get_or found.items k true }
+{
+    let mut kept = found;
+    if kept.iter().all(|present| *present) {
+        kept.clear();
+    }
+    kept
+}
+
+/// The presence of the rows at these places, and none where each row has a value.
+fn presence_at(
+    alloc: Global,
+    present: &[bool],
+    places: &[u32],
+    count: usize,
+) -> Result<Vec<bool>, Memory>
+    requires presence { (present.now ≡ []) ⊎ (length present.now ≡ count) }
+    requires there { All (λ place. place < count) places.now }
+    ensures { IfOk result (λ found. IsPresenceAt present.now places.now found.items) }
+{
+    if present.is_empty() {
+        return Ok(Vec::new(alloc));
+    }
+    let found = gather(alloc, present, places)?;
+    Ok(unless_whole(found))
+}
+
+/// The value at a place.
+fn value_at(values: &[i64], present: &[bool], i: usize) -> Option<i64>
+    requires there { i < length values.now }
+    requires kept { IsKept values.now present.now }
+    ensures { result ≡ cell_at values.now present.now i }
+{
+    if *present.get(i).unwrap_or(&true) {
+        Some(values[i])
+    } else {
+        None
+    }
+}
+
+/// Puts the value of one row more behind those of a column in which each row has one.
+fn push_to_whole(
+    values: &mut Vec<i64>,
+    present: &mut Vec<bool>,
+    value: Option<i64>,
+) -> Result<(), Memory>
+    requires kept { IsKept values.old.items present.old.items }
+    requires whole { present.old.items ≡ [] }
+    ensures kept { IsKept values.new.items present.new.items }
+    ensures ok { OnOk result (cells_of values.new.items present.new.items
+        ≡ cells_of values.old.items present.old.items ++ value ∷ []) }
+    ensures err { OnErr result (cells_of values.new.items present.new.items
+        ≡ cells_of values.old.items present.old.items) }
+{
+    match value {
+        Some(number) => push_number(values, present, number),
+        None => push_first_null(values, present),
+    }
+}
+
+/// Puts a number behind those of a column in which each row has a value.
+#[tactic(auto, using(crate::proofs::Presence::whole_more, crate::proofs::Presence::whole_kept))]
+fn push_number(values: &mut Vec<i64>, present: &Vec<bool>, number: i64) -> Result<(), Memory>
+    requires { present.now.items ≡ [] }
+    ensures kept { IsKept values.new.items present.now.items }
+    ensures ok { OnOk result (cells_of values.new.items present.now.items
+        ≡ cells_of values.old.items present.now.items ++ Some number ∷ []) }
+    ensures err { OnErr result (values.new.items ≡ values.old.items) }
+{
+    match values.push(number) {
+        Ok(()) => Ok(()),
+        Err(_) => Err(Memory),
+    }
+}
+
+/// Puts the first NULL of a column behind its values, which makes its presence.
+fn push_first_null(values: &mut Vec<i64>, present: &mut Vec<bool>) -> Result<(), Memory>
+    requires whole { present.old.items ≡ [] }
+    ensures kept { IsKept values.new.items present.new.items }
+    ensures ok { OnOk result (cells_of values.new.items present.new.items
+        ≡ cells_of values.old.items present.old.items ++ None ∷ []) }
+    ensures err { OnErr result (cells_of values.new.items present.new.items
+        ≡ cells_of values.old.items present.old.items) }
+{
+    make_presence(values, present)?;
+    push_present(values, present, None)
+}
+
+/// Notes of each row of a column that it has a value.
+#[tactic(auto, using(crate::proofs::Presence::made_presence, crate::proofs::Presence::whole_kept, crate::proofs::Presence::made_kept))]
+fn make_presence(values: &Vec<i64>, present: &mut Vec<bool>) -> Result<(), Memory>
+    requires whole { present.old.items ≡ [] }
+    ensures full { OnOk result (length present.new.items ≡ length values.now.items) }
+    ensures kept { IsKept values.now.items present.new.items }
+    ensures same { cells_of values.now.items present.new.items
+        ≡ cells_of values.now.items present.old.items }
+{
+    match Vec::from_elem(*values.allocator(), true, values.len()) {
+        Ok(all) => {
+            *present = all;
+            Ok(())
+        },
+        Err(_) => Err(Memory),
+    }
+}
+
+/// Puts a value and its presence behind the others, or neither.
+#[tactic(auto, using(crate::proofs::Presence::present_more, crate::proofs::Presence::present_kept))]
+fn push_present(
+    values: &mut Vec<i64>,
+    present: &mut Vec<bool>,
+    value: Option<i64>,
+) -> Result<(), Memory>
+    requires kept { IsKept values.old.items present.old.items }
+    requires full { length present.old.items ≡ length values.old.items }
+    ensures kept { IsKept values.new.items present.new.items }
+    ensures ok { OnOk result (cells_of values.new.items present.new.items
+        ≡ cells_of values.old.items present.old.items ++ value ∷ []) }
+    ensures err { OnErr result (cells_of values.new.items present.new.items
+        ≡ cells_of values.old.items present.old.items) }
+{
+    if values.push(value.unwrap_or(0)).is_err() {
+        return Err(Memory);
+    }
+    if present.push(value.is_some()).is_err() {
+        values.pop();
+        return Err(Memory);
+    }
+    Ok(())
+}

@@ -1,0 +1,162 @@
+//! The rows of a catalogue in any order, as columns.
+//!
+//! A scan reads a column as one slice; a row is made of them only where it is asked for. Contracts see the rows alone.
+ghost use Rattle.std.specs.Prelude.{◌≡◌, ◌+◌, ◌<◌, ◌≤◌, ◌^◌, [], ◌∷◌, ◌++◌, length, map, All};
+ghost use Rattle.std.specs.Prelude.{IfOk, OnErr, OnOk, slice_get, Some};
+ghost use Rattle.sky_vector.specs.Points.{IsWithin};
+ghost use Rattle.table_rules.specs.Objects.{IsRow};
+ghost use Rattle.sky_row.specs.Columns.{AreListed, AreRows, column_in, objects_at, objects_of};
+ghost use Rattle.table_rules.specs.declared.limits.TheConstants.{ROWS_MOST};
+
+use crate::column::Column;
+use crate::lists::Lists;
+use crate::row::Row;
+use crate::schema::Schema;
+use sky_io::Memory;
+use std::alloc::Global;
+use std::marker::Model;
+
+/// Rows in any order, each with a value for each further column.
+#[derive(Drop)]
+pub struct Columns {
+    schema: Schema,
+    lists: Lists,
+}
+
+impl Model for Columns {
+    ghost use Rattle.table_rules.specs.Objects.{Catalogue};
+    ghost use Rattle.sky_row.specs.Columns.{AreColumns, objects_of};
+
+    ghost Value = { Catalogue };
+
+    ghost view = { λ c. record { names = c.schema; objects = objects_of c.lists } };
+
+    ghost invariant = { λ c. AreColumns c.schema c.lists };
+}
+
+impl Columns {
+    /// These columns over no row. Takes memory for the list of them.
+    #[tactic(auto, using(crate::proofs::Rowed::no_columns))]
+    pub fn new(alloc: Global, schema: Schema) -> Result<Columns, Memory>
+        ensures { IfOk result (λ columns. columns ≡ record { names = schema; objects = [] }) }
+    {
+        let lists = Lists::new(alloc, schema.width() - 4)?;
+        Ok(Columns { schema, lists })
+    }
+
+    /// Puts the row behind the others. Takes memory; where there is none, nothing changes.
+    pub fn push(&mut self, row: &Row) -> Result<(), Memory>
+        requires room { length self.old.objects < ROWS_MOST }
+        requires wide { length row.now.further ≡ length self.old.names }
+        ensures ok { OnOk result (self.new.objects ≡ self.old.objects ++ row.now ∷ []) }
+        ensures names { self.new.names ≡ self.old.names }
+        ensures err { OnErr result (self.new ≡ self.old) }
+    {
+        push_row(&mut self.lists, row)
+    }
+
+    /// How many rows there are. Takes no memory.
+    pub fn len(&self) -> u32
+        ensures count { result ≡ length self.now.objects }
+        ensures limits { AreListed self.now }
+    {
+        self.lists.ids().len() as u32
+    }
+
+    /// The row with this number, from 0. Takes no memory.
+    pub fn get(&self, i: u32) -> Row
+        requires { i < length self.now.objects }
+        ensures value { slice_get self.now.objects i ≡ Some result }
+        ensures row { IsRow result }
+        ensures wide { length result.further ≡ length self.now.names }
+    {
+        self.lists.row(i as usize)
+    }
+
+    /// The names of the columns. Takes no memory.
+    pub fn schema(&self) -> &Schema
+        ensures { result.now ≡ self.now.names }
+    {
+        &self.schema
+    }
+
+    /// The columns themselves, without their names. Takes no memory.
+    pub fn lists(&self) -> &Lists
+        ensures objects { objects_of result.now ≡ self.now.objects }
+        ensures rows { AreRows result.now }
+        ensures width { length result.now.further ≡ length self.now.names }
+    {
+        &self.lists
+    }
+
+    /// The ids of the rows. Takes no memory.
+    pub fn ids(&self) -> &[i64]
+        ensures { result.now ≡ map (λ o. o.id) self.now.objects }
+    {
+        self.lists.ids()
+    }
+
+    /// The x of the rows. Takes no memory.
+    pub fn xs(&self) -> &[i32]
+        ensures value { result.now ≡ map (λ o. o.at.x) self.now.objects }
+        ensures within { All IsWithin result.now }
+    {
+        self.lists.xs()
+    }
+
+    /// The y of the rows. Takes no memory.
+    pub fn ys(&self) -> &[i32]
+        ensures value { result.now ≡ map (λ o. o.at.y) self.now.objects }
+        ensures within { All IsWithin result.now }
+    {
+        self.lists.ys()
+    }
+
+    /// The z of the rows. Takes no memory.
+    pub fn zs(&self) -> &[i32]
+        ensures value { result.now ≡ map (λ o. o.at.z) self.now.objects }
+        ensures within { All IsWithin result.now }
+    {
+        self.lists.zs()
+    }
+
+    /// A further column by its number among all columns, so from 4. Takes no memory.
+    pub fn further(&self, col: u32) -> &Column
+        requires first { 4 ≤ col }
+        requires last { col < 4 + length self.now.names }
+        ensures { result.now ≡ column_in self.now.objects col }
+    {
+        self.lists.further((col - 4) as usize)
+    }
+
+    /// The rows at these places, counted from 0, in the order of the places. Takes memory for each column once.
+    pub fn at(self, alloc: Global, places: &[u32]) -> Result<Columns, Memory>
+        requires few { length places.now ≤ ROWS_MOST }
+        requires there { All (λ place. place < length self.objects) places.now }
+        ensures names { IfOk result (λ columns. columns.names ≡ self.names) }
+        ensures objects { IfOk result (λ columns.
+            columns.objects ≡ objects_at self.objects places.now) }
+    {
+        let Columns { schema, lists } = self;
+        let lists = lists.at(alloc, places)?;
+        Ok(Columns { schema, lists })
+    }
+}
+
+/// Puts the row behind the others.
+#[tactic(auto, using(crate::proofs::Rowed::one_more))]
+fn push_row(lists: &mut Lists, row: &Row) -> Result<(), Memory>
+    requires are { AreRows lists.old }
+    requires wide { length row.now.further ≡ length lists.old.further }
+    ensures width { length lists.new.further ≡ length lists.old.further }
+    ensures are { AreRows lists.new }
+    ensures count { length lists.new.ids ≤ length lists.old.ids + 1 }
+    ensures ok { OnOk result (objects_of lists.new ≡ objects_of lists.old ++ row.now ∷ []) }
+    ensures err { OnErr result (lists.new ≡ lists.old) }
+{
+    let _id = row.id();
+    match lists.push(row) {
+        Ok(()) => Ok(()),
+        Err(memory) => Err(memory),
+    }
+}

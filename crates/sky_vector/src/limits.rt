@@ -1,0 +1,20 @@
+//! The limits of places, in grid units, and of numbers: each stands here once, and definitions and code cite it.
+
+/// The least length of an admissible position: 16 less than the radius of the sphere, 2^28.
+pub const LENGTH_LEAST: u64 = 268435440;
+
+/// The largest length of an admissible position: 16 more than the radius.
+pub const LENGTH_MOST: u64 = 268435472;
+
+/// The largest size of a coordinate of an admissible position: a whole length along one axis.
+pub const COORDINATE_MOST: u64 = LENGTH_MOST;
+
+/// The largest size of a part of any point or direction: twice the radius.
+pub const PART_MOST: u64 = 1 << 29;
+
+/// The largest n that a test of squared distances may name, in squared grid units: above the squared chord of any two
+/// points whose parts are within `PART_MOST`.
+pub const CHORD_SQUARED_MOST: u64 = 1 << 62;
+
+/// The largest size of a number that a query computes.
+pub const NUMBER_MOST: u128 = 1 << 100;

@@ -1,0 +1,37 @@
+use Rattle.sql_token.specs.Keywords.{keyword_of}
+use Rattle.sql_token.specs.Tokens.{tokens_from, too_deep}
+use Rattle.sql_rules.specs.Readers.{many}
+use Rattle.sql_rules.specs.ReadExprs.{col_at, bracket_with, atom_with, factor_with, prod_with, signed_with, sum_with}
+use Rattle.sql_rules.specs.ReadExprs.{expr_at, int_at, more_ints_at, ints_at}
+use Rattle.sql_rules.specs.ReadConds.{between_with, range_with, null_at, said_with, chord_behind, chord_at, area_with}
+use Rattle.sql_rules.specs.ReadConds.{group_with, other_with, pred_with, neg_with, conj_with, any_with, cond_at}
+use Rattle.sql_rules.specs.ReadQueries.{argument_at, counted_at, plain_at, high_at, kind_at, as_at, item_at}
+use Rattle.sql_rules.specs.ReadQueries.{item_list_at, items_at, alias_at, table_at, second_at, where_at, cols_at}
+use Rattle.sql_rules.specs.ReadQueries.{group_at, way_at, sorted_at, order_at, limit_at}
+use Rattle.sql_rules.specs.Trees.{from_at, front_at, query_at, query_of, tree_of}
+use Rattle.std.specs.Fmt.{digits}
+use Rattle.sql_rules.specs.Printed.{printed}
+use Rattle.sql_rules.proofs.PrintOpened.{print_int_atom, print_col_atom, print_factor_roll, print_prod_roll}
+use Rattle.sql_rules.proofs.PrintOpened.{print_expr_roll, print_compare_pred}
+use Rattle.sql_rules.proofs.PrintOpened.{print_chord_pred, print_neg_roll, print_conj_roll, print_cond_roll}
+use Rattle.sql_examples.proofs.prints.a_table_has_its_alias_without_as.Goals as goal
+
+pub returns : goal.returns
+unfolding keyword_of tokens_from too_deep many col_at bracket_with atom_with factor_with prod_with signed_with
+    sum_with expr_at int_at more_ints_at ints_at between_with range_with null_at said_with chord_behind chord_at
+    area_with group_with other_with pred_with neg_with conj_with any_with cond_at argument_at counted_at plain_at
+    high_at kind_at as_at item_at item_list_at items_at alias_at table_at second_at where_at cols_at group_at way_at
+    sorted_at order_at limit_at from_at front_at query_at query_of tree_of digits printed
+returns c =
+    simp (
+      print_int_atom,
+      print_col_atom,
+      print_factor_roll,
+      print_prod_roll,
+      print_expr_roll,
+      print_compare_pred,
+      print_chord_pred,
+      print_neg_roll,
+      print_conj_roll,
+      print_cond_roll,
+    )

@@ -1,0 +1,7 @@
+//! The limits of the tokens of a text: each stands here once, and definitions and code cite it.
+
+/// The most tokens of a text.
+pub const TOKENS_MOST: usize = 2048;
+
+/// The most brackets that may be open at a place.
+pub const BRACKETS_MOST: u32 = 32;

@@ -1,0 +1,13 @@
+//! The limits of texts, in bytes: each stands here once, and definitions and code cite it.
+
+/// The most bytes of a catalogue, and of any text that is cut into lines or records.
+pub const TEXT_MOST: usize = 1 << 29;
+
+/// The most bytes of the text of a sky plan.
+pub const SKY_TEXT_MOST: usize = 1 << 16;
+
+/// The most bytes of a script.
+pub const SCRIPT_TEXT_MOST: usize = 1 << 23;
+
+/// The most bytes of a line of a script, and so of a query.
+pub const QUERY_TEXT_MOST: usize = 1 << 14;

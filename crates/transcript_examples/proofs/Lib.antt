@@ -1,0 +1,4 @@
+pub mod Deep
+pub mod DemoQueries
+pub mod GroupQueries
+pub mod RowQueries

@@ -1,0 +1,84 @@
+use Rattle.std.proofs.Common.{refl, ℕ, List, None, Ok, Some, [], codes, false, pos, ◌++◌, ◌∷◌, ◌≡◌}
+use Rattle.sql_token.specs.Keywords.{keyword_of}
+use Rattle.sql_token.specs.Tokens.{tokens_from, too_deep}
+use Rattle.sql_rules.specs.Readers.{many}
+use Rattle.sql_rules.specs.ReadExprs.{col_at, bracket_with, atom_with, factor_with, prod_with, signed_with, sum_with}
+use Rattle.sql_rules.specs.ReadExprs.{expr_at, int_at, more_ints_at, ints_at}
+use Rattle.sql_rules.specs.ReadConds.{between_with, range_with, null_at, said_with, chord_behind, chord_at, area_with}
+use Rattle.sql_rules.specs.ReadConds.{group_with, other_with, pred_with, neg_with, conj_with, any_with, cond_at}
+use Rattle.sql_rules.specs.ReadQueries.{argument_at, counted_at, plain_at, high_at, kind_at, as_at, item_at}
+use Rattle.sql_rules.specs.ReadQueries.{item_list_at, items_at, alias_at, table_at, second_at, where_at, cols_at}
+use Rattle.sql_rules.specs.ReadQueries.{group_at, way_at, sorted_at, order_at, limit_at}
+use Rattle.sql_rules.specs.Trees.{from_at, front_at, query_at, query_of, tree_of}
+use Rattle.bind_rules.specs.Mentions.{columns_of, mentions_of_cond}
+use Rattle.bind_rules.specs.Widths.{width_of, exprs_of}
+use Rattle.bind_rules.specs.Names.{unknown_name, not_grouped}
+use Rattle.bind_rules.specs.Forms.{join_form, area_form}
+use Rattle.bind_rules.specs.Checks.{too_wide, order_name, bind_fault}
+use Rattle.bind_rules.specs.Bounds.{bound_expr}
+use Rattle.bind_rules.specs.IdTests.{lone_of}
+use Rattle.bind_rules.specs.Binding.{bound_query, bound_of}
+use Rattle.sql_bound.specs.Trees.{factor, product, sum, cond_of}
+use Rattle.wedge_rules.specs.Heading.{heading as side_heading, walk}
+use Rattle.std.specs.Fmt.{digits}
+use Rattle.sql_tree.specs.declared.query.Query.{Query}
+use Rattle.sql_tree.specs.declared.cond.Cmp.TheVariants as cmp
+use Rattle.sql_tree.specs.declared.cond.Pred.TheVariants as pred
+use Rattle.sql_tree.specs.declared.expr.Atom.TheVariants as atom
+use Rattle.sql_tree.specs.declared.query.ItemKind.TheVariants as what
+use Rattle.sql_rules.specs.Examples.{name, alone}
+use Rattle.transcript_rules.specs.Written.{own, item, items, called, says, each, some_of, query}
+use Rattle.answer_rules.specs.Queries.{joined, once}
+use Rattle.answer_rules.specs.Expected.{own_overlaps}
+use Rattle.sky_rules.specs.Examples.{halves}
+use Rattle.transcript_examples.specs.Worked.{bright, bare}
+use Rattle.answer_rules.specs.Plans.{radius_refusal}
+use Rattle.transcript_rules.specs.RefusalLines.{refusal_line}
+use Rattle.transcript_rules.proofs.Steps.{understood_by, radius_told_by}
+use Rattle.bind_rules.specs.Binding.{bound_of}
+use Rattle.transcript_rules.proofs.Reading.{columns, conditions, by_compare, by_chord}
+use Rattle.transcript_examples.proofs.explained.far_pairs_of_no_rows.Goals as goal
+
+abbrev text : List ℕ
+text = codes "SELECT a.objectId,b.objectId FROM Object a,Object b WHERE chord2(a,b)<=5"
+
+abbrev tree : Query
+tree =
+    query (items (item (what.Plain (alone (atom.Col (own (name (codes "a") 7 8) (name (codes "objectId") 9 17))))))
+    ((item (what.Plain (alone (atom.Col (own (name (codes "b") 18 19) (name (codes "objectId") 20 28)))))) ∷
+    []))
+    (called (name (codes "Object") 34 40) (name (codes "a") 41 42))
+    (Some (called (name (codes "Object") 43 49) (name (codes "b") 50 51)))
+    (Some (some_of (each (says (pred.Chord (name (codes "a") 65 66) (name (codes "b") 67 68) false (pos 5))) []) []))
+    [] None None
+
+read : tree_of text ≡ Ok tree
+unfolding keyword_of tokens_from too_deep many col_at bracket_with atom_with factor_with prod_with signed_with
+    sum_with expr_at int_at more_ints_at ints_at between_with range_with null_at said_with chord_behind chord_at
+    area_with group_with other_with pred_with neg_with conj_with any_with cond_at argument_at counted_at plain_at
+    high_at kind_at as_at item_at item_list_at items_at alias_at table_at second_at where_at cols_at group_at way_at
+    sorted_at order_at limit_at from_at front_at query_at query_of tree_of
+read = refl
+
+bound : bound_of bare.names tree ≡ Ok (joined (pos 5) [])
+unfolding columns_of mentions_of_cond width_of exprs_of unknown_name not_grouped join_form area_form too_wide
+    order_name bind_fault bound_expr lone_of bound_query bound_of factor product sum cond_of
+bound = simp (columns, conditions, by_chord)
+
+far : radius_refusal own_overlaps bare.objects (joined (pos 5) []) ≡ Some (record {
+  asked = pos 5;
+  allowed =
+      pos 4;
+})
+unfolding side_heading walk
+far = refl
+
+pub returns : goal.returns
+unfolding digits refusal_line
+returns c =
+    radius_told_by own_overlaps bare 1 text tree (joined (pos 5) []) (record {
+      asked = pos 5;
+      allowed =
+          pos 4;
+    })
+    (understood_by bare.names text tree (joined (pos 5) []) read bound) far
