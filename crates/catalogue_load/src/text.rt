@@ -6,6 +6,7 @@ ghost use Rattle.catalogue_load.specs.Catalogue.{catalogue_of, catalogue_with};
 ghost use Rattle.catalogue_load.specs.Judged.{HasRead};
 ghost use Rattle.catalogue_load.specs.Standing.{HasLeft, StillGives};
 ghost use Rattle.text_rules.specs.declared.limits.TheConstants.{TEXT_MOST};
+ghost use Rattle.table_rules.specs.declared.limits.TheConstants.{FURTHER_COLUMNS_MOST};
 
 use crate::gathered::Gathered;
 use crate::header::read_header;
@@ -52,7 +53,7 @@ fn rows_under(
     reader: Reader<&[u8]>,
     fields: ByteRecord,
 ) -> Result<Rows, Stop<LoadFault>>
-    requires few { length schema ≤ 12 }
+    requires few { length schema ≤ FURTHER_COLUMNS_MOST }
     requires gives { HasLeft reader }
     ensures ok { IfOk result (λ rows. (rest : List (List (List ℕ))) → StillGives reader.entry rest
         → judged (data_faults (4 + length schema) rest) (catalogue_with schema rest) ≡ Ok rows) }

@@ -64,7 +64,7 @@ impl Column {
         self.values.as_slice()
     }
 
-    /// Which rows have a value, or `None` where all have. Takes no memory.
+    /// Which rows have a value; `None` only where all have. Takes no memory.
     pub fn present(&self) -> Option<&[bool]>
         ensures some { IfSome result (λ present. present.now ≡ map is_some self.now) }
         ensures none { IfNone result (All (λ cell. IsTrue (is_some cell)) self.now) }

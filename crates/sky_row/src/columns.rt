@@ -2,10 +2,11 @@
 //!
 //! A scan reads a column as one slice; a row is made of them only where it is asked for. Contracts see the rows alone.
 ghost use Rattle.std.specs.Prelude.{◌≡◌, ◌+◌, ◌<◌, ◌≤◌, ◌^◌, [], ◌∷◌, ◌++◌, length, map, All};
-ghost use Rattle.std.specs.Prelude.{IfOk, OnErr, OnOk, slice_get, Some};
-ghost use Rattle.sky_vector.specs.Points.{IsWithin};
+ghost use Rattle.std.specs.Prelude.{IfOk, IsTrue, OnErr, OnOk, get_or, slice_get, Some};
+ghost use Rattle.sky_vector.specs.Points.{IsWithin, is_admissible};
+ghost use Rattle.sky_vector.specs.Pos.{point};
 ghost use Rattle.table_rules.specs.Objects.{IsRow};
-ghost use Rattle.sky_row.specs.Columns.{AreListed, AreRows, column_in, objects_at, objects_of};
+ghost use Rattle.sky_row.specs.Columns.{AreListed, AreRows, column_in, no_row, objects_at, objects_of};
 ghost use Rattle.table_rules.specs.declared.limits.TheConstants.{ROWS_MOST};
 
 use crate::column::Column;
@@ -13,6 +14,7 @@ use crate::lists::Lists;
 use crate::row::Row;
 use crate::schema::Schema;
 use sky_io::Memory;
+use sky_vector::Pos;
 use std::alloc::Global;
 use std::marker::Model;
 
@@ -71,6 +73,15 @@ impl Columns {
         ensures wide { length result.further ≡ length self.now.names }
     {
         self.lists.row(i as usize)
+    }
+
+    /// The position of the row with this number, from 0, without its other values. Takes no memory.
+    pub fn position(&self, i: u32) -> Pos
+        requires { i < length self.now.objects }
+        ensures value { point result ≡ (get_or self.now.objects i no_row).at }
+        ensures admissible { IsTrue (is_admissible (point result)) }
+    {
+        self.lists.position(i as usize)
     }
 
     /// The names of the columns. Takes no memory.

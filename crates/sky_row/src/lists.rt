@@ -89,12 +89,21 @@ impl Lists {
         requires few { length self.now.further ≤ FURTHER_COLUMNS_MOST }
         ensures { result ≡ row_at self.now i }
     {
-        let at = point_of(
+        let at = self.position(i);
+        Row::of_cells(self.ids[i], at, cells_at(self.further.as_slice(), i))
+    }
+
+    /// The position of the row at this place, from 0. Takes no memory.
+    pub fn position(&self, i: usize) -> Pos
+        requires rows { AreRows self.now }
+        requires there { i < length self.now.ids }
+        ensures { point result ≡ (row_at self.now i).at }
+    {
+        point_of(
             part_at(self.xs.as_slice(), i),
             part_at(self.ys.as_slice(), i),
             part_at(self.zs.as_slice(), i),
-        );
-        Row::of_cells(self.ids[i], at, cells_at(self.further.as_slice(), i))
+        )
     }
 
     /// The rows at these places, counted from 0, in the order of the places. Takes memory for each column once.

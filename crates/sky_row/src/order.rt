@@ -8,8 +8,8 @@ use sky_io::Memory;
 use std::alloc::Global;
 use table_rules::limits::ROWS_MOST;
 
-/// How many places a key tells apart.
-const PLACES: u128 = ROWS_MOST as u128;
+/// How many places a key tells apart: a key is an id's 64 bits times so many, and its place.
+pub const PLACES: u128 = ROWS_MOST as u128;
 
 /// Whether each id is below the next. Takes no memory.
 pub fn ids_ascend(ids: &[i64]) -> bool
@@ -22,7 +22,7 @@ pub fn ids_ascend(ids: &[i64]) -> bool
 fn key_of(id: i64, place: u32) -> u128
     ensures { result ≡ key id place }
 {
-    u128::from(id.unsigned_abs()) * PLACES + u128::from(place)
+    u128::from(id.cast_unsigned()) * PLACES + u128::from(place)
 }
 
 /// The keys of ids, in their order. Takes memory for them, 16 bytes an id.
@@ -39,9 +39,10 @@ fn keys_of(alloc: Global, ids: &[i64]) -> Result<Vec<u128>, Memory>
     Ok(keys)
 }
 
-/// The keys of ids, in ascending order. Takes memory for them, 16 bytes an id.
+/// The keys of ids, in ascending order: equal ids stand side by side, in the order of their places. Takes memory for them,
+/// 16 bytes an id.
 #[tactic(auto, using(crate::proofs::Keys::keys_in_order))]
-fn sorted_keys(alloc: Global, ids: &[i64]) -> Result<Vec<u128>, Memory>
+pub fn sorted_keys(alloc: Global, ids: &[i64]) -> Result<Vec<u128>, Memory>
     requires few { length ids.now ≤ ROWS_MOST }
     ensures { IfOk result (λ keys. AreSortedKeys ids.now keys.items) }
 {

@@ -1,9 +1,10 @@
 //! The rows of a catalogue, in strictly ascending id.
 ghost use Rattle.std.specs.Prelude.{◌≡◌, ◌+◌, ◌<◌, ◌≤◌, ◌^◌, ◌<ℤ◌, List, [], ◌∷◌, ◌++◌, length, map, All};
-ghost use Rattle.std.specs.Prelude.{IfOk, OnOk, OnErr, IfSome, IfNone, slice_get, Some};
-ghost use Rattle.sky_vector.specs.Points.{IsWithin};
+ghost use Rattle.std.specs.Prelude.{IfOk, OnOk, OnErr, IfSome, IfNone, IsTrue, get_or, slice_get, Some};
+ghost use Rattle.sky_vector.specs.Points.{IsWithin, is_admissible};
+ghost use Rattle.sky_vector.specs.Pos.{point};
 ghost use Rattle.table_rules.specs.Objects.{IsCatalogue, IsRow, IsTable, Obj};
-ghost use Rattle.sky_row.specs.Columns.{AreAscending, AreRows, column_in, objects_of};
+ghost use Rattle.sky_row.specs.Columns.{AreAscending, AreRows, column_in, no_row, objects_of};
 ghost use Rattle.table_rules.specs.declared.limits.TheConstants.{ROWS_MOST};
 
 use crate::column::Column;
@@ -13,6 +14,7 @@ use crate::order::{ids_ascend, places_by_id};
 use crate::row::Row;
 use crate::schema::Schema;
 use sky_io::Memory;
+use sky_vector::Pos;
 use std::alloc::Global;
 use std::marker::Model;
 
@@ -93,6 +95,15 @@ impl Rows {
         ensures wide { length result.further ≡ length self.now.names }
     {
         self.columns.get(i)
+    }
+
+    /// The position of the row with this number, from 0, without its other values. Takes no memory.
+    pub fn position(&self, i: u32) -> Pos
+        requires { i < length self.now.objects }
+        ensures value { point result ≡ (get_or self.now.objects i no_row).at }
+        ensures admissible { IsTrue (is_admissible (point result)) }
+    {
+        self.columns.position(i)
     }
 
     /// The columns' names. Takes no memory.
