@@ -3,3 +3,5 @@ pub mod Layers
 pub mod Sizes
 pub mod Steps
 pub mod Terms
+pub mod KeyTerms
+pub mod SoFar

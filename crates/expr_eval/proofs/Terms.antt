@@ -1,6 +1,6 @@
--- Sums and products as far as they have come: sound, and not too large.
-use Rattle.std.proofs.Common.{◌≡◌, ℕ, ◌+◌, ◌*◌, ◌<◌, ◌≤◌, drop, get_or, length, ℤ, ◌+ℤ◌, ◌-ℤ◌, ◌*ℤ◌, Bool, true}
-use Rattle.std.proofs.Common.{false, if◌then◌else◌, List, [], ◌∷◌, ◌++◌, map, Option, refl, sym, ap, subst, ◌∙◌}
+-- Sums and products on a row or a pair, as far as they have come: sound, and not too large.
+use Rattle.std.proofs.Common.{◌≡◌, ℕ, ◌+◌, ◌*◌, ◌<◌, ◌≤◌, drop, get_or, length, ℤ, ◌*ℤ◌, Bool, true}
+use Rattle.std.proofs.Common.{false, if◌then◌else◌, List, [], ◌∷◌, ◌++◌, map, Option, sym, ap, subst, ◌∙◌}
 use Rattle.std.proofs.Common.{arith, max}
 use Rattle.std.specs.Prelude.{◌&&◌, nat_le}
 use Rattle.std.specs.List.{list_all}
@@ -19,7 +19,7 @@ use Rattle.value_rules.specs.Terms.{Term, SignedTerm, Minus, Plus, Less, Times, 
 use Rattle.value_rules.specs.Terms.{term_of_atom, term_of_factor, term_of_prod, term_of_signed}
 use Rattle.sql_bound.specs.declared.expr.BoundSigned.{BoundSigned, out-BoundSigned}
 use Rattle.expr_eval.proofs.Layers.{factor_parts, product_parts, signed_parts, sum_parts}
-use Rattle.expr_eval.proofs.Steps.{next}
+use Rattle.expr_eval.proofs.SoFar.{ProductSoFar, SumSoFar, goes_times, goes_with, with_one}
 use Rattle.value_rules.specs.Values.{Pick, cell_of, of_both}
 use Rattle.value_rules.specs.Widths.{IsOfSize, most, width_at, widest_at}
 
@@ -69,10 +69,6 @@ times_sound : (allowed : BoundCol → Bool) (t u : Term) → is_sound_at allowed
 times_sound allowed t u h =
     two allowed (columns_at t) (columns_at u) (width_at t * width_at u) (widest_at t) (widest_at u) most h
 
--- a term with one more, added or taken away
-abbrev pub with_one : Term → SignedTerm → Term
-with_one t s = if s.minus then Less t s.term else Plus t s.term
-
 with_one_sound : (allowed : BoundCol → Bool) (t u : Term) (minus : Bool)
     → is_sound_at allowed (if minus then Less t u else Plus t u) ≡ true
     → (is_sound_at allowed t ≡ true) × (is_sound_at allowed u ≡ true)
@@ -103,39 +99,13 @@ product_next allowed t u rest h = (times_sound allowed t u (product_front allowe
 
 -- ---- a sum as far as it has come
 
--- the value so far is that of a front of the sum
-pub record SumSoFar (p : Pick) (so_far : Option ℤ) (rest : List SignedTerm) (whole : Term) : Type 0 where
-  pub front : Term
-  pub value : so_far ≡ value_on p front
-  pub goes_on : sum_from front rest ≡ whole
-
--- the value with one more
-abbrev pub with_value : Option ℤ → Bool → Option ℤ → Option ℤ
-with_value v minus w = if minus then of_both (λ x y. x -ℤ y) v w else of_both (λ x y. x +ℤ y) v w
-
--- it is the value of the term with one more
-value_with : (p : Pick) (t u : Term) (minus : Bool)
-    → value_on p (if minus then Less t u else Plus t u) ≡ with_value (value_on p t) minus (value_on p u)
-value_with p t u true = refl
-value_with p t u false = refl
-
--- a step of it
-pub sum_more : (p : Pick) (v w x : Option ℤ) (s : SignedTerm) (rest : List SignedTerm) (whole : Term)
-    → SumSoFar p v (s ∷ rest) whole → w ≡ value_on p s.term → x ≡ with_value v s.minus w → SumSoFar p x rest whole
-sum_more p v w x s rest whole h part is = record {
-  front = with_one h.front s;
-  value = is ∙ ap (λ a. with_value a s.minus w) h.value ∙ ap (λ b. with_value (value_on p h.front) s.minus b) part
-      ∙ sym (value_with p h.front s.term s.minus);
-  goes_on = h.goes_on;
-}
-
 -- what is added next is sound, and the value so far is not too large
 pub sum_sound : (p : Pick) (v : Option ℤ) (s : SignedTerm) (rest : List SignedTerm) (whole : Term)
-    → SumSoFar p v (s ∷ rest) whole → IsSoundTerm p whole → IsSoundTerm p s.term
+    → SumSoFar (cell_of p) v (s ∷ rest) whole → IsSoundTerm p whole → IsSoundTerm p s.term
 sum_sound p v s rest whole h sound =
     sum_next (is_there p) h.front s rest (ap (is_sound_at (is_there p)) h.goes_on ∙ sound)
 
-pub sum_fits : (p : Pick) (v : Option ℤ) (rest : List SignedTerm) (whole : Term) → AreRows p → SumSoFar p v rest whole
+pub sum_fits : (p : Pick) (v : Option ℤ) (rest : List SignedTerm) (whole : Term) → AreRows p → SumSoFar (cell_of p) v rest whole
     → IsSoundTerm p whole → IsOfSize most v
 sum_fits p v rest whole rows h sound =
     subst (IsOfSize most) (sym h.value)
@@ -143,32 +113,15 @@ sum_fits p v rest whole rows h sound =
 
 -- ---- a product as far as it has come
 
--- the value so far is that of a front of the product
-pub record ProductSoFar (p : Pick) (so_far : Option ℤ) (rest : List Term) (whole : Term) : Type 0 where
-  pub front : Term
-  pub value : so_far ≡ value_on p front
-  pub goes_on : product_from front rest ≡ whole
-
--- a step of it
-pub product_more : (p : Pick) (v w x : Option ℤ) (t : Term) (rest : List Term) (whole : Term)
-    → ProductSoFar p v (t ∷ rest) whole → w ≡ value_on p t → x ≡ of_both (λ a b. a *ℤ b) v w
-    → ProductSoFar p x rest whole
-product_more p v w x t rest whole h part is = record {
-  front = Times h.front t;
-  value = is ∙ ap (λ a. of_both (λ a b. a *ℤ b) a w) h.value
-      ∙ ap (λ b. of_both (λ a b. a *ℤ b) (value_on p h.front) b) part;
-  goes_on = h.goes_on;
-}
-
 -- what is multiplied next is sound
 pub product_sound : (p : Pick) (v : Option ℤ) (t : Term) (rest : List Term) (whole : Term)
-    → ProductSoFar p v (t ∷ rest) whole → IsSoundTerm p whole → IsSoundTerm p t
+    → ProductSoFar (cell_of p) v (t ∷ rest) whole → IsSoundTerm p whole → IsSoundTerm p t
 product_sound p v t rest whole h sound =
     product_next (is_there p) h.front t rest (ap (is_sound_at (is_there p)) h.goes_on ∙ sound)
 
 -- the product of the value so far and of the next one is not too large
 pub product_fits : (p : Pick) (v w : Option ℤ) (t : Term) (rest : List Term) (whole : Term) → AreRows p
-    → ProductSoFar p v (t ∷ rest) whole → IsSoundTerm p whole → w ≡ value_on p t
+    → ProductSoFar (cell_of p) v (t ∷ rest) whole → IsSoundTerm p whole → w ≡ value_on p t
     → IsOfSize most (of_both (λ a b. a *ℤ b) v w)
 product_fits p v w t rest whole rows h sound part =
     subst (IsOfSize most)
@@ -207,62 +160,29 @@ factor_atom p f h =
 
 -- ---- a step of the loop over the further products of a sum
 
--- the sum so far goes on with the product at the place
-goes_with : (p : Pick) (v : Option ℤ) (e : BoundExpr) (xs : List BoundSigned) (i : ℕ) (s : BoundSigned)
-    → i < length xs → s ≡ get_or xs i s → SumSoFar p v (map term_of_signed (drop i xs)) (term_of e)
-    → SumSoFar p v (term_of_signed s ∷ map term_of_signed (drop (i + 1) xs)) (term_of e)
-goes_with p v e xs i s low is h = subst (λ r. SumSoFar p v r (term_of e)) (next term_of_signed xs i s low is) h
-
 -- that product is sound
 pub next_product : (p : Pick) (v : Option ℤ) (e : BoundExpr) (xs : List BoundSigned) (i : ℕ) (s : BoundSigned)
-    → i < length xs → s ≡ get_or xs i s → SumSoFar p v (map term_of_signed (drop i xs)) (term_of e)
+    → i < length xs → s ≡ get_or xs i s → SumSoFar (cell_of p) v (map term_of_signed (drop i xs)) (term_of e)
     → IsSoundTerm p (term_of e) → IsSoundTerm p (term_of_prod (out-BoundSigned s).prod)
 next_product p v e xs i s low is h sound =
     sym (ap (λ (x : SignedTerm). is_sound_at (is_there p) x.term) (signed_parts s))
     ∙ sum_sound p v (term_of_signed s) (map term_of_signed (drop (i + 1) xs)) (term_of e)
-    (goes_with p v e xs i s low is h) sound
-
--- with it the sum goes on behind the place
-pub sum_step : (p : Pick) (v w x : Option ℤ) (e : BoundExpr) (xs : List BoundSigned) (i : ℕ) (s : BoundSigned)
-    → i < length xs → s ≡ get_or xs i s → SumSoFar p v (map term_of_signed (drop i xs)) (term_of e)
-    → w ≡ value_on p (term_of_prod (out-BoundSigned s).prod) → x ≡ with_value v (out-BoundSigned s).minus w → SumSoFar
-    p x (map term_of_signed (drop (i + 1) xs)) (term_of e)
-sum_step p v w x e xs i s low is h part made =
-    sum_more p v w x (term_of_signed s) (map term_of_signed (drop (i + 1) xs)) (term_of e)
-    (goes_with p v e xs i s low is h)
-    (part ∙ sym (ap (λ (y : SignedTerm). value_on p y.term) (signed_parts s)))
-    (made ∙ sym (ap (λ (y : SignedTerm). with_value v y.minus w) (signed_parts s)))
+    (goes_with (cell_of p) v e xs i s low is h) sound
 
 -- ---- a step of the loop over the further factors of a product
 
--- the product so far goes on with the factor at the place
-goes_times : (p : Pick) (v : Option ℤ) (y : BoundProd) (xs : List BoundFactor) (i : ℕ) (f : BoundFactor)
-    → i < length xs → f ≡ get_or xs i f → ProductSoFar p v (map term_of_factor (drop i xs)) (term_of_prod y)
-    → ProductSoFar p v (term_of_factor f ∷ map term_of_factor (drop (i + 1) xs)) (term_of_prod y)
-goes_times p v y xs i f low is h =
-    subst (λ r. ProductSoFar p v r (term_of_prod y)) (next term_of_factor xs i f low is) h
-
 -- that factor is sound, and the product with it is not too large
 pub next_factor : (p : Pick) (v : Option ℤ) (y : BoundProd) (xs : List BoundFactor) (i : ℕ) (f : BoundFactor)
-    → i < length xs → f ≡ get_or xs i f → ProductSoFar p v (map term_of_factor (drop i xs)) (term_of_prod y)
+    → i < length xs → f ≡ get_or xs i f → ProductSoFar (cell_of p) v (map term_of_factor (drop i xs)) (term_of_prod y)
     → IsSoundTerm p (term_of_prod y) → IsSoundTerm p (term_of_factor f)
 next_factor p v y xs i f low is h sound =
     product_sound p v (term_of_factor f) (map term_of_factor (drop (i + 1) xs)) (term_of_prod y)
-    (goes_times p v y xs i f low is h) sound
+    (goes_times (cell_of p) v y xs i f low is h) sound
 
 pub next_fits : (p : Pick) (v w : Option ℤ) (y : BoundProd) (xs : List BoundFactor) (i : ℕ) (f : BoundFactor)
     → i < length xs → f ≡ get_or xs i f → AreRows p
-    → ProductSoFar p v (map term_of_factor (drop i xs)) (term_of_prod y) → IsSoundTerm p (term_of_prod y)
+    → ProductSoFar (cell_of p) v (map term_of_factor (drop i xs)) (term_of_prod y) → IsSoundTerm p (term_of_prod y)
     → w ≡ value_on p (term_of_factor f) → IsOfSize most (of_both (λ a b. a *ℤ b) v w)
 next_fits p v w y xs i f low is rows h sound part =
     product_fits p v w (term_of_factor f) (map term_of_factor (drop (i + 1) xs)) (term_of_prod y) rows
-    (goes_times p v y xs i f low is h) sound part
-
--- with it the product goes on behind the place
-pub product_step : (p : Pick) (v w x : Option ℤ) (y : BoundProd) (xs : List BoundFactor) (i : ℕ) (f : BoundFactor)
-    → i < length xs → f ≡ get_or xs i f → ProductSoFar p v (map term_of_factor (drop i xs)) (term_of_prod y)
-    → w ≡ value_on p (term_of_factor f) → x ≡ of_both (λ a b. a *ℤ b) v w → ProductSoFar p x
-    (map term_of_factor (drop (i + 1) xs)) (term_of_prod y)
-product_step p v w x y xs i f low is h part made =
-    product_more p v w x (term_of_factor f) (map term_of_factor (drop (i + 1) xs)) (term_of_prod y)
-    (goes_times p v y xs i f low is h) part made
+    (goes_times (cell_of p) v y xs i f low is h) sound part

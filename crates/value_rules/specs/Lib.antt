@@ -13,3 +13,4 @@ pub mod ColumnLaws
 pub mod Examples
 pub mod ColumnExamples
 pub mod Comparisons
+pub mod Keys

@@ -1,6 +1,7 @@
 -- The numbers that the items and the conditions of a query compute on a row or on a pair, and those on the way to them.
-use Rattle.std.specs.Prelude.{List, [], ◌∷◌, ◌++◌, All}
+use Rattle.std.specs.Prelude.{ℤ, List, [], ◌∷◌, ◌++◌, All, Option}
 use Rattle.std.specs.List.{flat_map}
+use Rattle.sql_bound.specs.declared.expr.BoundCol.{BoundCol}
 use Rattle.sql_bound.specs.declared.query.Bound.{Bound}
 use Rattle.sql_bound.specs.declared.query.BoundItem.{BoundItem}
 use Rattle.sql_bound.specs.declared.query.BoundItem.TheVariants as item
@@ -42,9 +43,13 @@ item_terms (item.Avg e) = term_of e ∷ []
 abbrev pub terms_of : Bound → List Term
 terms_of q = flat_map item_terms q.items ++ flat_map (λ c. tested_terms (formula_of c)) q.conds
 
--- the value of the term on the row or pair is NULL or within ±2^100, and so is each that it is computed of
+-- where the columns have these values, the term's is NULL or within ±2^100, and so is each that it is computed of
+abbrev pub IsInRangeAt : (BoundCol → Option ℤ) → Term → Type 0
+IsInRangeAt cells t = All (λ u. IsOfSize most (value_at cells u)) (subterms_of t)
+
+-- the same of the term on the row or pair
 abbrev pub IsTermInRange : Pick → Term → Type 0
-IsTermInRange p t = All (λ u. IsOfSize most (value_at (cell_of p) u)) (subterms_of t)
+IsTermInRange p t = IsInRangeAt (cell_of p) t
 
 -- each number that an item or a condition of the query computes on the row or pair is within ±2^100
 abbrev pub IsInRange : Bound → Pick → Type 0

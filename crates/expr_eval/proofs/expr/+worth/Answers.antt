@@ -1,13 +1,15 @@
 use Rattle.std.proofs.Common.{sym, subst, arith}
 use Rattle.expr_eval.specs.Picks.{pick_of}
 use Rattle.expr_eval.proofs.Sizes.{factor_depth, product_depth}
+use Rattle.expr_eval.proofs.SoFar.{product_step, sum_step}
 use Rattle.expr_eval.proofs.Terms.{factor_atom, first_factor, first_product, fits, next_factor, next_fits}
-use Rattle.expr_eval.proofs.Terms.{next_product, product_step, sum_fits, sum_step}
+use Rattle.expr_eval.proofs.Terms.{next_product, sum_fits}
 use Rattle.sql_bound.specs.declared.expr.BoundExpr.{size_is-BoundExpr}
 use Rattle.sql_bound.specs.declared.expr.BoundFactor.{out-BoundFactor}
 use Rattle.sql_bound.specs.declared.expr.BoundProd.{size_is-BoundProd}
 use Rattle.sql_bound.specs.declared.expr.BoundSigned.{out-BoundSigned}
 use Rattle.value_rules.specs.Terms.{term_of, term_of_atom, term_of_prod}
+use Rattle.value_rules.specs.Values.{cell_of}
 use Rattle.value_rules.specs.Widths.{IsOfSize, most}
 use Rattle.expr_eval.proofs.expr.+worth.Goals as goal
 
@@ -46,7 +48,7 @@ sum-added-sum-requires-clause-b_size t c =
 
 pub sum-loop-next-preserved : goal.sum-loop-next-preserved
 sum-loop-next-preserved t c =
-    sum_step (pick_of c.args.first.now c.args.second) c.loop-next.sum c.product-part.result c.added-sum.result
+    sum_step (cell_of (pick_of c.args.first.now c.args.second)) c.loop-next.sum c.product-part.result c.added-sum.result
     c.args.e.now c.as_slice-rest.result.now c.loop-next.next-index c.next-item.result
     c.loop-next-test.true c.next-item.is c.loop-next.invariant c.product-part.ensures c.added-sum.ensures
 
@@ -78,7 +80,7 @@ product-multiplied-product-requires t c =
 
 pub product-loop-next-preserved : goal.product-loop-next-preserved
 product-loop-next-preserved t c =
-    product_step (pick_of c.args.first.now c.args.second) c.loop-next.product c.factor-part.result
+    product_step (cell_of (pick_of c.args.first.now c.args.second)) c.loop-next.product c.factor-part.result
     c.multiplied-product.result c.args.p.now c.as_slice-rest.result.now c.loop-next.next-index c.next-item.result
     c.loop-next-test.true c.next-item.is c.loop-next.invariant c.factor-part.ensures c.multiplied-product.ensures
 
