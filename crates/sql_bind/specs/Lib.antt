@@ -1,14 +1,3 @@
-pub mod Walks
 pub mod Layers
-pub mod Faults
-pub mod Behind
-pub mod Gathering
 pub mod Held
-pub mod LoneChord
 pub mod LoneParts
-pub mod Qualified
-pub mod Turns
-pub mod Firsts
-pub mod Parts
-pub mod Unknowns
-pub mod Narrow

@@ -3,55 +3,21 @@ ghost use Rattle.std.specs.Prelude.{◌≡◌, ◌∷◌, ◌++◌, Some, [], ma
 ghost use Rattle.std.specs.List.{flat_map};
 ghost use Rattle.sql_tree.specs.declared.cond.AreaKind.TheVariants as area;
 ghost use Rattle.sql_bound.specs.declared.area.AreaTest.TheVariants as test;
-ghost use Rattle.bind_rules.specs.Areas.{area_test, dir_of, pos_of, where_some};
+ghost use Rattle.bind_rules.specs.Areas.{area_test, where_some};
 ghost use Rattle.bind_rules.specs.Forms.{int_value, values_of};
 ghost use Rattle.bind_rules.specs.IdTests.{areas_by};
 ghost use Rattle.bind_rules.specs.Tops.{top_tests};
-ghost use Rattle.sql_bind.specs.Gathering.{test_of};
+ghost use Rattle.bind_checks.specs.Gathering.{test_of};
 ghost use Rattle.sql_bind.specs.Held.{AreHeld};
 
-use crate::ints::{held_int, int_value};
-use crate::tests_in::{Gather, TestRef, walk};
+use crate::ints::held_int;
+use bind_checks::{Gather, TestRef, dir_of, pos_of, walk};
 use sky_io::Memory;
 use sky_vector::{Dir, Pos};
 use sql_bound::{AreaTest, Areas};
 use sql_tree::{AreaKind, IntList, Query, SignedInt};
 use sqlite_items::Items;
 use std::alloc::Global;
-
-// The direction with these parts.
-fn dir_at(dx: i64, dy: i64) -> Option<Dir>
-    ensures { result ≡ dir_of dx dy }
-{
-    Dir::new(dx, dy)
-}
-
-// The position with these parts.
-fn pos_at(x: i64, y: i64, z: i64) -> Option<Pos>
-    ensures { result ≡ pos_of x y z }
-{
-    Pos::new(x, y, z)
-}
-
-/// The direction with these parts, or `None` where one is outside ±2^29. Takes no memory.
-pub(crate) fn dir_of(dx: &SignedInt, dy: &SignedInt) -> Option<Dir>
-    ensures { result ≡ dir_of (int_value dx.now) (int_value dy.now) }
-{
-    match (int_value(dx), int_value(dy)) {
-        (Some(dx), Some(dy)) => dir_at(dx, dy),
-        _ => None,
-    }
-}
-
-/// The position with these parts, or `None` where one is outside ±2^29. Takes no memory.
-pub(crate) fn pos_of(x: &SignedInt, y: &SignedInt, z: &SignedInt) -> Option<Pos>
-    ensures { result ≡ pos_of (int_value x.now) (int_value y.now) (int_value z.now) }
-{
-    match (int_value(x), int_value(y), int_value(z)) {
-        (Some(x), Some(y), Some(z)) => pos_at(x, y, z),
-        _ => None,
-    }
-}
 
 /// The test of an area function with these arguments, or `None` where they are not as many as it takes or outside their
 /// limits. An int that 64 bits do not hold counts as want of memory. Takes no memory.
@@ -159,7 +125,7 @@ struct AreaList {
 impl Gather for AreaList {
     ghost use Rattle.std.specs.Prelude.{◌++◌};
     ghost use Rattle.bind_rules.specs.IdTests.{areas_by};
-    ghost use Rattle.sql_bind.specs.Behind.{top_only};
+    ghost use Rattle.bind_checks.specs.Behind.{top_only};
 
     ghost kept = { λ s. s.is_whole };
 

@@ -3,8 +3,8 @@ ghost use Rattle.std.specs.Prelude.{◌≡◌, IfOk, IfErr, Ok, Err};
 ghost use Rattle.sky_io.specs.Stops.{IfBad};
 ghost use Rattle.bind_rules.specs.Binding.{bound_of};
 
-use crate::first_fault::first_fault;
 use crate::query::bound_query;
+use bind_checks::first_fault;
 use bind_rules::BindFault;
 use sky_io::Stop;
 use sky_row::Schema;

@@ -4,9 +4,9 @@ ghost use Rattle.std.specs.Int.{w64};
 ghost use Rattle.std.specs.List.{flat_map};
 ghost use Rattle.bind_rules.specs.Binding.{chord_limit, first_or};
 ghost use Rattle.bind_rules.specs.Tops.{top_tests};
-ghost use Rattle.sql_bind.specs.Gathering.{test_of};
+ghost use Rattle.bind_checks.specs.Gathering.{test_of};
 
-use crate::tests_in::{Gather, TestRef, walk};
+use bind_checks::{Gather, TestRef, walk};
 use sql_tree::Query;
 
 // The largest squared chord below the n of a strict chord test, or the n of another.
@@ -35,7 +35,7 @@ struct FirstLimit {
 impl Gather for FirstLimit {
     ghost use Rattle.std.specs.Prelude.{true};
     ghost use Rattle.bind_rules.specs.Binding.{chord_limit};
-    ghost use Rattle.sql_bind.specs.Behind.{first_behind, top_only};
+    ghost use Rattle.bind_checks.specs.Behind.{first_behind, top_only};
 
     ghost kept = { λ _. true };
 

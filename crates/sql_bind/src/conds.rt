@@ -31,7 +31,7 @@ pub(crate) fn whole_cond(
 
 // The further conjunctions of a condition.
 #[cycle(whole)]
-#[tactic(auto, using(crate::proofs::Loops::there_none, crate::proofs::Loops::there_more, crate::proofs::Loops::there_stops, crate::proofs::Loops::there_end))]
+#[tactic(auto, using(bind_checks::proofs::Loops::there_none, bind_checks::proofs::Loops::there_more, bind_checks::proofs::Loops::there_stops, bind_checks::proofs::Loops::there_end))]
 fn whole_conjs(
     alloc: Global,
     scope: &Scope<'_>,
@@ -66,7 +66,7 @@ fn whole_conj(alloc: Global, scope: &Scope<'_>, conj: &Conj) -> Result<Option<Bo
 
 // The further predicates of a conjunction.
 #[cycle(whole)]
-#[tactic(auto, using(crate::proofs::Loops::there_none, crate::proofs::Loops::there_more, crate::proofs::Loops::there_stops, crate::proofs::Loops::there_end))]
+#[tactic(auto, using(bind_checks::proofs::Loops::there_none, bind_checks::proofs::Loops::there_more, bind_checks::proofs::Loops::there_stops, bind_checks::proofs::Loops::there_end))]
 fn whole_negs(
     alloc: Global,
     scope: &Scope<'_>,

@@ -74,7 +74,7 @@ fn add_plain(found: &mut BoundConds, pred: BoundPred) -> Result<(), AllocError>
 
 // Adds the conjuncts of each part.
 #[cycle(top)]
-#[tactic(auto, using(crate::proofs::CondLayers::conj_conjuncts, crate::proofs::Loops::then_rest))]
+#[tactic(auto, using(crate::proofs::CondLayers::conj_conjuncts, bind_checks::proofs::Loops::then_rest))]
 fn add_conj(
     alloc: Global,
     scope: &Scope<'_>,
@@ -89,7 +89,7 @@ fn add_conj(
 
 // Adds the conjuncts of the further parts.
 #[cycle(top)]
-#[tactic(auto, using(crate::proofs::Loops::flat_more))]
+#[tactic(auto, using(bind_checks::proofs::Loops::flat_more))]
 fn add_negs(
     alloc: Global,
     scope: &Scope<'_>,

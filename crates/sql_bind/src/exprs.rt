@@ -26,7 +26,7 @@ pub(crate) fn bound_expr(
 
 // The further products of a sum.
 #[cycle(bind)]
-#[tactic(auto, using(crate::proofs::Loops::map_more))]
+#[tactic(auto, using(bind_checks::proofs::Loops::map_more))]
 fn bound_signeds(
     alloc: Global,
     scope: &Scope<'_>,
@@ -71,7 +71,7 @@ fn bound_prod(alloc: Global, scope: &Scope<'_>, prod: &Prod) -> Result<BoundProd
 
 // The further factors of a product.
 #[cycle(bind)]
-#[tactic(auto, using(crate::proofs::Loops::map_more))]
+#[tactic(auto, using(bind_checks::proofs::Loops::map_more))]
 fn bound_factors(
     alloc: Global,
     scope: &Scope<'_>,

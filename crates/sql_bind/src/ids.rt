@@ -3,12 +3,12 @@ ghost use Rattle.std.specs.Prelude.{◌≡◌, ◌∷◌, ◌++◌, [], true, So
 ghost use Rattle.std.specs.List.{flat_map};
 ghost use Rattle.bind_rules.specs.IdTests.{LoneCol, ids_by, int_of, is_first_id, lone_of};
 ghost use Rattle.bind_rules.specs.Tops.{Equals, Listed, top_tests};
-ghost use Rattle.sql_bind.specs.Gathering.{test_of};
+ghost use Rattle.bind_checks.specs.Gathering.{test_of};
 ghost use Rattle.sql_bind.specs.LoneParts.{lone_of_atom, lone_of_factor, lone_of_prod, scope_of};
 
 use crate::ints::values_of;
 use crate::scope::Scope;
-use crate::tests_in::{Gather, TestRef, walk};
+use bind_checks::{Gather, TestRef, walk};
 use sky_io::Memory;
 use sky_row::Schema;
 use sql_bound::{IdTests, Ids};
@@ -175,7 +175,7 @@ struct IdList<'a> {
 impl<'a> Gather for IdList<'a> {
     ghost use Rattle.std.specs.Prelude.{◌++◌};
     ghost use Rattle.bind_rules.specs.IdTests.{ids_by};
-    ghost use Rattle.sql_bind.specs.Behind.{top_only};
+    ghost use Rattle.bind_checks.specs.Behind.{top_only};
 
     ghost kept = { λ s. s.is_whole };
 

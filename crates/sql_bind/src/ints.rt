@@ -3,22 +3,12 @@ ghost use Rattle.std.specs.Prelude.{◌≡◌, ◌∷◌, ◌++◌, [], map, Fit
 ghost use Rattle.std.specs.Int.{w64};
 ghost use Rattle.bind_rules.specs.Forms.{int_value, values_of};
 
+use bind_checks::int_value;
 use sky_io::Memory;
 use sql_bound::Ids;
 use sql_tree::{IntList, SignedInt};
 use sqlite_items::Items;
 use std::alloc::Global;
-
-/// The int in 64 bits, or `None` where it is 2^63, which no text spells. Takes no memory.
-pub(crate) fn int_value(int: &SignedInt) -> Option<i64>
-    ensures { SomeIff result (FitsSigned w64 (int_value int.now)) (int_value int.now) }
-{
-    if int.minus {
-        0i64.checked_sub(int.size)
-    } else {
-        Some(int.size)
-    }
-}
 
 /// The int in 64 bits; one that they do not hold counts as want of memory.
 pub(crate) fn held_int(int: &SignedInt) -> Result<i64, Memory>

@@ -5,9 +5,9 @@ ghost use Rattle.bind_rules.specs.Columns.{is_join};
 ghost use Rattle.sql_bind.specs.Layers.{item_in};
 ghost use Rattle.table_rules.specs.Names.{column_names};
 
-use crate::columns::is_join;
 use crate::exprs::bound_expr;
 use crate::scope::Scope;
+use bind_checks::is_join;
 use sql_bound::{BoundAtom, BoundCol, BoundExpr, BoundFactor, BoundItem, BoundItems, BoundProd};
 use sql_tree::{ItemKind, ItemList, Query, Selection};
 use sqlite_items::Items;
@@ -74,7 +74,7 @@ fn bound_item(alloc: Global, scope: &Scope<'_>, what: &ItemKind) -> Result<Bound
 }
 
 // The items of a list.
-#[tactic(auto, using(crate::proofs::Loops::map_more))]
+#[tactic(auto, using(bind_checks::proofs::Loops::map_more))]
 fn listed_items(alloc: Global, scope: &Scope<'_>, list: &ItemList) -> Result<BoundItems, AllocError>
     ensures { IfOk result (λ items. items
         ≡ map (item_in scope.now) (list.now.first ∷ list.now.rest)) }

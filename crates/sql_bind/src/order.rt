@@ -4,8 +4,8 @@ ghost use Rattle.std.specs.Option.{option_map};
 ghost use Rattle.bind_rules.specs.Binding.{bound_order, key_by};
 ghost use Rattle.bind_rules.specs.Checks.{alias_place};
 
-use crate::order_key::alias_place;
 use crate::scope::Scope;
+use bind_checks::alias_place;
 use sql_bound::{BoundKey, BoundOrder};
 use sql_tree::{Col, OrderBy, Query};
 use std::alloc::AllocError;

@@ -4,7 +4,7 @@ ghost use Rattle.std.specs.Str.{bytes_eq};
 ghost use Rattle.bind_rules.specs.Bounds.{bound_col, is_second};
 ghost use Rattle.bind_rules.specs.Columns.{qualifier};
 
-use crate::columns::qualifier;
+use bind_checks::qualifier;
 use sky_row::Schema;
 use sql_bound::BoundCol;
 use sql_tree::{Col, Name, Query, TableRef};

@@ -5,16 +5,15 @@ ghost use Rattle.bind_rules.specs.Bounds.{bound_col};
 ghost use Rattle.bind_rules.specs.Names.{is_grouped};
 
 use crate::chord_limit::chord_limit;
-use crate::columns::is_join;
-use crate::grouping::is_grouped;
 use crate::scope::Scope;
+use bind_checks::{is_grouped, is_join};
 use sql_bound::{ColList, Shape};
 use sql_tree::{Col, Query};
 use sqlite_items::Items;
 use std::alloc::{AllocError, Global};
 
 // Columns, bound.
-#[tactic(auto, using(crate::proofs::Loops::map_more))]
+#[tactic(auto, using(bind_checks::proofs::Loops::map_more))]
 fn bound_cols(alloc: Global, scope: &Scope<'_>, cols: &[Col]) -> Result<ColList, AllocError>
     ensures { IfOk result (λ keys. keys ≡ map (bound_col scope.now) cols.now) }
 {

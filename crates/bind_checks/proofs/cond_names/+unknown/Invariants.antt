@@ -1,0 +1,17 @@
+use Rattle.std.proofs.Common.{◌≡◌, map, drop}
+use Rattle.bind_rules.specs.Mentions.{joined}
+use Rattle.bind_checks.specs.Parts.{conj_mentions, neg_mentions}
+use Rattle.bind_checks.specs.Unknowns.{unknown_at}
+use Rattle.bind_checks.proofs.cond_names.+unknown.Given as goal
+
+abbrev pub invariant-unknown_in_conjs-loop-conj : goal.invariant-unknown_in_conjs-loop-conj
+invariant-unknown_in_conjs-loop-conj l = record {
+  ahead : unknown_at l.schema l.query (joined (map conj_mentions l.rest))
+      ≡ unknown_at l.schema l.query (joined (map conj_mentions (drop l.conj-index l.rest)));
+}
+
+abbrev pub invariant-unknown_in_negs-loop-neg : goal.invariant-unknown_in_negs-loop-neg
+invariant-unknown_in_negs-loop-neg l = record {
+  ahead : unknown_at l.schema l.query (joined (map neg_mentions l.rest))
+      ≡ unknown_at l.schema l.query (joined (map neg_mentions (drop l.neg-index l.rest)));
+}

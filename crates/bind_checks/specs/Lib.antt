@@ -1,0 +1,11 @@
+pub mod Walks
+pub mod Faults
+pub mod Behind
+pub mod Gathering
+pub mod LoneChord
+pub mod Qualified
+pub mod Turns
+pub mod Firsts
+pub mod Parts
+pub mod Unknowns
+pub mod Narrow

@@ -1,0 +1,149 @@
+//! The first place of a grouping that has no one value for a group.
+ghost use Rattle.std.specs.Prelude.{◌≡◌, not};
+ghost use Rattle.std.specs.List.{flat_map, list_any};
+ghost use Rattle.std.specs.Option.{option_map};
+ghost use Rattle.bind_rules.specs.declared.fault.BindFault.TheVariants.{NotGrouped};
+ghost use Rattle.sql_tree.specs.Spans.{col_span};
+ghost use Rattle.bind_rules.specs.Columns.{is_same_column};
+ghost use Rattle.bind_rules.specs.Mentions.{items_of};
+ghost use Rattle.bind_rules.specs.Names.{has_keys, is_aggregate, is_grouped, is_key, not_grouped};
+ghost use Rattle.bind_rules.specs.Names.{plain_columns, ungrouped};
+ghost use Rattle.bind_checks.specs.Firsts.{first_place};
+ghost use Rattle.bind_checks.specs.Parts.{plain_columns_of};
+
+use crate::column_search::{ColumnTest, first_column};
+use crate::columns::{is_join, is_same_column};
+use sql_token::Span;
+use sql_tree::{Col, Item, ItemKind, Query, Selection};
+
+// Whether the item is an aggregate.
+fn is_aggregate(what: &ItemKind) -> bool
+    ensures { result ≡ is_aggregate what.now }
+{
+    match what {
+        ItemKind::Plain(_) => false,
+        ItemKind::Count
+        | ItemKind::CountOf(_)
+        | ItemKind::Sum(_)
+        | ItemKind::Min(_)
+        | ItemKind::Max(_)
+        | ItemKind::Avg(_) => true,
+    }
+}
+
+// Whether one of these items is an aggregate.
+fn is_some_aggregate(items: &[Item]) -> bool
+    ensures { result ≡ list_any (λ i. is_aggregate i.what) items.now }
+{
+    items.iter().any(|item| is_aggregate(&item.what))
+}
+
+// Whether one of a query's items is an aggregate.
+fn has_aggregate(items: &Selection) -> bool
+    ensures { result ≡ list_any (λ i. is_aggregate i.what) (items_of items.now) }
+{
+    match items {
+        Selection::Star { .. } => false,
+        Selection::List(list) => {
+            is_aggregate(&list.first.what) || is_some_aggregate(list.rest.as_slice())
+        }
+    }
+}
+
+// Whether there is a GROUP BY.
+fn has_keys(query: &Query) -> bool
+    ensures { result ≡ has_keys query.now.group }
+{
+    match query.group.as_slice() {
+        [] => false,
+        [_, ..] => true,
+    }
+}
+
+/// Whether the query has an aggregate or a GROUP BY.
+pub fn is_grouped(query: &Query) -> bool
+    ensures { result ≡ is_grouped query.now }
+{
+    has_aggregate(&query.items) || has_keys(query)
+}
+
+/// Whether the column is among the GROUP BY columns.
+pub(crate) fn is_key(query: &Query, col: &Col) -> bool
+    ensures { result ≡ is_key query.now col.now }
+{
+    query
+        .group
+        .as_slice()
+        .iter()
+        .any(|key| is_same_column(col, key))
+}
+
+// What is no GROUP BY column.
+#[derive(Drop)]
+struct NoKey<'a> {
+    query: &'a Query,
+}
+
+impl ColumnTest for NoKey<'_> {
+    ghost passes = { λ test col. not (is_key test.query.now col) };
+
+    fn passes(&self, col: &Col) -> bool {
+        !is_key(self.query, col)
+    }
+}
+
+// In an item: outside of an aggregate.
+#[tactic(auto, unfolding(crate::specs::Firsts::first_place))]
+fn ungrouped_in_item(query: &Query, item: &Item) -> Option<Span>
+    ensures { result ≡
+        first_place col_span (λ c. not (is_key query.now c)) (plain_columns_of item.now) }
+{
+    match &item.what {
+        ItemKind::Plain(e) => first_column(&NoKey { query }, e),
+        ItemKind::Count
+        | ItemKind::CountOf(_)
+        | ItemKind::Sum(_)
+        | ItemKind::Min(_)
+        | ItemKind::Max(_)
+        | ItemKind::Avg(_) => None,
+    }
+}
+
+// In the items behind the first.
+fn ungrouped_in_items(query: &Query, items: &[Item]) -> Option<Span>
+    ensures { result ≡
+        first_place col_span (λ c. not (is_key query.now c)) (flat_map plain_columns_of items.now) }
+{
+    for item in items {
+        match ungrouped_in_item(query, item) {
+            Some(span) => return Some(span),
+            None => {}
+        }
+    }
+    None
+}
+
+// In what stands between SELECT and FROM.
+fn ungrouped_in_selection(query: &Query, items: &Selection) -> Option<Span>
+    ensures { result ≡ ungrouped query.now items.now }
+{
+    match items {
+        Selection::Star { span } => Some(*span),
+        Selection::List(list) => match ungrouped_in_item(query, &list.first) {
+            Some(span) => Some(span),
+            None => ungrouped_in_items(query, list.rest.as_slice()),
+        },
+    }
+}
+
+/// Where the star, or the first column, of a grouping stands that has no one value for a group. Takes no memory.
+#[tactic(auto, unfolding(bind_rules::specs::Names::not_grouped))]
+pub(crate) fn first_ungrouped(query: &Query) -> Option<Span>
+    ensures { option_map NotGrouped result ≡ not_grouped query.now }
+{
+    if !is_join(query) && is_grouped(query) {
+        ungrouped_in_selection(query, &query.items)
+    } else {
+        None
+    }
+}

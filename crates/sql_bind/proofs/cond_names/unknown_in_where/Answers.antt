@@ -1,5 +1,0 @@
-use Rattle.sql_bind.proofs.Firsts.{first_of_none}
-use Rattle.sql_bind.proofs.cond_names.unknown_in_where.Goals as goal
-
-pub returns-in-None : goal.returns-in-None
-returns-in-None c = rw c.in-None.is (first_of_none _ _)

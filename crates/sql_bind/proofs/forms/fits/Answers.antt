@@ -1,5 +1,0 @@
-use Rattle.std.proofs.Common.{true}
-use Rattle.sql_bind.proofs.forms.fits.Goals as goal
-
-pub returns-then-top : goal.returns-then-top
-returns-then-top c = rw c.if-top.true (c.names_both.ensures true)

@@ -1,5 +1,0 @@
-use Rattle.sql_bind.proofs.QualifiedLaws.{none_bare}
-use Rattle.sql_bind.proofs.qualified.are_cols_qualified.Goals as goal
-
-pub returns : goal.returns
-returns c = none_bare c.args.cols.now c.first_of_columns.result c.is_none.result c.first_of_columns.ensures c.is_none.ensures

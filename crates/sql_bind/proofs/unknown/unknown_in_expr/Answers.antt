@@ -1,8 +1,0 @@
-use Rattle.std.proofs.Common.{◌∙◌}
-use Rattle.bind_rules.specs.Columns.{tables}
-use Rattle.bind_rules.specs.Mentions.{columns_of}
-use Rattle.sql_bind.proofs.Unknowns.{as_mentions}
-use Rattle.sql_bind.proofs.unknown.unknown_in_expr.Goals as goal
-
-pub returns : goal.returns
-returns c = c.first_column.ensures ∙ as_mentions c.args.schema.now (tables c.args.query.now) (columns_of c.args.e.now)
