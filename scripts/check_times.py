@@ -38,8 +38,9 @@ def running():
 
 
 def kind_of(words):
-    """What a prover's call is for: an edit is checked in a copy of its crate, and makes no library."""
-    if "check" in words[1:2]:
+    """What a prover's call is for: an edit is checked and nothing is written; a library is built, and a program is checked
+    into a file that its compilers take."""
+    if "check" in words[1:2] and "-o" not in words:
         return "edits"
     return "tests" if "--test" in words else "proof"
 
