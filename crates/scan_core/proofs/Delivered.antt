@@ -1,13 +1,14 @@
 -- What a board holds after a Deliver.
-use Rattle.std.proofs.Common.{◌≡◌, ℕ, ◌+◌, ◌-◌, ◌<◌, ◌≤◌, ◌==◌, List, [], ◌∷◌, ◌++◌, AllPairs, length, get_or, Bool, true, false, not, Option, Some, None, IfSome, zero, suc, ⊎_elim, refl, sym, ◌∙◌, ap, subst, arith, count_by, filter, length-append, ◌||◌, ◌&&◌}
+use Rattle.std.proofs.Common.{◌≡◌, ℕ, ◌+◌, ◌-◌, ◌<◌, ◌≤◌, ◌==◌, List, [], ◌∷◌, ◌++◌, length, get_or, Bool, true, false, not, Option, Some, None, IfSome, zero, suc, ⊎_elim, refl, sym, ◌∙◌, ap, subst, arith, count_by, filter, length-append, ◌||◌, ◌&&◌}
 use Rattle.std.specs.List.{list_any}
 use Rattle.std.proofs.lemmas.Bool.{and_from, and_parts, both_ways, cases_Bool, not-true, cases_lt, false_from_ne_true, not_from_false, or_left, true_from_ne_false}
 use Rattle.std.proofs.lemmas.List.Elements.{All-push}
-use Rattle.std.proofs.lemmas.List.Kept.{AllPairs-filter}
+use Rattle.std.proofs.lemmas.List.Sorted.{IsPermutation-middle, IsPermutation-sym}
+use Rattle.std.specs.List.Sorted.{IsPermutation}
 use Rattle.scan_rules.specs.declared.journal_line.JournalLine.{JournalLine}
 use Rattle.scan_rules.specs.declared.journal_line.JournalLine.TheVariants.{Deliver}
 use Rattle.scan_rules.proofs.Lists.{any_front, any_later, any_none, any_push, count_push, flat_none}
-use Rattle.scan_rules.proofs.Numbers.{all_from_has, all_has, count_le}
+use Rattle.scan_rules.proofs.Numbers.{all_from_has, all_has, count_le, has_filter}
 use Rattle.scan_rules.proofs.Runs.{run_more}
 use Rattle.scan_rules.proofs.Scan.{place_other}
 use Rattle.scan_rules.specs.Lines.{attaches, cancels, chunks_for, closes, collects, is_deliver, loses, names_with, takes}
@@ -19,7 +20,7 @@ use Rattle.scan_core.specs.declared.slot.Slot.{Slot}
 use Rattle.scan_core.specs.Boards.{TaskState}
 use Rattle.scan_core.specs.Delivering.{Absorbed, AllOwed, DeliversTask, FitAll, Fitting, HandedIn, Paid, PaidAll, PiecesFit}
 use Rattle.scan_core.specs.Kept.{Fits, IsAhead, Kept, owed_in}
-use Rattle.scan_core.specs.Pieces.{Absorbs, HavePieces, StandsFor}
+use Rattle.scan_core.specs.Pieces.{Absorbs, HavePieces, IsOneMore, StandsFor}
 use Rattle.scan_core.specs.Room.{to_come}
 use Rattle.scan_core.specs.Slots.{runs}
 use Rattle.scan_core.specs.Stored.{Stored}
@@ -142,14 +143,11 @@ module _ {ring here tickets : ℕ} {closed : Bool} {slots : List Slot} {past : J
         ascend = λ q. ascend_same past line q refl (k.ascend q);
       }
 
--- a query of a task has a piece, and what is given to it goes on by the chunk in its place
+-- a query of a task has a piece, and what is given to it goes on by the chunk, which it was not given before
 record Grows {P : Type 0} (stands : ℕ → List ℕ → P → Type 0) (pieces : List (Option P)) (past : Journal) (s t c q : ℕ) : Type 0 where
   pub piece : (d : Option P) → StandsFor (stands q) (given past q) (get_or pieces q d)
-  pub before : List ℕ
-  pub after : List ℕ
-  pub now : given past q ≡ before ++ after
-  pub later : (lost : List ℕ) → given (past ++ Deliver s t lost ∷ []) q ≡ before ++ c ∷ after
-  pub ascend : AllPairs (λ a b. a < b) (before ++ c ∷ after)
+  pub further : has (given past q) c ≡ false
+  pub later : (lost : List ℕ) → IsOneMore (given past q) c (given (past ++ Deliver s t lost ∷ []) q)
 
 module _ {R P : Type 0} (stands : R → ℕ → List ℕ → P → Type 0) (root : R) {asks : ℕ → ℕ → Type 0} {ring here tickets flights : ℕ} {closed : Bool} {slots : List Slot} {pieces : List (Option P)} {capacity : ℕ} {past : Journal} where
   -- so it is for each query of a task that stands
@@ -158,13 +156,13 @@ module _ {R P : Type 0} (stands : R → ℕ → List ℕ → P → Type 0) (root
       let w = splits (is_given past q) (λ x. is_given past q x || (c == x)) c (wanted past q) (λ x. refl) (h.kept.ascend q) (f.wants q there) (f.new q there) in
       record {
         piece = λ d. h.held.each q d low up out;
-        before = w.before;
-        after = w.after;
-        now = w.without;
+        further = false_from_ne_true _ (λ y. both_ways _ (f.new q there) (has_filter (is_given past q) (wanted past q) c y));
         later = λ lost.
-            ap (λ (l : List ℕ). filter (is_given (past ++ Deliver s t lost ∷ []) q) l) (flat_none (chunks_for q) past (Deliver s t lost) refl)
-            ∙ (filter_on (is_given (past ++ Deliver s t lost ∷ []) q) (λ x. is_given past q x || (c == x)) (wanted past q) (λ x _. gives_task f s lost q there x) ∙ w.with_it);
-        ascend = subst (AllPairs (λ a b. a < b)) w.with_it (AllPairs-filter (λ a b. a < b) (λ x. is_given past q x || (c == x)) (wanted past q) (h.kept.ascend q));
+            let is : given (past ++ Deliver s t lost ∷ []) q ≡ w.before ++ c ∷ w.after =
+                ap (λ (l : List ℕ). filter (is_given (past ++ Deliver s t lost ∷ []) q) l) (flat_none (chunks_for q) past (Deliver s t lost) refl)
+                ∙ (filter_on (is_given (past ++ Deliver s t lost ∷ []) q) (λ x. is_given past q x || (c == x)) (wanted past q) (λ x _. gives_task f s lost q there x) ∙ w.with_it) in
+            subst (λ (l : List ℕ). IsOneMore l c (given (past ++ Deliver s t lost ∷ []) q)) (sym w.without)
+            (subst (IsPermutation (c ∷ (w.before ++ w.after))) (sym is) (IsPermutation-sym _ _ (IsPermutation-middle w.before c w.after)));
       }
 
   -- the pieces that come may be absorbed
@@ -187,11 +185,10 @@ module _ {R P : Type 0} (stands : R → ℕ → List ℕ → P → Type 0) (root
         record {
           root = root;
           q = get_or queries turn 0;
-          before = g.before;
+          chunks = given past (get_or queries turn 0);
           chunk = c;
-          after = g.after;
-          ascend = g.ascend;
-          this = subst (stands root (get_or queries turn 0) (g.before ++ g.after)) same (subst (λ (l : List ℕ). stands root (get_or queries turn 0) l p.it) g.now p.for);
+          further = g.further;
+          this = subst (stands root (get_or queries turn 0) (given past (get_or queries turn 0))) same p.for;
           that = entry_stands (stands root) c queries entries fit turn other b;
         }
 
@@ -242,14 +239,14 @@ module _ {R P : Type 0} (stands : R → ℕ → List ℕ → P → Type 0) (root
     joined q turn e low g a d =
         let p = g.piece None in
         let same : p.it ≡ a.mine = (let x = p.there in let y = a.was in cc) in
-        let mine : stands root q (g.before ++ g.after) a.mine = subst (stands root q (g.before ++ g.after)) same (subst (λ (l : List ℕ). stands root q l p.it) g.now p.for) in
+        let mine : stands root q (given past q) a.mine = subst (stands root q (given past q)) same p.for in
         let other : stands root q (c ∷ []) a.other = subst (λ k. stands root k (c ∷ []) a.other) e (entry_stands (stands root) c queries entries fit turn a.other a.came) in
         let len : length new ≡ length pieces = handed.len in
         let full : length pieces ≡ 256 = h.held.full in
         record {
           it = a.it;
           there = any_default new q d None (omega (arith, len, full, low)) ∙ a.now;
-          for = subst (λ (l : List ℕ). stands root q l a.it) (sym (g.later lost)) (a.joined root q g.before c g.after g.ascend mine other);
+          for = a.joined root q (given past q) c (given (past ++ line ∷ []) q) g.further (g.later lost) mine other;
         }
 
   -- a task is in flight

@@ -38,7 +38,7 @@ is_next c s = is_at c (next_of s)
 abbrev pub served : List Slot → Slot → ℕ → ℕ → List ℕ
 served slots d c n = filter (λ q. is_next c (get_or slots q d)) (below n)
 
--- a slot that has met its next chunk, where that is c
+-- a slot whose query was served its next chunk, where that is c
 pub record Popped (c : ℕ) (old new : Slot) : Type 0 where
   pub attached : new.attached ≡ old.attached
   pub cancelled : new.cancelled ≡ old.cancelled

@@ -1,8 +1,8 @@
 //! The board of the shared scan.
 //!
 //! A query is attached with the chunks that it wants. The scan goes round the ring of chunks; each take hands out the
-//! next chunk that some running query was not served yet, for all such queries at once, and a query that comes in
-//! mid-lap is served what it missed on the next round. A task is delivered with a piece for each of its queries, and
+//! next chunk that some running query still needs, for all such queries at once, and a query that comes in
+//! mid-lap is served what it missed on the next lap. A task is delivered with a piece for each of its queries, and
 //! a query that has all its chunks is done. The journal has a line for each call that changed something, and every
 //! field is a word on it (`specs/Kept.antt`).
 ghost use Rattle.std.specs.Prelude.{◌≡◌, ◌<◌, ◌≤◌, ◌+◌, ◌*◌, ◌^◌, [], All, IfOk, IsTrue, true, false, vec_capacity};
@@ -42,7 +42,7 @@ pub struct Board<P: Work> {
     ring: u32,
     /// The chunk that the scan looks at next.
     place: u32,
-    /// How many chunks were taken.
+    /// How many takes there were: the next one's ticket.
     tickets: u32,
     /// How many tasks are taken and not delivered.
     flights: u32,

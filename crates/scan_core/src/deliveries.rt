@@ -29,7 +29,7 @@ fn entry_at<P: Work>(entries: &mut Vec<Option<P>>, turn: usize) -> Option<P>
     entry.take()
 }
 
-/// The piece takes in the one that came. False where there is none of the two, or no memory.
+/// The piece takes in the one that came. False where one of the two is missing, or there is no memory.
 fn absorb<P: Work>(piece: &mut Option<P>, entry: Option<P>) -> bool
     requires { Fitting P.stands piece.old entry }
     ensures { result ≡ true → Absorbed (Absorbs P.stands) entry piece.old piece.new }

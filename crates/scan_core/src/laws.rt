@@ -1,6 +1,7 @@
-//! Laws of tasks in flight and of what is asked. A call here does nothing: its clause is the law.
+//! Laws of tasks in flight, of what is asked, and of lists of chunks. A call here does nothing: its clause is the law.
 ghost use Rattle.scan_rules.specs.Asked.{WantedIsAsked, ServedIsAsked, FrontsAreAsked};
 ghost use Rattle.scan_core.specs.Flights.{TakenFlies, FliesOn};
+ghost use Rattle.scan_core.specs.Pieces.{OneMoreHas};
 
 use crate::work::Work;
 
@@ -16,4 +17,9 @@ pub fn what_is_wanted_and_served_was_asked<P: Work>()
     ensures wanted { WantedIsAsked P.asks }
     ensures served { ServedIsAsked P.asks }
     ensures front { FrontsAreAsked P.asks }
+{}
+
+/// A list of some chunks and one more has that one and the others, so who tells pieces by what a list has can absorb.
+pub fn a_list_of_one_more_chunk_has_it_and_the_others()
+    ensures { OneMoreHas }
 {}

@@ -1,5 +1,5 @@
 //! Boards whose pieces are sums: that calls succeed while memory is left, step by step.
-ghost use Rattle.std.specs.Prelude.{◌≡◌, ℕ, ◌+◌, ◌*◌, ◌<◌, ◌≤◌, [], ◌∷◌, All, IfOk, ◌≢◌, sum_by};
+ghost use Rattle.std.specs.Prelude.{◌≡◌, ℕ, ◌+◌, ◌*◌, ◌<◌, ◌≤◌, [], ◌∷◌, All, IfOk, ◌≢◌, length, sum_by};
 ghost use Rattle.scan_core.specs.Boards.{TaskState};
 ghost use Rattle.scan_core.specs.Delivering.{InFlight, PiecesFit};
 ghost use Rattle.scan_core.specs.Answers.{IfTask};
@@ -202,17 +202,38 @@ fn a_full_board_takes_no_query_until_one_has_ended(rt: HostRuntime) -> Result<()
 
 fn sends<X: Send>(_sent: &X) {}
 
+// Attaches query 1 to a board of ring 2, with both chunks.
+fn attach_both(alloc: Global, board: &mut Board<Sum>) -> Result<Attach<Sum>, Memory>
+    requires ring { board.old.ring ≡ 2 }
+{
+    let chunks = two_chunks(alloc, 0, 1)?;
+    Ok(board.attach(0, 1, chunks, Sum { total: 0 }))
+}
+
+// Delivers a task of one query without a piece.
+fn deliver_none(alloc: Global, board: &mut Board<Sum>, task: Task) -> Result<(), Memory>
+    requires flight { InFlight board.old.past 0 task }
+    requires some { 1 ≤ length task.queries }
+{
+    let mut none = Vec::new(alloc);
+    none.push(None)?;
+    board.deliver(0, task, none);
+    Ok(())
+}
+
 #[test]
 fn a_query_without_a_piece_is_spent(rt: HostRuntime) -> Result<(), Fail> {
     let alloc = rt.alloc();
-    let Ok(mut board) = Board::new(alloc, 8, 0u8) else {
+    let Ok(mut board) = Board::new(alloc, 2, 0u8) else {
         panic!(rt; "a board is made")
     };
-    assert!(rt; matches!(attach(alloc, &mut board, 1, 0, 1), Ok(Attach::Attached)));
+    assert!(rt; matches!(attach_both(alloc, &mut board), Ok(Attach::Attached)));
     let Take::Task(task) = take(&mut board, 0) else {
         panic!(rt; "chunk 0 is next")
     };
-    board.deliver(0, task, Vec::new(alloc));
+    assert_eq!(rt; (task.ticket(), task.chunk()), (0, 0));
+    assert_eq!(rt; task.queries(), [1].as_slice());
+    assert_eq!(rt; deliver_none(alloc, &mut board, task), Ok(()));
     sends(&board);
     assert!(rt; matches!(board.take(0), Take::Idle));
     assert!(rt; matches!(board.collect(0, 1), Collect::Spent));
@@ -251,55 +272,99 @@ enum HowEnded {
     Other,
 }
 
-// The end of query 1.
-fn end_of_query_1(board: &mut Board<Sum>) -> HowEnded
+// The end of a query.
+fn end_of(board: &mut Board<Sum>, q: u32) -> HowEnded
     ensures ring { board.new.ring ≡ board.old.ring }
 {
-    match board.collect(0, 1) {
+    match board.collect(0, q) {
         Collect::Piece(sum) => HowEnded::Done(sum.total),
         Collect::Cancelled => HowEnded::Cancelled,
         _ => HowEnded::Other,
     }
 }
 
-// Query 1 over chunks 0 and 4, cancelled at this moment: before its attach, behind it, behind each take and each
-// deliver, and behind its collect. Whether the cancel found it running, how many tasks there were, its end, and how
-// many lines the journal has.
-fn cancelled_at(alloc: Global, moment: u32) -> Result<(bool, u32, HowEnded, u64), Memory> {
+// What the cancel of query 1 answered, the ends of both queries, and how many lines the journal has.
+type Cancelled = (bool, HowEnded, HowEnded, u64);
+
+// Collects both queries of a board on which nothing is left to take.
+fn both_ends(board: &mut Board<Sum>, ran: bool) -> Result<Cancelled, Memory> {
+    let Take::Idle = take(board, 1) else {
+        return Err(Memory);
+    };
+    let first = end_of(board, 1);
+    let second = end_of(board, 2);
+    Ok((ran, first, second, board.past_len()))
+}
+
+// The late query's board, with a cancel of query 1 behind so many of its lines.
+fn cancelled_behind(alloc: Global, lines: u32) -> Result<Cancelled, Memory> {
     let mut board = Board::new(alloc, 8, 0u8)?;
-    let before = cancel_where(&mut board, moment == 0);
+    let unknown = cancel_where(&mut board, lines == 0);
     let _attached = attach(alloc, &mut board, 1, 0, 4)?;
-    let attached = cancel_where(&mut board, moment == 1);
-    let first = serve_once(alloc, &mut board, moment == 2)?;
-    let between = cancel_where(&mut board, moment == 3);
-    let second = serve_once(alloc, &mut board, moment == 4)?;
-    let behind = cancel_where(&mut board, moment == 5);
-    let end = end_of_query_1(&mut board);
-    let late = cancel_where(&mut board, moment == 6);
-    let ran = before || attached || first.1 || between || second.1 || behind || late;
-    Ok((
-        ran,
-        u32::from(first.0) + u32::from(second.0),
-        end,
-        board.past_len(),
-    ))
+    let ran = cancel_where(&mut board, lines == 1);
+    let Take::Task(first) = take(&mut board, 1) else {
+        return after_an_idle_take(alloc, &mut board, unknown || ran);
+    };
+    let ran = cancel_where(&mut board, lines == 2) || ran;
+    let _attached = attach(alloc, &mut board, 2, 0, 4)?;
+    let ran = cancel_where(&mut board, lines == 3) || unknown || ran;
+    after_both_attaches(alloc, &mut board, first, lines, ran)
+}
+
+// Where query 1 was cancelled before its first chunk was taken: query 2 alone.
+fn after_an_idle_take(alloc: Global, board: &mut Board<Sum>, ran: bool) -> Result<Cancelled, Memory>
+    requires ring { board.old.ring ≡ 8 }
+{
+    let _attached = attach(alloc, board, 2, 0, 4)?;
+    let _first = serve_once(alloc, board, false)?;
+    let _second = serve_once(alloc, board, false)?;
+    both_ends(board, ran)
+}
+
+// The rest of the late query's board, from its second take on.
+fn after_both_attaches(
+    alloc: Global,
+    board: &mut Board<Sum>,
+    first: Task,
+    lines: u32,
+    ran: bool,
+) -> Result<Cancelled, Memory>
+    requires flight { InFlight board.old.past 1 first }
+{
+    let Take::Task(second) = take(board, 2) else {
+        return Err(Memory);
+    };
+    if first.ticket() == second.ticket() {
+        return Err(Memory);
+    }
+    let ran = cancel_where(board, lines == 4) || ran;
+    deliver(alloc, board, 2, second)?;
+    let ran = cancel_where(board, lines == 5) || ran;
+    deliver(alloc, board, 1, first)?;
+    let ran = cancel_where(board, lines == 6) || ran;
+    let third = serve_once(alloc, board, lines == 7)?;
+    let late = cancel_where(board, lines == 8);
+    both_ends(board, ran || third.1 || late)
 }
 
 #[test]
-fn a_cancel_at_each_moment_stops_what_still_runs(rt: HostRuntime) {
-    for (moment, ran, tasks, end, lines) in [
-        (0, false, 2, HowEnded::Done(2004), 6),
-        (1, true, 0, HowEnded::Cancelled, 3),
-        (2, true, 1, HowEnded::Cancelled, 5),
-        (3, true, 1, HowEnded::Cancelled, 5),
-        (4, true, 2, HowEnded::Cancelled, 7),
-        (5, false, 2, HowEnded::Done(2004), 6),
-        (6, false, 2, HowEnded::Done(2004), 6),
+fn a_cancel_behind_each_line_stops_what_still_runs(rt: HostRuntime) {
+    let whole = HowEnded::Done(2004);
+    for (lines, ran, first, journal) in [
+        (0, false, whole, 10),
+        (1, true, HowEnded::Cancelled, 9),
+        (2, true, HowEnded::Cancelled, 11),
+        (3, true, HowEnded::Cancelled, 11),
+        (4, true, HowEnded::Cancelled, 11),
+        (5, true, HowEnded::Cancelled, 11),
+        (6, false, whole, 10),
+        (7, false, whole, 10),
+        (8, false, whole, 10),
     ] {
         assert_eq!(rt;
-            cancelled_at(rt.alloc(), moment),
-            Ok((ran, tasks, end, lines)),
-            "cancelled at moment {moment}"
+            cancelled_behind(rt.alloc(), lines),
+            Ok((ran, first, HowEnded::Done(4004), journal)),
+            "cancelled behind {lines} lines"
         );
     }
 }

@@ -24,7 +24,7 @@ module _ {R E : Type 0} (seat_of : E → ℕ) where
   own_number seat entry there = in_filter (λ e. seat_of e == seat_of entry) seat.seen entry there (eq-eqb (seat_of entry) (seat_of entry) refl)
 
   kept_by : (seat : Seated R E) (entry : E) (n : ℕ) → seat_of entry ≡ n → seat.number ≡ 0 → Knows seat_of seat → AllHaveEnded seat
-      → Contains seat.seen entry → Contains seat.mine entry ⊎ IsKeptOf seat entry
+      → Contains seat.seen entry → Contains seat.mine entry ⊎ IsKeptOf seat_of seat entry
   kept_by seat entry zero is zero_is knows all there =
       inl (subst (λ (l : List E). Contains l entry) knows.mine (subst (λ (k : ℕ). Contains (of_seat seat_of k seat.seen) entry) (is ∙ sym zero_is) (own_number seat entry there)))
   kept_by seat entry (suc n) is zero_is knows all there =
@@ -32,9 +32,8 @@ module _ {R E : Type 0} (seat_of : E → ℕ) where
       ⊎_elim
       (λ low. let kept = all.each (suc n) (omega arith) low in
       inr (record {
-        number = suc n;
         entries = kept.0;
-        ended = kept.1;
+        ended = subst (λ (k : ℕ). Contains seat.ended (k, kept.0)) (sym is) kept.1;
         there = subst (λ (l : List E). Contains l entry) (knows.ended (suc n) kept.0 kept.1).1 own;
       }))
       (λ high. absurd (no_member entry (subst (λ (l : List E). Contains l entry) (knows.above zero_is (suc n) high) own)))

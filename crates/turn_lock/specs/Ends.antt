@@ -6,11 +6,10 @@ use Rattle.turn_lock.specs.Seats.{Knows, Seated}
 pub record AllHaveEnded {R E : Type 0} (seat : Seated R E) : Type 0 where
   pub each : (n : ℕ) → 0 < n → n < seat.made → (es : List E) × Contains seat.ended (n, es)
 
--- an ended seat made this entry, and it is kept with its number
-pub record IsKeptOf {R E : Type 0} (seat : Seated R E) (entry : E) : Type 0 where
-  pub number : ℕ
+-- the seat that made this entry has ended, and the entry is kept with its number
+pub record IsKeptOf {R E : Type 0} (seat_of : E → ℕ) (seat : Seated R E) (entry : E) : Type 0 where
   pub entries : List E
-  pub ended : Contains seat.ended (number, entries)
+  pub ended : Contains seat.ended (seat_of entry, entries)
   pub there : Contains entries entry
 
 -- then each entry that seat 0 has seen is its own, or is kept with the number of the seat that made it
@@ -18,4 +17,4 @@ abbrev pub EntriesAreKept : (R : Type 0) {E : Type 0} → (E → ℕ) → Type 0
 EntriesAreKept R {E} seat_of =
     (seat : Seated R E) (entry : E)
     → seat.number ≡ 0 → Knows seat_of seat → AllHaveEnded seat → Contains seat.seen entry
-    → Contains seat.mine entry ⊎ IsKeptOf seat entry
+    → Contains seat.mine entry ⊎ IsKeptOf seat_of seat entry
