@@ -81,20 +81,26 @@ held_step : (b t : Bool) (place d c : ℕ) → (d == c) ≡ b → t ≡ b → ma
 held_step true t place d c e f = rw (e, f) refl
 held_step false t place d c e f = rw (e, f) refl
 
+-- a place is put into the one list that it passes the test of
+pub held_often : (test : ℕ → Bool) (count place d : ℕ) → test d ≡ true → ((c : ℕ) → c < count → test c ≡ true → c ≡ d)
+    → (c : ℕ) → c < count → as_often place c (d ∷ []) ≡ kept_if (test c) place
+held_often test count place d holds only c h = by (eqb_tells d c)
+  where
+    apart : (b : Bool) → test c ≡ b → d ≢ c → b ≡ false
+    apart true e other = absurd (other (sym (only c h e)))
+    apart false e other = refl
+
+    by : (((d == c) ≡ true) × (d ≡ c)) ⊎ (((d == c) ≡ false) × (d ≢ c)) → as_often place c (d ∷ []) ≡ kept_if (test c) place
+    by (inl same) = held_step true (test c) place d c same.0 (subst (λ x. test x ≡ true) same.1 holds)
+    by (inr other) = held_step false (test c) place d c other.0 (apart (test c) refl other.1)
+
 -- a row is put into the list of the one chunk that holds it
 pub own_often : (g : Partition) (objects : List Obj) (place d : ℕ) (row : Obj) → slice_get objects place ≡ Some row
     → IsTrue (in_chunk g d row.at) → IsOnlyChunk g d row.at
     → (c : ℕ) → c < chunk_count g → as_often place c (d ∷ []) ≡ kept_if (passes (own_test g c) (slice_get objects place)) place
 own_often g objects place d row is holds only c h =
-    by (eqb_tells d c) ∙ ap (λ o. kept_if (passes (own_test g c) o) place) (sym is)
-  where
-    apart : (b : Bool) → in_chunk g c row.at ≡ b → d ≢ c → b ≡ false
-    apart true e other = absurd (other (sym (only c h e)))
-    apart false e other = refl
-
-    by : (((d == c) ≡ true) × (d ≡ c)) ⊎ (((d == c) ≡ false) × (d ≢ c)) → as_often place c (d ∷ []) ≡ kept_if (in_chunk g c row.at) place
-    by (inl same) = held_step true (in_chunk g c row.at) place d c same.0 (subst (λ x. in_chunk g x row.at ≡ true) same.1 holds)
-    by (inr other) = held_step false (in_chunk g c row.at) place d c other.0 (apart (in_chunk g c row.at) refl other.1)
+    held_often (λ e. in_chunk g e row.at) (chunk_count g) place d holds only c h
+    ∙ ap (λ o. kept_if (passes (own_test g c) o) place) (sym is)
 
 near_step : (b : Bool) (place c : ℕ) → map (λ d. place) (kept_if b c) ≡ kept_if b place
 near_step true place c = refl

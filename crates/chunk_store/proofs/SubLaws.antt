@@ -40,7 +40,7 @@ place_passes test objects i has =
     (filter_passes (λ k. passes test (slice_get objects k)) (range_with_len 0 (length objects))) has)
 
 -- that object passes, where it is known
-known_passes : (test : Obj → Bool) (objects : List Obj) (i : ℕ) (o : Obj) → slice_get objects i ≡ Some o → Contains (places_by test objects) i → test o ≡ true
+pub known_passes : (test : Obj → Bool) (objects : List Obj) (i : ℕ) (o : Obj) → slice_get objects i ≡ Some o → Contains (places_by test objects) i → test o ≡ true
 known_passes test objects i o at has =
     let found = place_passes test objects i has in
     subst (λ p. test p ≡ true) (same_Some found.object o (sym found.at ∙ at)) found.ok

@@ -1,10 +1,12 @@
 -- Which rows a subchunk holds, and which it needs beside its own.
 use Rattle.std.proofs.Common.{◌≡◌, ℕ, ◌<◌, ◌==◌, Bool, true, false, not, ◌&&◌, ◌||◌, List, filter}
-use Rattle.std.proofs.Common.{refl, ap, sym, subst, ◌∙◌, length, slice_get, Option, Some, None, ◌⊎◌, inl, inr, ◌≢◌}
+use Rattle.std.proofs.Common.{refl, ap, sym, subst, ◌∙◌, length, get_or, slice_get, Option, Some, None, ◌⊎◌, inl, inr, ◌≢◌}
 use Rattle.std.specs.List.{range_with_len, All}
 use Rattle.std.proofs.lemmas.Bool.Decides.{eqb_tells}
 use Rattle.sky_vector.specs.Points.{Point}
+use Rattle.std.proofs.lemmas.Option.{slice_get-get_or}
 use Rattle.table_rules.specs.Objects.{Obj}
+use Rattle.sky_row.specs.Columns.{no_row}
 use Rattle.sky_rules.specs.Laws.{IsOnlyPlace}
 use Rattle.sky_rules.specs.Limits.{IsSky}
 use Rattle.sky_rules.specs.Partition.{Partition, chunk_count, sub_count}
@@ -83,3 +85,8 @@ sub_overlap_of g objects c s =
     ap (filter (λ i. passes (λ o. near_sub g c s o.at && not (in_sub g c s o.at)) (slice_get objects i))) (near_rows g objects c)
     ∙ (filter_twice _ (λ i. passes (λ o. near_sub g c s o.at && not (in_sub g c s o.at)) (slice_get objects i)) (range_with_len 0 (length objects))
     ∙ same_filter _ (λ i. passes (λ o. in_sub_overlap g c s o.at) (slice_get objects i)) 0 (length objects) (λ i low high. beside_at g c s (slice_get objects i)))
+
+-- the test of the object at a place is that of its position
+pub passes_at : (test : Point → Bool) (objects : List Obj) (place : ℕ) (p : Point) → place < length objects → p ≡ (get_or objects place no_row).at
+    → test p ≡ passes (λ o. test o.at) (slice_get objects place)
+passes_at test objects place p low is = ap test is ∙ ap (passes (λ o. test o.at)) (sym (slice_get-get_or objects place no_row low))

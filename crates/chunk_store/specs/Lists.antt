@@ -4,11 +4,14 @@ use Rattle.std.specs.Prelude.{slice_get, filter, map}
 use Rattle.std.specs.List.{range_with_len}
 use Rattle.table_rules.specs.Objects.{Obj, Catalogue}
 use Rattle.sky_rules.specs.Limits.{IsSky}
-use Rattle.sky_rules.specs.Partition.{Partition, chunk_count}
-use Rattle.sky_rules.specs.Bounds.{in_chunk}
+use Rattle.sky_rules.specs.Partition.{Partition, chunk_count, sub_count}
+use Rattle.sky_rules.specs.Bounds.{in_chunk, in_sub}
 use Rattle.overlap_tables.specs.Overlaps.{in_full_overlap}
 use Rattle.chunk_rules.specs.Filled.{filled_chunks}
 use Rattle.chunk_rules.specs.Places.{passes}
+use Rattle.sky_row.specs.Columns.{objects_at}
+use Rattle.column_block.specs.Blocks.{Stored}
+use Rattle.chunk_store.specs.Places.{chunk_block}
 
 -- the list has an element
 abbrev pub has_some : List ℕ → Bool
@@ -37,6 +40,11 @@ pub record AreLists (test : ℕ → Obj → Bool) (count : ℕ) (objects : List 
   pub all : length lists ≡ count
   pub each : (c : ℕ) → c < count → get_or lists c [] ≡ places_below n (test c) objects
 
+-- The lists of a chunk's subchunks, each of those of these places whose object the subchunk holds.
+pub record AreParts (g : Partition) (objects : List Obj) (c : ℕ) (places : List ℕ) (lists : List (List ℕ)) : Type 0 where
+  pub all : length lists ≡ sub_count g c
+  pub each : (s : ℕ) → s < sub_count g c → get_or lists s [] ≡ filter (λ i. passes (λ o. in_sub g c s o.at) (slice_get objects i)) places
+
 -- the test of a chunk's own rows
 abbrev pub own_test : Partition → ℕ → Obj → Bool
 own_test g c o = in_chunk g c o.at
@@ -45,9 +53,14 @@ own_test g c o = in_chunk g c o.at
 abbrev pub overlap_test : Partition → ℕ → Obj → Bool
 overlap_test g c o = in_full_overlap g c o.at
 
--- What a store keeps beside the plan and the rows: each list is the one that is meant.
-pub record IsStored (g : Partition) (table : Catalogue) (rows near : List (List ℕ)) (kept : List ℕ) : Type 0 where
+-- the rows at these places as columns
+abbrev pub block_at : Catalogue → List ℕ → Stored
+block_at table places = record { width = length table.names; objects = objects_at table.objects places }
+
+-- What a store keeps beside the plan and the rows: each list is the one that is meant, and so is each block.
+pub record IsStored (g : Partition) (table : Catalogue) (rows near : List (List ℕ)) (kept : List ℕ) (columns : List Stored) : Type 0 where
   pub sky : IsSky g
   pub own : AreLists (own_test g) (chunk_count g) table.objects (length table.objects) rows
   pub overlap : AreLists (overlap_test g) (chunk_count g) table.objects (length table.objects) near
   pub filled : kept ≡ filled_chunks g table.objects
+  pub blocks : columns ≡ map (chunk_block g table) (filled_chunks g table.objects)

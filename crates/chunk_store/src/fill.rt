@@ -1,8 +1,10 @@
 //! Fills the lists of a store, in one pass over the rows: a row's chunk is looked for once.
 
-ghost use Rattle.std.specs.Prelude.{◌≡◌, ◌∷◌, [], IfOk, OnOk, length, replicate};
+ghost use Rattle.std.specs.Prelude.{◌≡◌, ◌<◌, ◌∷◌, [], IfOk, OnOk, length, replicate};
+ghost use Rattle.sky_vector.specs.Points.{IsAdmissible};
+ghost use Rattle.sky_vector.specs.Pos.{point};
 ghost use Rattle.sky_rules.specs.Limits.{IsSky};
-ghost use Rattle.sky_rules.specs.Partition.{chunk_count};
+ghost use Rattle.sky_rules.specs.Partition.{chunk_count, sub_count};
 ghost use Rattle.overlap_tables.specs.Overlaps.{IsOwn, near_others};
 ghost use Rattle.chunk_store.specs.Lists.{AreLists, Pushed, overlap_test, own_test};
 
@@ -10,7 +12,8 @@ use crate::lists::Lists;
 use overlap_tables::push_near_others;
 use sky_io::Memory;
 use sky_plan::SkyPlan;
-use sky_row::{Row, Rows};
+use sky_row::Rows;
+use sky_vector::Pos;
 use std::alloc::Global;
 
 /// An empty list for each chunk.
@@ -21,22 +24,33 @@ fn empty_lists(alloc: Global, plan: &SkyPlan) -> Result<Lists, Memory>
     Lists::empty(alloc, plan.chunks())
 }
 
-/// Puts the place of a row behind the lists of the chunks that it is near, where its own chunk is known; `near` is room for
-/// their numbers.
+/// An empty list for each subchunk of a chunk.
+#[tactic(auto, using(crate::proofs::SubLists::few_subs))]
+pub(crate) fn empty_parts(alloc: Global, plan: &SkyPlan, chunk: u32) -> Result<Lists, Memory>
+    requires chunk { chunk < chunk_count plan.now }
+    requires sky { IsSky plan.now }
+    ensures { IfOk result (λ lists. lists ≡ replicate (sub_count plan.now chunk) []) }
+{
+    Lists::empty(alloc, plan.subs(chunk))
+}
+
+/// Puts the place of a row at a position behind the lists of the chunks that it is near, where its own chunk is known; `near`
+/// is room for their numbers.
 fn push_near(
     plan: &SkyPlan,
     own: u32,
-    row: &Row,
+    at: &Pos,
     place: u32,
     near: &mut Vec<u32>,
     lists: &mut Lists,
 ) -> Result<(), Memory>
-    requires own { IsOwn plan.now own row.now.at }
+    requires admissible { IsAdmissible (point at.now) }
+    requires own { IsOwn plan.now own (point at.now) }
     requires all { length lists.old ≡ chunk_count plan.now }
-    ensures { OnOk result (Pushed (near_others plan.now row.now.at) place lists.old lists.new) }
+    ensures { OnOk result (Pushed (near_others plan.now (point at.now)) place lists.old lists.new) }
 {
     near.clear();
-    push_near_others(plan, own, row.pos(), near)?;
+    push_near_others(plan, own, at, near)?;
     lists.push_all(near.as_slice(), place)
 }
 
@@ -56,10 +70,10 @@ pub(crate) fn row_lists(
     let mut overlap = empty_lists(alloc, plan)?;
     let mut near = Vec::new(alloc);
     for place in 0..rows.len() {
-        let row = rows.get(place);
-        let chunk = plan.chunk_of(row.pos());
+        let at = rows.position(place);
+        let chunk = plan.chunk_of(&at);
         own.push(chunk, place)?;
-        push_near(plan, chunk, &row, place, &mut near, &mut overlap)?;
+        push_near(plan, chunk, &at, place, &mut near, &mut overlap)?;
     }
     Ok((own, overlap))
 }

@@ -7,14 +7,16 @@
 //! No queries and no ids: a row is known by its place in the table.
 #![tactic(auto)]
 
+mod blocks;
 pub mod examples;
 mod fill;
 pub mod laws;
-mod lists;
+pub mod lists;
 mod merged;
 pub mod store;
 mod subchunk;
 
+pub use lists::Lists;
 pub use store::Store;
 
 #[cfg(test)]

@@ -1,7 +1,8 @@
-//! A list of places for each chunk.
+//! A list of places for each chunk of a sky, or for each subchunk of a chunk.
 
-ghost use Rattle.std.specs.Prelude.{◌≡◌, ◌<◌, ◌≤◌, ◌^◌, [], ◌∷◌, ◌++◌, IfOk, OnOk, All, length, get_or, replicate, filter, map};
+ghost use Rattle.std.specs.Prelude.{◌≡◌, ◌<◌, ◌≤◌, [], ◌∷◌, ◌++◌, IfOk, OnOk, All, length, get_or, replicate, filter, map};
 ghost use Rattle.std.specs.List.{range_with_len};
+ghost use Rattle.sky_rules.specs.declared.limits.TheConstants.{CHUNKS_MOST};
 ghost use Rattle.chunk_store.specs.Lists.{Pushed, has_some, kept_if};
 
 use sky_io::Memory;
@@ -32,20 +33,21 @@ pub(crate) fn push_if(list: &mut Vec<u32>, is: bool, number: u32) -> Result<(), 
     if is { push(list, number) } else { Ok(()) }
 }
 
-/// A list of places for each chunk.
+/// A list of places for each chunk of a sky, or for each subchunk of a chunk: by its number, from 0.
 #[derive(Drop)]
-pub(crate) struct Lists {
+pub struct Lists {
     lists: Vec<Vec<u32>>,
 }
 
 impl Model for Lists {
-    ghost use Rattle.std.specs.Prelude.{ℕ, List, map, ◌≤◌, ◌^◌, length};
+    ghost use Rattle.std.specs.Prelude.{ℕ, List, map, ◌≤◌, length};
+    ghost use Rattle.sky_rules.specs.declared.limits.TheConstants.{CHUNKS_MOST};
 
     ghost Value = { List (List ℕ) };
 
     ghost view = { λ l. map (λ places. places.items) l.lists.items };
 
-    ghost invariant = { λ l. length l.lists.items ≤ 2 ^ 14 };
+    ghost invariant = { λ l. length l.lists.items ≤ CHUNKS_MOST };
 }
 
 /// Puts an empty list behind the others.
@@ -73,7 +75,7 @@ fn empty_lists(alloc: Global, count: u32) -> Result<Vec<Vec<u32>>, Memory>
 impl Lists {
     /// So many empty lists, at most 16,384.
     pub(crate) fn empty(alloc: Global, count: u32) -> Result<Lists, Memory>
-        requires { count ≤ 2 ^ 14 }
+        requires { count ≤ CHUNKS_MOST }
         ensures { IfOk result (λ lists. lists ≡ replicate count []) }
     {
         Ok(Lists {
@@ -81,15 +83,15 @@ impl Lists {
         })
     }
 
-    /// How many lists there are.
-    pub(crate) fn len(&self) -> u32
+    /// How many lists there are, at most 16,384. Takes no memory.
+    pub fn len(&self) -> u32
         ensures { result ≡ length self.now }
     {
         self.lists.len() as u32
     }
 
-    /// The list of a chunk.
-    pub(crate) fn of(&self, chunk: u32) -> &[u32]
+    /// The list with this number, from 0. Takes no memory.
+    pub fn of(&self, chunk: u32) -> &[u32]
         requires { chunk < length self.now }
         ensures { result.now ≡ get_or self.now chunk [] }
     {

@@ -1,25 +1,29 @@
 //! The store: a plan of the sky, the rows, and which of them each chunk holds and needs.
 
-ghost use Rattle.std.specs.Prelude.{◌≡◌, ◌<◌, ◌&&◌, not, All, AllPairs, IfOk, length, slice_get};
+ghost use Rattle.std.specs.Prelude.{◌≡◌, ◌<◌, ◌&&◌, not, true, get_or, All, AllPairs, IfOk, length, slice_get};
 ghost use Rattle.sky_rules.specs.Limits.{IsSky};
 ghost use Rattle.sky_rules.specs.Partition.{chunk_count, sub_count};
 ghost use Rattle.sky_rules.specs.Bounds.{in_sub, near_sub};
-ghost use Rattle.chunk_rules.specs.Filled.{filled_chunks};
-ghost use Rattle.chunk_rules.specs.Places.{passes};
-ghost use Rattle.chunk_store.specs.Places.{chunk_rows, full_overlap_rows, sub_overlap_rows, sub_rows};
+ghost use Rattle.sky_plan.specs.Places.{SubHolds};
+ghost use Rattle.sky_row.specs.Columns.{no_row};
+ghost use Rattle.chunk_rules.specs.Filled.{filled_chunks, is_filled};
+ghost use Rattle.chunk_rules.specs.Places.{passes, rows_at};
+ghost use Rattle.chunk_store.specs.Places.{chunk_block, chunk_rows, full_overlap_rows, sub_lists, sub_overlap_rows, sub_rows};
 
-use crate::fill::row_lists;
+use crate::blocks::{blocks_of, slot_of};
+use crate::fill::{empty_parts, row_lists};
 use crate::lists::{Lists, push_if};
 use crate::merged::Merged;
-use crate::subchunk::{holds, is_beside};
+use crate::subchunk::{is_in, is_near};
+use column_block::Block;
 use sky_io::Memory;
 use sky_plan::SkyPlan;
 use sky_row::Rows;
 use std::alloc::Global;
 use std::marker::Model;
 
-/// A survey's rows by chunk: for each chunk the places of its rows and of its full overlap, and the chunks that hold a row.
-/// A row's place is its number in the table, from 0.
+/// A survey's rows by chunk: for each chunk the places of its rows and of its full overlap, the chunks that hold a row, and
+/// the columns of each of those. A row's place is its number in the table, from 0.
 #[derive(Drop)]
 pub struct Store {
     plan: SkyPlan,
@@ -27,6 +31,8 @@ pub struct Store {
     own: Lists,
     overlap: Lists,
     filled: Vec<u32>,
+    /// Of the filled chunks, in their order.
+    blocks: Vec<Block>,
 }
 
 impl Model for Store {
@@ -37,24 +43,26 @@ impl Model for Store {
 
     ghost view = { λ s. record { plan = s.plan; rows = s.rows } };
 
-    ghost invariant = { λ s. IsStored s.plan s.rows s.own s.overlap s.filled.items };
+    ghost invariant = { λ s. IsStored s.plan s.rows s.own s.overlap s.filled.items s.blocks.items };
 }
 
 impl Store {
-    /// The store of a catalogue's rows under a plan. Takes memory for a number a row and for each chunk that it is near;
-    /// where there is none, plan and rows are dropped.
-    #[tactic(auto, using(crate::proofs::Filled::filled_of))]
+    /// The store of a catalogue's rows under a plan. Takes memory for a number a row and for each chunk that it is near, and
+    /// for each column once more; where there is none, plan and rows are dropped.
+    #[tactic(auto, using(crate::proofs::Filled::filled_of, crate::proofs::ChunkBlocks::chunks_there, crate::proofs::ChunkBlocks::lists_there, crate::proofs::ChunkBlocks::blocks_stored))]
     pub fn build(alloc: Global, plan: SkyPlan, rows: Rows) -> Result<Store, Memory>
         ensures { IfOk result (λ store. store ≡ record { plan = plan; rows = rows }) }
     {
         let (own, overlap) = row_lists(alloc, &plan, &rows)?;
         let filled = own.filled(alloc)?;
+        let blocks = blocks_of(alloc, &rows, &own, filled.as_slice())?;
         Ok(Store {
             plan,
             rows,
             own,
             overlap,
             filled,
+            blocks,
         })
     }
 
@@ -77,6 +85,8 @@ impl Store {
         ensures value { result.now ≡ filled_chunks self.now.plan self.now.rows.objects }
         ensures there { All (λ chunk. chunk < chunk_count self.now.plan) result.now }
         ensures ascend { AllPairs (λ a b. a < b) result.now }
+        ensures each { All (λ chunk.
+            is_filled self.now.plan self.now.rows.objects chunk ≡ true) result.now }
     {
         self.filled_list()
     }
@@ -97,6 +107,28 @@ impl Store {
         ensures limits { IsSky self.now.plan }
     {
         self.own.of(chunk)
+    }
+
+    /// The columns of a chunk's rows, in the order of their places, where the chunk holds a row. Takes no memory.
+    #[tactic(auto, using(crate::proofs::ChunkBlocks::block_places))]
+    pub fn block(&self, chunk: u32) -> &Block
+        requires there { chunk < chunk_count self.now.plan }
+        requires filled { is_filled self.now.plan self.now.rows.objects chunk ≡ true }
+        ensures value { result.now ≡ chunk_block self.now.plan self.now.rows chunk }
+        ensures places { result.now.objects ≡ rows_at self.now.rows.objects
+            (chunk_rows self.now.plan self.now.rows.objects chunk) }
+    {
+        &self.blocks[self.slot(chunk)]
+    }
+
+    /// The number, from 0, of a chunk among those that hold a row.
+    fn slot(&self, chunk: u32) -> usize
+        requires there { chunk < chunk_count self.now.plan }
+        requires filled { is_filled self.now.plan self.now.rows.objects chunk ≡ true }
+        ensures there { result < length (filled_chunks self.now.plan self.now.rows.objects) }
+        ensures is { get_or (filled_chunks self.now.plan self.now.rows.objects) result 0 ≡ chunk }
+    {
+        slot_of(self.filled(), chunk)
     }
 
     /// The places, ascending, of the rows in a chunk's near region that are not in it. Takes no memory.
@@ -127,6 +159,31 @@ impl Store {
         Ok(places)
     }
 
+    /// The places of the rows of each of a chunk's subchunks, ascending, by the subchunks' numbers: in one pass over the chunk's
+    /// rows. Takes memory for a list a subchunk, and for the places.
+    pub fn subs(&self, alloc: Global, chunk: u32) -> Result<Lists, Memory>
+        requires { chunk < chunk_count self.now.plan }
+        ensures value { IfOk result (λ subs.
+            subs ≡ sub_lists self.now.plan self.now.rows.objects chunk) }
+        ensures there { IfOk result (λ subs. All
+            (λ places. All (λ place. place < length self.now.rows.objects) places) subs) }
+    {
+        let own = self.chunk(chunk);
+        let mut subs = empty_parts(alloc, &self.plan, chunk)?;
+        for place in own {
+            subs.push(self.sub_at(*place), *place)?;
+        }
+        Ok(subs)
+    }
+
+    /// The number of the subchunk that holds the row at the place, in the chunk that does.
+    fn sub_at(&self, place: u32) -> u32
+        requires { place < length self.now.rows.objects }
+        ensures { SubHolds self.now.plan result (get_or self.now.rows.objects place no_row).at }
+    {
+        self.plan.sub_of(&self.rows.position(place))
+    }
+
     /// The places, ascending, of those rows of a subchunk's chunk and of the chunk's full overlap that are in the subchunk's
     /// near region and not in the subchunk. Takes memory for them.
     pub fn sub_overlap(&self, alloc: Global, chunk: u32, sub: u32) -> Result<Vec<u32>, Memory>
@@ -153,8 +210,7 @@ impl Store {
         ensures { result ≡ passes (λ o. in_sub self.now.plan chunk sub o.at)
             (slice_get self.now.rows.objects place) }
     {
-        let row = self.rows.get(place);
-        holds(&self.plan, chunk, sub, &row)
+        is_in(&self.plan, chunk, sub, &self.rows.position(place))
     }
 
     /// Whether the row at the place is in the subchunk's near region and not in the subchunk.
@@ -165,7 +221,6 @@ impl Store {
         ensures { result ≡ passes (λ o. near_sub self.now.plan chunk sub o.at
             && not (in_sub self.now.plan chunk sub o.at)) (slice_get self.now.rows.objects place) }
     {
-        let row = self.rows.get(place);
-        is_beside(&self.plan, chunk, sub, &row)
+        is_near(&self.plan, chunk, sub, &self.rows.position(place))
     }
 }

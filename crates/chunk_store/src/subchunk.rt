@@ -1,4 +1,4 @@
-//! Whether a subchunk holds a row, and whether it needs it beside its own.
+//! Whether a subchunk holds a position, and whether it needs a row there beside its own.
 
 ghost use Rattle.std.specs.Prelude.{◌≡◌, ◌<◌, ◌&&◌, ◌==◌, not};
 ghost use Rattle.sky_vector.specs.Points.{IsAdmissible};
@@ -8,7 +8,6 @@ ghost use Rattle.sky_rules.specs.Bounds.{in_sub, near_sub};
 
 use overlap_tables::in_near_sub;
 use sky_plan::{SkyPlan, SubPlace};
-use sky_row::Row;
 use sky_vector::Pos;
 
 /// Whether the place is this subchunk of this chunk.
@@ -20,7 +19,7 @@ fn is_place(place: &SubPlace, chunk: u32, sub: u32) -> bool
 
 /// Whether the subchunk holds the position.
 #[tactic(auto, using(crate::proofs::Subs::is_place))]
-fn is_in(plan: &SkyPlan, chunk: u32, sub: u32, p: &Pos) -> bool
+pub(crate) fn is_in(plan: &SkyPlan, chunk: u32, sub: u32, p: &Pos) -> bool
     requires chunk { chunk < chunk_count plan.now }
     requires sub { sub < sub_count plan.now chunk }
     requires admissible { IsAdmissible (point p.now) }
@@ -30,7 +29,7 @@ fn is_in(plan: &SkyPlan, chunk: u32, sub: u32, p: &Pos) -> bool
 }
 
 /// Whether the position is in the subchunk's near region and not in the subchunk.
-fn is_near(plan: &SkyPlan, chunk: u32, sub: u32, p: &Pos) -> bool
+pub(crate) fn is_near(plan: &SkyPlan, chunk: u32, sub: u32, p: &Pos) -> bool
     requires chunk { chunk < chunk_count plan.now }
     requires sub { sub < sub_count plan.now chunk }
     requires admissible { IsAdmissible (point p.now) }
@@ -38,23 +37,4 @@ fn is_near(plan: &SkyPlan, chunk: u32, sub: u32, p: &Pos) -> bool
         && not (in_sub plan.now chunk sub (point p.now))) }
 {
     in_near_sub(plan, chunk, sub, p) && !is_in(plan, chunk, sub, p)
-}
-
-/// Whether the subchunk holds the row.
-pub(crate) fn holds(plan: &SkyPlan, chunk: u32, sub: u32, row: &Row) -> bool
-    requires chunk { chunk < chunk_count plan.now }
-    requires sub { sub < sub_count plan.now chunk }
-    ensures { result ≡ in_sub plan.now chunk sub row.now.at }
-{
-    is_in(plan, chunk, sub, row.pos())
-}
-
-/// Whether the row is in the subchunk's near region and not in the subchunk.
-pub(crate) fn is_beside(plan: &SkyPlan, chunk: u32, sub: u32, row: &Row) -> bool
-    requires chunk { chunk < chunk_count plan.now }
-    requires sub { sub < sub_count plan.now chunk }
-    ensures { result ≡ (near_sub plan.now chunk sub row.now.at
-        && not (in_sub plan.now chunk sub row.now.at)) }
-{
-    is_near(plan, chunk, sub, row.pos())
 }

@@ -1,6 +1,8 @@
-use Rattle.std.proofs.Common.{ℕ, ◌<◌, List, sym, subst}
+use Rattle.std.proofs.Common.{◌≡◌, ℕ, ◌<◌, true, List, sym, subst}
 use Rattle.std.specs.Prelude.{All, AllPairs}
+use Rattle.std.proofs.lemmas.List.Elements.{filter_passes}
 use Rattle.sky_rules.specs.Partition.{chunk_count}
+use Rattle.chunk_rules.specs.Filled.{all_chunks, is_filled}
 use Rattle.chunk_rules.proofs.FilledChunks.{filled_are_chunks, filled_ascend}
 use Rattle.chunk_store.proofs.store.Store.filled.Goals as goal
 
@@ -12,3 +14,9 @@ returns-clause-there c =
 pub returns-clause-ascend : goal.returns-clause-ascend
 returns-clause-ascend c =
     subst (λ l. AllPairs (λ a b. a < b) l) (sym c.filled_list.ensures) (filled_ascend c.args.self.now.plan c.args.self.now.rows.objects)
+
+pub returns-clause-each : goal.returns-clause-each
+returns-clause-each c =
+    let g = c.args.self.now.plan in
+    let objects = c.args.self.now.rows.objects in
+    subst (λ l. All (λ k. is_filled g objects k ≡ true) l) (sym c.filled_list.ensures) (filter_passes (is_filled g objects) (all_chunks g))
