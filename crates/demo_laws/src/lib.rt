@@ -1,8 +1,8 @@
 //! That the demo's texts are accepted: its sky plan and its script.
 //!
 //! Callers see them as the partition and the steps of `specs/DemoInput.antt`.
-//! Below: `demo_rules` for the texts, `sky_rules` and `session_script` for what they say. Above: the program's demo.
-//! No code: one function that carries the laws.
+//! Below: `demo_rules` for the texts, `sky_rules` and `session_script` for what they say. Above: nothing yet.
+//! No code: two functions that carry the laws.
 #![tactic(auto)]
 
 pub mod texts;

@@ -18,14 +18,14 @@ FitsByEach =
     → may_end workers steps (i + 1) j e ≡ true)
     → fit workers steps judged ends ≡ true
 
--- a cancel of a query stands where it stands behind the query with no wait for it between
+-- where a cancel of a query stands behind the query, with no wait for it between, it comes in time
 abbrev pub CancelStands : Type 0
 CancelStands =
     (a b c : List Step) (k : ℕ) (span : Span) → NumberedFrom 0 (a ++ Query k span ∷ (b ++ Cancel k ∷ c))
     → list_any (waits_for k) b ≡ false → has_cancel (a ++ Query k span ∷ (b ++ Cancel k ∷ c)) k ≡ true
 
--- a prompt cancel of a query parts the steps: those before the query, those between, of which none is a wait, and those
--- behind the cancel
+-- where a query has a prompt cancel, it parts the steps: those before the query, those between, of which none is a wait,
+-- and those behind the cancel
 abbrev pub PromptIsASplit : Type 0
 PromptIsASplit =
     (steps : List Step) (k : ℕ) → has_prompt_cancel steps k ≡ true

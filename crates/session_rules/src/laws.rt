@@ -7,8 +7,8 @@ pub fn ends_fit_by_each()
     ensures { FitsByEach }
 {}
 
-/// A cancel that comes in time is known by how it parts the steps: behind the query, with no wait for it between; a
-/// prompt one has no wait at all between.
+/// A cancel that stands behind its query, with no wait for it between, comes in time; a prompt one parts the steps, with no
+/// wait at all between.
 pub fn cancels_part_the_steps()
     ensures stands { CancelStands }
     ensures prompt { PromptIsASplit }

@@ -1,5 +1,5 @@
 -- Texts, a partition and points of worked examples.
-use Rattle.std.specs.Prelude.{ℕ, pos, negsuc, List, [], ◌∷◌, codes}
+use Rattle.std.specs.Prelude.{ℕ, ℤ, pos, negsuc, List, [], ◌∷◌, codes}
 use Rattle.std.specs.List.{repeat, range_with_len}
 use Rattle.sky_vector.specs.Points.{Point}
 use Rattle.sky_rules.specs.Partition.{Stripe, Partition}
@@ -56,6 +56,15 @@ most_chunks = repeat 16 (full_stripe ∷ [])
 -- the numbers of one more stripe on the equator, with so many chunks
 abbrev pub one_more : ℕ → Said
 one_more chunks = record { z_low = pos 0; chunks = pos chunks; columns = pos 1; rows = pos 1; overlap = pos 5 }
+
+-- the numbers of a stripe line
+abbrev pub numbers : (z_low chunks columns rows overlap : ℤ) → Said
+numbers z_low chunks columns rows overlap =
+    record { z_low = z_low; chunks = chunks; columns = columns; rows = rows; overlap = overlap }
+
+-- the numbers of a stripe on the equator, cut so
+abbrev pub cut_so : (chunks columns rows : ℕ) → Said
+cut_so chunks columns rows = numbers (pos 0) (pos chunks) (pos columns) (pos rows) (pos 5)
 
 -- the numbers of the eight chunks
 abbrev pub eight : List ℕ

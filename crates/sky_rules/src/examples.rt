@@ -1,12 +1,12 @@
 //! Worked examples of sky texts and of places, computed by the checker.
 
-ghost use Rattle.std.specs.Prelude.{◌≡◌, ℕ, [], ◌∷◌, ◌++◌, Err, Ok, Some, codes, pos, true};
+ghost use Rattle.std.specs.Prelude.{◌≡◌, ℕ, [], ◌∷◌, ◌++◌, Err, Ok, Some, codes, false, negsuc, pos, true};
 ghost use Rattle.std.specs.List.{filter, range_with_len, repeat};
 ghost use Rattle.sky_rules.specs.Partition.{chunk_count, greatest_overlap, least_overlap, overlap_at, sub_count};
 ghost use Rattle.sky_rules.specs.Bounds.{in_chunk, in_sub, near_chunk};
-ghost use Rattle.sky_rules.specs.SkyText.{is_room, judged_stripe, sky_of};
-ghost use Rattle.sky_rules.specs.Examples.{most_chunks, all_stripes, bottom_twice, eight, full_stripe, halves};
-ghost use Rattle.sky_rules.specs.Examples.{north, on_diagonal, on_meridian, one_more, own_overlaps, south};
+ghost use Rattle.sky_rules.specs.SkyText.{is_cut, is_in_order, is_overlap, is_room, judged_stripe, sky_of};
+ghost use Rattle.sky_rules.specs.Examples.{most_chunks, all_stripes, bottom_twice, cut_so, eight, full_stripe, halves};
+ghost use Rattle.sky_rules.specs.Examples.{north, numbers, on_diagonal, on_meridian, one_more, own_overlaps, south};
 ghost use Rattle.sky_rules.specs.Examples.{two_chunks, two_stripes};
 ghost use Rattle.sky_rules.specs.declared.fault.SkyFault.TheVariants.{Count, Order, Overlap, Syntax, TooMany};
 
@@ -48,6 +48,36 @@ pub fn stripes_too_many()
     ensures chunks { judged_stripe 9 most_chunks (Some (one_more 1)) ≡ Err (TooMany 9) }
     ensures fits { is_room (repeat 15 (full_stripe ∷ [])) (pos 1024) ≡ true }
     ensures last { is_room (repeat 255 (south 5 ∷ [])) (pos 4) ≡ true }
+{}
+
+/// Of a line with more than one fault the first is told, in the order overlap, order, count, too many.
+pub fn first_fault_of_a_line()
+    ensures overlap { judged_stripe 9 all_stripes
+        (Some (numbers (negsuc 268435471) (pos 2) (pos 1) (pos 1) (negsuc 0))) ≡ Err (Overlap 9) }
+    ensures order { judged_stripe 9 all_stripes
+        (Some (numbers (negsuc 268435471) (pos 2) (pos 1) (pos 1) (pos 5))) ≡ Err (Order 9) }
+    ensures count { judged_stripe 9 all_stripes (Some (cut_so 2 1 1)) ≡ Err (Count 9) }
+{}
+
+/// A stripe of 3 or of 1,024 chunks, of 64 columns and rows, is cut as it can be, and one past either is not.
+pub fn counts_at_their_limits()
+    ensures few { is_cut (cut_so 3 1 1) ≡ true }
+    ensures most { is_cut (cut_so 1024 64 64) ≡ true }
+    ensures chunks { is_cut (cut_so 1025 64 64) ≡ false }
+    ensures columns { is_cut (cut_so 1024 65 64) ≡ false }
+    ensures rows { is_cut (cut_so 1024 64 65) ≡ false }
+    ensures no_rows { is_cut (cut_so 1024 64 0) ≡ false }
+    ensures halves { is_cut (cut_so 1 2 1) ≡ false }
+{}
+
+/// A stripe may begin 64 above the one before it and 64 below the end of the sky, and not one nearer; an overlap is at
+/// most 2^24.
+pub fn heights_and_overlaps_at_their_limits()
+    ensures above { is_in_order (south 5 ∷ []) (negsuc 268435407) ≡ true }
+    ensures too_low { is_in_order (south 5 ∷ []) (negsuc 268435408) ≡ false }
+    ensures below_end { is_in_order (south 5 ∷ []) (pos 268435409) ≡ true }
+    ensures too_high { is_in_order (south 5 ∷ []) (pos 268435410) ≡ false }
+    ensures overlap { is_overlap (pos 16777216) ≡ true }
 {}
 
 /// Eight chunks of four subchunks, and the overlaps of the two versions.

@@ -1,12 +1,21 @@
 //! Worked examples of records that are a catalogue or have a first fault, computed by the checker.
 
-ghost use Rattle.std.specs.Prelude.{◌≡◌, [], ◌∷◌, ◌++◌, Err, Ok, None, Some, codes, false, pos, true};
+ghost use Rattle.std.specs.Prelude.{◌≡◌, [], ◌∷◌, ◌++◌, Err, Ok, None, Some, codes, false, pos, take, true};
 ghost use Rattle.table_rules.specs.Names.{can_follow, column_of, first_names, is_name};
 ghost use Rattle.table_rules.specs.Records.{catalogue_of_records};
 ghost use Rattle.table_rules.specs.Examples.{at_lower_pole, four, long_name, lower_id, meridian, on_meridian};
 ghost use Rattle.table_rules.specs.Examples.{pole, twelve, under_four, with_flux};
+ghost use Rattle.table_rules.specs.declared.limits.TheConstants.{COLUMNS_MOST, FURTHER_MOST, ID_MOST, ROWS_MOST};
 ghost use Rattle.table_rules.specs.declared.fault.LoadFault.TheVariants.{FieldCount, Header, Length};
 ghost use Rattle.table_rules.specs.declared.fault.LoadFault.TheVariants.{Number, Range, Repeated};
+
+/// The limits of the table, in numbers.
+pub fn limits_of_the_table()
+    ensures id { ID_MOST ≡ 9223372036854775807 }
+    ensures further { FURTHER_MOST ≡ 1125899906842624 }
+    ensures columns { COLUMNS_MOST ≡ 16 }
+    ensures rows { ROWS_MOST ≡ 4194304 }
+{}
 
 /// A fault in each of a row's parts.
 pub fn faults_of_a_row()
@@ -14,6 +23,9 @@ pub fn faults_of_a_row()
         ≡ Err (Length 1) }
     ensures range { under_four (four (codes "1") (codes "268435473") (codes "0") (codes "0") ∷ [])
         ≡ Err (Range 1 2 (pos 268435473)) }
+    ensures further { catalogue_of_records (with_flux
+        ∷ (meridian ++ (codes "1125899906842625" ∷ [])) ∷ [])
+        ≡ Err (Range 1 5 (pos 1125899906842625)) }
     ensures count { under_four ((codes "1" ∷ codes "268435456" ∷ codes "0" ∷ []) ∷ [])
         ≡ Err (FieldCount 1 3) }
     ensures plus { under_four (four (codes "1") (codes "+5") (codes "0") (codes "0") ∷ [])
@@ -57,6 +69,7 @@ pub fn accepted_rows()
 pub fn names_of_columns()
     ensures word { is_name (codes "SELECT") ≡ true }
     ensures long { is_name long_name ≡ false }
+    ensures longest { is_name (take 32 long_name) ≡ true }
     ensures last { can_follow (first_names ++ codes "flux" ∷ []) (codes "_f2") ≡ true }
     ensures z { column_of (codes "flux" ∷ []) (codes "z") ≡ Some 3 }
     ensures flux { column_of (codes "flux" ∷ []) (codes "flux") ≡ Some 4 }

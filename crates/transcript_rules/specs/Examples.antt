@@ -27,14 +27,14 @@ use Rattle.transcript_rules.specs.Written.{own, item, named, items, called, says
 abbrev pub word : Bytes → Name
 word text = named_at text 0 0
 
--- SELECT a.objectId AS i,b.z FROM Object a,Object b WHERE chord2(a,b)<=9 ORDER BY b.z LIMIT 2
+-- SELECT a.objectId AS i,b.z FROM Object a,Object b WHERE chord2(a,b)<=9 ORDER BY b.z DESC LIMIT 2
 abbrev pub near_by_height : Query
 near_by_height =
     query (items (named (what.Plain (alone (atom.Col (own (word (codes "a")) (word (codes "objectId")))))) (word (codes "i")))
     (item (what.Plain (alone (atom.Col (own (word (codes "b")) (word (codes "z")))))) ∷ []))
     (called (word (codes "Object")) (word (codes "a"))) (Some (called (word (codes "Object")) (word (codes "b"))))
     (Some (some_of (each (says (pred.Chord (word (codes "a")) (word (codes "b")) false (pos 9))) []) []))
-    [] (by (own (word (codes "b")) (word (codes "z"))) false) (Some (pos 2))
+    [] (by (own (word (codes "b")) (word (codes "z"))) true) (Some (pos 2))
 
 -- SELECT * FROM Object a,Object b
 abbrev pub star_of_pairs : Query
