@@ -9,8 +9,8 @@ use Rattle.std.proofs.lemmas.List.Kept.{AllPairs-filter}
 use Rattle.sky_vector.specs.Points.{square}
 use Rattle.sky_vector.proofs.Signed.{mul_mono}
 use Rattle.sky_rules.specs.Partition.{Partition, chunk_count, overlap_at}
-use Rattle.chunk_rules.specs.Filled.{all_chunks}
-use Rattle.chunk_rules.proofs.FilledChunks.{range_below, range_ascends}
+use Rattle.sky_rules.specs.Chunks.{all_chunks}
+use Rattle.sky_rules.proofs.Ranges.{range_below, range_ascends}
 use Rattle.sql_bound.specs.declared.query.Shape.{Shape}
 use Rattle.sql_bound.specs.declared.query.Shape.TheVariants.{Rows, Pairs, Groups}
 use Rattle.answer_rules.specs.declared.refusal.Radius.{Radius}

@@ -6,6 +6,7 @@ use Rattle.table_rules.specs.declared.limits.TheConstants.{FIRST_COLUMNS}
 use Rattle.sky_rules.specs.Limits.{IsSky}
 use Rattle.sky_rules.specs.Partition.{Partition, chunk_count}
 use Rattle.chunk_rules.specs.Filled.{is_filled}
+use Rattle.scan_rules.specs.declared.limits.TheConstants.{QUERY_MOST}
 use Rattle.answer_rules.specs.declared.rewritten.ChunkQuery.{ChunkQuery}
 use Rattle.answer_rules.specs.Pieces.{PieceView, PieceFor}
 use Rattle.answer_rules.specs.Plans.{Reaches}
@@ -27,7 +28,7 @@ pub record IsBase (b : Base) : Type 0 where
   pub rows : IsCatalogue b.rows
   pub ascend : AllPairs (λ e f. e.0 < f.0) b.queries
   pub from_1 : All (λ e. 1 ≤ e.0) b.queries
-  pub to_255 : All (λ e. e.0 ≤ 255) b.queries
+  pub to_255 : All (λ e. e.0 ≤ QUERY_MOST) b.queries
   pub sound : All (λ e. IsSoundChunk (columns_in b) e.1) b.queries
 
 -- the chunk query with a number

@@ -5,7 +5,8 @@ use Rattle.std.specs.List.{AllByRecursion as Each, prefix_len}
 use Rattle.text_rules.specs.Numbers.{is_digit, value_after}
 use Rattle.std.proofs.lemmas.Int.{ints}
 use Rattle.std.proofs.Common.{arith}
-use Rattle.sql_token.specs.Bytes.{is_blank, begins_word, continues_word}
+use Rattle.text_rules.specs.Words.{begins_word, continues_word}
+use Rattle.sql_token.specs.Bytes.{is_blank}
 use Rattle.sql_token.specs.Faults.{TokenFault, TooMany}
 use Rattle.sql_token.specs.Keywords.{keyword_of}
 use Rattle.sql_token.specs.Signs.{long_sign, short_sign}

@@ -1,13 +1,10 @@
 -- The chunks of a partition, and which of them hold a row of a table.
-use Rattle.std.specs.Prelude.{ℕ, ◌<◌, Bool, List, All, AllPairs, filter}
-use Rattle.std.specs.List.{list_any, range_with_len}
+use Rattle.std.specs.Prelude.{◌≡◌, ℕ, ◌<◌, Bool, true, List, All, AllPairs, filter}
+use Rattle.std.specs.List.{Contains, list_any}
 use Rattle.table_rules.specs.Objects.{Obj}
 use Rattle.sky_rules.specs.Partition.{Partition, chunk_count}
+use Rattle.sky_rules.specs.Chunks.{all_chunks}
 use Rattle.sky_rules.specs.Bounds.{in_chunk}
-
--- the numbers of all chunks, ascending
-abbrev pub all_chunks : Partition → List ℕ
-all_chunks g = range_with_len 0 (chunk_count g)
 
 -- the chunk holds a row
 abbrev pub is_filled : Partition → List Obj → ℕ → Bool
@@ -24,3 +21,9 @@ FilledAreChunks = (g : Partition) (table : List Obj) → All (λ c. c < chunk_co
 -- and they ascend
 abbrev pub FilledAscend : Type 0
 FilledAscend = (g : Partition) (table : List Obj) → AllPairs (λ a b. a < b) (filled_chunks g table)
+
+-- and each chunk that holds a row is among them
+abbrev pub EachFilledIsListed : Type 0
+EachFilledIsListed =
+    (g : Partition) (table : List Obj) (c : ℕ) → c < chunk_count g → is_filled g table c ≡ true
+    → Contains (filled_chunks g table) c

@@ -12,7 +12,8 @@ use Rattle.sky_rules.specs.Limits.{IsSky}
 use Rattle.sky_rules.specs.Bounds.{in_chunk, in_sub, near_sub}
 use Rattle.sky_rules.proofs.OnlyPlace.{exactly_one_place, sub_lies_in_its_chunk}
 use Rattle.overlap_tables.specs.Overlaps.{in_full_overlap}
-use Rattle.overlap_tables.proofs.Listed.{listed, overlap_is_enough}
+use Rattle.sky_rules.proofs.Ranges.{listed}
+use Rattle.overlap_tables.proofs.Listed.{overlap_is_enough}
 use Rattle.chunk_rules.specs.Places.{passes, places_by}
 use Rattle.chunk_store.specs.Places.{in_sub_overlap, chunk_rows, sub_rows, sub_overlap_rows}
 use Rattle.chunk_store.specs.Laws.{IsOnlySub, EachRowInOneSub, SubRowsAreTheChunks, NearRowsAreThere}

@@ -1,5 +1,4 @@
 pub mod Places
-pub mod Pieces
 pub mod LineSteps
 pub mod Fronts
 pub mod RowLines

@@ -2,7 +2,6 @@ pub mod NarrowLines
 pub mod NarrowScript
 pub mod NarrowTranscript
 pub mod NarrowRun
-pub mod Cut
 pub mod Each
 pub mod Counted
 pub mod Examples

@@ -1,10 +1,6 @@
 -- The lines of a narrow text, of which each is ended by a line feed, and their parts.
 use Rattle.std.specs.Prelude.{ℕ, List, [], ◌∷◌, Option, None, Some, option_map, if◌then◌else◌, ◌==◌}
-use Rattle.std.specs.List.{slice_split}
-
--- the pieces of a text between the bytes b
-abbrev pub pieces : ℕ → List ℕ → List (List ℕ)
-pieces b bs = slice_split (λ x. x == b) bs
+use Rattle.text_rules.specs.Lines.{pieces}
 
 -- the pieces before the last, where the last is empty
 abbrev pub before_empty : List (List ℕ) → Option (List (List ℕ))

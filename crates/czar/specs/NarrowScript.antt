@@ -3,8 +3,9 @@ use Rattle.std.specs.Prelude.{ℕ, List, [], ◌∷◌, length, map, Option, Non
 use Rattle.std.specs.Prelude.{if◌then◌else◌, nat_le, ℤ, codes}
 use Rattle.std.specs.Str.{bytes_eq}
 use Rattle.text_rules.specs.Numbers.{whole_number}
-use Rattle.text_rules.specs.declared.limits.TheConstants.{SCRIPT_TEXT_MOST}
-use Rattle.czar.specs.NarrowLines.{behind, pieces, ended_lines, each_there}
+use Rattle.text_rules.specs.declared.limits.TheConstants.{QUERIES_MOST, SCRIPT_TEXT_MOST}
+use Rattle.text_rules.specs.Lines.{pieces}
+use Rattle.czar.specs.NarrowLines.{behind, ended_lines, each_there}
 
 -- A range of z, with both its ends.
 pub record Range : Type 0 where
@@ -30,7 +31,7 @@ query_line line =
 
 -- the queries, where they are at most 255
 abbrev pub if_short : List Range → Option (List Range)
-if_short ranges = if nat_le (length ranges) 255 then Some ranges else None
+if_short ranges = if nat_le (length ranges) QUERIES_MOST then Some ranges else None
 
 -- the queries of a script's lines
 abbrev pub script_lines : List (List ℕ) → Option (List Range)

@@ -2,8 +2,8 @@
 ghost use Rattle.std.specs.Prelude.{◌≡◌, ℕ, List, Option, IfOk, option_map};
 ghost use Rattle.czar.specs.Each.{few_read};
 
-use crate::cut::Cutter;
 use sky_io::Memory;
+use sky_text::Pieces;
 use std::alloc::Global;
 
 /// What a line is read as.
@@ -23,7 +23,7 @@ pub trait LineForm {
 #[tactic(auto, using(crate::proofs::LineSteps::step_some, crate::proofs::LineSteps::step_none, crate::proofs::LineSteps::step_full))]
 pub fn each_line<L: LineForm>(
     alloc: Global,
-    mut lines: Cutter<'_>,
+    mut lines: Pieces<'_>,
     most: usize,
 ) -> Result<Option<Vec<L::Item>>, Memory>
     ensures { IfOk result (λ o. option_map (λ v. v.items) o ≡ few_read L.read most lines.entry) }

@@ -6,7 +6,6 @@
 //! No SQL but one form of query, and no file: texts are slices that the caller holds.
 #![tactic(auto)]
 
-mod cut;
 mod each;
 pub mod examples;
 mod run;

@@ -1,5 +1,6 @@
 //! A run of the queries of a narrow script, and its transcript.
 ghost use Rattle.std.specs.Prelude.{◌≡◌, ◌≤◌, length};
+ghost use Rattle.text_rules.specs.declared.limits.TheConstants.{QUERIES_MOST};
 ghost use Rattle.sky_io.specs.Sinks.{Wrote};
 ghost use Rattle.czar.specs.NarrowRun.{text_of};
 
@@ -35,7 +36,7 @@ impl<'w> Plain<'w> {
     /// How many queries there are, at most 255. Takes no memory.
     pub fn queries(&self) -> u32
         ensures count { result ≡ length self.now.ranges }
-        ensures few { result ≤ 255 }
+        ensures few { result ≤ QUERIES_MOST }
     {
         self.queries.as_slice().len() as u32
     }

@@ -1,18 +1,16 @@
 //! The narrow script: queries for the ids of the rows of a range of z.
 ghost use Rattle.std.specs.Prelude.{◌≡◌, ◌≤◌, ◌^◌, length, IfOk, option_copied, option_map};
-ghost use Rattle.czar.specs.NarrowLines.{pieces, behind};
+ghost use Rattle.text_rules.specs.Lines.{pieces};
+ghost use Rattle.text_rules.specs.declared.limits.TheConstants.{QUERIES_MOST};
+ghost use Rattle.czar.specs.NarrowLines.{behind};
 ghost use Rattle.czar.specs.NarrowScript.{between_words, narrow_script};
 
-use crate::cut::Cutter;
 use crate::each::{LineForm, each_line};
 use sky_io::Memory;
-use sky_text::read_whole;
+use sky_text::{Pieces, read_whole};
 use std::alloc::Global;
 use std::marker::Model;
-use text_rules::limits::SCRIPT_TEXT_MOST;
-
-/// The most queries of a script.
-const MOST_QUERIES: usize = 255;
+use text_rules::limits::{QUERIES_MOST, SCRIPT_TEXT_MOST};
 
 /// The most digits of a number of a query.
 const MOST_DIGITS: usize = 18;
@@ -40,20 +38,21 @@ pub struct Queries {
 
 impl Model for Queries {
     ghost use Rattle.std.specs.Prelude.{List, length, ◌≤◌};
+    ghost use Rattle.text_rules.specs.declared.limits.TheConstants.{QUERIES_MOST};
     ghost use Rattle.czar.specs.NarrowScript.{Range};
 
     ghost Value = { List Range };
 
     ghost view = { λ q. q.queries.items };
 
-    ghost invariant = { λ q. length q.queries.items ≤ 255 };
+    ghost invariant = { λ q. length q.queries.items ≤ QUERIES_MOST };
 }
 
 impl Queries {
     /// The queries in their order. Takes no memory.
     pub(crate) fn as_slice(&self) -> &[Query]
         ensures value { result.now ≡ self.now }
-        ensures few { length self.now ≤ 255 }
+        ensures few { length self.now ≤ QUERIES_MOST }
     {
         self.queries.as_slice()
     }
@@ -71,7 +70,7 @@ fn behind<'a>(front: &[u8], text: &'a [u8]) -> Option<&'a [u8]>
 fn read_between(text: &[u8]) -> Option<Query>
     ensures { result ≡ between_words (pieces 32 text.now) }
 {
-    let mut words = Cutter::new(text, b' ');
+    let mut words = Pieces::new(text, b' ');
     let low = words.next()?;
     let and = words.next()?;
     let high = words.next()?;
@@ -106,8 +105,8 @@ pub fn read_script(alloc: Global, text: &[u8]) -> Result<Option<Queries>, Memory
     if text.len() > SCRIPT_TEXT_MOST {
         return Ok(None);
     }
-    let lines = Cutter::new(text, b'\n');
-    match each_line::<QueryLine>(alloc, lines, MOST_QUERIES)? {
+    let lines = Pieces::new(text, b'\n');
+    match each_line::<QueryLine>(alloc, lines, QUERIES_MOST as usize)? {
         Some(queries) => Ok(Some(Queries { queries })),
         None => Ok(None),
     }

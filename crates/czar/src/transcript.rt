@@ -1,6 +1,7 @@
 //! The transcript: for each query its number, the heading, the ids of its rows, and a last line of two counts.
 ghost use Rattle.std.specs.Prelude.{◌≡◌, ◌≤◌, ◌^◌, ◌++◌, [], ◌∷◌, codes, length, IfSome};
 ghost use Rattle.std.specs.Fmt.{decimal, signed_decimal};
+ghost use Rattle.text_rules.specs.declared.limits.TheConstants.{QUERIES_MOST};
 ghost use Rattle.sky_io.specs.Sinks.{Wrote};
 ghost use Rattle.czar.specs.Counted.{put_of};
 ghost use Rattle.czar.specs.NarrowTranscript.{query_head, line_end, is_between, answer, row_lines};
@@ -140,7 +141,7 @@ fn put_block<K: Sink>(sink: &mut K, number: u64, query: &Query, rows: &Rows, chu
 
 /// The blocks of the queries, numbered from 1. Takes no memory.
 pub fn put_blocks<K: Sink>(sink: &mut K, rows: &Rows, chunks: u64, queries: &[Query]) -> Put
-    requires short { length queries.now ≤ 255 }
+    requires short { length queries.now ≤ QUERIES_MOST }
     ensures { Wrote (K.state sink.old) (K.state sink.new)
         (blocks rows.now.objects chunks 1 queries.now) result }
 {

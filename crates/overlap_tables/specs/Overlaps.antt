@@ -2,7 +2,8 @@
 use Rattle.std.specs.Prelude.{◌≡◌, ℕ, ◌-◌, List, ◌++◌, Bool, ◌&&◌, not, IsTrue}
 use Rattle.std.specs.List.{filter, range_with_len}
 use Rattle.sky_vector.specs.Points.{Point}
-use Rattle.sky_rules.specs.Partition.{Partition, chunk_count}
+use Rattle.sky_rules.specs.Partition.{Partition}
+use Rattle.sky_rules.specs.Chunks.{all_chunks}
 use Rattle.sky_rules.specs.Bounds.{in_chunk, near_chunk}
 use Rattle.sky_plan.specs.Places.{IsOnlyChunk}
 
@@ -12,7 +13,7 @@ in_full_overlap g c p = near_chunk g c p && not (in_chunk g c p)
 
 -- the chunks whose full overlap holds the point, lowest first
 abbrev pub near_others : Partition → Point → List ℕ
-near_others g p = filter (λ c. in_full_overlap g c p) (range_with_len 0 (chunk_count g))
+near_others g p = filter (λ c. in_full_overlap g c p) (all_chunks g)
 
 -- those of them from chunk a up to and without chunk b
 abbrev pub others_between : Partition → Point → ℕ → ℕ → List ℕ

@@ -9,7 +9,8 @@ use Rattle.sql_token.specs.declared.token.Span.{Span}
 use Rattle.sql_token.specs.declared.token.Token.{Token}
 use Rattle.sql_token.specs.declared.token.TokenKind.{TokenKind}
 use Rattle.sql_token.specs.declared.token.TokenKind.TheVariants as kind
-use Rattle.sql_token.specs.Bytes.{is_blank, begins_word}
+use Rattle.text_rules.specs.Words.{begins_word}
+use Rattle.sql_token.specs.Bytes.{is_blank}
 use Rattle.sql_token.specs.Faults.{TokenFault}
 use Rattle.sql_token.specs.Laws.{IsWritten, StandFrom}
 use Rattle.sql_token.specs.Signs.{long_sign, short_sign}

@@ -1,8 +1,9 @@
 -- Texts written out of symbols: each symbol behind one space, or right behind the symbol before it.
-use Rattle.std.specs.Prelude.{◌^◌, ◌-◌, Bool, true, false, ◌&&◌, ◌||◌, not, nat_le, if◌then◌else◌}
+use Rattle.std.specs.Prelude.{Bool, true, false, ◌&&◌, ◌||◌, not, nat_le, if◌then◌else◌}
 use Rattle.std.specs.Prelude.{List, [], ◌∷◌, ◌++◌, ℤ, pos, negsuc, codes, is_none}
 use Rattle.std.specs.Fmt.{signed_decimal}
 use Rattle.std.specs.List.{flat_map}
+use Rattle.sql_token.specs.declared.limits.TheConstants.{INT_MOST}
 use Rattle.sql_token.specs.declared.keyword.Keyword.{Keyword}
 use Rattle.sql_token.specs.declared.keyword.Keyword.TheVariants as keyword
 use Rattle.sql_token.specs.declared.sign.Sign.{Sign}
@@ -69,7 +70,7 @@ text_of = flat_map spaced_text
 
 -- the number is one that a token may have: from 0 to 2^63 - 1
 abbrev pub is_int : ℤ → Bool
-is_int (pos n) = nat_le n (2 ^ 63 - 1)
+is_int (pos n) = nat_le n INT_MOST
 is_int (negsuc n) = false
 
 -- the keyword is the word of an area function

@@ -1,6 +1,7 @@
 -- Laws on states, and on how runs go on: by one line more, within a bound, and with the ends of queries kept.
-use Rattle.std.specs.Prelude.{◌≡◌, ℕ, ◌<◌, ◌≤◌, ◌^◌, [], ◌∷◌, ◌++◌, length, true, false, ◌↔◌}
+use Rattle.std.specs.Prelude.{◌≡◌, ℕ, ◌<◌, ◌≤◌, [], ◌∷◌, ◌++◌, length, true, false, ◌↔◌}
 use Rattle.scan_rules.specs.declared.journal_line.JournalLine.{JournalLine}
+use Rattle.scan_rules.specs.declared.limits.TheConstants.{LINES_BOUND, RING_MOST}
 use Rattle.scan_rules.specs.Queries.{Journal, is_attached, is_running, is_done, QueryState, Running, Done, state_of}
 use Rattle.scan_rules.specs.Runs.{MayFollow, IsRun}
 
@@ -27,7 +28,7 @@ RunsGoOn =
 
 -- a run over at most 16,384 chunks has fewer than 2^23 lines
 abbrev pub RunsAreShort : Type 0
-RunsAreShort = (ring : ℕ) (past : Journal) → ring ≤ 16384 → IsRun ring past → length past < 2 ^ 23
+RunsAreShort = (ring : ℕ) (past : Journal) → ring ≤ RING_MOST → IsRun ring past → length past < LINES_BOUND
 
 -- the query was attached, does not run, and is in this state
 pub record HasEnded (past : Journal) (q : ℕ) (state : QueryState) : Type 0 where

@@ -1,6 +1,7 @@
 -- Lists of numbers, as tests.
-use Rattle.std.specs.Prelude.{ℕ, ◌==◌, List, [], ◌∷◌, ◌++◌, Bool, true, not, ◌&&◌, zero, suc}
+use Rattle.std.specs.Prelude.{ℕ, ◌+◌, ◌==◌, List, [], ◌∷◌, ◌++◌, Bool, true, not, ◌&&◌, zero, suc}
 use Rattle.std.specs.List.{list_any}
+use Rattle.scan_rules.specs.declared.limits.TheConstants.{QUERY_MOST}
 
 -- the list has this number
 abbrev pub has : List ℕ → ℕ → Bool
@@ -13,7 +14,7 @@ below (suc bound) = below bound ++ bound ∷ []
 
 -- the numbers among which queries are looked for: a query has one from 1 to 255
 abbrev pub query_numbers : List ℕ
-query_numbers = below 256
+query_numbers = below (QUERY_MOST + 1)
 
 -- no number stands twice
 abbrev pub are_distinct : List ℕ → Bool

@@ -1,8 +1,9 @@
 -- Which line may follow a journal, and which journals are runs of a board.
-use Rattle.std.specs.Prelude.{◌≡◌, ℕ, ◌<◌, ◌≤◌, nat_lt, List, ◌∷◌, ◌++◌, true, false, ◌&&◌, Some, All, count_by}
+use Rattle.std.specs.Prelude.{◌≡◌, ℕ, ◌+◌, ◌<◌, ◌≤◌, nat_lt, List, ◌∷◌, ◌++◌, true, false, ◌&&◌, Some, All, count_by}
 use Rattle.std.specs.List.{list_any, list_all}
 use Rattle.scan_rules.specs.declared.journal_line.JournalLine.{JournalLine}
 use Rattle.scan_rules.specs.declared.journal_line.JournalLine.TheVariants.{Attach, Take, Deliver, Cancel, Collect, Close}
+use Rattle.scan_rules.specs.declared.limits.TheConstants.{QUERY_MOST, RUNNING_MOST}
 use Rattle.scan_rules.specs.Lines.{takes, took, names_with}
 use Rattle.scan_rules.specs.Queries.{Journal, is_closed, is_attached, is_collected, is_delivered, is_running, is_ended}
 use Rattle.scan_rules.specs.Scan.{running_count, takers, next_chunk}
@@ -11,9 +12,9 @@ use Rattle.scan_rules.specs.Scan.{running_count, takers, next_chunk}
 pub record MayAttach (ring : ℕ) (past : Journal) (q : ℕ) (chunks : List ℕ) : Type 0 where
   pub not_closed : is_closed past ≡ false
   pub from_1 : 1 ≤ q
-  pub to_255 : q < 256
+  pub to_255 : q < QUERY_MOST + 1
   pub fresh : is_attached past q ≡ false
-  pub room : running_count past < 64
+  pub room : running_count past < RUNNING_MOST
   pub in_ring : list_all (λ chunk. nat_lt chunk ring) chunks ≡ true
 
 -- the chunk may be taken with this ticket for these queries: tickets count from 0

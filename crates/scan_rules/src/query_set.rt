@@ -1,7 +1,9 @@
 //! A set of query numbers in four words.
 ghost use Rattle.std.specs.Prelude.{◌≡◌, ℕ, ◌<◌, ◌≤◌, List, [], ◌∷◌, ◌++◌, Contains, IfSome, None, IsTrue, ◌↔◌};
 ghost use Rattle.std.specs.List.{last_or};
+ghost use Rattle.scan_rules.specs.declared.limits.TheConstants.{QUERY_MOST};
 
+use crate::limits::QUERY_MOST;
 use std::marker::Model;
 
 /// A set of query numbers, 1 to 255, seen as their ascending list.
@@ -40,7 +42,7 @@ impl QuerySet {
     /// Appends a query above the last one. Takes no memory.
     pub fn add(&mut self, q: u32)
         requires from_1 { 1 ≤ q }
-        requires to_255 { q ≤ 255 }
+        requires to_255 { q ≤ QUERY_MOST }
         requires above { IfSome (last_or None self.old) (λ last. last < q) }
         ensures { self.new ≡ self.old ++ q ∷ [] }
     {
@@ -51,7 +53,7 @@ impl QuerySet {
     pub fn has(&self, q: u32) -> bool
         ensures { IsTrue result ↔ Contains self.now q }
     {
-        q < 256 && (self.words[(q / 64) as usize] >> (q % 64)) & 1 == 1
+        q <= QUERY_MOST && (self.words[(q / 64) as usize] >> (q % 64)) & 1 == 1
     }
 }
 

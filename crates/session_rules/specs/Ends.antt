@@ -2,6 +2,7 @@
 use Rattle.std.specs.Prelude.{ℕ, ◌+◌, Bool, true, false, not, ◌&&◌, ◌||◌, List, [], ◌∷◌, length, nat_eq, nat_le}
 use Rattle.std.specs.Prelude.{if◌then◌else◌}
 use Rattle.std.specs.List.{list_any, take_while}
+use Rattle.scan_rules.specs.declared.limits.TheConstants.{RUNNING_MOST}
 use Rattle.session_script.specs.declared.step.Step.{Step}
 use Rattle.session_script.specs.declared.step.Step.TheVariants as step
 use Rattle.session_script.specs.Scripts.{query_count}
@@ -62,11 +63,11 @@ has_cancel steps k = list_any (cancels k) (take_while (λ s. not (waits_for k s)
 abbrev pub has_prompt_cancel : List Step → ℕ → Bool
 has_prompt_cancel steps k = list_any (cancels k) (take_while (λ s. not (is_wait s)) (behind_query k steps))
 
--- query k has to end cancelled: there are no workers and at most 64 queries, so no chunk of it is scanned before its
+-- query k has to end cancelled: there are no workers and no more queries than run at once, so no chunk of it is scanned before its
 -- cancel
 abbrev pub must_be_cancelled : ℕ → List Step → ℕ → Judged → Bool
 must_be_cancelled workers steps k j =
-    nat_eq workers 0 && nat_le (query_count steps) 64 && has_work j && has_prompt_cancel steps k
+    nat_eq workers 0 && nat_le (query_count steps) RUNNING_MOST && has_work j && has_prompt_cancel steps k
 
 -- query k may end so: an early refusal is told always; a query is cancelled only by its own cancel, and spent only by
 -- want of memory in its own work

@@ -7,8 +7,7 @@ use Rattle.sky_io.specs.declared.Stop.{Stop}
 use Rattle.sql_token.specs.declared.token.Span.{Span}
 use Rattle.session_script.specs.declared.fault.ScriptFault.{ScriptFault}
 use Rattle.session_script.specs.declared.fault.ScriptFault.TheVariants as fault
-use Rattle.text_rules.specs.declared.limits.TheConstants.{QUERY_TEXT_MOST}
-use Rattle.session_script.specs.declared.limits.TheConstants.{QUERIES_MOST}
+use Rattle.text_rules.specs.declared.limits.TheConstants.{QUERIES_MOST, QUERY_TEXT_MOST}
 use Rattle.session_script.specs.declared.saying.Saying.{Saying}
 use Rattle.session_script.specs.declared.saying.Saying.TheVariants.{Note, Cancels, Waits, Asks}
 use Rattle.session_script.specs.declared.step.Step.{Step}

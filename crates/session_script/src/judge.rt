@@ -5,12 +5,11 @@ ghost use Rattle.sky_text.specs.LineItems.{line_of};
 ghost use Rattle.session_script.specs.Scripts.{asking, naming, span_at, step_of};
 
 use crate::fault::ScriptFault;
-use crate::limits::QUERIES_MOST;
 use crate::saying::{Saying, said_by};
 use crate::step::Step;
 use sky_text::Line;
 use sql_token::Span;
-use text_rules::limits::QUERY_TEXT_MOST;
+use text_rules::limits::{QUERIES_MOST, QUERY_TEXT_MOST};
 
 // The step that names a query by its number.
 fn naming(

@@ -9,7 +9,6 @@ pub mod examples;
 mod fault;
 mod judge;
 pub mod laws;
-pub mod limits;
 mod saying;
 mod script;
 mod step;
@@ -17,6 +16,5 @@ mod step;
 mod tests;
 
 pub use fault::ScriptFault;
-pub use limits::QUERIES_MOST;
 pub use script::Script;
 pub use step::Step;

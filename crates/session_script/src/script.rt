@@ -1,9 +1,8 @@
 //! A script: its text and its steps.
 ghost use Rattle.std.specs.Prelude.{◌≡◌, ◌≤◌, ◌<◌, ◌+◌, [], ◌∷◌, ◌++◌, length, vec_len, vec_capacity};
 ghost use Rattle.std.specs.Prelude.{IfOk, IfErr, OnOk, OnErr, Ok};
-ghost use Rattle.text_rules.specs.declared.limits.TheConstants.{QUERY_TEXT_MOST, TEXT_MOST};
+ghost use Rattle.text_rules.specs.declared.limits.TheConstants.{QUERIES_MOST, QUERY_TEXT_MOST, TEXT_MOST};
 ghost use Rattle.sky_text.specs.LineItems.{line_of};
-ghost use Rattle.session_script.specs.declared.limits.TheConstants.{QUERIES_MOST};
 ghost use Rattle.session_script.specs.Answers.{Adds, StopsBy, behind_end};
 ghost use Rattle.session_script.specs.Laws.{NumberedFrom};
 ghost use Rattle.session_script.specs.Scripts.{query_count, query_spans, query_text, script_of, step_of};
@@ -30,7 +29,7 @@ impl<'a> Model for Script<'a> {
     ghost use Rattle.session_script.specs.Scripts.{query_spans};
     ghost use Rattle.session_script.specs.Views.{IsLine, ScriptView};
     ghost use Rattle.session_script.specs.Laws.{NumberedFrom};
-    ghost use Rattle.session_script.specs.declared.limits.TheConstants.{QUERIES_MOST};
+    ghost use Rattle.text_rules.specs.declared.limits.TheConstants.{QUERIES_MOST};
 
     ghost Value = { ScriptView };
 

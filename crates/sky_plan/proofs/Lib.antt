@@ -7,6 +7,5 @@ pub mod Least
 pub mod Places
 pub mod Halves
 mod LineCounts
-mod WordCuts
 mod Judged
 mod SkyLines

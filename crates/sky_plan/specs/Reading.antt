@@ -1,7 +1,7 @@
 -- What is left of a sky text while it is read.
-use Rattle.std.specs.Prelude.{◌≡◌, ℕ, ◌+◌, ◌==◌, nat_le, ℤ, pos, ◌+ℤ◌, int_le, Bool, ◌&&◌, not}
+use Rattle.std.specs.Prelude.{◌≡◌, ℕ, ◌+◌, nat_le, ℤ, pos, ◌+ℤ◌, int_le, Bool, ◌&&◌, not}
 use Rattle.std.specs.Prelude.{List, [], ◌∷◌, ◌++◌, length, Option, None, Some, Result, Ok, if◌then◌else◌}
-use Rattle.std.specs.List.{filter, slice_split}
+use Rattle.std.specs.List.{filter}
 use Rattle.text_rules.specs.Lines.{Line, is_note}
 use Rattle.sky_rules.specs.SkyWords.{Version, shared, own}
 use Rattle.sky_rules.specs.Partition.{Stripe, Partition, sky_end}
@@ -29,11 +29,6 @@ sky_on left = sky_of_lines (behind left) (said_lines left.lines)
 -- what these lines say under that version, a stripe each
 abbrev pub sky_left : Version → LinesLeft → Result Partition SkyFault
 sky_left version left = sky_under (behind left) version (said_lines left.lines)
-
--- the words that are left of a line, and none once all is cut off
-abbrev pub words_left : Option (List ℕ) → List (List ℕ)
-words_left None = []
-words_left (Some text) = slice_split (λ b. b == 32) text
 
 -- the numbers, where they are at most five
 abbrev pub at_most_five : List ℤ → Option (List ℤ)

@@ -2,7 +2,8 @@
 //!
 //! Each line that is no note is cut into its numbers (`numbers.rt`), which say a version or a stripe (`said.rt`); a
 //! stripe is judged by itself and by those before it (`stripes.rt`), and the first fault ends the reading.
-ghost use Rattle.std.specs.Prelude.{◌≡◌, ◌≤◌, ◌^◌, [], Ok, Err, IfOk, IfErr, length};
+ghost use Rattle.std.specs.Prelude.{◌≡◌, ◌≤◌, [], Ok, Err, IfOk, IfErr, length};
+ghost use Rattle.text_rules.specs.declared.limits.TheConstants.{TEXT_MOST};
 ghost use Rattle.sky_rules.specs.SkyText.{judged_version, sky_of};
 ghost use Rattle.sky_rules.specs.Limits.{IsSky};
 ghost use Rattle.sky_rules.specs.SkyWords.{version_on};
@@ -29,7 +30,7 @@ impl SkyPlan {
     /// is none, nothing is kept.
     #[tactic(auto, using(crate::proofs::SkyLines::sky_of_text, crate::proofs::SkyLines::text_within))]
     pub fn read(alloc: Global, text: &[u8]) -> Result<SkyPlan, Stop<SkyFault>>
-        requires { length text.now ≤ 2 ^ 29 }
+        requires { length text.now ≤ TEXT_MOST }
         ensures ok { IfOk result (λ plan. sky_of text.now ≡ Ok plan) }
         ensures bad { IfErr result (λ stop. IfBad stop (λ fault. sky_of text.now ≡ Err fault)) }
     {

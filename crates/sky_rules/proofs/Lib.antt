@@ -6,3 +6,4 @@ pub mod InStripe
 pub mod OnlyPlace
 pub mod Steps
 pub mod Accepted
+pub mod Ranges

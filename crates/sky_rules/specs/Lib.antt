@@ -1,4 +1,5 @@
 pub mod Partition
+pub mod Chunks
 pub mod Bounds
 pub mod SkyWords
 pub mod SkyText

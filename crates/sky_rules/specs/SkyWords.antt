@@ -1,8 +1,8 @@
 -- What a line of a sky text says, before it is judged.
-use Rattle.std.specs.Prelude.{ℕ, ◌==◌, ℤ, List, [], ◌∷◌, ◌++◌, map, codes, Option, None, Some, option_map, if◌then◌else◌}
-use Rattle.std.specs.List.{slice_split}
+use Rattle.std.specs.Prelude.{ℕ, ℤ, List, [], ◌∷◌, ◌++◌, map, codes, Option, None, Some, option_map, if◌then◌else◌}
 use Rattle.std.specs.Option.{option_and_then}
 use Rattle.std.specs.Str.{bytes_eq}
+use Rattle.text_rules.specs.Lines.{pieces}
 use Rattle.text_rules.specs.Numbers.{int_of}
 
 -- The two versions: in the first all stripes share one overlap, in the second each has its own.
@@ -31,7 +31,7 @@ numbers_after keyword (word ∷ rest) = if bytes_eq word keyword then all_there 
 
 -- the numbers of the line `KEYWORD NUMBER ..`
 abbrev pub numbers_on : List ℕ → List ℕ → Option (List ℤ)
-numbers_on keyword text = numbers_after keyword (slice_split (λ b. b == 32) text)
+numbers_on keyword text = numbers_after keyword (pieces 32 text)
 
 -- the version that shares the one number
 abbrev pub sharing : List ℤ → Option Version

@@ -6,17 +6,7 @@ use Rattle.std.proofs.lemmas.List.Splits.{slice_split_first, length-slice_split}
 use Rattle.std.proofs.lemmas.Grind.{common_steps}
 use Rattle.std.proofs.lemmas.List.{take_rest}
 use Rattle.std.proofs.lemmas.List.Sums.{prefix_len_stops}
-
--- the first place at which a test passes
-first_place : (p : ℕ → Bool) (text : List ℕ) (at : ℕ) → position p text ≡ Some at → (at ≡ position_or_len p text) × (position_or_len p text < length text)
-first_place p text at h = grind arith
-
-no_place : (p : ℕ → Bool) (text : List ℕ) → position p text ≡ None → length text ≤ position_or_len p text
-no_place p text h = grind arith
-
-none_passes : (p : ℕ → Bool) (text : List ℕ) → length text ≤ position_or_len p text → slice_split p text ≡ text ∷ []
-none_passes p [] h = refl
-none_passes p (x ∷ xs) h = grind (arith, none_passes p xs)
+use Rattle.sky_text.proofs.Places.{first_place, no_place, none_passes}
 
 -- a part before others is a line without its carriage return
 ended : (x : List ℕ) (parts : List (List ℕ)) → 0 < length parts → lines_of_parts (x ∷ parts) ≡ strip_carriage_return x ∷ lines_of_parts parts

@@ -1,1 +1,2 @@
 pub mod LineItems
+pub mod PiecesLeft

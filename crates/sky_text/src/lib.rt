@@ -1,4 +1,4 @@
-//! Numbers and lines of a text: read from bytes, and numbers written to a sink.
+//! Numbers, lines and words of a text: read from bytes, and numbers written to a sink.
 //!
 //! Callers see what is read by the definitions of `text_rules`, and what is written as bytes appended to the sink.
 //! Below: `text_rules` for what a number is, `sky_io` for the sink. Above: every reader and writer of a format.
@@ -8,11 +8,13 @@
 mod decimal4;
 pub mod lines;
 mod number;
+mod pieces;
 mod put;
 
 pub use decimal4::put_decimal4;
 pub use lines::{Line, Lines, is_note};
 pub use number::{read_int, read_natural, read_whole};
+pub use pieces::Pieces;
 pub use put::{put_count, put_int};
 
 #[cfg(test)]

@@ -3,7 +3,7 @@ ghost use Rattle.std.specs.Prelude.{◌≡◌, ◌≤◌, ◌==◌, length};
 ghost use Rattle.std.specs.Iterator.{YieldsFirstBy, item_count};
 ghost use Rattle.std.specs.Str.Lines.{strip_carriage_return};
 ghost use Rattle.std.specs.List.{list_all, position};
-ghost use Rattle.text_rules.specs.Lines.{begins_with_hash, is_blank, is_note, lines_of};
+ghost use Rattle.text_rules.specs.Lines.{begins_with_hash, is_note, is_space_or_tab, lines_of};
 ghost use Rattle.text_rules.specs.declared.limits.TheConstants.{TEXT_MOST};
 ghost use Rattle.sky_text.specs.LineItems.{line_of};
 
@@ -97,7 +97,7 @@ impl<'a> Iterator for Lines<'a> {
 }
 
 fn is_blank(text: &[u8]) -> bool
-    ensures { result ≡ list_all is_blank text.now }
+    ensures { result ≡ list_all is_space_or_tab text.now }
 {
     text.iter().all(|b| *b == b' ' || *b == b'\t')
 }

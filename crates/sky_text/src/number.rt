@@ -2,6 +2,9 @@
 ghost use Rattle.std.specs.Prelude.{◌≡◌, ◌≤◌};
 ghost use Rattle.std.specs.List.{list_all};
 ghost use Rattle.text_rules.specs.Numbers.{natural, whole_number, int_of, is_natural, is_digit};
+ghost use Rattle.text_rules.specs.declared.limits.TheConstants.{INT_DIGITS_MOST};
+
+use text_rules::limits::INT_DIGITS_MOST;
 
 fn is_digits(text: &[u8]) -> bool
     ensures { result ≡ list_all is_digit text.now }
@@ -19,7 +22,7 @@ fn is_natural(text: &[u8], most: usize) -> bool
 /// stand. Takes no memory.
 #[tactic(auto, using(crate::proofs::Digits::more_digits, crate::proofs::Digits::few_digits))]
 pub fn read_natural(text: &[u8], most: usize) -> Option<u64>
-    requires { most ≤ 19 }
+    requires { most ≤ INT_DIGITS_MOST }
     ensures { result ≡ natural most text.now }
 {
     if !is_natural(text, most) {
@@ -34,7 +37,7 @@ pub fn read_natural(text: &[u8], most: usize) -> Option<u64>
 
 /// The number of an optional minus and at most `most` digits, or `None` where the text is something else. Takes no memory.
 pub fn read_whole(text: &[u8], most: usize) -> Option<i128>
-    requires { most ≤ 19 }
+    requires { most ≤ INT_DIGITS_MOST }
     ensures { result ≡ whole_number most text.now }
 {
     match text {
@@ -48,5 +51,5 @@ pub fn read_whole(text: &[u8], most: usize) -> Option<i128>
 pub fn read_int(text: &[u8]) -> Option<i128>
     ensures { result ≡ int_of text.now }
 {
-    read_whole(text, 19)
+    read_whole(text, INT_DIGITS_MOST)
 }

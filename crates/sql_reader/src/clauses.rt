@@ -1,5 +1,6 @@
 //! Tables, and the clauses from WHERE on. One function reads one rule of the grammar.
-ghost use Rattle.std.specs.Prelude.{◌≡◌};
+ghost use Rattle.std.specs.Prelude.{◌≡◌, ◌-◌};
+ghost use Rattle.sql_rules.specs.declared.limits.TheConstants.{GROUP_COLUMNS_MOST};
 ghost use Rattle.sql_rules.specs.Symbols.{OfSign};
 ghost use Rattle.sql_rules.specs.Readers.{many, mark_at};
 ghost use Rattle.sql_rules.specs.ReadExprs.{col_at};
@@ -8,17 +9,14 @@ ghost use Rattle.sql_rules.specs.ReadQueries.{sorted_at, table_at, way_at, where
 ghost use Rattle.sql_token.specs.declared.sign.Sign.TheVariants as sign;
 ghost use Rattle.sql_reader.specs.Answers.{Gives, Shows};
 
-use crate::MOST_LEVELS;
 use crate::ahead::{Ahead, ReadStop};
 use crate::conds::cond;
 use crate::exprs::col;
+use sql_rules::limits::{GROUP_COLUMNS_MOST, LEVELS_MOST};
 use sql_token::{Keyword, Sign};
 use sql_tree::{Col, Cond, Name, OrderBy, TableRef};
 use sqlite_items::Items;
 use std::alloc::Global;
-
-// How many columns GROUP BY may have behind its first.
-const MOST_FURTHER: usize = 3;
 
 // The alias of a table, where one stands there.
 #[tactic(auto, unfolding(sql_rules::specs::ReadQueries::alias_at))]
@@ -74,19 +72,20 @@ pub(crate) fn where_clause<'a>(
     match ahead.after_key(Keyword::Where) {
         None => Ok((None, ahead.again())),
         Some(rest) => {
-            let (cond, rest) = cond(alloc, &rest, MOST_LEVELS)?;
+            let (cond, rest) = cond(alloc, &rest, LEVELS_MOST)?;
             Ok((Some(cond.into_inner()), rest))
         }
     }
 }
 
-// The columns behind commas, at most three.
+// The columns behind commas, as many as GROUP BY may have behind its first.
 fn more_cols<'a>(alloc: Global, ahead: &Ahead<'a>) -> Result<(Items<Col>, Ahead<'a>), ReadStop>
-    ensures { Gives (many (mark_at (OfSign sign.Comma)) (λ _. col_at) 3 ahead.now) result }
+    ensures { Gives (many (mark_at (OfSign sign.Comma)) (λ _. col_at) (GROUP_COLUMNS_MOST - 1)
+        ahead.now) result }
 {
     let mut found = Items::new(alloc);
     let mut rest = ahead.again();
-    for turn in 0..MOST_FURTHER {
+    for turn in 0..GROUP_COLUMNS_MOST - 1 {
         match rest.after_sign(Sign::Comma) {
             None => return Ok((found, rest)),
             Some(next) => {

@@ -8,9 +8,9 @@ ghost use Rattle.sql_token.specs.declared.sign.Sign.TheVariants as sign;
 ghost use Rattle.sql_reader.specs.Answers.{Gives};
 ghost use Rattle.sql_reader.specs.Calls.{called_at, kind_by};
 
-use crate::MOST_LEVELS;
 use crate::ahead::{Ahead, ReadStop, beside};
 use crate::exprs::expr;
+use sql_rules::limits::LEVELS_MOST;
 use sql_token::{Keyword, Sign, Span};
 use sql_tree::{Expr, Item, ItemKind, ItemList, Name, Selection};
 use sqlite_items::Items;
@@ -48,7 +48,7 @@ fn argument<'a>(
 ) -> Result<(ItemKind, Ahead<'a>), ReadStop>
     ensures { Gives (argument_at (kind_by call) ahead.now) result }
 {
-    let (e, rest) = expr(alloc, ahead, MOST_LEVELS)?;
+    let (e, rest) = expr(alloc, ahead, LEVELS_MOST)?;
     match rest.after_sign(Sign::Close) {
         Some(rest) => Ok((kind_by(call, e), rest)),
         None => Err(ReadStop::Syntax),
@@ -98,7 +98,7 @@ fn called<'a>(
 fn plain<'a>(alloc: Global, ahead: &Ahead<'a>) -> Result<(ItemKind, Ahead<'a>), ReadStop>
     ensures { Gives (plain_at ahead.now) result }
 {
-    let (e, rest) = expr(alloc, ahead, MOST_LEVELS)?;
+    let (e, rest) = expr(alloc, ahead, LEVELS_MOST)?;
     Ok((ItemKind::Plain(e), rest))
 }
 

@@ -18,6 +18,3 @@ mod tests;
 
 pub use query::read;
 pub use sql_rules::SqlFault;
-
-/// How many expressions may stand one in another: an outermost one, and one in each of 32 brackets.
-pub(crate) const MOST_LEVELS: u32 = 33;

@@ -18,6 +18,7 @@ use Rattle.sql_tree.specs.declared.query.Query.{Query}
 use Rattle.sql_tree.specs.declared.query.Selection.{Selection}
 use Rattle.sql_tree.specs.declared.query.Selection.TheVariants as selection
 use Rattle.sql_tree.specs.declared.query.TableRef.{TableRef}
+use Rattle.sql_rules.specs.declared.limits.TheConstants.{GROUP_COLUMNS_MOST}
 use Rattle.sql_rules.specs.Symbols.{Named, Number, of_keyword, of_sign, symbols}
 use Rattle.sql_rules.specs.Spelling.{Symbols, optional, led_by, bracketed, spell_col, spell_expr}
 use Rattle.sql_rules.specs.SpellingConds.{spell_cond}
@@ -118,5 +119,5 @@ StarStands ts (selection.List l) = ⊤
 pub record Spells (text : List ℕ) (ts : List Token) (q : Query) : Type 0 where
   pub words : FreeWords
   pub spelled : symbols text ts ≡ spell_query words q
-  pub columns : length q.group ≤ 4
+  pub columns : length q.group ≤ GROUP_COLUMNS_MOST
   pub star : StarStands ts q.items

@@ -1,5 +1,5 @@
 -- Reading a query: one function for each rule of the grammar.
-use Rattle.std.specs.Prelude.{Bool, true, false, List, [], ◌∷◌, Option, None, Some, ℤ}
+use Rattle.std.specs.Prelude.{◌-◌, Bool, true, false, List, [], ◌∷◌, Option, None, Some, ℤ}
 use Rattle.sql_token.specs.declared.keyword.Keyword.{Keyword}
 use Rattle.sql_token.specs.declared.keyword.Keyword.TheVariants as keyword
 use Rattle.sql_token.specs.declared.sign.Sign.TheVariants as sign
@@ -15,6 +15,7 @@ use Rattle.sql_tree.specs.declared.query.OrderBy.{OrderBy}
 use Rattle.sql_tree.specs.declared.query.Selection.{Selection}
 use Rattle.sql_tree.specs.declared.query.Selection.TheVariants as selection
 use Rattle.sql_tree.specs.declared.query.TableRef.{TableRef}
+use Rattle.sql_rules.specs.declared.limits.TheConstants.{GROUP_COLUMNS_MOST, LEVELS_MOST}
 use Rattle.sql_rules.specs.Symbols.{OfKeyword, OfSign}
 use Rattle.sql_rules.specs.Readers.{Reader, Answer, Got, ◌>>=◌, either, mark_at, name_at, number_at, maybe_at}
 use Rattle.sql_rules.specs.Readers.{many, each}
@@ -24,7 +25,7 @@ use Rattle.sql_rules.specs.ReadConds.{cond_at}
 -- expr )
 unfoldable pub argument_at : (Expr → ItemKind) → Reader ItemKind
 argument_at make ts =
-    expr_at 33 ts >>= λ e us. mark_at (OfSign sign.Close) us >>= λ _ rest. Got (make e) rest
+    expr_at LEVELS_MOST ts >>= λ e us. mark_at (OfSign sign.Close) us >>= λ _ rest. Got (make e) rest
 
 -- what follows COUNT ( : * ) | expr )
 unfoldable pub counted_at : Reader ItemKind
@@ -39,7 +40,7 @@ call_at word inner other ts =
 
 -- an expression, as an item
 unfoldable pub plain_at : Reader ItemKind
-plain_at ts = expr_at 33 ts >>= λ e rest. Got (what.Plain e) rest
+plain_at ts = expr_at LEVELS_MOST ts >>= λ e rest. Got (what.Plain e) rest
 
 -- expr | MAX ( expr ) | AVG ( expr )
 unfoldable pub high_at : Reader ItemKind
@@ -91,13 +92,13 @@ second_at ts =
 -- [WHERE cond]
 unfoldable pub where_at : Reader (Option Cond)
 where_at ts =
-    either (mark_at (OfKeyword keyword.Where) ts) (λ _ us. cond_at 33 us >>= λ c rest. Got (Some c) rest) (Got None ts)
+    either (mark_at (OfKeyword keyword.Where) ts) (λ _ us. cond_at LEVELS_MOST us >>= λ c rest. Got (Some c) rest) (Got None ts)
 
 -- col [, col] [, col] [, col]
 unfoldable pub cols_at : Reader (List Col)
 cols_at ts =
     col_at ts >>= λ c us.
-    many (mark_at (OfSign sign.Comma)) (λ _. col_at) 3 us >>= λ cs rest.
+    many (mark_at (OfSign sign.Comma)) (λ _. col_at) (GROUP_COLUMNS_MOST - 1) us >>= λ cs rest.
     Got (c ∷ cs) rest
 
 -- [GROUP BY col [, col] [, col] [, col]]

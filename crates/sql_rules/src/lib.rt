@@ -9,5 +9,6 @@
 pub mod examples;
 pub mod fault;
 pub mod laws;
+pub mod limits;
 
 pub use fault::SqlFault;

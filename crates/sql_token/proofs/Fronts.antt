@@ -4,7 +4,7 @@ use Rattle.std.specs.List.{list_all, prefix_len}
 use Rattle.text_rules.specs.Numbers.{is_digit}
 use Rattle.sql_token.specs.declared.token.TokenKind.{TokenKind}
 use Rattle.sql_token.specs.declared.token.TokenKind.TheVariants as kind
-use Rattle.sql_token.specs.Bytes.{begins_word, continues_word}
+use Rattle.text_rules.specs.Words.{begins_word, continues_word}
 use Rattle.sql_token.specs.Laws.{IsShaped, is_word, sign_of}
 use Rattle.sql_token.specs.Signs.{long_sign, short_sign}
 use Rattle.sql_token.proofs.Spelled.{spelled_is}

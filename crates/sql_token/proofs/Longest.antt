@@ -6,7 +6,7 @@ use Rattle.sql_token.specs.declared.sign.Sign.{Sign}
 use Rattle.sql_token.specs.declared.token.Token.{Token}
 use Rattle.sql_token.specs.declared.token.TokenKind.{TokenKind}
 use Rattle.sql_token.specs.declared.token.TokenKind.TheVariants as kind
-use Rattle.sql_token.specs.Bytes.{begins_word, continues_word}
+use Rattle.text_rules.specs.Words.{begins_word, continues_word}
 use Rattle.sql_token.specs.Faults.{TokenFault}
 use Rattle.sql_token.specs.Keywords.{keyword_of}
 use Rattle.sql_token.specs.Laws.{IsShaped}

@@ -6,7 +6,7 @@ use Rattle.text_rules.specs.Numbers.{is_digit}
 use Rattle.sql_token.specs.declared.sign.Sign.{Sign}
 use Rattle.sql_token.specs.declared.token.Token.{Token}
 use Rattle.sql_token.specs.declared.token.TokenKind.{TokenKind}
-use Rattle.sql_token.specs.Bytes.{begins_word, continues_word}
+use Rattle.text_rules.specs.Words.{begins_word, continues_word}
 use Rattle.sql_token.specs.Faults.{TokenFault}
 use Rattle.sql_token.specs.Signs.{long_sign, short_sign}
 use Rattle.sql_token.specs.Tokens.{token, word_at, int_at, int_token, short_at, long_at, sign_at, token_at}

@@ -6,7 +6,7 @@ use Rattle.std.specs.Str.{bytes_eq, str_to_ascii_lowercase}
 use Rattle.std.proofs.lemmas.Slice.Eq.{bytes_eq-Decides}
 use Rattle.sql_token.specs.declared.keyword.Keyword.{Keyword}
 use Rattle.sql_token.specs.declared.keyword.Keyword.TheVariants as keyword
-use Rattle.sql_token.specs.Bytes.{begins_word, continues_word}
+use Rattle.text_rules.specs.Words.{begins_word, continues_word}
 use Rattle.sql_token.specs.Keywords.{is_spelled, keyword_of, keywords, spelling}
 use Rattle.sql_token.specs.Laws.{is_word}
 

@@ -8,7 +8,7 @@ use Rattle.text_rules.specs.Numbers.{is_digit, value_after}
 use Rattle.sql_token.specs.declared.sign.Sign.{Sign}
 use Rattle.sql_token.specs.declared.token.Token.{Token}
 use Rattle.sql_token.specs.declared.token.TokenKind.TheVariants as kind
-use Rattle.sql_token.specs.Bytes.{begins_word}
+use Rattle.text_rules.specs.Words.{begins_word}
 use Rattle.sql_token.specs.Faults.{TokenFault, BadByte, Literal, TooMany, Depth}
 use Rattle.sql_token.specs.Signs.{long_sign, short_sign}
 use Rattle.sql_token.specs.Tokens.{word_at, int_at, int_token, small_int, short_at, long_at, sign_at, token_at}

@@ -1,8 +1,8 @@
 -- Where a fault of a text stands in it: tokens stand up to it, and there none begins, or an int that is too large.
-use Rattle.std.specs.Prelude.{◌≡◌, ℕ, ◌<◌, ◌≤◌, false, List, [], ◌∷◌, length, slice_index, slice_range, IsTrue, ◌-◌, ◌^◌}
+use Rattle.std.specs.Prelude.{◌≡◌, ℕ, ◌<◌, ◌≤◌, false, List, [], ◌∷◌, length, slice_index, slice_range, IsTrue}
 use Rattle.std.specs.List.{list_all}
 use Rattle.text_rules.specs.Numbers.{is_digit, value_after}
-use Rattle.sql_token.specs.declared.limits.TheConstants.{TOKENS_MOST}
+use Rattle.sql_token.specs.declared.limits.TheConstants.{INT_MOST, TOKENS_MOST}
 use Rattle.sql_token.specs.declared.token.Token.{Token}
 use Rattle.sql_token.specs.declared.token.TokenKind.{TokenKind}
 use Rattle.sql_token.specs.Bytes.{is_blank}
@@ -37,7 +37,7 @@ pub record IsLargeInt (text : List ℕ) (place : ℕ) : Type 0 where
   pub within : to ≤ length text
   pub digits : IsTrue (list_all is_digit (slice_range text place to))
   pub longest : NoneBehind text place to
-  pub large : 2 ^ 63 - 1 < value_after 0 (slice_range text place to)
+  pub large : INT_MOST < value_after 0 (slice_range text place to)
 
 -- The text is tokens, and they are more than 2,048.
 pub record IsTooMany (text : List ℕ) : Type 0 where

@@ -1,13 +1,15 @@
 -- Where the tokens of a text stand in it, and which bytes write them.
 use Rattle.std.specs.Prelude.{◌≡◌, ℕ, ◌<◌, ◌≤◌, Bool, false, ◌&&◌, List, [], ◌∷◌, length, drop, slice_range, pos}
-use Rattle.std.specs.Prelude.{Option, None, Some, IsTrue, ◌-◌, ◌^◌}
+use Rattle.std.specs.Prelude.{Option, None, Some, IsTrue}
 use Rattle.std.specs.List.{list_all}
 use Rattle.text_rules.specs.Numbers.{is_digit, value_after}
+use Rattle.sql_token.specs.declared.limits.TheConstants.{INT_MOST}
 use Rattle.sql_token.specs.declared.sign.Sign.{Sign}
 use Rattle.sql_token.specs.declared.token.Token.{Token}
 use Rattle.sql_token.specs.declared.token.TokenKind.{TokenKind}
 use Rattle.sql_token.specs.declared.token.TokenKind.TheVariants as kind
-use Rattle.sql_token.specs.Bytes.{is_blank, begins_word, continues_word}
+use Rattle.text_rules.specs.Words.{begins_word, continues_word}
+use Rattle.sql_token.specs.Bytes.{is_blank}
 use Rattle.sql_token.specs.Keywords.{is_spelled, keyword_of}
 use Rattle.sql_token.specs.Signs.{long_sign, short_sign}
 
@@ -31,7 +33,7 @@ IsShaped (kind.Sign s) bytes = sign_of bytes ≡ Some s
 
 -- the bytes write a token of the kind: they have its shape, and an int is at most 2^63 - 1
 abbrev pub IsWritten : TokenKind → List ℕ → Type 0
-IsWritten (kind.Int z) bytes = IsShaped (kind.Int z) bytes × (value_after 0 bytes ≤ 2 ^ 63 - 1)
+IsWritten (kind.Int z) bytes = IsShaped (kind.Int z) bytes × (value_after 0 bytes ≤ INT_MOST)
 IsWritten k bytes = IsShaped k bytes
 
 -- The token is the first one from a place on: it stands behind blanks alone, its bytes write it, and no more

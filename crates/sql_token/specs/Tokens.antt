@@ -1,16 +1,17 @@
 -- The tokens of a text, with their places, or the text's first fault.
-use Rattle.std.specs.Prelude.{ℕ, zero, suc, ◌+◌, ◌-◌, ◌^◌, Bool, true, false, ◌&&◌, nat_le, nat_lt, if◌then◌else◌}
+use Rattle.std.specs.Prelude.{ℕ, zero, suc, ◌+◌, ◌-◌, Bool, true, false, ◌&&◌, nat_le, nat_lt, if◌then◌else◌}
 use Rattle.std.specs.Prelude.{List, [], ◌∷◌, length, take_while, Option, None, Some, Result, Ok, Err, ℤ, pos}
 use Rattle.std.specs.List.{prefix_len}
 use Rattle.text_rules.specs.Numbers.{is_digit, value_after}
-use Rattle.sql_token.specs.declared.limits.TheConstants.{TOKENS_MOST, BRACKETS_MOST}
+use Rattle.sql_token.specs.declared.limits.TheConstants.{BRACKETS_MOST, INT_MOST, TOKENS_MOST}
 use Rattle.sql_token.specs.declared.keyword.Keyword.{Keyword}
 use Rattle.sql_token.specs.declared.sign.Sign.{Sign}
 use Rattle.sql_token.specs.declared.sign.Sign.TheVariants as sign
 use Rattle.sql_token.specs.declared.token.Token.{Token}
 use Rattle.sql_token.specs.declared.token.TokenKind.{TokenKind}
 use Rattle.sql_token.specs.declared.token.TokenKind.TheVariants as kind
-use Rattle.sql_token.specs.Bytes.{is_blank, begins_word, continues_word}
+use Rattle.text_rules.specs.Words.{begins_word, continues_word}
+use Rattle.sql_token.specs.Bytes.{is_blank}
 use Rattle.sql_token.specs.Keywords.{keyword_of}
 use Rattle.sql_token.specs.Signs.{long_sign, short_sign}
 use Rattle.sql_token.specs.Faults.{TokenFault, BadByte, Literal, TooMany, Depth}
@@ -32,7 +33,7 @@ word_at place text =
 
 -- a number as an int, where it is at most 2^63 - 1
 abbrev pub small_int : ℕ → Option ℤ
-small_int n = if nat_le n (2 ^ 63 - 1) then Some (pos n) else None
+small_int n = if nat_le n INT_MOST then Some (pos n) else None
 
 -- the token of an int of so many bytes, where its number is small enough
 abbrev pub int_token : (place bytes : ℕ) → Option ℤ → Result Token TokenFault

@@ -2,7 +2,8 @@
 ghost use Rattle.std.specs.Prelude.{◌≡◌, ◌≤◌, length};
 ghost use Rattle.std.specs.List.{prefix_len};
 ghost use Rattle.text_rules.specs.Numbers.{is_digit};
-ghost use Rattle.sql_token.specs.Bytes.{is_blank, begins_word, continues_word};
+ghost use Rattle.text_rules.specs.Words.{begins_word, continues_word};
+ghost use Rattle.sql_token.specs.Bytes.{is_blank};
 
 fn is_blank(byte: u8) -> bool
     ensures { result ≡ is_blank byte }

@@ -5,3 +5,6 @@ pub const TOKENS_MOST: usize = 2048;
 
 /// The most brackets that may be open at a place.
 pub const BRACKETS_MOST: u32 = 32;
+
+/// The largest int.
+pub const INT_MOST: u64 = (1 << 63) - 1;

@@ -1,26 +1,18 @@
 -- The names of the columns of the object table.
-use Rattle.std.specs.Prelude.{ℕ, Bool, false, not, ◌&&◌, ◌||◌, ◌==◌, List, [], ◌∷◌, ◌++◌, length, codes, Option, nat_le, nat_lt}
-use Rattle.std.specs.Char.{is_ascii_alphabetic, is_ascii_digit}
+use Rattle.std.specs.Prelude.{ℕ, Bool, false, not, ◌&&◌, List, [], ◌∷◌, ◌++◌, length, codes, Option, nat_le, nat_lt}
 use Rattle.std.specs.List.{list_all, list_any, position}
-use Rattle.std.specs.Str.{byte, bytes_eq}
+use Rattle.std.specs.Str.{bytes_eq}
+use Rattle.text_rules.specs.Words.{begins_word, continues_word}
 use Rattle.table_rules.specs.declared.limits.TheConstants.{COLUMNS_MOST, NAME_MOST}
 
--- a name begins with the byte: it is a letter of ASCII or an underscore
-abbrev pub begins_name : ℕ → Bool
-begins_name b = is_ascii_alphabetic b || (b == byte "_")
-
--- a name goes on with the byte: it is a letter, an underscore or a digit
-abbrev pub continues_name : ℕ → Bool
-continues_name b = begins_name b || is_ascii_digit b
-
--- the text has a first byte, and a name begins with it
+-- the text has a first byte, and a word begins with it
 abbrev pub begins_as_a_name : List ℕ → Bool
 begins_as_a_name [] = false
-begins_as_a_name (b ∷ bs) = begins_name b
+begins_as_a_name (b ∷ bs) = begins_word b
 
 -- the text is a name: a letter or an underscore, then letters, digits and underscores, 1 to 32 bytes in all
 abbrev pub is_name : List ℕ → Bool
-is_name text = begins_as_a_name text && list_all continues_name text && nat_le (length text) NAME_MOST
+is_name text = begins_as_a_name text && list_all continues_word text && nat_le (length text) NAME_MOST
 
 -- the names of the columns that every catalogue has
 abbrev pub first_names : List (List ℕ)

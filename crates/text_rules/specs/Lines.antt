@@ -1,6 +1,6 @@
--- The lines of a text, and which of them are notes.
+-- The lines and the pieces of a text, and which lines are notes.
 use Rattle.std.specs.Prelude.{ℕ, ◌+◌, ◌==◌, Bool, false, ◌||◌, List, [], ◌∷◌}
-use Rattle.std.specs.List.{list_all}
+use Rattle.std.specs.List.{list_all, slice_split}
 use Rattle.std.specs.Str.Lines.{lines}
 
 -- A line: its number, from 1, and its text without the end of the line.
@@ -18,9 +18,13 @@ numbered n (text ∷ rest) = record { number = n; text = text } ∷ numbered (n 
 abbrev pub lines_of : List ℕ → List Line
 lines_of bs = numbered 1 (lines bs)
 
+-- the pieces of a text between the bytes b: there is one more of them than there are such bytes, and a piece may be empty
+abbrev pub pieces : ℕ → List ℕ → List (List ℕ)
+pieces b bs = slice_split (λ x. x == b) bs
+
 -- a byte is a space or a tab
-abbrev pub is_blank : ℕ → Bool
-is_blank b = (b == 32) || (b == 9)
+abbrev pub is_space_or_tab : ℕ → Bool
+is_space_or_tab b = (b == 32) || (b == 9)
 
 -- the text begins with #
 abbrev pub begins_with_hash : List ℕ → Bool
@@ -29,4 +33,4 @@ begins_with_hash (b ∷ bs) = b == 35
 
 -- the line is passed over: it is spaces and tabs alone, or its first byte is #
 abbrev pub is_note : List ℕ → Bool
-is_note text = list_all is_blank text || begins_with_hash text
+is_note text = list_all is_space_or_tab text || begins_with_hash text

@@ -4,6 +4,7 @@ use Rattle.std.specs.Prelude.{Option, None, Some, option_map, if◌then◌else�
 use Rattle.std.specs.Prelude.{ℤ, pos, negsuc, neg_ℤ}
 use Rattle.std.specs.List.{list_all}
 use Rattle.std.specs.Fmt.{decimal}
+use Rattle.text_rules.specs.declared.limits.TheConstants.{INT_DIGITS_MOST}
 
 -- a byte is one of 0 to 9
 abbrev pub is_digit : ℕ → Bool
@@ -31,7 +32,7 @@ whole_number most (b ∷ bs) =
 
 -- the number of a sky plan or of a catalogue's field: an optional minus and 1 to 19 digits
 abbrev pub int_of : List ℕ → Option ℤ
-int_of bs = whole_number 19 bs
+int_of bs = whole_number INT_DIGITS_MOST bs
 
 -- a number below 10,000 in exactly four digits
 abbrev pub four_digits : ℕ → List ℕ

@@ -1,8 +1,9 @@
-//! Worked examples of lines and numbers, computed by the checker.
+//! Worked examples of lines, pieces, words and numbers, computed by the checker.
 
-ghost use Rattle.std.specs.Prelude.{◌≡◌, [], ◌∷◌, ◌++◌, codes, false, true, pos, negsuc};
-ghost use Rattle.text_rules.specs.Lines.{is_note, lines_of};
-ghost use Rattle.text_rules.specs.Numbers.{four_decimals};
+ghost use Rattle.std.specs.Prelude.{◌≡◌, [], ◌∷◌, ◌++◌, None, Some, codes, false, map, true, pos, negsuc};
+ghost use Rattle.text_rules.specs.Lines.{is_note, lines_of, pieces};
+ghost use Rattle.text_rules.specs.Numbers.{four_decimals, int_of};
+ghost use Rattle.text_rules.specs.Words.{begins_word, continues_word};
 
 /// A carriage return before a line feed is dropped, an empty line is one, and a last line without its line feed keeps its
 /// carriage return.
@@ -24,6 +25,31 @@ pub fn notes()
     ensures empty { is_note [] ≡ true }
     ensures hash { is_note (codes "# sky") ≡ true }
     ensures later { is_note (codes " # sky") ≡ false }
+{}
+
+/// Between two bytes side by side, and before and behind one at an end, stands an empty piece; of no bytes it is the only one.
+pub fn pieces_of_texts()
+    ensures words { pieces 32 (codes " a  b") ≡ [] ∷ codes "a" ∷ [] ∷ codes "b" ∷ [] }
+    ensures end { pieces 10 (codes "a\n") ≡ codes "a" ∷ [] ∷ [] }
+    ensures nothing { pieces 32 [] ≡ [] ∷ [] }
+{}
+
+/// The bytes beside a letter, an underscore and a digit are of no word, and no word begins with a digit.
+pub fn bytes_of_words()
+    ensures small { map begins_word (codes "`az{") ≡ false ∷ true ∷ true ∷ false ∷ [] }
+    ensures large { map begins_word (codes "@AZ[") ≡ false ∷ true ∷ true ∷ false ∷ [] }
+    ensures others { map begins_word (codes "_059") ≡ true ∷ false ∷ false ∷ false ∷ [] }
+    ensures behind { map continues_word (codes "_09z") ≡ true ∷ true ∷ true ∷ true ∷ [] }
+    ensures none { map continues_word (codes "/:.-") ≡ false ∷ false ∷ false ∷ false ∷ [] }
+{}
+
+/// A number of 19 digits is read, with a minus too, and leading zeros count as digits; one of 20 is not, nor a plus.
+pub fn numbers_of_texts()
+    ensures longest { int_of (codes "9999999999999999999") ≡ Some (pos 9999999999999999999) }
+    ensures minus { int_of (codes "-0000000000000000012") ≡ Some (negsuc 11) }
+    ensures long { int_of (codes "00000000000000000012") ≡ None }
+    ensures plus { int_of (codes "+1") ≡ None }
+    ensures sign { int_of (codes "-") ≡ None }
 {}
 
 /// A mean of -1, 0 and 0 is -0.3333, and the four digits keep their zeros.

@@ -1,4 +1,4 @@
-//! The limits of texts, in bytes: each stands here once, and definitions and code cite it.
+//! The limits of texts: each stands here once, and definitions and code cite it.
 
 /// The most bytes of a catalogue, and of any text that is cut into lines or records.
 pub const TEXT_MOST: usize = 1 << 29;
@@ -11,3 +11,9 @@ pub const SCRIPT_TEXT_MOST: usize = 1 << 23;
 
 /// The most bytes of a line of a script, and so of a query.
 pub const QUERY_TEXT_MOST: usize = 1 << 14;
+
+/// The most queries of a script, which are numbered from 1.
+pub const QUERIES_MOST: u32 = 255;
+
+/// The most digits of a number of a sky plan or of a catalogue.
+pub const INT_DIGITS_MOST: usize = 19;

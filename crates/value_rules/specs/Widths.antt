@@ -1,5 +1,6 @@
 -- How large the numbers of an expression can be, from its text alone.
-use Rattle.std.specs.Prelude.{ℕ, ◌+◌, ◌*◌, ◌^◌, ◌≤◌, ℤ, nat_abs, max, Option, None, Some}
+use Rattle.std.specs.Prelude.{ℕ, ◌+◌, ◌*◌, ◌≤◌, ℤ, nat_abs, max, Option, None, Some}
+use Rattle.sky_vector.specs.declared.limits.TheConstants.{NUMBER_MOST}
 use Rattle.table_rules.specs.Objects.{column_bound}
 use Rattle.sql_bound.specs.declared.expr.BoundExpr.{BoundExpr}
 use Rattle.value_rules.specs.Terms.{Term, Number, Column, Minus, Plus, Less, Times, term_of}
@@ -37,4 +38,4 @@ IsOfSize n (Some z) = nat_abs z ≤ n
 
 -- no number that a query computes is above 2^100 in size
 abbrev pub most : ℕ
-most = 2 ^ 100
+most = NUMBER_MOST

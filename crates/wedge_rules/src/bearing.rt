@@ -2,6 +2,7 @@
 //! and its step there is a quotient.
 
 ghost use Rattle.std.specs.Prelude.{◌≡◌, ◌*◌, ◌^◌, ◌<◌, ◌≤◌, pos, neg_ℤ, ◌<ℤ◌, ◌≤ℤ◌, ◌⊎◌};
+ghost use Rattle.sky_vector.specs.declared.limits.TheConstants.{PART_MOST};
 ghost use Rattle.wedge_rules.specs.Wedge.{InWedge, IsWedgeCount};
 ghost use Rattle.wedge_rules.specs.Bearing.{IsBearing, wedge_at};
 
@@ -11,7 +12,7 @@ use sky_vector::Pos;
 #[tactic(auto, unfolding(crate::specs::Bearing::wedge_at, crate::specs::Bearing::from_middle))]
 fn turned_wedge(wedges: u64, ahead: i64, side: i64, turned: u64) -> u64
     requires few { wedges ≤ 2 ^ 32 }
-    requires near { ahead ≤ℤ pos (2 ^ 29) }
+    requires near { ahead ≤ℤ pos PART_MOST }
     requires left { neg_ℤ ahead ≤ℤ side }
     requires right { side <ℤ ahead }
     requires turned { turned ≤ 6 * wedges }
@@ -29,10 +30,10 @@ fn turned_wedge(wedges: u64, ahead: i64, side: i64, turned: u64) -> u64
 fn bearing(wedges: u64, x: i64, y: i64) -> u64
     requires some { 3 ≤ wedges }
     requires few { wedges ≤ 2 ^ 32 }
-    requires x_low { neg_ℤ (pos (2 ^ 29)) ≤ℤ x }
-    requires x_high { x ≤ℤ pos (2 ^ 29) }
-    requires y_low { neg_ℤ (pos (2 ^ 29)) ≤ℤ y }
-    requires y_high { y ≤ℤ pos (2 ^ 29) }
+    requires x_low { neg_ℤ (pos PART_MOST) ≤ℤ x }
+    requires x_high { x ≤ℤ pos PART_MOST }
+    requires y_low { neg_ℤ (pos PART_MOST) ≤ℤ y }
+    requires y_high { y ≤ℤ pos PART_MOST }
     requires off_axis { ((x <ℤ pos 0) ⊎ (pos 0 <ℤ x)) ⊎ ((y <ℤ pos 0) ⊎ (pos 0 <ℤ y)) }
     ensures { IsBearing wedges result x y }
 {

@@ -1,6 +1,7 @@
 //! The direction of a wedge, by the five parts of the walk round the square.
 
 ghost use Rattle.std.specs.Prelude.{◌≡◌, ◌+◌, ◌^◌, ◌≤◌, ◌-ℤ◌, pos};
+ghost use Rattle.sky_vector.specs.declared.limits.TheConstants.{PART_MOST};
 ghost use Rattle.wedge_rules.specs.Heading.{direction_shown, heading};
 
 use sky_vector::Dir;
@@ -11,8 +12,8 @@ fn of_steps(right: u64, left: u64, up: u64, down: u64) -> Dir
     requires left { left ≤ 2 ^ 33 }
     requires up { up ≤ 2 ^ 33 }
     requires down { down ≤ 2 ^ 33 }
-    requires x { (left ≤ right + 2 ^ 29) × (right ≤ left + 2 ^ 29) }
-    requires y { (down ≤ up + 2 ^ 29) × (up ≤ down + 2 ^ 29) }
+    requires x { (left ≤ right + PART_MOST) × (right ≤ left + PART_MOST) }
+    requires y { (down ≤ up + PART_MOST) × (up ≤ down + PART_MOST) }
     ensures x { result.dx ≡ pos right -ℤ pos left }
     ensures y { result.dy ≡ pos up -ℤ pos down }
 {
@@ -26,7 +27,7 @@ fn of_steps(right: u64, left: u64, up: u64, down: u64) -> Dir
 /// ends where wedge 0 begins. Takes no memory.
 #[tactic(auto, unfolding(crate::specs::Heading::heading, crate::specs::Heading::walk))]
 pub fn direction_of(wedges: u32, k: u32) -> Dir
-    requires few { wedges ≤ 2 ^ 29 }
+    requires few { wedges ≤ PART_MOST }
     requires there { k ≤ wedges }
     ensures { direction_shown result ≡ heading wedges k }
 {

@@ -1,6 +1,7 @@
 //! The lines of a sky text that are no notes, one by one.
-ghost use Rattle.std.specs.Prelude.{◌≡◌, ◌≤◌, ◌^◌, [], ◌∷◌, IfNone, IfSome, length};
+ghost use Rattle.std.specs.Prelude.{◌≡◌, ◌≤◌, [], ◌∷◌, IfNone, IfSome, length};
 ghost use Rattle.text_rules.specs.Lines.{lines_of};
+ghost use Rattle.text_rules.specs.declared.limits.TheConstants.{TEXT_MOST};
 ghost use Rattle.sky_text.specs.LineItems.{line_of};
 ghost use Rattle.sky_plan.specs.Reading.{behind, said_lines};
 
@@ -16,21 +17,22 @@ pub(crate) struct PlanLines<'a> {
 }
 
 impl<'a> Model for PlanLines<'a> {
-    ghost use Rattle.std.specs.Prelude.{◌+◌, ◌≤◌, ◌^◌, length};
+    ghost use Rattle.std.specs.Prelude.{◌+◌, ◌≤◌, length};
+    ghost use Rattle.text_rules.specs.declared.limits.TheConstants.{TEXT_MOST};
     ghost use Rattle.sky_plan.specs.Reading.{LinesLeft};
 
     ghost Value = { LinesLeft };
 
     ghost view = { λ l. record { lines = l.lines; number = l.number } };
 
-    ghost invariant = { λ l. l.number + length l.lines ≤ 2 ^ 29 + 1 };
+    ghost invariant = { λ l. l.number + length l.lines ≤ TEXT_MOST + 1 };
 }
 
 impl<'a> PlanLines<'a> {
     /// All lines of a text of at most 2^29 bytes.
     #[tactic(auto, using(crate::proofs::LineCounts::few_lines))]
     pub(crate) fn new(text: &'a [u8]) -> PlanLines<'a>
-        requires { length text.now ≤ 2 ^ 29 }
+        requires { length text.now ≤ TEXT_MOST }
         ensures { result ≡ record { lines = lines_of text.now; number = 1 } }
     {
         PlanLines {

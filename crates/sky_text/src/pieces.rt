@@ -1,25 +1,26 @@
 //! The pieces of a text between equal bytes, cut off one by one.
 ghost use Rattle.std.specs.Prelude.{◌≡◌, [], ◌∷◌, IfNone, IfSome, ◌==◌, IsTrue, ◌↔◌};
 ghost use Rattle.std.specs.List.{position};
-ghost use Rattle.czar.specs.NarrowLines.{pieces};
+ghost use Rattle.text_rules.specs.Lines.{pieces};
 
 use std::marker::Model;
 
-/// What is left of a text, of which pieces are cut off in front.
+/// The pieces that are left of a text: what stands before, between and behind the bytes that part them, each of which may
+/// be empty.
 #[derive(Drop)]
-pub struct Cutter<'a> {
+pub struct Pieces<'a> {
     rest: Option<&'a [u8]>,
     by: u8,
 }
 
-impl<'a> Model for Cutter<'a> {
+impl<'a> Model for Pieces<'a> {
     ghost use Rattle.std.specs.Prelude.{ℕ, List};
     ghost use Rattle.std.specs.Option.{option_copied};
-    ghost use Rattle.czar.specs.Cut.{left_of};
+    ghost use Rattle.sky_text.specs.PiecesLeft.{left_of};
 
     ghost Value = { List (List ℕ) };
 
-    ghost view = { λ c. left_of c.by (option_copied c.rest) };
+    ghost view = { λ p. left_of p.by (option_copied p.rest) };
 }
 
 /// Where the byte first stands, from 0.
@@ -29,19 +30,19 @@ fn place_of(text: &[u8], by: u8) -> Option<usize>
     text.iter().position(|b| *b == by)
 }
 
-impl<'a> Cutter<'a> {
-    /// All pieces of the text. Takes no memory.
-    pub fn new(text: &'a [u8], by: u8) -> Cutter<'a>
+impl<'a> Pieces<'a> {
+    /// All pieces of the text between the bytes `by`. Takes no memory.
+    pub fn new(text: &'a [u8], by: u8) -> Pieces<'a>
         ensures { result ≡ pieces by text.now }
     {
-        Cutter {
+        Pieces {
             rest: Some(text),
             by,
         }
     }
 
     /// Cuts off the first piece, or answers `None` where none is left. Takes no memory.
-    #[tactic(auto, using(crate::proofs::Pieces::piece_found, crate::proofs::Pieces::piece_last))]
+    #[tactic(auto, using(crate::proofs::PieceEnds::piece_found, crate::proofs::PieceEnds::piece_last))]
     pub fn next(&mut self) -> Option<&'a [u8]>
         ensures none { IfNone result ((self.old ≡ []) × (self.new ≡ [])) }
         ensures piece { IfSome result (λ piece. self.old ≡ piece.now ∷ self.new) }
@@ -60,8 +61,8 @@ impl<'a> Cutter<'a> {
         }
     }
 
-    /// Whether no piece is left.
-    #[tactic(auto, using(crate::proofs::Pieces::some_piece))]
+    /// Whether no piece is left. Takes no memory.
+    #[tactic(auto, using(crate::proofs::PieceEnds::some_piece))]
     pub fn is_done(&self) -> bool
         ensures { IsTrue result ↔ (self.now ≡ []) }
     {

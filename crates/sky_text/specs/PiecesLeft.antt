@@ -1,6 +1,6 @@
--- The pieces that a cutter has left.
+-- The pieces that are left of a text.
 use Rattle.std.specs.Prelude.{ℕ, List, [], Option, None, Some}
-use Rattle.czar.specs.NarrowLines.{pieces}
+use Rattle.text_rules.specs.Lines.{pieces}
 
 -- the pieces of what is left of the text, and none once all is cut
 abbrev pub left_of : ℕ → Option (List ℕ) → List (List ℕ)

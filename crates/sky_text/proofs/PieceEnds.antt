@@ -4,21 +4,8 @@ use Rattle.std.proofs.Common.{ap, ◌==◌, ◌-◌, length-drop}
 use Rattle.std.specs.List.{position, position_or_len, slice_split}
 use Rattle.std.proofs.lemmas.List.Splits.{slice_split_first, length-slice_split}
 use Rattle.std.proofs.lemmas.List.{take_all}
-use Rattle.czar.specs.NarrowLines.{pieces}
-
--- a byte that is found stands where the first one does
-first_place : (p : ℕ → Bool) (text : List ℕ) (at : ℕ) → position p text ≡ Some at
-    → (at ≡ position_or_len p text) × (position_or_len p text < length text)
-first_place p text at h = grind arith
-
--- a byte that is not found stands nowhere
-no_place : (p : ℕ → Bool) (text : List ℕ) → position p text ≡ None → length text ≤ position_or_len p text
-no_place p text h = grind arith
-
--- a text without the byte is one piece
-none_passes : (p : ℕ → Bool) (text : List ℕ) → length text ≤ position_or_len p text → slice_split p text ≡ text ∷ []
-none_passes p [] h = refl
-none_passes p (x ∷ xs) h = grind (arith, none_passes p xs)
+use Rattle.text_rules.specs.Lines.{pieces}
+use Rattle.sky_text.proofs.Places.{first_place, no_place, none_passes}
 
 -- where the byte is found, the first piece ends there and the others are those of the rest
 pub piece_found : (by : ℕ) (text : List ℕ) (at : ℕ) → position (λ x. x == by) text ≡ Some at

@@ -1,0 +1,16 @@
+//! The limits of the shared scan: each stands here once, and definitions and code cite it.
+
+use sky_rules::limits::CHUNKS_MOST;
+use text_rules::limits::QUERIES_MOST;
+
+/// The most chunks of the ring: those of a sky.
+pub const RING_MOST: u32 = CHUNKS_MOST;
+
+/// The largest number of a query: queries are numbered from 1, as their script has them.
+pub const QUERY_MOST: u32 = QUERIES_MOST;
+
+/// The most queries that run at once.
+pub const RUNNING_MOST: u32 = 64;
+
+/// More lines than a run has: for each query a take and a Deliver of each chunk at most, and the lines of its own.
+pub const LINES_BOUND: u32 = 1 << 23;

@@ -1,0 +1,9 @@
+//! The limits of the grammar: each stands here once, and definitions and code cite it.
+
+use sql_token::limits::BRACKETS_MOST;
+
+/// The most expressions that stand one in another: an outermost one, and one in each bracket that may be open.
+pub const LEVELS_MOST: u32 = BRACKETS_MOST + 1;
+
+/// The most columns of GROUP BY.
+pub const GROUP_COLUMNS_MOST: usize = 4;
