@@ -78,48 +78,6 @@ fn store(alloc: Global, sky: &str) -> Result<Option<Store>, Fail> {
     Ok(Some(Store::build(alloc, plan, rows)?))
 }
 
-// A row with a flux, where the position is admissible.
-fn lit(id: u32, x: i64, y: i64, z: i64, flux: i8) -> Option<Row>
-    ensures { IfSome result (λ row. length row.further ≡ 1) }
-{
-    let at = Pos::new(x, y, z)?;
-    if length_ok(&at) {
-        Some(Row::new(i64::from(id), at, &[Some(i64::from(flux))]))
-    } else {
-        None
-    }
-}
-
-// Puts a row with a flux behind the others, where they have one too and there is room.
-fn put_lit(columns: &mut Columns, row: &Row) -> Result<(), Memory>
-    requires { length row.now.further ≡ 1 }
-{
-    if columns.schema().width() == 5 && columns.len() < 1000 {
-        columns.push(row)?;
-    }
-    Ok(())
-}
-
-// Three rows of chunk 4 and one of chunk 0, each with a flux of ten times its id.
-fn lit_rows(alloc: Global) -> Result<Option<Rows>, Memory> {
-    let mut schema = Schema::new(alloc);
-    if schema.push(b"flux").is_err() {
-        return Ok(None);
-    }
-    let (Some(a), Some(b)) = (lit(1, 268435456, 0, 0, 10), lit(5, 268435456, 0, -1, 50)) else {
-        return Ok(None);
-    };
-    let (Some(c), Some(d)) = (lit(3, 268435456, 0, 4, 30), lit(6, 0, 0, 268435456, 60)) else {
-        return Ok(None);
-    };
-    let mut columns = Columns::new(alloc, schema)?;
-    put_lit(&mut columns, &a)?;
-    put_lit(&mut columns, &b)?;
-    put_lit(&mut columns, &c)?;
-    put_lit(&mut columns, &d)?;
-    Rows::in_order(alloc, columns)
-}
-
 // How many rows a chunk has, and how many its full overlap.
 fn counts(store: &Store, chunk: u32) -> Option<(usize, usize)> {
     if chunk < store.plan().chunks() {
@@ -197,26 +155,18 @@ fn the_rows_of_all_subchunks_are_parted_at_once(rt: HostRuntime) -> Result<(), F
 #[test]
 fn a_block_has_the_columns_of_its_chunks_rows(rt: HostRuntime) -> Result<(), Fail> {
     let alloc = rt.alloc();
-    let Ok(plan) = SkyPlan::read(alloc, ONE_OVERLAP.as_bytes()) else {
-        panic!(rt; "no plan");
+    let Some(store) = store(alloc, ONE_OVERLAP)? else {
+        panic!(rt; "no store");
     };
-    let Some(rows) = lit_rows(alloc)? else {
-        panic!(rt; "no rows");
-    };
-    let store = Store::build(alloc, plan, rows)?;
-    if store.rows().schema().width() != 5 {
-        panic!(rt; "another table");
-    }
     let mut ids = Vec::new(alloc);
     for chunk in store.filled() {
         let block = store.block(*chunk);
         ids.extend_from_slice(block.ids())?;
         if *chunk == 4 {
-            assert_eq!(rt; block.further(4).values(), [10, 30, 60].as_slice());
-            assert_eq!(rt; block.zs(), [0, 4, 268435456].as_slice());
+            assert_eq!(rt; block.zs(), [0, 0, 4, 268435456].as_slice());
         }
     }
-    assert_eq!(rt; ids.as_slice(), [5, 1, 3, 6].as_slice());
+    assert_eq!(rt; ids.as_slice(), [5, 1, 2, 3, 6, 4].as_slice());
     Ok(())
 }
 
