@@ -1,5 +1,5 @@
 //! An index of the rows of a catalogue by their ids.
-ghost use Rattle.std.specs.Prelude.{◌≡◌, List, false, option_map, IfNone, IfOk, IfSome};
+ghost use Rattle.std.specs.Prelude.{◌≡◌, ◌<◌, List, false, get_or, length, option_map, pos, IfNone, IfOk, IfSome};
 ghost use Rattle.sky_rules.specs.Partition.{Partition};
 ghost use Rattle.table_rules.specs.Objects.{Obj};
 ghost use Rattle.table_rules.specs.Ordered.{has_id};
@@ -33,6 +33,14 @@ impl Model for Index {
     ghost invariant = { λ x. length x.chunks.entries ≤ ROWS_MOST };
 }
 
+/// The id at the place.
+fn id_at(ids: &[i64], place: u32) -> i64
+    requires { place < length ids.now }
+    ensures { result ≡ get_or ids.now place (pos 0) }
+{
+    ids[place as usize]
+}
+
 impl Index {
     /// The index of the rows over the plan. Takes memory for an entry a row.
     pub fn build(alloc: Global, plan: &SkyPlan, rows: &Rows) -> Result<Index, Memory>
@@ -42,8 +50,8 @@ impl Index {
             return Err(Memory);
         };
         for place in 0..rows.len() {
-            let row = rows.get(place);
-            let Ok(_) = chunks.insert(row.id(), plan.chunk_of(row.pos())) else {
+            let at = rows.position(place);
+            let Ok(_) = chunks.insert(id_at(rows.ids(), place), plan.chunk_of(&at)) else {
                 return Err(Memory);
             };
         }
