@@ -17,7 +17,7 @@ pub fn keep_present(present: &[bool], mask: &mut [bool])
 /// stands behind them has no meaning. Takes no memory.
 pub fn picked(mask: &[bool], places: &mut [u32]) -> usize
     requires few { length mask.now < 2 ^ 32 }
-    requires room { length mask.now < length places.old }
+    requires room { length mask.now ≤ length places.old }
     ensures value { take result places.new ≡ places_of mask.now }
     ensures most { result ≤ length mask.now }
     ensures len { length places.new ≡ length places.old }

@@ -75,6 +75,24 @@ fn a_range_holds_its_ends(rt: HostRuntime) -> Result<(), Fail> {
 }
 
 #[test]
+fn the_worked_cap(rt: HostRuntime) -> Result<(), Fail> {
+    let mut mask = Vec::from_elem(rt.alloc(), true, 4)?;
+    let Some(centre) = Pos::new(268435456, 0, 0) else {
+        panic!(rt; "no centre");
+    };
+    keep_near(
+        &[268435456, 268435456, 268435456, 0],
+        &[0, 3, 0, 0],
+        &[0, 0, 4, 268435456],
+        &centre,
+        9,
+        mask.as_mut_slice(),
+    );
+    assert_eq!(rt; mask.as_slice(), [true, true, false, false].as_slice());
+    Ok(())
+}
+
+#[test]
 fn a_cap_holds_its_border(rt: HostRuntime) -> Result<(), Fail> {
     let mut mask = Vec::from_elem(rt.alloc(), true, 3)?;
     let Some(centre) = Pos::new(268435456, 0, 0) else {
@@ -97,7 +115,7 @@ fn a_cleared_row_stays_cleared_and_the_places_are_those_left(rt: HostRuntime) ->
     let mut mask = Vec::from_elem(rt.alloc(), true, 4)?;
     keep_present(&[true, false, true, true], mask.as_mut_slice());
     keep(&[1, 1, 1, 0], Cmp::Equal, 1, mask.as_mut_slice());
-    let mut places = Vec::from_elem(rt.alloc(), 9, 5)?;
+    let mut places = Vec::from_elem(rt.alloc(), 9, 4)?;
     let count = picked(mask.as_slice(), places.as_mut_slice());
     assert_eq!(rt; count, 2);
     assert_eq!(rt; [places[0], places[1]], [0, 2]);
