@@ -1,7 +1,7 @@
 #!/usr/bin/env python3
 """Measures the built program over catalogues of growing size and skies of more and more chunks.
 
-    bench/run.py FOLDER [--growth] [--program FILE] [--rows N ..] [--chunks N ..] [--order ascending|random]
+    bench/run.py FOLDER [--growth | --targets] [--program FILE] [--rows N ..] [--chunks N ..] [--order ascending|random]
         [--further COUNT]
 
 Writes its inputs into FOLDER (made where it isn't there; files that are there already are used again), runs the
@@ -12,6 +12,10 @@ With --growth each run is a `load`, which reads the catalogue, builds the store 
 only reads the catalogue: a `query` whose script is missing, which ends when it asks for the script, before a store is
 built. Seconds are then user time, which says more than wall time on a machine that is busy, and beside it wall time;
 the sixth column is what the store costs for a million rows.
+
+With --targets it measures what is aimed at: reading 1,000,000 rows of six fields, in ascending and in random order, and the
+store with its blocks over 256 chunks; each line has user seconds and the most that is wanted. It ends with 1 where a line has
+more. Only an idle machine tells anything.
 """
 import argparse
 import bisect
@@ -151,10 +155,43 @@ def growth_line(program, folder, rows, chunks, name):
     )
 
 
+# what is aimed at, in user seconds: reading in each order, and the store over 256 chunks
+READING_MOST, STORE_MOST = {"ascending": 0.20, "random": 0.30}, 0.08
+
+
+def written_catalogue(folder, rows, order, further):
+    """The name of a catalogue in the folder, which is written where it isn't there."""
+    name = f"catalogue_{rows}_{order}_{further}.csv"
+    path = os.path.join(folder, name)
+    if not os.path.exists(path):
+        with open(path, "w") as file:
+            subprocess.run(
+                [sys.executable, os.path.join(HERE, "catalogue.py"), str(rows), "--order", order]
+                + ["--further", str(further)],
+                stdout=file,
+                check=True,
+            )
+    return name
+
+
+def target_lines(program, folder):
+    """The lines of what is aimed at, and whether each is met."""
+    lines, met = ["| what | user s | at most |", "|---|---|---|"], True
+    for order, most in READING_MOST.items():
+        name = written_catalogue(folder, 1_000_000, order, 2)
+        _, reading, _, _ = measure(program, folder, ["query", "sky_256.txt", name, MISSING, "0"], CANNOT_BE_READ)
+        _, whole, _, _ = measure(program, folder, ["load", "sky_256.txt", name])
+        for what, seconds, limit in (("reading", reading, most), ("store", whole - reading, STORE_MOST)):
+            lines.append(f"| {what}, 1000000 rows of six fields, {order} | {seconds:.2f} | {limit:.2f} |")
+            met = met and seconds <= limit
+    return lines, met
+
+
 def main():
     parser = argparse.ArgumentParser(description=__doc__, formatter_class=argparse.RawDescriptionHelpFormatter)
     parser.add_argument("folder")
     parser.add_argument("--growth", action="store_true")
+    parser.add_argument("--targets", action="store_true")
     parser.add_argument("--program", default=os.path.join(HERE, "..", ".qserv", "qserv"))
     parser.add_argument("--rows", type=int, nargs="+", default=[100_000, 1_000_000, 4_000_000])
     parser.add_argument("--chunks", type=int, nargs="+", choices=SKIES, default=list(SKIES))
@@ -169,6 +206,10 @@ def main():
         os.path.join(words.folder, "script.sql"),
         f"SELECT objectId FROM Object WHERE z BETWEEN {LOW} AND {HIGH}\n",
     )
+    if words.targets:
+        lines, met = target_lines(program, words.folder)
+        print("\n".join(lines))
+        sys.exit(0 if met else 1)
     if words.growth:
         print(
             "| rows | chunks | reading s | load s | store s | store s a million rows "
@@ -180,16 +221,7 @@ def main():
         print("|---|---|---|---|---|")
     line_of = growth_line if words.growth else query_line
     for rows in words.rows:
-        name = f"catalogue_{rows}_{words.order}_{words.further}.csv"
-        path = os.path.join(words.folder, name)
-        if not os.path.exists(path):
-            with open(path, "w") as file:
-                subprocess.run(
-                    [sys.executable, os.path.join(HERE, "catalogue.py"), str(rows), "--order", words.order]
-                    + ["--further", str(words.further)],
-                    stdout=file,
-                    check=True,
-                )
+        name = written_catalogue(words.folder, rows, words.order, words.further)
         for chunks in words.chunks:
             print(line_of(program, words.folder, rows, chunks, name), flush=True)
 
