@@ -17,6 +17,7 @@ mod number;
 mod pred;
 mod three;
 
+pub use area::area_holds;
 pub use cond::{holds, meets, truth};
 pub use expr::value;
 pub use key::value_on_key;

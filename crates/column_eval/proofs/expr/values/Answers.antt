@@ -1,0 +1,18 @@
+use Rattle.std.proofs.Common.{◌∙◌, ap, map, sym, subst}
+use Rattle.std.specs.Prelude.{All}
+use Rattle.table_rules.specs.Objects.{IsRow}
+use Rattle.value_rules.specs.Terms.{term_of}
+use Rattle.value_rules.specs.Values.{row, value_of}
+use Rattle.column_eval.proofs.Reading.{lane_values, rows_there}
+use Rattle.column_eval.proofs.expr.values.Goals as goal
+
+pub sum-requires-clause-rows : goal.sum-requires-clause-rows
+sum-requires-clause-rows c =
+    subst (λ v. All IsRow v.objects) (sym c.new-rows.ensures)
+    (rows_there c.args.block.now.objects c.args.picked.now c.len.ensures.rows c.requires.there)
+
+pub returns : goal.returns
+returns c =
+    c.of.ensures
+    ∙ (lane_values c.new-rows.result.objects (term_of c.args.e.now) c.in_ok-lane.lane c.in_ok-lane.ensures
+    ∙ ap (λ v. map (λ o. value_of c.args.e.now (row o)) v.objects) c.new-rows.ensures)

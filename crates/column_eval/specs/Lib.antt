@@ -1,0 +1,5 @@
+pub mod Seen
+pub mod Totals
+pub mod Masks
+pub mod Lanes
+pub mod Flags

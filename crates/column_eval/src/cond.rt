@@ -1,0 +1,106 @@
+//! The truths of a condition. One function judges one layer of the tree, a column at a time.
+ghost use Rattle.std.specs.Prelude.{◌≡◌, ◌+◌, ◌<◌, false, IfOk, IsTrue, All, length, map};
+ghost use Rattle.sky_row.specs.Columns.{objects_at};
+ghost use Rattle.table_rules.specs.Objects.{IsRow};
+ghost use Rattle.value_rules.specs.Formulas.{formula_of, formula_of_all, formula_of_any, formula_of_pred};
+ghost use Rattle.value_rules.specs.Sound.{has_col, is_sound_cond};
+ghost use Rattle.value_rules.specs.Truth.{truth_of};
+ghost use Rattle.value_rules.specs.Values.{row};
+ghost use Rattle.column_eval.specs.Flags.{AreFlags};
+ghost use Rattle.column_eval.specs.Seen.{IsSoundTest};
+
+use crate::area::area;
+use crate::flags::{Flags, joined_by_and, joined_by_or, negated_if};
+use crate::picked::Picked;
+use crate::pred::{among, between, compare, is_null};
+use crate::scratch::Scratch;
+use crate::truth_list::TruthList;
+use column_block::Block;
+use sky_io::Memory;
+use sql_bound::{BoundAll, BoundAny, BoundCond, BoundPred};
+
+/// The truths of the condition on the rows of the block at the picked places, counted from 0, in the order of the places;
+/// `None` is unknown. Takes memory for each node of the condition, where the scratch has no free vector.
+pub fn truths(
+    block: &Block,
+    c: &BoundCond,
+    picked: &[u32],
+    scratch: &mut Scratch,
+) -> Result<TruthList, Memory>
+    requires there { All (λ place. place < length block.now.objects) picked.now }
+    requires sound { IsTrue (is_sound_cond (has_col (4 + block.now.width) false) c.now) }
+    ensures { IfOk result (λ found. found
+        ≡ map (λ o. truth_of c.now (row o)) (objects_at block.now.objects picked.now)) }
+{
+    let _ = block.len();
+    let rows = Picked::new(block, picked);
+    let flags = one(c, &rows, scratch)?;
+    Ok(TruthList::of(flags))
+}
+
+// The flags of a disjunction.
+#[cycle(judge)]
+fn any(a: &BoundAny, rows: &Picked<'_>, scratch: &mut Scratch) -> Result<Flags, Memory>
+    requires rows { All IsRow rows.now.objects }
+    requires sound { IsSoundTest rows.now (formula_of_any a.now) }
+    ensures { IfOk result (AreFlags rows.now.objects (formula_of_any a.now)) }
+{
+    let mut found = all(&a.first, rows, scratch)?;
+    let rest = a.rest.as_slice();
+    for next in rest {
+        let part = all(next, rows, scratch)?;
+        found = joined_by_or(found, part, scratch);
+    }
+    Ok(found)
+}
+
+// The flags of a conjunction.
+#[cycle(judge)]
+fn all(a: &BoundAll, rows: &Picked<'_>, scratch: &mut Scratch) -> Result<Flags, Memory>
+    requires rows { All IsRow rows.now.objects }
+    requires sound { IsSoundTest rows.now (formula_of_all a.now) }
+    ensures { IfOk result (AreFlags rows.now.objects (formula_of_all a.now)) }
+{
+    let mut found = one(&a.first, rows, scratch)?;
+    let rest = a.rest.as_slice();
+    for next in rest {
+        let part = one(next, rows, scratch)?;
+        found = joined_by_and(found, part, scratch);
+    }
+    Ok(found)
+}
+
+// The flags of a condition.
+#[cycle(judge)]
+fn one(c: &BoundCond, rows: &Picked<'_>, scratch: &mut Scratch) -> Result<Flags, Memory>
+    requires rows { All IsRow rows.now.objects }
+    requires sound { IsSoundTest rows.now (formula_of c.now) }
+    ensures { IfOk result (AreFlags rows.now.objects (formula_of c.now)) }
+{
+    let found = test(&c.pred, rows, scratch)?;
+    Ok(negated_if(c.not, found))
+}
+
+// The flags of a test.
+#[cycle(judge)]
+fn test(pred: &BoundPred, rows: &Picked<'_>, scratch: &mut Scratch) -> Result<Flags, Memory>
+    requires rows { All IsRow rows.now.objects }
+    requires sound { IsSoundTest rows.now (formula_of_pred pred.now) }
+    ensures { IfOk result (AreFlags rows.now.objects (formula_of_pred pred.now)) }
+{
+    match pred {
+        BoundPred::Bracket(inner) => any(inner.get(), rows, scratch),
+        BoundPred::Compare { left, op, right } => compare(left, *op, right, rows, scratch),
+        BoundPred::Between {
+            not,
+            value,
+            low,
+            high,
+        } => between(*not, value, low, high, rows, scratch),
+        BoundPred::Among { not, value, list } => {
+            among(*not, value, list.as_slice(), rows, scratch)
+        },
+        BoundPred::IsNull { not, value } => is_null(*not, value, rows, scratch),
+        BoundPred::Area(test) => area(test, rows, scratch),
+    }
+}

@@ -1,0 +1,163 @@
+//! Sums, differences and products of two numbers, and of two vectors of them place by place.
+//!
+//! An operation is a type of its own, so that one pair of loops, in 64 and in 128 bits, serves all of them.
+ghost use Rattle.std.specs.Prelude.{◌≡◌, ◌≤◌, ◌<◌, ◌+ℤ◌, ◌-ℤ◌, ◌*ℤ◌, ℕ, ℤ, FitsSigned, IfOk, length, nat_abs, get_or, pos};
+ghost use Rattle.sky_vector.specs.declared.limits.TheConstants.{NUMBER_MOST};
+ghost use Rattle.column_eval.specs.Lanes.{AreJoined, CanJoin, numbers_of};
+ghost use Rattle.column_eval.specs.declared.join.TheConstants.{NARROW_MOST};
+
+use crate::numbers::Numbers;
+use crate::scratch::Scratch;
+use sky_io::Memory;
+
+/// The largest size that a number in 64 bits is let to have, though one below 0 could be larger by 1.
+const NARROW_MOST: u128 = i64::MAX as u128;
+
+/// An operation on two numbers.
+pub(crate) trait Join {
+    /// What comes out.
+    ghost joins: { ℤ → ℤ → ℤ };
+
+    /// The operation in 64 bits.
+    fn narrow(&self, left: i64, right: i64) -> i64
+        requires { nat_abs (joins left right) ≤ NARROW_MOST }
+        ensures { result ≡ joins left right };
+
+    /// The operation in 128 bits.
+    fn wide(&self, left: i128, right: i128) -> i128
+        requires { nat_abs (joins left right) ≤ NUMBER_MOST }
+        ensures { result ≡ joins left right };
+}
+
+/// The sum.
+#[derive(Clone, Copy)]
+pub(crate) struct Plus;
+
+impl Join for Plus {
+    ghost joins = { λ a b. a +ℤ b };
+
+    #[inline(always)]
+    fn narrow(&self, left: i64, right: i64) -> i64 {
+        left + right
+    }
+
+    #[inline(always)]
+    fn wide(&self, left: i128, right: i128) -> i128 {
+        left + right
+    }
+}
+
+/// The difference.
+#[derive(Clone, Copy)]
+pub(crate) struct Less;
+
+impl Join for Less {
+    ghost joins = { λ a b. a -ℤ b };
+
+    #[inline(always)]
+    fn narrow(&self, left: i64, right: i64) -> i64 {
+        left - right
+    }
+
+    #[inline(always)]
+    fn wide(&self, left: i128, right: i128) -> i128 {
+        left - right
+    }
+}
+
+/// The product.
+#[derive(Clone, Copy)]
+pub(crate) struct Times;
+
+impl Join for Times {
+    ghost joins = { λ a b. a *ℤ b };
+
+    #[inline(always)]
+    fn narrow(&self, left: i64, right: i64) -> i64 {
+        left * right
+    }
+
+    #[inline(always)]
+    fn wide(&self, left: i128, right: i128) -> i128 {
+        left * right
+    }
+}
+
+/// The numbers on the left, each joined with the one of its place on the right, of which none is above the bound in size.
+/// They are in 64 bits where both sides are and the bound fits, and else in 128. Takes memory for those.
+pub(crate) fn joined<J: Join>(
+    join: &J,
+    left: Numbers,
+    right: Numbers,
+    bound: u128,
+    scratch: &mut Scratch,
+) -> Result<Numbers, Memory>
+    requires { CanJoin J.joins bound (numbers_of left) (numbers_of right) }
+    ensures { IfOk result (λ made.
+        AreJoined J.joins (numbers_of left) (numbers_of right) (numbers_of made)) }
+{
+    match (left, right) {
+        (Numbers::Narrow(left), Numbers::Narrow(right)) => {
+            joined_narrow(join, left, right, bound, scratch)
+        },
+        (left, right) => joined_wide(join, left, right, scratch),
+    }
+}
+
+/// The same where both sides are in 64 bits.
+fn joined_narrow<J: Join>(
+    join: &J,
+    left: Vec<i64>,
+    right: Vec<i64>,
+    bound: u128,
+    scratch: &mut Scratch,
+) -> Result<Numbers, Memory>
+    requires { CanJoin J.joins bound left.items right.items }
+    ensures { IfOk result (λ made. AreJoined J.joins left.items right.items (numbers_of made)) }
+{
+    if bound > NARROW_MOST {
+        return joined_wide(join, Numbers::Narrow(left), Numbers::Narrow(right), scratch);
+    }
+    let mut left = left;
+    each_narrow(join, left.as_mut_slice(), right.as_slice());
+    scratch.narrow.give(right);
+    Ok(Numbers::Narrow(left))
+}
+
+/// The same in 128 bits.
+fn joined_wide<J: Join>(
+    join: &J,
+    left: Numbers,
+    right: Numbers,
+    scratch: &mut Scratch,
+) -> Result<Numbers, Memory>
+    requires { CanJoin J.joins NUMBER_MOST (numbers_of left) (numbers_of right) }
+    ensures { IfOk result (λ made.
+        AreJoined J.joins (numbers_of left) (numbers_of right) (numbers_of made)) }
+{
+    let mut left = left.widened(scratch)?;
+    let right = right.widened(scratch)?;
+    each_wide(join, left.as_mut_slice(), right.as_slice());
+    scratch.wide.give(right);
+    Ok(Numbers::Wide(left))
+}
+
+/// Joins each number on the left with the one of its place on the right.
+fn each_narrow<J: Join>(join: &J, left: &mut [i64], right: &[i64])
+    requires { CanJoin J.joins NARROW_MOST left.old right.now }
+    ensures { AreJoined J.joins left.old right.now left.new }
+{
+    for i in 0..right.len() {
+        left[i] = join.narrow(left[i], right[i]);
+    }
+}
+
+/// The same in 128 bits.
+fn each_wide<J: Join>(join: &J, left: &mut [i128], right: &[i128])
+    requires { CanJoin J.joins NUMBER_MOST left.old right.now }
+    ensures { AreJoined J.joins left.old right.now left.new }
+{
+    for i in 0..right.len() {
+        left[i] = join.wide(left[i], right[i]);
+    }
+}

@@ -1,0 +1,49 @@
+//! What is kept of one node of an expression: a number for each row, which of them are known, and how large they can be.
+ghost use Rattle.std.specs.Prelude.{◌≡◌, IfOk, length};
+ghost use Rattle.column_eval.specs.Lanes.{AreLanesJoined, CanJoin, numbers_of};
+
+use crate::join::{Join, joined};
+use crate::mask::both;
+use crate::numbers::Numbers;
+use crate::scratch::Scratch;
+use sky_io::Memory;
+
+/// Numbers of rows, of which those of NULL have no meaning, and the largest size that they can have.
+#[derive(Drop)]
+pub(crate) struct Lane {
+    pub numbers: Numbers,
+    pub known: Vec<bool>,
+    pub bound: u128,
+}
+
+impl Lane {
+    /// Gives the vectors back.
+    pub(crate) fn give_back(self, scratch: &mut Scratch) {
+        self.numbers.give_back(scratch);
+        scratch.flags.give(self.known);
+    }
+}
+
+/// The two joined, row by row: NULL where one of them is. None is above the bound in size. Takes memory where the numbers
+/// become too large for 64 bits.
+pub(crate) fn lanes_joined<J: Join>(
+    join: &J,
+    left: Lane,
+    right: Lane,
+    bound: u128,
+    scratch: &mut Scratch,
+) -> Result<Lane, Memory>
+    requires can { CanJoin J.joins bound (numbers_of left.numbers) (numbers_of right.numbers) }
+    requires masks { length right.known.items ≡ length left.known.items }
+    ensures { IfOk result (λ lane. AreLanesJoined J.joins bound left right lane) }
+{
+    let mut known = left.known;
+    both(known.as_mut_slice(), right.known.as_slice());
+    scratch.flags.give(right.known);
+    let numbers = joined(join, left.numbers, right.numbers, bound, scratch)?;
+    Ok(Lane {
+        numbers,
+        known,
+        bound,
+    })
+}

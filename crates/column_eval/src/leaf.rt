@@ -1,0 +1,159 @@
+//! The leaves of an expression: a number is the same on each row, and a column is read at the picked places.
+ghost use Rattle.std.specs.Prelude.{◌≡◌, ◌+◌, ◌<◌, ◌≤◌, [], Some, IfOk, All, length, map, nat_abs, replicate, vec_capacity, is_some};
+ghost use Rattle.column_eval.specs.Lanes.{IsRead, IsRepeated};
+ghost use Rattle.sky_row.specs.Columns.{IsGathered, column_in};
+ghost use Rattle.table_rules.specs.Objects.{column_bound};
+ghost use Rattle.table_rules.specs.declared.limits.TheConstants.{FURTHER_MOST};
+
+use crate::lane::Lane;
+use crate::numbers::Numbers;
+use crate::scratch::Scratch;
+use column_block::Block;
+use sky_io::Memory;
+use sky_row::Column;
+use sky_vector::limits::COORDINATE_MOST;
+use table_rules::limits::{FURTHER_MOST, ID_MOST};
+
+/// A number, the same on each of so many rows. Takes memory for it.
+pub(crate) fn literal(n: i64, count: usize, scratch: &mut Scratch) -> Result<Lane, Memory>
+    ensures { IfOk result (λ lane. IsRepeated n count lane) }
+{
+    let numbers = repeated(n, count, scratch.narrow.take(count)?);
+    let known = repeated(true, count, scratch.flags.take(count)?);
+    Ok(Lane {
+        numbers: Numbers::Narrow(numbers),
+        known,
+        bound: u128::from(n.unsigned_abs()),
+    })
+}
+
+/// A column of a block by its number, at these places. Takes memory for it.
+pub(crate) fn read(
+    block: &Block,
+    places: &[u32],
+    col: u32,
+    scratch: &mut Scratch,
+) -> Result<Lane, Memory>
+    requires there { All (λ place. place < length block.now.objects) places.now }
+    requires col { col < 4 + block.now.width }
+    ensures { IfOk result (λ lane. IsRead (column_in block.now.objects col) places.now
+        (nat_abs (column_bound col)) lane) }
+{
+    match col {
+        0 => whole(block.ids(), places, u128::from(ID_MOST), scratch),
+        1 => whole_short(block.xs(), places, u128::from(COORDINATE_MOST), scratch),
+        2 => whole_short(block.ys(), places, u128::from(COORDINATE_MOST), scratch),
+        3 => whole_short(block.zs(), places, u128::from(COORDINATE_MOST), scratch),
+        _ => further(block.further(col), places, scratch),
+    }
+}
+
+/// The numbers of a column that has one for each row, at these places. Takes memory for them.
+pub(crate) fn whole(
+    values: &[i64],
+    places: &[u32],
+    bound: u128,
+    scratch: &mut Scratch,
+) -> Result<Lane, Memory>
+    requires { All (λ place. place < length values.now) places.now }
+    ensures { IfOk result (λ lane. IsRead (map Some values.now) places.now bound lane) }
+{
+    let numbers = gathered(values, places, scratch.narrow.take(places.len())?);
+    let known = repeated(true, places.len(), scratch.flags.take(places.len())?);
+    Ok(Lane {
+        numbers: Numbers::Narrow(numbers),
+        known,
+        bound,
+    })
+}
+
+/// The same of a column of 32 bits.
+pub(crate) fn whole_short(
+    values: &[i32],
+    places: &[u32],
+    bound: u128,
+    scratch: &mut Scratch,
+) -> Result<Lane, Memory>
+    requires { All (λ place. place < length values.now) places.now }
+    ensures { IfOk result (λ lane. IsRead (map Some values.now) places.now bound lane) }
+{
+    let numbers = gathered_short(values, places, scratch.narrow.take(places.len())?);
+    let known = repeated(true, places.len(), scratch.flags.take(places.len())?);
+    Ok(Lane {
+        numbers: Numbers::Narrow(numbers),
+        known,
+        bound,
+    })
+}
+
+/// The numbers of a further column at these places, and where it has one. Takes memory for them.
+pub(crate) fn further(
+    column: &Column,
+    places: &[u32],
+    scratch: &mut Scratch,
+) -> Result<Lane, Memory>
+    requires { All (λ place. place < length column.now) places.now }
+    ensures { IfOk result (λ lane. IsRead column.now places.now FURTHER_MOST lane) }
+{
+    let numbers = gathered(column.values(), places, scratch.narrow.take(places.len())?);
+    let known = known(column, places, scratch.flags.take(places.len())?);
+    Ok(Lane {
+        numbers: Numbers::Narrow(numbers),
+        known,
+        bound: u128::from(FURTHER_MOST),
+    })
+}
+
+/// Where a further column has a value, of these places, in an empty vector that has room for them.
+fn known(column: &Column, places: &[u32], found: Vec<bool>) -> Vec<bool>
+    requires there { All (λ place. place < length column.now) places.now }
+    requires empty { found.items ≡ [] }
+    requires room { length places.now ≤ vec_capacity found }
+    ensures { IsGathered (map is_some column.now) places.now result.items }
+{
+    match column.present() {
+        Some(present) => gathered(present, places, found),
+        None => repeated(true, places.len(), found),
+    }
+}
+
+/// An item so many times, in an empty vector that has room for it.
+pub(crate) fn repeated<T: Copy>(item: T, count: usize, found: Vec<T>) -> Vec<T>
+    requires empty { found.items ≡ [] }
+    requires room { count ≤ vec_capacity found }
+    ensures { result.items ≡ replicate count item }
+{
+    let mut found = found;
+    for turn in 0..count {
+        found.push_reserved(item);
+    }
+    found
+}
+
+/// The values at these places, in an empty vector that has room for them.
+fn gathered<T: Copy>(values: &[T], places: &[u32], found: Vec<T>) -> Vec<T>
+    requires there { All (λ place. place < length values.now) places.now }
+    requires empty { found.items ≡ [] }
+    requires room { length places.now ≤ vec_capacity found }
+    ensures { IsGathered values.now places.now result.items }
+{
+    let mut found = found;
+    for place in places {
+        found.push_reserved(values[*place as usize]);
+    }
+    found
+}
+
+/// The same of values of 32 bits.
+fn gathered_short(values: &[i32], places: &[u32], found: Vec<i64>) -> Vec<i64>
+    requires there { All (λ place. place < length values.now) places.now }
+    requires empty { found.items ≡ [] }
+    requires room { length places.now ≤ vec_capacity found }
+    ensures { IsGathered values.now places.now result.items }
+{
+    let mut found = found;
+    for place in places {
+        found.push_reserved(i64::from(values[*place as usize]));
+    }
+    found
+}

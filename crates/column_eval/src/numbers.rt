@@ -1,0 +1,76 @@
+//! A number for each picked row, in 64 bits or in 128.
+ghost use Rattle.std.specs.Prelude.{◌≡◌, ◌<◌, ◌≤◌, ℕ, [], IfOk, length, get_or, pos, vec_capacity};
+ghost use Rattle.column_eval.specs.Lanes.{numbers_of};
+
+use crate::scratch::{Pool, Scratch};
+use sky_io::Memory;
+
+/// Numbers of one width.
+#[derive(Drop)]
+pub(crate) enum Numbers {
+    Narrow(Vec<i64>),
+    Wide(Vec<i128>),
+}
+
+impl Numbers {
+    /// How many there are.
+    pub(crate) fn len(&self) -> usize
+        ensures { result ≡ length (numbers_of self.now) }
+    {
+        match self {
+            Numbers::Narrow(numbers) => numbers.len(),
+            Numbers::Wide(numbers) => numbers.len(),
+        }
+    }
+
+    /// The number at this place, from 0.
+    pub(crate) fn get(&self, i: usize) -> i128
+        requires { i < length (numbers_of self.now) }
+        ensures { result ≡ get_or (numbers_of self.now) i (pos 0) }
+    {
+        match self {
+            Numbers::Narrow(numbers) => i128::from(numbers[i]),
+            Numbers::Wide(numbers) => numbers[i],
+        }
+    }
+
+    /// The same numbers in 128 bits.
+    pub(crate) fn widened(self, scratch: &mut Scratch) -> Result<Vec<i128>, Memory>
+        ensures { IfOk result (λ wide. wide.items ≡ numbers_of self) }
+    {
+        match self {
+            Numbers::Narrow(numbers) => widened(numbers, scratch),
+            Numbers::Wide(numbers) => Ok(numbers),
+        }
+    }
+
+    /// Gives the vector back.
+    pub(crate) fn give_back(self, scratch: &mut Scratch) {
+        match self {
+            Numbers::Narrow(numbers) => scratch.narrow.give(numbers),
+            Numbers::Wide(numbers) => scratch.wide.give(numbers),
+        }
+    }
+}
+
+/// Numbers of 64 bits in 128.
+fn widened(numbers: Vec<i64>, scratch: &mut Scratch) -> Result<Vec<i128>, Memory>
+    ensures { IfOk result (λ wide. wide.items ≡ numbers.items) }
+{
+    let wide = in_128_bits(numbers.as_slice(), scratch.wide.take(numbers.len())?);
+    scratch.narrow.give(numbers);
+    Ok(wide)
+}
+
+/// The numbers in an empty vector of 128 bits, which has room for them.
+fn in_128_bits(numbers: &[i64], wide: Vec<i128>) -> Vec<i128>
+    requires empty { wide.items ≡ [] }
+    requires room { length numbers.now ≤ vec_capacity wide }
+    ensures { result.items ≡ numbers.now }
+{
+    let mut wide = wide;
+    for number in numbers {
+        wide.push_reserved(i128::from(*number));
+    }
+    wide
+}

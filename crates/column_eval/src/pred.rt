@@ -1,0 +1,216 @@
+//! The truths of tests, a column at a time.
+ghost use Rattle.std.specs.Prelude.{◌≡◌, ◌+◌, ◌<◌, ◌≤◌, [], IfOk, IsTrue, All, length, get_or, pos, vec_capacity};
+ghost use Rattle.sql_tree.specs.declared.cond.Cmp.TheVariants.{AtMost};
+ghost use Rattle.table_rules.specs.Objects.{IsRow};
+ghost use Rattle.value_rules.specs.Formulas.{Among, And, Compares, IsNull, negated_if};
+ghost use Rattle.value_rules.specs.Terms.{term_of};
+ghost use Rattle.value_rules.specs.Truth.{compares, is_one_of};
+ghost use Rattle.column_eval.specs.Flags.{AreCompared, AreFlags};
+ghost use Rattle.column_eval.specs.Lanes.{numbers_of};
+ghost use Rattle.column_eval.specs.Masks.{IsMask};
+ghost use Rattle.column_eval.specs.Seen.{IsSoundFor};
+
+use crate::expr::sum;
+use crate::flags::{Flags, flags_of, joined_by_and, negated_if};
+use crate::lane::Lane;
+use crate::leaf::repeated;
+use crate::mask::{both, copied};
+use crate::numbers::Numbers;
+use crate::picked::Picked;
+use crate::scratch::Scratch;
+use sky_io::Memory;
+use sql_bound::{BoundExpr, Cmp};
+
+/// The flags of a comparison.
+pub(crate) fn compare(
+    left: &BoundExpr,
+    op: Cmp,
+    right: &BoundExpr,
+    rows: &Picked<'_>,
+    scratch: &mut Scratch,
+) -> Result<Flags, Memory>
+    requires rows { All IsRow rows.now.objects }
+    requires left { IsSoundFor rows.now (term_of left.now) }
+    requires right { IsSoundFor rows.now (term_of right.now) }
+    ensures { IfOk result (AreFlags rows.now.objects
+        (Compares op (term_of left.now) (term_of right.now))) }
+{
+    let left = sum(left, rows, scratch)?;
+    let right = sum(right, rows, scratch)?;
+    let flags = compared(op, &left, &right, scratch)?;
+    left.give_back(scratch);
+    right.give_back(scratch);
+    Ok(flags)
+}
+
+/// The flags of BETWEEN, or with `negated` of NOT BETWEEN.
+pub(crate) fn between(
+    negated: bool,
+    value: &BoundExpr,
+    low: &BoundExpr,
+    high: &BoundExpr,
+    rows: &Picked<'_>,
+    scratch: &mut Scratch,
+) -> Result<Flags, Memory>
+    requires rows { All IsRow rows.now.objects }
+    requires value { IsSoundFor rows.now (term_of value.now) }
+    requires low { IsSoundFor rows.now (term_of low.now) }
+    requires high { IsSoundFor rows.now (term_of high.now) }
+    ensures { IfOk result (AreFlags rows.now.objects (negated_if negated
+        (And (Compares AtMost (term_of low.now) (term_of value.now))
+        (Compares AtMost (term_of value.now) (term_of high.now))))) }
+{
+    let value = sum(value, rows, scratch)?;
+    let low = sum(low, rows, scratch)?;
+    let high = sum(high, rows, scratch)?;
+    let above = compared(Cmp::AtMost, &low, &value, scratch)?;
+    let below = compared(Cmp::AtMost, &value, &high, scratch)?;
+    value.give_back(scratch);
+    low.give_back(scratch);
+    high.give_back(scratch);
+    let within = joined_by_and(above, below, scratch);
+    Ok(negated_if(negated, within))
+}
+
+/// The flags of IN, or with `negated` of NOT IN.
+pub(crate) fn among(
+    negated: bool,
+    value: &BoundExpr,
+    list: &[i64],
+    rows: &Picked<'_>,
+    scratch: &mut Scratch,
+) -> Result<Flags, Memory>
+    requires rows { All IsRow rows.now.objects }
+    requires value { IsSoundFor rows.now (term_of value.now) }
+    ensures { IfOk result (AreFlags rows.now.objects
+        (negated_if negated (Among (term_of value.now) list.now))) }
+{
+    let lane = sum(value, rows, scratch)?;
+    let found = found_in(list, &lane.numbers, scratch.flags.take(lane.numbers.len())?);
+    let Lane { numbers, known, .. } = lane;
+    numbers.give_back(scratch);
+    Ok(negated_if(negated, flags_of(known, found)))
+}
+
+/// The flags of IS NULL, or with `negated` of IS NOT NULL.
+pub(crate) fn is_null(
+    negated: bool,
+    value: &BoundExpr,
+    rows: &Picked<'_>,
+    scratch: &mut Scratch,
+) -> Result<Flags, Memory>
+    requires rows { All IsRow rows.now.objects }
+    requires value { IsSoundFor rows.now (term_of value.now) }
+    ensures { IfOk result (AreFlags rows.now.objects
+        (negated_if negated (IsNull (term_of value.now)))) }
+{
+    let lane = sum(value, rows, scratch)?;
+    let all = repeated(true, rows.len(), scratch.flags.take(rows.len())?);
+    let Lane { numbers, known, .. } = lane;
+    numbers.give_back(scratch);
+    Ok(negated_if(!negated, flags_of(all, known)))
+}
+
+// The flags of a comparison of two lanes, which is unknown where one of them is NULL.
+fn compared(op: Cmp, left: &Lane, right: &Lane, scratch: &mut Scratch) -> Result<Flags, Memory>
+    requires numbers { length (numbers_of right.now.numbers)
+        ≡ length (numbers_of left.now.numbers) }
+    requires masked { length left.now.known.items ≡ length (numbers_of left.now.numbers) }
+    requires masks { length right.now.known.items ≡ length left.now.known.items }
+    ensures { IfOk result (AreCompared op left.now right.now) }
+{
+    let count = left.numbers.len();
+    let mut known = copied(left.known.as_slice(), scratch.flags.take(count)?);
+    both(known.as_mut_slice(), right.known.as_slice());
+    let truth = truths_of(
+        op,
+        &left.numbers,
+        &right.numbers,
+        scratch.flags.take(count)?,
+    );
+    Ok(flags_of(known, truth))
+}
+
+// How the numbers of the left compare with those of the right, in an empty mask that has room for it.
+fn truths_of(op: Cmp, left: &Numbers, right: &Numbers, found: Vec<bool>) -> Vec<bool>
+    requires count { length (numbers_of right.now) ≡ length (numbers_of left.now) }
+    requires empty { found.items ≡ [] }
+    requires room { length (numbers_of left.now) ≤ vec_capacity found }
+    ensures { IsMask (length (numbers_of left.now))
+        (λ k. compares op (get_or (numbers_of left.now) k (pos 0))
+        (get_or (numbers_of right.now) k (pos 0))) result.items }
+{
+    match (left, right) {
+        (Numbers::Narrow(left), Numbers::Narrow(right)) => {
+            truths_of_narrow(op, left.as_slice(), right.as_slice(), found)
+        },
+        _ => truths_of_wide(op, left, right, found),
+    }
+}
+
+// The same of numbers of 64 bits.
+fn truths_of_narrow(op: Cmp, left: &[i64], right: &[i64], found: Vec<bool>) -> Vec<bool>
+    requires count { length right.now ≡ length left.now }
+    requires empty { found.items ≡ [] }
+    requires room { length left.now ≤ vec_capacity found }
+    ensures { IsMask (length left.now)
+        (λ k. compares op (get_or left.now k (pos 0)) (get_or right.now k (pos 0))) result.items }
+{
+    let mut found = found;
+    for i in 0..left.len() {
+        found.push_reserved(compares(op, i128::from(left[i]), i128::from(right[i])));
+    }
+    found
+}
+
+// The same of numbers of which some are wider.
+fn truths_of_wide(op: Cmp, left: &Numbers, right: &Numbers, found: Vec<bool>) -> Vec<bool>
+    requires count { length (numbers_of right.now) ≡ length (numbers_of left.now) }
+    requires empty { found.items ≡ [] }
+    requires room { length (numbers_of left.now) ≤ vec_capacity found }
+    ensures { IsMask (length (numbers_of left.now))
+        (λ k. compares op (get_or (numbers_of left.now) k (pos 0))
+        (get_or (numbers_of right.now) k (pos 0))) result.items }
+{
+    let mut found = found;
+    for i in 0..left.len() {
+        found.push_reserved(compares(op, left.get(i), right.get(i)));
+    }
+    found
+}
+
+// Whether the comparison is true of the two numbers.
+#[inline(always)]
+fn compares(op: Cmp, a: i128, b: i128) -> bool
+    ensures { result ≡ compares op a b }
+{
+    match op {
+        Cmp::Equal => a == b,
+        Cmp::Differs => a != b,
+        Cmp::Less => a < b,
+        Cmp::AtMost => a <= b,
+        Cmp::More => a > b,
+        Cmp::AtLeast => a >= b,
+    }
+}
+
+// Which of the numbers are in the list, in an empty mask that has room for it.
+fn found_in(list: &[i64], numbers: &Numbers, found: Vec<bool>) -> Vec<bool>
+    requires empty { found.items ≡ [] }
+    requires room { length (numbers_of numbers.now) ≤ vec_capacity found }
+    ensures { IsMask (length (numbers_of numbers.now))
+        (λ k. is_one_of list.now (get_or (numbers_of numbers.now) k (pos 0))) result.items }
+{
+    let mut found = found;
+    for i in 0..numbers.len() {
+        found.push_reserved(is_one_of(list, numbers.get(i)));
+    }
+    found
+}
+
+// Whether the number is among those of the list.
+fn is_one_of(list: &[i64], a: i128) -> bool
+    ensures { result ≡ is_one_of list.now a }
+{
+    list.iter().any(|n| i128::from(*n) == a)
+}

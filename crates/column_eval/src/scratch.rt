@@ -1,0 +1,58 @@
+//! Vectors that are used again: what one node of a tree no longer needs, the next one takes.
+ghost use Rattle.std.specs.Prelude.{◌≡◌, ◌≤◌, [], IfOk, vec_capacity};
+
+use sky_io::Memory;
+use std::alloc::Global;
+
+/// The vectors of an evaluation. It begins with none and keeps those that it took, for the next evaluation.
+#[derive(Drop)]
+pub struct Scratch {
+    pub(crate) narrow: Pool<i64>,
+    pub(crate) wide: Pool<i128>,
+    pub(crate) flags: Pool<bool>,
+}
+
+impl Scratch {
+    /// A scratch without vectors. Takes no memory.
+    pub fn new(alloc: Global) -> Scratch {
+        Scratch {
+            narrow: Pool::new(alloc),
+            wide: Pool::new(alloc),
+            flags: Pool::new(alloc),
+        }
+    }
+}
+
+/// Vectors of one kind that nobody uses.
+#[derive(Drop)]
+pub(crate) struct Pool<T> {
+    alloc: Global,
+    free: Vec<Vec<T>>,
+}
+
+impl<T: Copy> Pool<T> {
+    fn new(alloc: Global) -> Pool<T> {
+        Pool {
+            alloc,
+            free: Vec::new(alloc),
+        }
+    }
+
+    /// An empty vector with room for so many items: one that is free, or a new one.
+    pub(crate) fn take(&mut self, count: usize) -> Result<Vec<T>, Memory>
+        ensures empty { IfOk result (λ found. found.items ≡ []) }
+        ensures room { IfOk result (λ found. count ≤ vec_capacity found) }
+    {
+        let mut found = self.free.pop().unwrap_or(Vec::new(self.alloc));
+        found.clear();
+        match found.reserve(count) {
+            Ok(()) => Ok(found),
+            Err(_) => Err(Memory),
+        }
+    }
+
+    /// Keeps a vector for its next use. Where there is no memory to keep it, it is gone.
+    pub(crate) fn give(&mut self, used: Vec<T>) {
+        let _ = self.free.push(used);
+    }
+}

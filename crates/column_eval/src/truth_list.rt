@@ -1,0 +1,84 @@
+//! The truths of a condition on some rows.
+ghost use Rattle.std.specs.Prelude.{◌≡◌, ◌<◌, None, false, length, get_or, map};
+ghost use Rattle.value_rules.specs.Truth.{is_true};
+ghost use Rattle.column_eval.specs.Flags.{truth_by, truths_in};
+
+use crate::flags::Flags;
+use crate::scratch::Scratch;
+use std::marker::Model;
+
+/// TruthList, of which `None` is unknown, one a row.
+#[derive(Drop)]
+pub struct TruthList {
+    /// Where it is true.
+    true_on: Vec<bool>,
+    /// Where it is false.
+    false_on: Vec<bool>,
+}
+
+impl Model for TruthList {
+    ghost use Rattle.std.specs.Prelude.{◌≡◌, Bool, List, Option, length};
+    ghost use Rattle.column_eval.specs.Flags.{truths_in};
+
+    ghost Value = { List (Option Bool) };
+
+    ghost view = { λ t. truths_in t.true_on.items t.false_on.items };
+
+    ghost invariant = { λ t. length t.false_on.items ≡ length t.true_on.items };
+}
+
+impl TruthList {
+    /// The truths that flags say.
+    pub(crate) fn of(flags: Flags) -> TruthList
+        requires { length flags.false_on.items ≡ length flags.true_on.items }
+        ensures { result ≡ truths_in flags.true_on.items flags.false_on.items }
+    {
+        TruthList {
+            true_on: flags.true_on,
+            false_on: flags.false_on,
+        }
+    }
+
+    /// How many rows there are. Takes no memory.
+    pub fn len(&self) -> usize
+        ensures { result ≡ length self.now }
+    {
+        self.true_on.len()
+    }
+
+    /// The truth of the row with this number, from 0; `None` is unknown. Takes no memory.
+    pub fn get(&self, i: usize) -> Option<bool>
+        requires { i < length self.now }
+        ensures { result ≡ get_or self.now i None }
+    {
+        truth_at(self.true_on.as_slice(), self.false_on.as_slice(), i)
+    }
+
+    /// On which rows it is true, and not unknown. Takes no memory.
+    pub fn holds(&self) -> &[bool]
+        ensures { result.now ≡ map is_true self.now }
+    {
+        self.true_on.as_slice()
+    }
+
+    /// Gives the vectors back to the scratch, for the next evaluation. Takes no memory.
+    pub fn give_back(self, scratch: &mut Scratch) {
+        scratch.flags.give(self.true_on);
+        scratch.flags.give(self.false_on);
+    }
+}
+
+/// The truth that two masks say of a place.
+fn truth_at(true_on: &[bool], false_on: &[bool], i: usize) -> Option<bool>
+    requires true_on { i < length true_on.now }
+    requires false_on { i < length false_on.now }
+    ensures { result ≡ truth_by (get_or true_on.now i false) (get_or false_on.now i false) }
+{
+    if true_on[i] {
+        Some(true)
+    } else if false_on[i] {
+        Some(false)
+    } else {
+        None
+    }
+}
