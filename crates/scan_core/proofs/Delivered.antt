@@ -159,8 +159,8 @@ module _ {R P : Type 0} (stands : R → ℕ → List ℕ → P → Type 0) (root
         further = false_from_ne_true _ (λ y. both_ways _ (f.new q there) (has_filter (is_given past q) (wanted past q) c y));
         later = λ lost.
             let is : given (past ++ Deliver s t lost ∷ []) q ≡ w.before ++ c ∷ w.after =
-                ap (λ (l : List ℕ). filter (is_given (past ++ Deliver s t lost ∷ []) q) l) (flat_none (chunks_for q) past (Deliver s t lost) refl)
-                ∙ (filter_on (is_given (past ++ Deliver s t lost ∷ []) q) (λ x. is_given past q x || (c == x)) (wanted past q) (λ x _. gives_task f s lost q there x) ∙ w.with_it) in
+            ap (λ (l : List ℕ). filter (is_given (past ++ Deliver s t lost ∷ []) q) l) (flat_none (chunks_for q) past (Deliver s t lost) refl)
+            ∙ (filter_on (is_given (past ++ Deliver s t lost ∷ []) q) (λ x. is_given past q x || (c == x)) (wanted past q) (λ x _. gives_task f s lost q there x) ∙ w.with_it) in
             subst (λ (l : List ℕ). IsOneMore l c (given (past ++ Deliver s t lost ∷ []) q)) (sym w.without)
             (subst (IsPermutation (c ∷ (w.before ++ w.after))) (sym is) (IsPermutation-sym _ _ (IsPermutation-middle w.before c w.after)));
       }

@@ -16,8 +16,10 @@ returns-clause-joined c = λ root q chunks chunk whole further one mine other.
     let sum : length (c.args.self.now ++ c.args.other) ≡ length c.args.self.now + length c.args.other = length-append c.args.self.now c.args.other in
     let a = mine.0 in
     let b = other.0 in
-    let all : length (c.args.self.now ++ c.args.other) ≡ length whole = omega (arith, long, sum, a, b) in
-    (ap length both ∙ all, λ x.
-    ap (λ (l : List ℕ). has l x) both ∙ (any_append (λ y. y == x) c.args.self.now c.args.other
-    ∙ (ap (λ t. t || has c.args.other x) (mine.1 x) ∙ (ap (λ t. has chunks x || t) (other.1 x ∙ or_false (chunk == x))
-    ∙ sym (one_more_has chunks chunk whole one x)))))
+    let all : length (c.args.self.now ++ c.args.other) ≡ length whole = omega (arith, long, sum, a, b) in (
+      ap length both ∙ all,
+      λ x.
+          ap (λ (l : List ℕ). has l x) both ∙ (any_append (λ y. y == x) c.args.self.now c.args.other
+          ∙ (ap (λ t. t || has c.args.other x) (mine.1 x) ∙ (ap (λ t. has chunks x || t) (other.1 x ∙ or_false (chunk == x))
+          ∙ sym (one_more_has chunks chunk whole one x)))),
+    )
