@@ -1,16 +1,13 @@
 -- The parts of an area test that are within their limits.
-use Rattle.std.proofs.Common.{◌≡◌, ℤ, pos, negsuc, ◌-ℤ◌, ◌*ℤ◌, Bool, true, false, [], ◌∷◌, Option, Some, None, refl, sym, ap, ◌∙◌}
-use Rattle.std.specs.Prelude.{◌&&◌, ◌^◌, int_le, int_lt, is_some, IfNone, IfSome}
-use Rattle.std.specs.List.{list_all}
+use Rattle.std.proofs.Common.{◌≡◌, ◌≤◌, ◌<◌, ℤ, pos, Bool, true, false, List, [], ◌∷◌, length, get_or, Option, Some, None, refl, ap, ◌∙◌, arith}
+use Rattle.std.specs.Prelude.{int_le, neg_ℤ, IfNone, IfSome}
 use Rattle.std.proofs.Math.Dec.{T, T_prop}
 use Rattle.sky_vector.specs.Points.{IsWithin}
 use Rattle.sky_vector.specs.Pos.{point}
+use Rattle.sky_vector.specs.declared.limits.TheConstants.{PART_MOST}
 use Rattle.sky_vector.specs.declared.direction.Dir.{Dir}
 use Rattle.sky_vector.specs.declared.position.Pos.{Pos}
-use Rattle.sql_tree.specs.declared.cond.AreaKind.TheVariants as area
 use Rattle.bind_rules.specs.Areas.{where_met, where_some, within, pos_of, dir_of}
-use Rattle.bind_rules.specs.Forms.{is_part, is_area_form}
-use Rattle.bind_checks.specs.Turns.{turns_left, is_turn_left}
 
 -- ---- one part
 
@@ -22,7 +19,7 @@ met_some : {A : Type 0} (b : Bool) (f : b ≡ true → Option A) (x : A) → b �
 met_some true f x e h = h refl
 met_some false f x e h = absurd (cc e)
 
-two_prop : (z : ℤ) (l l' : T (int_le (negsuc 536870911) z)) (h h' : T (int_le z (pos 536870912))) → ◌≡◌ {A = IsWithin z} (record { le = l }, record { le = h }) (record { le = l' }, record { le = h' })
+two_prop : (z : ℤ) (l l' : T (int_le (neg_ℤ (pos PART_MOST)) z)) (h h' : T (int_le z (pos PART_MOST))) → ◌≡◌ {A = IsWithin z} (record { le = l }, record { le = h }) (record { le = l' }, record { le = h' })
 two_prop z l l' h h' = rw (T_prop _ l l', T_prop _ h h') refl
 
 within_prop : (z : ℤ) (a b : IsWithin z) → a ≡ b
@@ -30,8 +27,8 @@ within_prop z a b = two_prop z a.0.le b.0.le a.1.le b.1.le
 
 some_within : (z : ℤ) (w : IsWithin z) → within z ≡ Some w
 some_within z w =
-    met_some (int_le (negsuc 536870911) z) _ w (to_true _ w.0.le) (λ low.
-    met_some (int_le z (pos 536870912)) _ w (to_true _ w.1.le) (λ high. ap Some (within_prop z _ w)))
+    met_some (int_le (neg_ℤ (pos PART_MOST)) z) _ w (to_true _ w.0.le) (λ low.
+    met_some (int_le z (pos PART_MOST)) _ w (to_true _ w.1.le) (λ high. ap Some (within_prop z _ w)))
 
 -- ---- a direction and a position of parts that are tested
 
@@ -60,62 +57,14 @@ pub pos_by : (x y z : ℤ) (r : Option Pos) → IfSome r (λ p. point p ≡ reco
 pos_by x y z None made none = none_pos x y z (within x) (within y) (within z) none
 pos_by x y z (Some p) made none = some_pos p ∙ ap (λ at. pos_of at.x at.y at.z) made
 
--- ---- the tests of the parts
+-- ---- the arguments of a box
 
--- what a part within its limits says of its test, and one that is not
-abbrev Told : {A : Type 0} → Bool → Option A → Type 0
-Told b None = b ≡ false
-Told b (Some x) = b ≡ true
-
-both_met : {A : Type 0} (l h : Bool) (f : l ≡ true → h ≡ true → A) → Told (l && h) (where_met l (λ a. where_met h (λ b. Some (f a b))))
-both_met true true f = refl
-both_met true false f = refl
-both_met false h f = refl
-
-part_told : (z : ℤ) → Told (is_part z) (within z)
-part_told z = both_met (int_le (negsuc 536870911) z) (int_le z (pos 536870912)) _
-
-three_told : {A B C D : Type 0} (p q r : Bool) (a : Option A) (b : Option B) (c : Option C) (f : A → B → C → D) → Told p a → Told q b → Told r c → is_some (where_some a (λ x. where_some b (λ y. where_some c (λ z. Some (f x y z))))) ≡ (p && (q && (r && true)))
-three_told p q r None b c f h k l = rw h refl
-three_told p q r (Some x) None c f h k l = rw (h, k) refl
-three_told p q r (Some x) (Some y) None f h k l = rw (h, k, l) refl
-three_told p q r (Some x) (Some y) (Some z) f h k l = rw (h, k, l) refl
-
-and_assoc : (a b c : Bool) → ((a && b) && c) ≡ (a && (b && c))
-and_assoc true b c = refl
-and_assoc false b c = refl
-
-pub cap_form : (x y z n : ℤ) → is_area_form area.Cap (x ∷ y ∷ z ∷ n ∷ []) ≡ (is_some (pos_of x y z) && (int_le (pos 0) n && int_le n (pos (2 ^ 62))))
-cap_form x y z n =
-    and_assoc (list_all is_part (x ∷ y ∷ z ∷ [])) (int_le (pos 0) n) (int_le n (pos (2 ^ 62)))
-    ∙ ap (λ b. b && (int_le (pos 0) n && int_le n (pos (2 ^ 62)))) (sym (three_told (is_part x) (is_part y) (is_part z) (within x) (within y) (within z) _ (part_told x) (part_told y) (part_told z)))
-
--- what a direction says of the tests of its parts
-abbrev IsDir : ℤ → ℤ → Bool → Option Dir → Type 0
-IsDir dx dy b None = b ≡ false
-IsDir dx dy b (Some d) = (b ≡ true) × ((d.dx ≡ dx) × (d.dy ≡ dy))
-
-dir_step : (dx dy : ℤ) (p q : Bool) (a : Option (IsWithin dx)) (b : Option (IsWithin dy)) → Told p a → Told q b → IsDir dx dy (p && q) (where_some a (λ x. where_some b (λ y. let made : Option Dir = Some (record { dx = dx; dy = dy; dx_within = x; dy_within = y }) in made)))
-dir_step dx dy p q None b h k = rw h refl
-dir_step dx dy p q (Some x) None h k = rw (h, k) refl
-dir_step dx dy p q (Some x) (Some y) h k = ((rw (h, k) refl), (refl, refl))
-
-dir_told : (dx dy : ℤ) → IsDir dx dy (is_part dx && is_part dy) (dir_of dx dy)
-dir_told dx dy = dir_step dx dy (is_part dx) (is_part dy) (within dx) (within dy) (part_told dx) (part_told dy)
-
-four_all : (p q r s t : Bool) → ((p && (q && (r && (s && true)))) && t) ≡ ((p && q) && ((r && s) && t))
-four_all false q r s t = refl
-four_all true false r s t = refl
-four_all true true false s t = refl
-four_all true true true false t = refl
-four_all true true true true t = refl
-
-turn_step : (ax ay bx by : ℤ) (p q : Bool) (a b : Option Dir) → IsDir ax ay p a → IsDir bx by q b → turns_left a b ≡ (p && (q && int_lt (pos 0) (ax *ℤ by -ℤ ay *ℤ bx)))
-turn_step ax ay bx by p q None b h k = rw h refl
-turn_step ax ay bx by p q (Some c) None h k = rw (h.0, k) refl
-turn_step ax ay bx by p q (Some c) (Some d) h k = rw (h.0, h.1.0, h.1.1, k.0, k.1.0, k.1.1) refl
-
-pub left_turn : (ax ay bx by : ℤ) → turns_left (dir_of ax ay) (dir_of bx by) ≡ is_turn_left ax ay bx by
-left_turn ax ay bx by =
-    turn_step ax ay bx by (is_part ax && is_part ay) (is_part bx && is_part by) (dir_of ax ay) (dir_of bx by) (dir_told ax ay) (dir_told bx by)
-    ∙ sym (four_all (is_part ax) (is_part ay) (is_part bx) (is_part by) (int_lt (pos 0) (ax *ℤ by -ℤ ay *ℤ bx)))
+-- a list of five items is these items
+pub five_items : {A : Type 0} (xs : List A) (a b c d e : A) → 5 ≤ length xs → length xs < 6 → a ≡ get_or xs 0 a → b ≡ get_or xs 1 b → c ≡ get_or xs 2 c → d ≡ get_or xs 3 d → e ≡ get_or xs 4 e → xs ≡ a ∷ (b ∷ (c ∷ (d ∷ (e ∷ []))))
+five_items [] a b c d e low high p q r s t = absurd (omega (arith, low))
+five_items (v ∷ []) a b c d e low high p q r s t = absurd (omega (arith, low))
+five_items (v ∷ (w ∷ [])) a b c d e low high p q r s t = absurd (omega (arith, low))
+five_items (v ∷ (w ∷ (x ∷ []))) a b c d e low high p q r s t = absurd (omega (arith, low))
+five_items (v ∷ (w ∷ (x ∷ (y ∷ [])))) a b c d e low high p q r s t = absurd (omega (arith, low))
+five_items (v ∷ (w ∷ (x ∷ (y ∷ (z ∷ []))))) a b c d e low high p q r s t = rw (p, q, r, s, t) refl
+five_items (v ∷ (w ∷ (x ∷ (y ∷ (z ∷ (u ∷ us)))))) a b c d e low high p q r s t = absurd (omega (arith, high))

@@ -1,11 +1,12 @@
 -- Widths within the bound, part by part.
-use Rattle.std.proofs.Common.{◌≡◌, ◌∙◌, ℕ, ℤ, ◌+◌, ◌*◌, ◌^◌, ◌<◌, ◌≤◌, arith, max, nat_abs, nat_lt, Bool, true, false}
+use Rattle.std.proofs.Common.{◌≡◌, ◌∙◌, ℕ, ℤ, ◌+◌, ◌*◌, ◌<◌, ◌≤◌, arith, max, nat_abs, nat_lt, Bool, true, false}
 use Rattle.std.proofs.Common.{List, [], ◌∷◌, map, length, drop, get_or, Option, None, Some, refl, sym, ap}
 use Rattle.std.proofs.Math.Nat.{le-max_left, le-max_right, max-le}
 use Rattle.std.proofs.lemmas.Bool.{le-ltb, lt-ltb, ltb-false, ltb-true}
 use Rattle.std.proofs.lemmas.List.{drop_all}
 use Rattle.std.specs.Option.{is_none}
 use Rattle.std.specs.Prelude.{◌||◌}
+use Rattle.sky_vector.specs.declared.limits.TheConstants.{NUMBER_MOST}
 use Rattle.sql_tree.specs.declared.expr.Atom.TheFolds.{fold_out-Expr, fold_out-Factor, fold_out-Prod, fold_out-Signed}
 use Rattle.sql_tree.specs.declared.expr.Atom.TheVariants as atom
 use Rattle.sql_tree.specs.declared.expr.Expr.{Expr, out-Expr}
@@ -38,8 +39,8 @@ lt_max : (m a b : ℕ) → nat_lt m (max a b) ≡ (nat_lt m a || nat_lt m b)
 lt_max m a b = lt_by m a b (nat_lt m a) (nat_lt m b) refl refl
 
 -- two parts together are within the bound where each is, and what they come to
-both_by : (op : ℕ → ℕ → ℕ) (l r : Width) (wide one two : Bool) → nat_lt (2 ^ 100) (op l.size r.size) ≡ wide
-    → nat_lt (2 ^ 100) l.widest ≡ one → nat_lt (2 ^ 100) r.widest ≡ two
+both_by : (op : ℕ → ℕ → ℕ) (l r : Width) (wide one two : Bool) → nat_lt NUMBER_MOST (op l.size r.size) ≡ wide
+    → nat_lt NUMBER_MOST l.widest ≡ one → nat_lt NUMBER_MOST r.widest ≡ two
     → narrow (and_then op l r) ≡ narrow_both op (narrow l) (narrow r)
 unfolding narrow narrow_both capped
 both_by op l r true true two e f g = rw (lt_max, f, e) refl
@@ -52,7 +53,7 @@ both_by op l r false false false e f g = rw (lt_max, lt_max, f, g, e) refl
 -- the same, however wide they are
 both_narrow : (op : ℕ → ℕ → ℕ) (l r : Width) → narrow (and_then op l r) ≡ narrow_both op (narrow l) (narrow r)
 both_narrow op l r =
-    both_by op l r (nat_lt (2 ^ 100) (op l.size r.size)) (nat_lt (2 ^ 100) l.widest) (nat_lt (2 ^ 100) r.widest) refl
+    both_by op l r (nat_lt NUMBER_MOST (op l.size r.size)) (nat_lt NUMBER_MOST l.widest) (nat_lt NUMBER_MOST r.widest) refl
     refl refl
 
 -- ---- several parts
@@ -190,11 +191,11 @@ narrow_bracket names e =
     ap narrow (fold_bracket (width_at_atom names) width_at_expr width_at_factor width_at_prod width_at_signed e)
 
 -- what is not within the bound is too wide, by whether it is
-none_by : (w : Width) (wide : Bool) → nat_lt (2 ^ 100) w.widest ≡ wide → is_none (narrow w) ≡ nat_lt (2 ^ 100) w.widest
+none_by : (w : Width) (wide : Bool) → nat_lt NUMBER_MOST w.widest ≡ wide → is_none (narrow w) ≡ nat_lt NUMBER_MOST w.widest
 unfolding narrow
 none_by w true e = rw e refl
 none_by w false e = rw e refl
 
 -- what is not within the bound is too wide
-pub none_narrow : (w : Width) → is_none (narrow w) ≡ nat_lt (2 ^ 100) w.widest
-none_narrow w = none_by w (nat_lt (2 ^ 100) w.widest) refl
+pub none_narrow : (w : Width) → is_none (narrow w) ≡ nat_lt NUMBER_MOST w.widest
+none_narrow w = none_by w (nat_lt NUMBER_MOST w.widest) refl

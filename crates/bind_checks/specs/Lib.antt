@@ -4,7 +4,6 @@ pub mod Behind
 pub mod Gathering
 pub mod LoneChord
 pub mod Qualified
-pub mod Turns
 pub mod Firsts
 pub mod Parts
 pub mod Unknowns

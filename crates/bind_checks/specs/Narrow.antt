@@ -1,5 +1,6 @@
 -- Widths of expressions within the bound that all numbers of a query have.
-use Rattle.std.specs.Prelude.{ℕ, ◌^◌, nat_lt, if◌then◌else◌, List, [], ◌∷◌, Option, None, Some}
+use Rattle.std.specs.Prelude.{ℕ, nat_lt, if◌then◌else◌, List, [], ◌∷◌, Option, None, Some}
+use Rattle.sky_vector.specs.declared.limits.TheConstants.{NUMBER_MOST}
 use Rattle.sql_tree.specs.declared.expr.Atom.{Atom}
 use Rattle.sql_tree.specs.declared.expr.Atom.TheFolds.{fold-Atom, fold-Factor, fold-Prod, fold-Signed}
 use Rattle.sql_tree.specs.declared.expr.Factor.{Factor}
@@ -10,11 +11,11 @@ use Rattle.bind_rules.specs.Widths.{width_at_signed}
 
 -- the number, where it is at most 2^100
 unfoldable pub capped : ℕ → Option ℕ
-capped n = if nat_lt (2 ^ 100) n then None else Some n
+capped n = if nat_lt NUMBER_MOST n then None else Some n
 
 -- the size, where no number on the way to it is above 2^100
 unfoldable pub narrow : Width → Option ℕ
-narrow w = if nat_lt (2 ^ 100) w.widest then None else Some w.size
+narrow w = if nat_lt NUMBER_MOST w.widest then None else Some w.size
 
 -- two such sizes taken together
 unfoldable pub narrow_both : (ℕ → ℕ → ℕ) → Option ℕ → Option ℕ → Option ℕ

@@ -1,21 +1,20 @@
-//! The ints of a written list: an int as a number, a direction and a position of their parts.
-ghost use Rattle.std.specs.Prelude.{◌≡◌, FitsSigned, SomeIff};
-ghost use Rattle.std.specs.Int.{w64};
-ghost use Rattle.bind_rules.specs.Areas.{dir_of, pos_of};
-ghost use Rattle.bind_rules.specs.Forms.{int_value};
+//! The ints of a written list: an int as a number, and the area test of a function with such arguments.
+ghost use Rattle.std.specs.Prelude.{◌≡◌, ◌∷◌, map};
+ghost use Rattle.sql_tree.specs.declared.cond.AreaKind.TheVariants as area;
+ghost use Rattle.sql_bound.specs.declared.area.AreaTest.TheVariants as test;
+ghost use Rattle.bind_rules.specs.Areas.{area_test, dir_of, if_sound, pos_of, where_some};
+ghost use Rattle.bind_rules.specs.Forms.{int_value, values_of};
 
-use sky_vector::{Dir, Pos};
-use sql_tree::SignedInt;
+use sky_vector::{Dir, Pos, turn};
+use sql_bound::{AreaTest, SquaredRadius};
+use sql_tree::{AreaKind, IntList, SignedInt};
 
-/// The int in 64 bits, or `None` where it is 2^63, which no text spells. Takes no memory.
-pub fn int_value(int: &SignedInt) -> Option<i64>
-    ensures { SomeIff result (FitsSigned w64 (int_value int.now)) (int_value int.now) }
+/// The int as a number. Takes no memory.
+pub fn int_value(int: &SignedInt) -> i64
+    ensures { result ≡ int_value int.now }
 {
-    if int.minus {
-        0i64.checked_sub(int.size)
-    } else {
-        Some(int.size)
-    }
+    let size = int.size.get();
+    if int.minus { 0 - size } else { size }
 }
 
 // The direction with these parts.
@@ -32,22 +31,94 @@ fn pos_at(x: i64, y: i64, z: i64) -> Option<Pos>
     Pos::new(x, y, z)
 }
 
-/// The direction with these parts, or `None` where one is outside ±2^29. Takes no memory.
-pub fn dir_of(dx: &SignedInt, dy: &SignedInt) -> Option<Dir>
+// The direction with these parts, or `None` where one is outside its limits.
+fn dir_of(dx: &SignedInt, dy: &SignedInt) -> Option<Dir>
     ensures { result ≡ dir_of (int_value dx.now) (int_value dy.now) }
 {
-    match (int_value(dx), int_value(dy)) {
-        (Some(dx), Some(dy)) => dir_at(dx, dy),
+    dir_at(int_value(dx), int_value(dy))
+}
+
+// The position with these parts, or `None` where one is outside its limits.
+fn pos_of(x: &SignedInt, y: &SignedInt, z: &SignedInt) -> Option<Pos>
+    ensures { result ≡ pos_of (int_value x.now) (int_value y.now) (int_value z.now) }
+{
+    pos_at(int_value(x), int_value(y), int_value(z))
+}
+
+/// The test of an area function with these arguments, or `None` where they are not as many as it takes or outside their
+/// limits. Takes no memory.
+pub fn area_test(kind: AreaKind, args: &IntList) -> Option<AreaTest>
+    ensures { result ≡ area_test kind (values_of args.now) }
+{
+    let rest = args.rest.as_slice();
+    match kind {
+        AreaKind::Band => band_test(&args.first, rest),
+        AreaKind::Cap => cap_test(&args.first, rest),
+        AreaKind::Boxed => boxed_test(&args.first, rest),
+    }
+}
+
+// A band, of its arguments.
+fn band_test(lo: &SignedInt, rest: &[SignedInt]) -> Option<AreaTest>
+    ensures { result ≡ area_test area.Band (int_value lo.now ∷ map int_value rest.now) }
+{
+    match rest {
+        [hi] => Some(AreaTest::Band {
+            lo: int_value(lo),
+            hi: int_value(hi),
+        }),
         _ => None,
     }
 }
 
-/// The position with these parts, or `None` where one is outside ±2^29. Takes no memory.
-pub fn pos_of(x: &SignedInt, y: &SignedInt, z: &SignedInt) -> Option<Pos>
-    ensures { result ≡ pos_of (int_value x.now) (int_value y.now) (int_value z.now) }
+// A cap, of its arguments.
+fn cap_test(x: &SignedInt, rest: &[SignedInt]) -> Option<AreaTest>
+    ensures { result ≡ area_test area.Cap (int_value x.now ∷ map int_value rest.now) }
 {
-    match (int_value(x), int_value(y), int_value(z)) {
-        (Some(x), Some(y), Some(z)) => pos_at(x, y, z),
+    match rest {
+        [y, z, n] => cap_around(pos_of(x, y, z), int_value(n)),
         _ => None,
+    }
+}
+
+// The cap around a centre, where there is one, if n is a squared radius.
+fn cap_around(centre: Option<Pos>, n: i64) -> Option<AreaTest>
+    ensures { result ≡ where_some centre (λ c. if_sound (test.Cap c n)) }
+{
+    match (centre, SquaredRadius::new(n)) {
+        (Some(centre), Some(n)) => Some(AreaTest::Cap { centre, n }),
+        _ => None,
+    }
+}
+
+// A box, of its arguments.
+fn boxed_test(lo: &SignedInt, rest: &[SignedInt]) -> Option<AreaTest>
+    ensures { result ≡ area_test area.Boxed (int_value lo.now ∷ map int_value rest.now) }
+{
+    match rest {
+        [hi, ax, ay, bx, by] => boxed_between(lo, hi, dir_of(ax, ay), dir_of(bx, by)),
+        _ => None,
+    }
+}
+
+// The box between two heights and two directions, where these are there.
+fn boxed_between(lo: &SignedInt, hi: &SignedInt, a: Option<Dir>, b: Option<Dir>) -> Option<AreaTest>
+    ensures { result ≡ where_some a (λ a. where_some b (λ b.
+        if_sound (test.Boxed (int_value lo.now) (int_value hi.now) a b))) }
+{
+    match (a, b) {
+        (Some(a), Some(b)) => boxed_left(int_value(lo), int_value(hi), a, b),
+        _ => None,
+    }
+}
+
+// The box, if its second direction lies less than half a turn to the left of the first.
+fn boxed_left(lo: i64, hi: i64, a: Dir, b: Dir) -> Option<AreaTest>
+    ensures { result ≡ if_sound (test.Boxed lo hi a b) }
+{
+    if 0 < turn(&a, &b) {
+        Some(AreaTest::Boxed { lo, hi, a, b })
+    } else {
+        None
     }
 }

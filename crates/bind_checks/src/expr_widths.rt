@@ -6,10 +6,8 @@ ghost use Rattle.bind_checks.specs.Narrow.{atom_width, capped, factor_width, nar
 ghost use Rattle.bind_checks.specs.Narrow.{narrow_from_left, narrow_signed, prod_width, signed_width};
 
 use sky_row::Schema;
-use sql_tree::{Atom, Expr, Factor, Prod, Signed};
-
-/// The largest size of all numbers of a query.
-const MOST: u128 = 1 << 100;
+use sky_vector::limits::NUMBER_MOST;
+use sql_tree::{Atom, Expr, Factor, Int, Prod, Signed};
 
 /// Whether some number of the expression may be above 2^100 in size.
 pub(crate) fn is_too_wide(schema: &Schema, e: &Expr) -> bool
@@ -115,10 +113,10 @@ fn narrow_atom(schema: &Schema, atom: &Atom) -> Option<u128>
     }
 }
 
-fn size_of(n: &i64) -> u128
+fn size_of(n: &Int) -> u128
     ensures { result ≡ nat_abs n.now }
 {
-    u128::from(n.unsigned_abs())
+    u128::from(n.get().unsigned_abs())
 }
 
 // The largest size of a value in the column, and 0 where there is none of that name.
@@ -136,7 +134,7 @@ fn bound_of(schema: &Schema, name: &[u8]) -> u128
 fn capped(n: u128) -> Option<u128>
     ensures { result ≡ capped n }
 {
-    if n > MOST { None } else { Some(n) }
+    if n > NUMBER_MOST { None } else { Some(n) }
 }
 
 #[tactic(auto, unfolding(crate::specs::Narrow::capped))]

@@ -3,7 +3,7 @@
 //! Callers see one call, `first_fault`, which answers what `bind_rules` defines as the first fault (`bind_fault`). What
 //! the checks look at and the building of a bound query looks at again stands here too: the tests of WHERE, shown one
 //! after another (`walk`); the qualifier of a table; whether a query is a join, or a grouping; the alias that an order
-//! key is; an int, a position and a direction of their written parts.
+//! key is; an int as a number, and the test of an area function with its arguments.
 //! Below: `sql_tree` for the written query, `sky_row` for the schema, `bind_rules` for the faults and the checks. Above:
 //! `sql_bind`, which builds the bound query where no check fails.
 //! No bound query: nothing is built here.
@@ -28,7 +28,7 @@ mod tests_in;
 mod unknown;
 mod widths;
 
-pub use arguments::{dir_of, int_value, pos_of};
+pub use arguments::{area_test, int_value};
 pub use checks::first_fault;
 pub use columns::{is_join, qualifier};
 pub use grouping::is_grouped;

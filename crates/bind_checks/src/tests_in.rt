@@ -10,7 +10,7 @@ ghost use Rattle.bind_checks.specs.Gathering.{Gathers, found_of, tests_of_conj, 
 ghost use Rattle.bind_checks.specs.Walks.{kept_if, tests_at_pred, tests_of};
 
 use sql_token::Span;
-use sql_tree::{AreaKind, Cmp, Cond, Conj, Expr, IntList, Name, Neg, Pred};
+use sql_tree::{AreaKind, Cmp, Cond, Conj, Expr, Int, IntList, Name, Neg, Pred};
 
 /// A test that more is asked of than whether it holds.
 #[derive(Drop)]
@@ -24,7 +24,7 @@ pub enum TestRef<'a> {
         left: &'a Name,
         right: &'a Name,
         strict: bool,
-        n: &'a i64,
+        n: &'a Int,
     },
     /// An equation.
     Equals {

@@ -1,7 +1,7 @@
 //! What is told of a bound query, and of a fault.
 use sky_io::{Put, Sink};
 use sql_bind::BindFault;
-use sql_bound::{Bound, BoundKey, BoundOrder, Shape};
+use sql_bound::{Bound, BoundKey, BoundOrder, Int, Shape};
 use std::alloc::{AllocError, Global};
 
 // Writes a text.
@@ -59,9 +59,9 @@ fn put_order<K: Sink>(
 }
 
 // Writes the limit.
-fn put_limit<K: Sink>(sink: &mut K, alloc: Global, limit: &Option<i64>) -> Result<Put, AllocError> {
+fn put_limit<K: Sink>(sink: &mut K, alloc: Global, limit: &Option<Int>) -> Result<Put, AllocError> {
     match limit {
-        Some(limit) => put_text(sink, format!(in alloc; ", limit {limit}")),
+        Some(limit) => put_text(sink, format!(in alloc; ", limit {}", limit.get())),
         None => Ok(Put::Done),
     }
 }

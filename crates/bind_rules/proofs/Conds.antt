@@ -149,7 +149,7 @@ whole_sound s allowed = neg_induction
     (λ without value low high. claim_as s allowed formula_of_pred _ (value ∷ (low ∷ (high ∷ []))) _ [] _ (Some (bound.Between without (bound_expr s value) (bound_expr s low) (bound_expr s high))) (fold_between exprs_at_pred (λ c. c.first ++ joined c.rest) (λ c. c.first ++ joined c.rest) (λ n. n.pred) without value low high) (fold_between within_pred (λ c. c.first ++ joined c.rest) (λ c. c.first ++ joined c.rest) (λ n. n.pred) without value low high) (bound_between s without value low high) (λ h k. rw (formula_between without (bound_expr s value) (bound_expr s low) (bound_expr s high)) (negated_sound allowed without _ (two_true _ _ (two_true _ _ h.1.0 h.0) (two_true _ _ h.0 h.1.1.0)))))
     (λ without value list. claim_as s allowed formula_of_pred _ (value ∷ []) _ (within_pred (Pred-F.Among without value list)) _ (Some (bound.Among without (bound_expr s value) (values_of list))) (fold_among exprs_at_pred (λ c. c.first ++ joined c.rest) (λ c. c.first ++ joined c.rest) (λ n. n.pred) without value list) (fold_among within_pred (λ c. c.first ++ joined c.rest) (λ c. c.first ++ joined c.rest) (λ n. n.pred) without value list) (bound_among s without value list) (λ h k. rw (formula_among without (bound_expr s value) (values_of list)) (negated_sound allowed without _ h.0)))
     (λ without value. claim_as s allowed formula_of_pred _ (value ∷ []) _ [] _ (Some (bound.IsNull without (bound_expr s value))) (fold_null exprs_at_pred (λ c. c.first ++ joined c.rest) (λ c. c.first ++ joined c.rest) (λ n. n.pred) without value) (fold_null within_pred (λ c. c.first ++ joined c.rest) (λ c. c.first ++ joined c.rest) (λ n. n.pred) without value) (bound_null s without value) (λ h k. rw (formula_null without (bound_expr s value)) (negated_sound allowed without _ h.0)))
-    (λ kind span args. claim_as s allowed formula_of_pred _ [] _ (Area kind span args ∷ []) _ (area_pred (area_test kind (values_of args))) (fold_area exprs_at_pred (λ c. c.first ++ joined c.rest) (λ c. c.first ++ joined c.rest) (λ n. n.pred) kind span args) (fold_area within_pred (λ c. c.first ++ joined c.rest) (λ c. c.first ++ joined c.rest) (λ n. n.pred) kind span args) (bound_area s kind span args) (λ h k. area_pred_sound allowed (area_test kind (values_of args)) (area_sound kind (values_of args) k.0)))
+    (λ kind span args. claim_as s allowed formula_of_pred _ [] _ (Area kind span args ∷ []) _ (area_pred (area_test kind (values_of args))) (fold_area exprs_at_pred (λ c. c.first ++ joined c.rest) (λ c. c.first ++ joined c.rest) (λ n. n.pred) kind span args) (fold_area within_pred (λ c. c.first ++ joined c.rest) (λ c. c.first ++ joined c.rest) (λ n. n.pred) kind span args) (bound_area s kind span args) (λ h k. area_pred_sound allowed (area_test kind (values_of args)) (area_sound kind (values_of args))))
     (λ left right strict n. claim_as s allowed formula_of_pred _ [] _ (Chord left right strict n ∷ []) _ None (fold_chord exprs_at_pred (λ c. c.first ++ joined c.rest) (λ c. c.first ++ joined c.rest) (λ n. n.pred) left right strict n) (fold_chord within_pred (λ c. c.first ++ joined c.rest) (λ c. c.first ++ joined c.rest) (λ n. n.pred) left right strict n) (bound_chord s left right strict n) (λ h k. tt))
     (λ x h. claim_as s allowed formula_of _ (from_pred exprs_at_pred x.pred) _ (from_pred within_pred x.pred) _ (neg_by x.not (bound_pred s x.pred)) (fold-roll-Neg Exprs Exprs Exprs Exprs exprs_at_pred (λ c. c.first ++ joined c.rest) (λ c. c.first ++ joined c.rest) (λ n. n.pred) x) (fold-roll-Neg Tests Tests Tests Tests within_pred (λ c. c.first ++ joined c.rest) (λ c. c.first ++ joined c.rest) (λ n. n.pred) x) (bound_neg_roll s x) (λ e t. neg_sound allowed x.not (bound_pred s x.pred) (h e t)))
     (λ x h k. claim_as s allowed formula_of_all _ (from_neg exprs_at_pred x.first ++ joined (map (from_neg exprs_at_pred) x.rest)) _ (from_neg within_pred x.first ++ joined (map (from_neg within_pred) x.rest)) _ (conj_by (bound_cond s x.first) (all_there (map (bound_cond s) x.rest))) (fold-roll-Conj Exprs Exprs Exprs Exprs exprs_at_pred (λ c. c.first ++ joined c.rest) (λ c. c.first ++ joined c.rest) (λ n. n.pred) x) (fold-roll-Conj Tests Tests Tests Tests within_pred (λ c. c.first ++ joined c.rest) (λ c. c.first ++ joined c.rest) (λ n. n.pred) x) (bound_conj_roll s x)

@@ -1,10 +1,11 @@
 -- In the tree of a text the limit and the n of each chord test are no numbers below 0.
 use Rattle.std.proofs.Common.{◌≡◌, ℕ, zero, suc, ◌+◌, ◌-◌, ℤ, pos, Bool, true, false, List, [], ◌∷◌, ◌++◌, map, Option, Some, None, Ok, Err, refl, sym, subst, nat_lt, nat_le, if◌then◌else◌}
-use Rattle.std.specs.Prelude.{int_le, not, Result, ◌^◌, length, take_while}
+use Rattle.std.specs.Prelude.{int_le, not, Result, length, take_while}
 use Rattle.std.specs.List.{AllByRecursion as Each, prefix_len}
 use Rattle.text_rules.specs.Numbers.{is_digit, value_after}
 use Rattle.std.proofs.lemmas.Int.{ints}
 use Rattle.std.proofs.Common.{arith}
+use Rattle.sql_token.specs.declared.limits.TheConstants.{INT_MOST}
 use Rattle.text_rules.specs.Words.{begins_word, continues_word}
 use Rattle.sql_token.specs.Bytes.{is_blank}
 use Rattle.sql_token.specs.Faults.{TokenFault, TooMany}
@@ -95,7 +96,7 @@ sign_counts place (a ∷ (b ∷ bs)) = long_counts place (long_sign a b) (short_
 token_counts : (place : ℕ) (b : ℕ) (bs : List ℕ) → IfToken (token_at place (b ∷ bs))
 token_counts place b bs =
     either IfToken (begins_word b) _ _ (word_counts (keyword_of (take_while continues_word (b ∷ bs))))
-    (either IfToken (is_digit b) _ _ (int_counts place (prefix_len is_digit (b ∷ bs)) (nat_le (value_after 0 (take_while is_digit (b ∷ bs))) (2 ^ 63 - 1)) (value_after 0 (take_while is_digit (b ∷ bs))))
+    (either IfToken (is_digit b) _ _ (int_counts place (prefix_len is_digit (b ∷ bs)) (nat_le (value_after 0 (take_while is_digit (b ∷ bs))) INT_MOST) (value_after 0 (take_while is_digit (b ∷ bs))))
     (sign_counts place (b ∷ bs)))
 
 begins_counts : (r : Result Token TokenFault) → IfToken r → IfStanding (begins r)

@@ -150,9 +150,9 @@ sum_agrees s (g ∷ gs) t w cs a h =
 
 -- ---- the law
 
-bound_there : (names : List (List ℕ)) (col : Option ℕ) → is_some col ≡ true → nat_abs (column_bound (unwrap_or col 0)) ≡ bound_by col
-bound_there names (Some n) h = refl
-bound_there names None h = absurd cc
+bound_there : (past : ℕ) (col : Option ℕ) → is_some col ≡ true → nat_abs (column_bound (unwrap_or col past)) ≡ bound_by col
+bound_there past (Some n) h = refl
+bound_there past None h = absurd cc
 
 minus_agrees : (s : Scope) (m : Bool) (t : Term) (w : Width) (cs : Cols) → Agrees s t w cs → Agrees s (if m then Minus t else t) w cs
 minus_agrees s true t w cs a = a
@@ -164,7 +164,7 @@ as_said s t t' w w' cs cs' p q r h =
 
 column_agrees : (s : Scope) (c : Col) → Agrees s (Column (bound_col s c)) (just (bound_by (column_of s.names c.name.text))) (c ∷ [])
 column_agrees s c =
-    (refl, λ h. let e = bound_there s.names (column_of s.names c.name.text) h.0 in (e, e))
+    (refl, λ h. let e = bound_there _ (column_of s.names c.name.text) h.0 in (e, e))
 
 -- a bound expression has the columns of the written one, and where they are there, its width
 pub expr_agrees : (s : Scope) (e : Expr) → Agrees s (term_of (bound_expr s e)) (width_of s.names e) (columns_of e)

@@ -31,7 +31,6 @@ use Rattle.bind_rules.specs.Tops.{Test, Tests, Area, Chord, Equals, Listed, Foun
 use Rattle.bind_rules.specs.Wholes.{area_pred, bracket, before, all_there, conj_by, any_by, neg_by, bound_pred, bound_any, bound_all, bound_cond}
 use Rattle.bind_rules.proofs.Conds.{HasForm}
 use Rattle.bind_rules.proofs.Each.{front, back}
-use Rattle.bind_rules.proofs.FittingAreas.{area_fits}
 use Rattle.bind_rules.proofs.Folds.{fold_group, fold_compare, fold_between, fold_among, fold_null, fold_area, fold_chord}
 use Rattle.bind_rules.proofs.Found.{in_found, found_negated, found_group, found_area}
 use Rattle.bind_rules.proofs.Inductions.{neg_induction}
@@ -122,7 +121,7 @@ abbrev pub IsGood : Found → Type 0
 IsGood f = HasForm f.test × IsTopChord f.test f.top
 
 place_of : (t : Test) → HasForm t → IsTopChord t false → HasPlace t
-place_of (Area kind span args) h k = area_fits kind (values_of args) h
+place_of (Area kind span args) h k = h
 place_of (Chord left right strict n) h k = k
 place_of (Equals left right) h k = tt
 place_of (Listed value list) h k = tt
@@ -187,7 +186,7 @@ conjunct_kept s n (Null without value is) h =
     leaf_kept s n (pred.IsNull without value) (Some (bound.IsNull without (bound_expr s value))) [] is (bound_null s without value) refl (null_test without value) refl
 conjunct_kept s n (InArea kind span args is) h =
     leaf_kept s n (pred.Area kind span args) (area_pred (area_test kind (values_of args))) (Area kind span args ∷ []) is (bound_area s kind span args)
-    (area_there (area_test kind (values_of args)) (area_fits kind (values_of args) (area_form_of kind span args (subst (Each IsGood) (ap found_in is ∙ found_area kind span args) h))))
+    (area_there (area_test kind (values_of args)) (area_form_of kind span args (subst (Each IsGood) (ap found_in is ∙ found_area kind span args) h)))
     (area_test_of kind span args) refl
 conjunct_kept s n (OfChord left right strict n' is) h = AsLimit left right strict n' is
 

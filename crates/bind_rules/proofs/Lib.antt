@@ -22,7 +22,6 @@ pub mod Tested
 pub mod TopAreas
 pub mod TopIds
 pub mod WrittenTruths
-pub mod FittingAreas
 pub mod Kept
 pub mod BoundWhere
 pub mod Worked

@@ -17,7 +17,7 @@ use Rattle.table_rules.specs.Names.{column_names, column_of}
 use Rattle.value_rules.specs.Sound.{columns_at, same_col, has_col, is_sound_at}
 use Rattle.value_rules.specs.Terms.{Column, term_of}
 use Rattle.value_rules.specs.Widths.{widest_at, most}
-use Rattle.bind_rules.specs.Bounds.{Scope, is_second, bound_col, bound_expr}
+use Rattle.bind_rules.specs.Bounds.{Scope, is_second, column_number, bound_col, bound_expr}
 use Rattle.bind_rules.specs.Columns.{is_same_column}
 use Rattle.bind_rules.specs.Mentions.{columns_of}
 use Rattle.bind_rules.specs.Widths.{width_of, is_too_wide}
@@ -34,12 +34,12 @@ below_true a b h = grind (arith, h)
 pub up_to_true : (a b : ℕ) → nat_lt a b ≡ false → nat_le b a ≡ true
 up_to_true a b h = grind (arith, h)
 
-position_below : {X : Type 0} (p : X → Bool) (xs : List X) (d : X) (o : Option ℕ) → position p xs ≡ o → is_some o ≡ true → nat_lt (unwrap_or o 0) (length xs) ≡ true
-position_below p xs d None e h = absurd cc
-position_below p xs d (Some i) e h = below_true i (length xs) (position-Some p xs i d e).0
+position_below : {X : Type 0} (p : X → Bool) (xs : List X) (d : X) (past : ℕ) (o : Option ℕ) → position p xs ≡ o → is_some o ≡ true → nat_lt (unwrap_or o past) (length xs) ≡ true
+position_below p xs d past None e h = absurd cc
+position_below p xs d past (Some i) e h = below_true i (length xs) (position-Some p xs i d e).0
 
-pub there_below : (names : List (List ℕ)) (text : List ℕ) → is_some (column_of names text) ≡ true → nat_lt (unwrap_or (column_of names text) 0) (count names) ≡ true
-there_below names text h = position_below (bytes_eq text) (column_names names) [] (column_of names text) refl h
+pub there_below : (names : List (List ℕ)) (text : List ℕ) → is_some (column_of names text) ≡ true → nat_lt (column_number names text) (count names) ≡ true
+there_below names text h = position_below (bytes_eq text) (column_names names) [] _ (column_of names text) refl h
 
 or_second : (second : Bool) → (not second || true) ≡ true
 or_second true = refl
@@ -85,7 +85,7 @@ same_there : (s : Scope) (c d : Col) → is_some s.second ≡ false → bytes_eq
 same_there s c d none h =
     let text : c.name.text ≡ d.name.text = grind (arith, bytes_eq-Decides c.name.text d.name.text, h) in
     both_true _ _ (same_bits _ _ (no_second s.second d.table none) (no_second s.second c.table none))
-    (same_number _ _ (ap (λ t. unwrap_or (column_of s.names t) 0) (sym text)))
+    (same_number _ _ (ap (column_number s.names) (sym text)))
 
 key_step : (s : Scope) (c d : Col) (rest : List Col) (b : Bool) → bytes_eq c.name.text d.name.text ≡ b → is_some s.second ≡ false → (b || list_any (is_same_column c) rest) ≡ true → (list_any (is_same_column c) rest ≡ true → list_any (λ key. same_col key (bound_col s c)) (map (bound_col s) rest) ≡ true) → (same_col (bound_col s d) (bound_col s c) || list_any (λ key. same_col key (bound_col s c)) (map (bound_col s) rest)) ≡ true
 key_step s c d rest true e none h later = rw (same_there s c d none e) refl

@@ -77,7 +77,7 @@ listed_areas None h = tt
 listed_areas (Some t) h = (h, tt)
 
 areas_of_test : (t : Test) → HasForm t → Each IsSoundArea (areas_by t)
-areas_of_test (Area kind span args) h = listed_areas (area_test kind (values_of args)) (area_sound kind (values_of args) h)
+areas_of_test (Area kind span args) h = listed_areas (area_test kind (values_of args)) (area_sound kind (values_of args))
 areas_of_test (Chord left right strict n) h = tt
 areas_of_test (Equals left right) h = tt
 areas_of_test (Listed value list) h = tt

@@ -1,13 +1,16 @@
 -- An area test with its centre and its directions.
-use Rattle.std.specs.Prelude.{◌≡◌, ℤ, pos, negsuc, int_le, Bool, true, false, refl, List, [], ◌∷◌, Option, None, Some}
+use Rattle.std.specs.Prelude.{◌≡◌, ℤ, pos, neg_ℤ, int_le, Bool, true, false, refl, if◌then◌else◌}
+use Rattle.std.specs.Prelude.{List, [], ◌∷◌, Option, None, Some}
 use Rattle.std.proofs.lemmas.Float.{T_from_true}
 use Rattle.sky_vector.specs.Points.{IsWithin}
+use Rattle.sky_vector.specs.declared.limits.TheConstants.{PART_MOST}
 use Rattle.sky_vector.specs.declared.direction.Dir.{Dir}
 use Rattle.sky_vector.specs.declared.position.Pos.{Pos}
 use Rattle.sql_bound.specs.declared.area.AreaTest.{AreaTest}
 use Rattle.sql_bound.specs.declared.area.AreaTest.TheVariants as test
 use Rattle.sql_tree.specs.declared.cond.AreaKind.{AreaKind}
 use Rattle.sql_tree.specs.declared.cond.AreaKind.TheVariants as area
+use Rattle.value_rules.specs.Sound.{is_sound_area}
 
 -- what follows of a test, where it is met
 abbrev pub where_met : {A : Type 0} (b : Bool) → (b ≡ true → Option A) → Option A
@@ -19,10 +22,10 @@ abbrev pub where_some : {A B : Type 0} → Option A → (A → Option B) → Opt
 where_some (Some x) f = f x
 where_some None f = None
 
--- the part is within ±2^29
+-- the part is within its limits
 abbrev pub within : (z : ℤ) → Option (IsWithin z)
 within z =
-    where_met (int_le (negsuc 536870911) z) (λ low. where_met (int_le z (pos 536870912)) (λ high.
+    where_met (int_le (neg_ℤ (pos PART_MOST)) z) (λ low. where_met (int_le z (pos PART_MOST)) (λ high.
     Some (record { le = T_from_true _ low }, record { le = T_from_true _ high })))
 
 -- the position of these coordinates
@@ -37,10 +40,15 @@ dir_of dx dy =
     where_some (within dx) (λ a. where_some (within dy) (λ b.
     Some (record { dx = dx; dy = dy; dx_within = a; dy_within = b })))
 
--- the test of a function with these arguments, where they are as many as it takes and within their limits
+-- the test, where it can be run
+abbrev pub if_sound : AreaTest → Option AreaTest
+if_sound t = if is_sound_area t then Some t else None
+
+-- the test of a function with these arguments, where they are as many as it takes and within their limits: two heights;
+-- a centre and a squared radius; two heights and two directions
 abbrev pub area_test : AreaKind → List ℤ → Option AreaTest
-area_test area.Band (lo ∷ hi ∷ []) = Some (test.Band lo hi)
-area_test area.Cap (x ∷ y ∷ z ∷ n ∷ []) = where_some (pos_of x y z) (λ centre. Some (test.Cap centre n))
+area_test area.Band (lo ∷ hi ∷ []) = if_sound (test.Band lo hi)
+area_test area.Cap (x ∷ y ∷ z ∷ n ∷ []) = where_some (pos_of x y z) (λ centre. if_sound (test.Cap centre n))
 area_test area.Boxed (lo ∷ hi ∷ ax ∷ ay ∷ bx ∷ by ∷ []) =
-    where_some (dir_of ax ay) (λ a. where_some (dir_of bx by) (λ b. Some (test.Boxed lo hi a b)))
+    where_some (dir_of ax ay) (λ a. where_some (dir_of bx by) (λ b. if_sound (test.Boxed lo hi a b)))
 area_test _ _ = None

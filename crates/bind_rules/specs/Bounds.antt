@@ -1,5 +1,5 @@
 -- Written expressions with their columns in place of names.
-use Rattle.std.specs.Prelude.{ℕ, Bool, false, unwrap_or, List}
+use Rattle.std.specs.Prelude.{ℕ, Bool, false, unwrap_or, List, length}
 use Rattle.std.specs.Prelude.{Option, Some}
 use Rattle.std.specs.Str.{bytes_eq}
 use Rattle.sql_bound.specs.declared.expr.BoundAtom.{BoundAtom}
@@ -15,7 +15,7 @@ use Rattle.sql_tree.specs.declared.expr.Expr.{Expr}
 use Rattle.sql_tree.specs.declared.name.Col.{Col}
 use Rattle.sql_tree.specs.declared.name.Name.{Name}
 use Rattle.sql_tree.specs.declared.query.TableRef.{TableRef}
-use Rattle.table_rules.specs.Names.{column_of}
+use Rattle.table_rules.specs.Names.{column_names, column_of}
 use Rattle.bind_rules.specs.Columns.{qualifier}
 
 -- What a query's names are read by: the further columns, and the second table of a join.
@@ -28,9 +28,14 @@ abbrev pub is_second : Option TableRef → Option Name → Bool
 is_second (Some t) (Some n) = bytes_eq n.text (qualifier t)
 is_second _ _ = false
 
--- the column that is meant; a name that the schema does not have, which is refused, counts as 0
+-- the number of the column with this name; a name that no column has, which is refused, has the number past the last
+-- column
+abbrev pub column_number : List (List ℕ) → List ℕ → ℕ
+column_number names text = unwrap_or (column_of names text) (length (column_names names))
+
+-- the column that is meant
 abbrev pub bound_col : Scope → Col → BoundCol
-bound_col s c = record { second = is_second s.second c.table; col = unwrap_or (column_of s.names c.name.text) 0 }
+bound_col s c = record { second = is_second s.second c.table; col = column_number s.names c.name.text }
 
 -- the bound atom, of what it holds
 abbrev pub bound_atom_step : Scope → Atom-F BoundAtom BoundExpr BoundFactor BoundProd BoundSigned → BoundAtom

@@ -1,13 +1,12 @@
 -- The forms that a join and an area test must have.
-use Rattle.std.specs.Prelude.{ℤ, pos, negsuc, ◌-ℤ◌, ◌*ℤ◌, int_le, int_lt, Bool, true, false, ◌&&◌, ◌||◌, not}
+use Rattle.std.specs.Prelude.{ℤ, pos, ◌-ℤ◌, Bool, false, ◌&&◌, ◌||◌, not}
 use Rattle.std.specs.Prelude.{if◌then◌else◌}
-use Rattle.std.specs.Prelude.{List, [], ◌∷◌, ◌^◌, map, Option, None, Some}
+use Rattle.std.specs.Prelude.{List, [], ◌∷◌, map, Option, None, Some}
 use Rattle.std.specs.List.{list_all, flat_map}
 use Rattle.std.specs.Option.{is_some, option_map}
 use Rattle.std.specs.Str.{bytes_eq}
 use Rattle.sql_token.specs.declared.token.Span.{Span}
 use Rattle.sql_tree.specs.declared.cond.AreaKind.{AreaKind}
-use Rattle.sql_tree.specs.declared.cond.AreaKind.TheVariants as area
 use Rattle.sql_tree.specs.declared.cond.IntList.{IntList}
 use Rattle.sql_tree.specs.declared.cond.SignedInt.{SignedInt}
 use Rattle.sql_tree.specs.declared.name.Name.{Name}
@@ -15,6 +14,7 @@ use Rattle.sql_tree.specs.declared.query.Query.{Query}
 use Rattle.sql_tree.specs.declared.query.TableRef.{TableRef}
 use Rattle.bind_rules.specs.declared.fault.BindFault.{BindFault}
 use Rattle.bind_rules.specs.declared.fault.BindFault.TheVariants as fault
+use Rattle.bind_rules.specs.Areas.{area_test}
 use Rattle.bind_rules.specs.Mentions.{columns_in}
 use Rattle.bind_rules.specs.Tops.{Test, Area, Chord, tests_in}
 use Rattle.bind_rules.specs.Names.{is_grouped}
@@ -69,19 +69,9 @@ int_value i = if i.minus then pos 0 -ℤ i.size else i.size
 abbrev pub values_of : IntList → List ℤ
 values_of l = map int_value (l.first ∷ l.rest)
 
--- a coordinate, or a part of a direction
-abbrev pub is_part : ℤ → Bool
-is_part z = int_le (negsuc 536870911) z && int_le z (pos 536870912)
-
--- the arguments fit the function: two heights; a centre and a squared radius; two heights and two directions, the
--- second less than half a turn to the left of the first
+-- the arguments fit the function: there is a test of them
 abbrev pub is_area_form : AreaKind → List ℤ → Bool
-is_area_form area.Band (lo ∷ hi ∷ []) = true
-is_area_form area.Cap (x ∷ y ∷ z ∷ n ∷ []) =
-    list_all is_part (x ∷ y ∷ z ∷ []) && int_le (pos 0) n && int_le n (pos (2 ^ 62))
-is_area_form area.Boxed (lo ∷ hi ∷ ax ∷ ay ∷ bx ∷ by ∷ []) =
-    list_all is_part (ax ∷ ay ∷ bx ∷ by ∷ []) && int_lt (pos 0) (ax *ℤ by -ℤ ay *ℤ bx)
-is_area_form _ _ = false
+is_area_form kind args = is_some (area_test kind args)
 
 -- where the word of an area test stands that is not a conjunct at the top, or whose arguments do not fit
 abbrev pub bad_area : Test → Bool → List Span

@@ -1,5 +1,6 @@
 -- How large the numbers of a written expression can be.
-use Rattle.std.specs.Prelude.{ℕ, ◌+◌, ◌*◌, ◌^◌, max, nat_abs, nat_lt, Bool, List, [], ◌∷◌, ◌++◌, Option, None, Some}
+use Rattle.std.specs.Prelude.{ℕ, ◌+◌, ◌*◌, max, nat_abs, nat_lt, Bool, List, [], ◌∷◌, ◌++◌, Option, None, Some}
+use Rattle.sky_vector.specs.declared.limits.TheConstants.{NUMBER_MOST}
 use Rattle.table_rules.specs.Objects.{column_bound}
 use Rattle.sql_tree.specs.declared.cond.Cond.{Cond}
 use Rattle.sql_tree.specs.declared.cond.Pred.TheFolds.{fold-Cond}
@@ -67,7 +68,7 @@ width_of names =
 
 -- some number of the expression may be above 2^100
 abbrev pub is_too_wide : List (List ℕ) → Expr → Bool
-is_too_wide names e = nat_lt (2 ^ 100) (width_of names e).widest
+is_too_wide names e = nat_lt NUMBER_MOST (width_of names e).widest
 
 -- expressions
 abbrev pub Exprs : Type 0

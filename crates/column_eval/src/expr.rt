@@ -16,7 +16,7 @@ use crate::scratch::Scratch;
 use crate::value_list::ValueList;
 use column_block::Block;
 use sky_io::Memory;
-use sql_bound::{BoundAtom, BoundCol, BoundExpr, BoundFactor, BoundProd};
+use sql_bound::{BoundAtom, BoundCol, BoundExpr, BoundFactor, BoundProd, Int};
 
 /// The values of the expression on the rows of the block at the picked places, counted from 0, in the order of the places;
 /// `None` is NULL. Takes memory for each node of the expression, where the scratch has no free vector.
@@ -88,17 +88,17 @@ fn atom(a: &BoundAtom, rows: &Picked<'_>, scratch: &mut Scratch) -> Result<Lane,
     ensures { IfOk result (IsLane rows.now.objects (term_of_atom a.now)) }
 {
     match a {
-        BoundAtom::Int(n) => int(*n, rows, scratch),
+        BoundAtom::Int(n) => int(n, rows, scratch),
         BoundAtom::Col(col) => column(col, rows, scratch),
         BoundAtom::Bracket(e) => sum(e.get(), rows, scratch),
     }
 }
 
 // The lane of an int.
-fn int(n: i64, rows: &Picked<'_>, scratch: &mut Scratch) -> Result<Lane, Memory>
-    ensures { IfOk result (IsLane rows.now.objects (Number n)) }
+fn int(n: &Int, rows: &Picked<'_>, scratch: &mut Scratch) -> Result<Lane, Memory>
+    ensures { IfOk result (IsLane rows.now.objects (Number n.now)) }
 {
-    literal(n, rows.len(), scratch)
+    literal(n.get(), rows.len(), scratch)
 }
 
 // The lane of a column.

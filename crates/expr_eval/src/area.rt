@@ -14,7 +14,7 @@ pub fn area_holds(area: &AreaTest, at: &Pos) -> bool
 {
     match area {
         AreaTest::Band { lo, hi } => in_band(*lo, *hi, at.z),
-        AreaTest::Cap { centre, n } => chord2(at, centre) as i64 <= *n,
+        AreaTest::Cap { centre, n } => chord2(at, centre) <= n.get(),
         AreaTest::Boxed { lo, hi, a, b } => in_band(*lo, *hi, at.z) && between_dirs(a, b, at),
     }
 }

@@ -74,7 +74,7 @@ fn atom(a: &BoundAtom, first: &Row, second: Option<&Row>) -> Option<i128>
     ensures { result ≡ value_on (pick_of first.now second.entry) (term_of_atom a.now) }
 {
     match a {
-        BoundAtom::Int(n) => Some(i128::from(*n)),
+        BoundAtom::Int(n) => Some(i128::from(n.get())),
         BoundAtom::Col(col) => wide(cell(col, first, second)),
         BoundAtom::Bracket(e) => sum(e.get(), first, second),
     }

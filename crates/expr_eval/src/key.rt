@@ -92,7 +92,7 @@ fn key_atom(a: &BoundAtom, keys: &[BoundCol], key: &[Option<i64>]) -> Option<i12
     ensures { result ≡ value_at (key_cell keys.now key.now) (term_of_atom a.now) }
 {
     match a {
-        BoundAtom::Int(n) => Some(i128::from(*n)),
+        BoundAtom::Int(n) => Some(i128::from(n.get())),
         BoundAtom::Col(col) => wide(key_cell(col, keys, key)),
         BoundAtom::Bracket(e) => key_sum(e.get(), keys, key),
     }

@@ -14,7 +14,7 @@ use sky_row::Row;
 use sky_vector::{Pos, length_ok};
 use sql_bound::{
     AreaTest, BoundAll, BoundAny, BoundAtom, BoundCol, BoundCond, BoundExpr, BoundFactor,
-    BoundPred, BoundProd, Cmp,
+    BoundPred, BoundProd, Cmp, Int, SquaredRadius,
 };
 use sqlite_items::{Boxed, Items};
 use std::alloc::{AllocError, Global};
@@ -53,9 +53,10 @@ fn single(alloc: Global, minus: bool, atom: BoundAtom) -> BoundExpr
 }
 
 // An int.
-fn int(alloc: Global, n: i64) -> BoundExpr
+fn int(rt: &impl Abort, alloc: Global, n: u32) -> BoundExpr
     ensures { IsTrue (is_sound_expr (has_col 5 true) result) }
 {
+    let n = Int::new(u64::from(n)).expect(rt, "an int");
     single(alloc, false, BoundAtom::Int(n))
 }
 
@@ -111,13 +112,13 @@ fn equal(not: bool, left: BoundExpr, right: BoundExpr) -> BoundCond
 }
 
 // A condition that is true, false, or unknown where there is no flux.
-fn known(alloc: Global, not: bool, truth: Option<bool>) -> BoundCond
+fn known(rt: &impl Abort, alloc: Global, not: bool, truth: Option<bool>) -> BoundCond
     ensures { IsTrue (is_sound_cond (has_col 5 true) result) }
 {
     match truth {
-        Some(true) => equal(not, int(alloc, 1), int(alloc, 1)),
-        Some(false) => equal(not, int(alloc, 1), int(alloc, 0)),
-        None => equal(not, int(alloc, 1), column(alloc, false, false, 4)),
+        Some(true) => equal(not, int(rt, alloc, 1), int(rt, alloc, 1)),
+        Some(false) => equal(not, int(rt, alloc, 1), int(rt, alloc, 0)),
+        None => equal(not, int(rt, alloc, 1), column(alloc, false, false, 4)),
     }
 }
 
@@ -229,7 +230,7 @@ fn not_keeps_unknown(rt: HostRuntime) -> Result<(), Fail> {
         (Some(false), Some(true)),
         (None, None),
     ] {
-        let c = known(alloc, true, part);
+        let c = known(&rt, alloc, true, part);
         assert_eq!(rt; judged(&c, &dim, &dim), want, "NOT {part:?}");
     }
     Ok(())
@@ -251,9 +252,17 @@ fn and_and_or_have_three_truths(rt: HostRuntime) -> Result<(), Fail> {
         (None, f, f, None),
         (None, None, None, None),
     ] {
-        let joined = and(alloc, known(alloc, false, a), known(alloc, false, b))?;
+        let joined = and(
+            alloc,
+            known(&rt, alloc, false, a),
+            known(&rt, alloc, false, b),
+        )?;
         assert_eq!(rt; judged(&joined, &dim, &dim), both, "{a:?} AND {b:?}");
-        let joined = or(alloc, known(alloc, false, a), known(alloc, false, b))?;
+        let joined = or(
+            alloc,
+            known(&rt, alloc, false, a),
+            known(&rt, alloc, false, b),
+        )?;
         assert_eq!(rt; judged(&joined, &dim, &dim), one, "{a:?} OR {b:?}");
     }
     Ok(())
@@ -320,10 +329,12 @@ fn areas_hold_their_edges_and_look_at_the_first_row(rt: HostRuntime) -> Result<(
         assert_eq!(rt; judged(&c, &above, &left), Some(of_above), "{lo} {hi}");
     }
     let centre = Pos::new(1 << 28, 0, 0).expect(&rt, "a position");
-    let three = lies_in(AreaTest::Cap { centre, n: 9 });
+    let n = SquaredRadius::new(9).expect(&rt, "a squared radius");
+    let three = lies_in(AreaTest::Cap { centre, n });
     assert_eq!(rt; judged(&three, &left, &above), Some(true));
     assert_eq!(rt; judged(&three, &above, &left), Some(false));
-    let less = lies_in(AreaTest::Cap { centre, n: 8 });
+    let n = SquaredRadius::new(8).expect(&rt, "a squared radius");
+    let less = lies_in(AreaTest::Cap { centre, n });
     assert_eq!(rt; judged(&less, &left, &above), Some(false));
     Ok(())
 }
@@ -350,9 +361,10 @@ fn a_pair_has_the_columns_of_both_rows(rt: HostRuntime) -> Result<(), Fail> {
 }
 
 // Whether the flux is that number, asked of a row alone.
-fn flux_is(alloc: Global, n: i64) -> BoundCond
+fn flux_is(rt: &impl Abort, alloc: Global, n: u32) -> BoundCond
     ensures { IsTrue (is_sound_cond (has_col 5 false) result) }
 {
+    let n = Int::new(u64::from(n)).expect(rt, "an int");
     let flux = BoundFactor {
         minus: false,
         atom: BoundAtom::Col(BoundCol {
@@ -379,8 +391,8 @@ fn a_row_alone_meets_what_is_true_of_it(rt: HostRuntime) -> Result<(), Fail> {
     let alloc = rt.alloc();
     let bright = row(&rt, 3, 0, 4, Some(30));
     let dim = row(&rt, 2, 3, 0, None);
-    let conds = vec![in alloc; flux_is(alloc, 30), flux_is(alloc, 31)]?;
-    let is_30 = flux_is(alloc, 30);
+    let conds = vec![in alloc; flux_is(&rt, alloc, 30), flux_is(&rt, alloc, 31)]?;
+    let is_30 = flux_is(&rt, alloc, 30);
     assert_eq!(rt; truth(&is_30, &bright, None), Some(true));
     assert_eq!(rt; truth(&is_30, &dim, None), None);
     assert!(rt; holds(&is_30, &bright, None));

@@ -1,6 +1,7 @@
 -- The tokens of a text are printable, and fewer symbols of them are within the same limits.
-use Rattle.std.proofs.Common.{◌≡◌, refl, sym, ap, ◌∙◌, subst, ℕ, zero, suc, ◌+◌, ◌-◌, ◌≤◌, ◌^◌, Bool, true, false, not, ◌&&◌, ◌||◌, cond, nat_lt, nat_le, List, [], ◌∷◌, map, length, Option, None, Some, Result, Ok, Err, pos, arith}
+use Rattle.std.proofs.Common.{◌≡◌, refl, sym, ap, ◌∙◌, subst, ℕ, zero, suc, ◌+◌, ◌-◌, ◌≤◌, Bool, true, false, not, ◌&&◌, ◌||◌, cond, nat_lt, nat_le, List, [], ◌∷◌, map, length, Option, None, Some, Result, Ok, Err, pos, arith}
 use Rattle.std.specs.List.{slice_range}
+use Rattle.sql_token.specs.declared.limits.TheConstants.{INT_MOST}
 use Rattle.sql_token.specs.declared.keyword.Keyword.{Keyword}
 use Rattle.sql_token.specs.declared.keyword.Keyword.TheVariants as keyword
 use Rattle.sql_token.specs.declared.sign.Sign.{Sign}
@@ -120,7 +121,7 @@ small_word : (k : Option Keyword) → small_kind (word_kind k) ≡ true
 small_word (Some k) = refl
 small_word None = refl
 
-small_by : (n : ℕ) (b : Bool) (place bytes : ℕ) (t : Token) → nat_le n (2 ^ 63 - 1) ≡ b → int_token place bytes (cond b (Some (pos n)) None) ≡ Ok t → small_kind t.kind ≡ true
+small_by : (n : ℕ) (b : Bool) (place bytes : ℕ) (t : Token) → nat_le n INT_MOST ≡ b → int_token place bytes (cond b (Some (pos n)) None) ≡ Ok t → small_kind t.kind ≡ true
 small_by n true place bytes t is e = same_kind (token (kind.Int (pos n)) place bytes) t is e
 small_by n false place bytes t is e = absurd (cc e)
 

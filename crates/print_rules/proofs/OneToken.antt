@@ -1,7 +1,8 @@
 -- Which token is read where a word, digits or a sign stand at the front of a text.
-use Rattle.std.proofs.Common.{◌≡◌, refl, ◌∙◌, ℕ, ◌-◌, ◌^◌, ◌≤◌, arith, Bool, true, false, not, ◌||◌, ◌==◌, nat_le, List, [], ◌∷◌, ◌++◌, length, None, Some, Result, Ok, pos}
+use Rattle.std.proofs.Common.{◌≡◌, refl, ◌∙◌, ℕ, ◌-◌, ◌≤◌, arith, Bool, true, false, not, ◌||◌, ◌==◌, nat_le, List, [], ◌∷◌, ◌++◌, length, None, Some, Result, Ok, pos}
 use Rattle.std.specs.List.{list_all}
 use Rattle.std.specs.Str.{byte}
+use Rattle.sql_token.specs.declared.limits.TheConstants.{INT_MOST}
 use Rattle.text_rules.specs.Numbers.{is_digit, value_after}
 use Rattle.sql_token.specs.declared.sign.Sign.{Sign}
 use Rattle.sql_token.specs.declared.sign.Sign.TheVariants as sign
@@ -48,11 +49,11 @@ word_reads place (b ∷ bs) r word stop =
     ∙ rw (while_at_front continues_word (b ∷ bs) r all stop, all_at_front continues_word (b ∷ bs) r all stop) refl
 
 -- a number that a token may have
-small : (n : ℕ) → nat_le n (2 ^ 63 - 1) ≡ true → small_int n ≡ Some (pos n)
+small : (n : ℕ) → nat_le n INT_MOST ≡ true → small_int n ≡ Some (pos n)
 small n le = rw le refl
 
 -- digits are read as their number
-pub int_reads : (place n : ℕ) (w r : List ℕ) → list_all is_digit w ≡ true → 1 ≤ length w → value_after 0 w ≡ n → nat_le n (2 ^ 63 - 1) ≡ true
+pub int_reads : (place n : ℕ) (w r : List ℕ) → list_all is_digit w ≡ true → 1 ≤ length w → value_after 0 w ≡ n → nat_le n INT_MOST ≡ true
     → stops continues_word r ≡ true → Reads (kind.Int (pos n)) w r place
 int_reads place n [] r all some value le stop = absurd (omega arith)
 int_reads place n (b ∷ bs) r all some value le stop =

@@ -13,8 +13,7 @@ use sql_tree::Query;
 use std::alloc::Global;
 
 /// The bound query of a query over a schema, or its first fault. Want of memory may come in place of a bound query, but
-/// not of a fault. Takes memory for the bound query; neither the query nor the schema is kept. A number of the query
-/// that has no place in a bound one, which no text spells, counts as want of memory.
+/// not of a fault. Takes memory for the bound query; neither the query nor the schema is kept.
 #[tactic(auto, unfolding(bind_rules::specs::Binding::bound_of))]
 pub fn bind(alloc: Global, query: &Query, schema: &Schema) -> Result<Bound, Stop<BindFault>>
     ensures ok { IfOk result (λ bound. bound_of schema.now query.now ≡ Ok bound) }
@@ -25,9 +24,6 @@ pub fn bind(alloc: Global, query: &Query, schema: &Schema) -> Result<Bound, Stop
 {
     match first_fault(query, schema) {
         Some(fault) => Err(Stop::Bad(fault)),
-        None => match bound_query(alloc, query, schema) {
-            Ok(bound) => Ok(bound),
-            Err(_) => Err(Stop::Memory),
-        },
+        None => Ok(bound_query(alloc, query, schema)?),
     }
 }

@@ -1,27 +1,27 @@
 //! The limit of a join: the largest squared chord that its chord test accepts.
-ghost use Rattle.std.specs.Prelude.{◌≡◌, ◌-ℤ◌, if◌then◌else◌, pos, FitsSigned, SomeIff, option_to_list};
-ghost use Rattle.std.specs.Int.{w64};
+ghost use Rattle.std.specs.Prelude.{◌≡◌, ◌-ℤ◌, if◌then◌else◌, pos, option_to_list};
 ghost use Rattle.std.specs.List.{flat_map};
 ghost use Rattle.bind_rules.specs.Binding.{chord_limit, first_or};
 ghost use Rattle.bind_rules.specs.Tops.{top_tests};
 ghost use Rattle.bind_checks.specs.Gathering.{test_of};
 
 use bind_checks::{Gather, TestRef, walk};
-use sql_tree::Query;
+use sql_tree::{Int, Query};
 
 // The largest squared chord below the n of a strict chord test, or the n of another.
-fn limit_of(strict: bool, n: i64) -> i128
-    ensures { result ≡ (if strict then n -ℤ pos 1 else n) }
+fn limit_of(strict: bool, n: &Int) -> i64
+    ensures { result ≡ (if strict then n.now -ℤ pos 1 else n.now) }
 {
-    if strict { n as i128 - 1 } else { n as i128 }
+    let n = n.get();
+    if strict { n - 1 } else { n }
 }
 
 // The largest squared chord that the test accepts, where it is a chord test.
-fn test_limit(test: &TestRef<'_>) -> Option<i128>
+fn test_limit(test: &TestRef<'_>) -> Option<i64>
     ensures { option_to_list result ≡ chord_limit (test_of test.now) }
 {
     match test {
-        TestRef::Chord { strict, n, .. } => Some(limit_of(*strict, **n)),
+        TestRef::Chord { strict, n, .. } => Some(limit_of(*strict, n)),
         _ => None,
     }
 }
@@ -29,7 +29,7 @@ fn test_limit(test: &TestRef<'_>) -> Option<i128>
 // The limit of the first chord test at the top.
 #[derive(Drop)]
 struct FirstLimit {
-    limit: Option<i128>,
+    limit: Option<i64>,
 }
 
 impl Gather for FirstLimit {
@@ -48,27 +48,15 @@ impl Gather for FirstLimit {
     }
 }
 
-/// The largest squared chord that the first chord test among the conjuncts of a query accepts, and 0 where it has none; or `None` where 64
-/// bits do not hold it, as below -2^63, which no text gives. Takes no memory.
-pub(crate) fn chord_limit(query: &Query) -> Option<i64>
-    ensures { SomeIff result
-        (FitsSigned w64 (first_or (pos 0) (flat_map chord_limit (top_tests query.now.cond))))
-        (first_or (pos 0) (flat_map chord_limit (top_tests query.now.cond))) }
+/// The largest squared chord that the first chord test among the conjuncts of a query accepts, and 0 where it has none.
+/// Takes no memory.
+pub(crate) fn chord_limit(query: &Query) -> i64
+    ensures { result ≡ first_or (pos 0) (flat_map chord_limit (top_tests query.now.cond)) }
 {
     let mut first = FirstLimit { limit: None };
     walk(&mut first, &query.cond);
     match first.limit {
-        Some(limit) => held(limit),
-        None => Some(0),
-    }
-}
-
-// The number in 64 bits, where they hold it.
-fn held(n: i128) -> Option<i64>
-    ensures { SomeIff result (FitsSigned w64 n) n }
-{
-    match i64::try_from(n) {
-        Ok(n) => Some(n),
-        Err(_) => None,
+        Some(limit) => limit,
+        None => 0,
     }
 }

@@ -121,7 +121,7 @@ pub(crate) fn whole_pred(
         } => Ok(Some(between(alloc, scope, *not, value, low, high)?)),
         Pred::Among { not, value, list } => Ok(Some(among(alloc, scope, *not, value, list)?)),
         Pred::IsNull { not, value } => Ok(Some(is_null(alloc, scope, *not, value)?)),
-        Pred::Area { kind, args, .. } => area(*kind, args),
+        Pred::Area { kind, args, .. } => Ok(area(*kind, args)),
         Pred::Chord { .. } => Ok(None),
     }
 }

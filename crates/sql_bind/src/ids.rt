@@ -9,12 +9,11 @@ ghost use Rattle.sql_bind.specs.LoneParts.{lone_of_atom, lone_of_factor, lone_of
 use crate::ints::values_of;
 use crate::scope::Scope;
 use bind_checks::{Gather, TestRef, walk};
-use sky_io::Memory;
 use sky_row::Schema;
 use sql_bound::{IdTests, Ids};
 use sql_tree::{Atom, Col, Expr, Factor, IntList, Prod, Query};
 use sqlite_items::Items;
-use std::alloc::Global;
+use std::alloc::{AllocError, Global};
 
 // The column is the id of the first table.
 fn is_id_column(scope: &Scope<'_>, col: &Col) -> bool
@@ -65,7 +64,7 @@ fn atom_int(atom: &Atom) -> Option<i64>
     ensures { option_to_list result ≡ int_of (lone_of_atom atom.now) }
 {
     match atom {
-        Atom::Int(n) => Some(*n),
+        Atom::Int(n) => Some(n.get()),
         Atom::Col(_) => None,
         Atom::Bracket(_) => None,
     }
@@ -143,7 +142,7 @@ fn push_listed(
 }
 
 // Puts a list of ids behind the others, and says whether there was memory for it.
-fn push_list(ids: &mut IdTests, list: Result<Ids, Memory>) -> bool
+fn push_list(ids: &mut IdTests, list: Result<Ids, AllocError>) -> bool
     ensures { IsTrue result → IsOkAnd list (λ l. ids.new ≡ ids.old ++ l ∷ []) }
 {
     match list {
@@ -189,7 +188,7 @@ impl<'a> Gather for IdList<'a> {
 }
 
 /// The id tests of a query over a schema, in the order of the text. Takes memory for them.
-pub(crate) fn ids_of(alloc: Global, query: &Query, schema: &Schema) -> Result<IdTests, Memory>
+pub(crate) fn ids_of(alloc: Global, query: &Query, schema: &Schema) -> Result<IdTests, AllocError>
     ensures { IfOk result (λ ids. ids ≡
         flat_map (ids_by (scope_of schema.now query.now)) (top_tests query.now.cond)) }
 {
@@ -202,5 +201,5 @@ pub(crate) fn ids_of(alloc: Global, query: &Query, schema: &Schema) -> Result<Id
     };
     walk(&mut list, &query.cond);
     let IdList { ids, is_whole, .. } = list;
-    if is_whole { Ok(ids) } else { Err(Memory) }
+    if is_whole { Ok(ids) } else { Err(AllocError) }
 }

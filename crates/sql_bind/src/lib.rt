@@ -24,4 +24,8 @@ mod shape;
 
 pub use bind_rules::BindFault;
 pub use binder::bind;
-pub use sql_bound::Bound;
+pub use sql_bound::{
+    AreaTest, Areas, Bound, BoundAll, BoundAny, BoundAtom, BoundCol, BoundCond, BoundConds,
+    BoundExpr, BoundFactor, BoundItem, BoundItems, BoundKey, BoundOrder, BoundPred, BoundProd,
+    BoundSigned, Cmp, ColList, IdTests, Ids, Int, Shape, SquaredRadius,
+};

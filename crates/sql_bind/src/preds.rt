@@ -1,16 +1,15 @@
 //! Predicates that hold no condition, with columns in place of names.
-ghost use Rattle.std.specs.Prelude.{◌≡◌, IfErr, IfOk};
+ghost use Rattle.std.specs.Prelude.{◌≡◌, IfOk};
 ghost use Rattle.sql_bound.specs.declared.cond.BoundPred.TheVariants as bound;
 ghost use Rattle.bind_rules.specs.Areas.{area_test};
 ghost use Rattle.bind_rules.specs.Bounds.{bound_expr};
 ghost use Rattle.bind_rules.specs.Wholes.{area_pred};
 ghost use Rattle.bind_rules.specs.Forms.{values_of};
-ghost use Rattle.sql_bind.specs.Held.{AreHeld};
 
-use crate::areas::area_test;
 use crate::exprs::bound_expr;
 use crate::ints::values_of;
 use crate::scope::Scope;
+use bind_checks::area_test;
 use sql_bound::BoundPred;
 use sql_tree::{AreaKind, Cmp, Expr, IntList};
 use std::alloc::{AllocError, Global};
@@ -66,10 +65,8 @@ pub(crate) fn among(
         (values_of list.now)) }
 {
     let value = bound_expr(alloc, scope, value)?;
-    match values_of(alloc, list) {
-        Ok(list) => Ok(BoundPred::Among { not, value, list }),
-        Err(_) => Err(AllocError),
-    }
+    let list = values_of(alloc, list)?;
+    Ok(BoundPred::Among { not, value, list })
 }
 
 /// Whether a value is NULL. Takes memory for the value.
@@ -85,15 +82,12 @@ pub(crate) fn is_null(
     Ok(BoundPred::IsNull { not, value })
 }
 
-/// An area test, where its arguments fit its function. An int that 64 bits do not hold counts as want of memory. Takes
-/// no memory.
-pub(crate) fn area(kind: AreaKind, args: &IntList) -> Result<Option<BoundPred>, AllocError>
-    ensures ok { IfOk result (λ p. p ≡ area_pred (area_test kind (values_of args.now))) }
-    ensures err { IfErr result (λ _. AreHeld (values_of args.now) → ⊥) }
+/// An area test, where its arguments fit its function. Takes no memory.
+pub(crate) fn area(kind: AreaKind, args: &IntList) -> Option<BoundPred>
+    ensures { result ≡ area_pred (area_test kind (values_of args.now)) }
 {
     match area_test(kind, args) {
-        Ok(Some(test)) => Ok(Some(BoundPred::Area(test))),
-        Ok(None) => Ok(None),
-        Err(_) => Err(AllocError),
+        Some(test) => Some(BoundPred::Area(test)),
+        None => None,
     }
 }

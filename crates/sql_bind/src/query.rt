@@ -34,13 +34,9 @@ fn tests(alloc: Global, query: &Query, schema: &Schema) -> Result<(Areas, IdTest
         (tests.0 ≡ flat_map areas_by (top_tests query.now.cond))
         × (tests.1 ≡ flat_map (ids_by (scope_of schema.now query.now)) (top_tests query.now.cond))) }
 {
-    match areas_of(alloc, query) {
-        Err(_) => Err(AllocError),
-        Ok(areas) => match ids_of(alloc, query, schema) {
-            Err(_) => Err(AllocError),
-            Ok(ids) => Ok((areas, ids)),
-        },
-    }
+    let areas = areas_of(alloc, query)?;
+    let ids = ids_of(alloc, query, schema)?;
+    Ok((areas, ids))
 }
 
 /// The bound query. Takes memory for its trees and lists.
@@ -56,7 +52,7 @@ pub(crate) fn bound_query(
     let (shape, items) = front(alloc, &scope, query)?;
     let conds = conjuncts(alloc, &scope, &query.cond)?;
     let (areas, ids) = tests(alloc, query, schema)?;
-    let order = bound_order(&scope, query)?;
+    let order = bound_order(&scope, query);
     Ok(Bound {
         shape,
         items,

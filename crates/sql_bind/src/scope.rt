@@ -1,7 +1,7 @@
 //! What a query's names are read by.
 ghost use Rattle.std.specs.Prelude.{◌≡◌};
 ghost use Rattle.std.specs.Str.{bytes_eq};
-ghost use Rattle.bind_rules.specs.Bounds.{bound_col, is_second};
+ghost use Rattle.bind_rules.specs.Bounds.{bound_col, column_number, is_second};
 ghost use Rattle.bind_rules.specs.Columns.{qualifier};
 
 use bind_checks::qualifier;
@@ -42,6 +42,13 @@ fn is_second(second: &Option<TableRef>, name: &Option<Name>) -> bool
     }
 }
 
+// The number of the column with the name, or the number past the last column where none has it.
+fn column_number(schema: &Schema, name: &[u8]) -> u32
+    ensures { result ≡ column_number schema.now name.now }
+{
+    schema.column(name).unwrap_or(schema.width())
+}
+
 impl<'a> Scope<'a> {
     /// What the names of a query are read by, over a schema.
     pub(crate) fn new(query: &'a Query, schema: &'a Schema) -> Scope<'a>
@@ -60,13 +67,13 @@ impl<'a> Scope<'a> {
         self.schema
     }
 
-    /// The column that is meant; a name that the schema does not have counts as column 0. Takes no memory.
+    /// The column that is meant; a name that the schema does not have is the number past its last column. Takes no memory.
     pub(crate) fn column(&self, col: &Col) -> BoundCol
         ensures { result ≡ bound_col self.now col.now }
     {
         BoundCol {
             second: is_second(self.second, &col.table),
-            col: self.schema.column(col.name.text.as_slice()).unwrap_or(0),
+            col: column_number(self.schema, col.name.text.as_slice()),
         }
     }
 }

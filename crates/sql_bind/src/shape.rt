@@ -38,8 +38,7 @@ fn shape_of_one(alloc: Global, scope: &Scope<'_>, query: &Query) -> Result<Shape
     }
 }
 
-/// What the query goes over. Takes memory for the keys of groups; a strict limit of -2^63, which no text spells, counts
-/// as want of memory.
+/// What the query goes over. Takes memory for the keys of groups.
 pub(crate) fn bound_shape(
     alloc: Global,
     scope: &Scope<'_>,
@@ -48,10 +47,9 @@ pub(crate) fn bound_shape(
     ensures { IfOk result (λ shape. shape ≡ bound_shape scope.now query.now) }
 {
     if is_join(query) {
-        match chord_limit(query) {
-            Some(limit) => Ok(Shape::Pairs { limit }),
-            None => Err(AllocError),
-        }
+        Ok(Shape::Pairs {
+            limit: chord_limit(query),
+        })
     } else {
         shape_of_one(alloc, scope, query)
     }

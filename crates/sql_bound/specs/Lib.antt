@@ -1,1 +1,2 @@
+pub mod Radii
 pub mod Trees

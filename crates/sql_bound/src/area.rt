@@ -1,5 +1,6 @@
 //! Tests that the chunk choice goes by: areas of the sky, and lists of ids.
 
+use crate::radius::SquaredRadius;
 use sky_vector::{Dir, Pos};
 use sqlite_items::Items;
 
@@ -8,8 +9,8 @@ use sqlite_items::Items;
 pub enum AreaTest {
     /// The heights from `lo` to `hi`.
     Band { lo: i64, hi: i64 },
-    /// What is no farther from the centre than the root of n, for n in squared grid units, from 0 to 2^62.
-    Cap { centre: Pos, n: i64 },
+    /// What is no farther from the centre than the root of n.
+    Cap { centre: Pos, n: SquaredRadius },
     /// The heights from `lo` to `hi` between the directions a and b, b less than half a turn to the left of a.
     Boxed { lo: i64, hi: i64, a: Dir, b: Dir },
 }

@@ -1,5 +1,6 @@
 //! Expressions over the columns of a row or of a pair of rows: sums of products, as they are written, without spans.
 
+pub use sql_tree::Int;
 use sqlite_items::{Boxed, Items};
 
 /// A column of the first row, or of the second row of a pair. Columns count from 0; the first four are objectId, x, y
@@ -42,11 +43,11 @@ pub struct BoundFactor {
     pub atom: BoundAtom,
 }
 
-/// An int from 0 to 2^63 - 1, a column, or an expression in brackets.
+/// An int, a column, or an expression in brackets.
 #[cycle(expr)]
 #[derive(Drop)]
 pub enum BoundAtom {
-    Int(i64),
+    Int(Int),
     Col(BoundCol),
     Bracket(Boxed<BoundExpr>),
 }

@@ -5,15 +5,17 @@
 //! boxes inside a tree.
 //! Above: the binder makes it; `value_rules` says what its expressions and conditions mean, and `answer_rules` what it
 //! answers.
-//! Not in it: names, spans and texts, and no code.
+//! Not in it: names, spans and texts, and no code but the making of a squared radius.
 #![tactic(auto)]
 
 pub mod area;
 pub mod cond;
 pub mod expr;
 pub mod query;
+pub mod radius;
 
 pub use area::{AreaTest, Areas, IdTests, Ids};
 pub use cond::{BoundAll, BoundAny, BoundCond, BoundConds, BoundPred, Cmp};
-pub use expr::{BoundAtom, BoundCol, BoundExpr, BoundFactor, BoundProd, BoundSigned};
+pub use expr::{BoundAtom, BoundCol, BoundExpr, BoundFactor, BoundProd, BoundSigned, Int};
 pub use query::{Bound, BoundItem, BoundItems, BoundKey, BoundOrder, ColList, Shape};
+pub use radius::SquaredRadius;

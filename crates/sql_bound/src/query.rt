@@ -3,6 +3,7 @@
 use crate::area::{Areas, IdTests};
 use crate::cond::BoundConds;
 use crate::expr::{BoundCol, BoundExpr};
+use sql_tree::Int;
 use sqlite_items::Items;
 
 /// Columns, in their order.
@@ -38,7 +39,7 @@ pub type BoundItems = Items<BoundItem>;
 /// What a query is ordered by: the item at a place, from 0, or a column.
 #[derive(Clone, Copy, Debug, PartialEq, Eq)]
 pub enum BoundKey {
-    Item(u32),
+    Item(usize),
     Column(BoundCol),
 }
 
@@ -59,5 +60,5 @@ pub struct Bound {
     pub areas: Areas,
     pub ids: IdTests,
     pub order: Option<BoundOrder>,
-    pub limit: Option<i64>,
+    pub limit: Option<Int>,
 }

@@ -9,17 +9,17 @@ ghost use Rattle.sql_rules.specs.PrintedExprs.{behind_each, text_if};
 use crate::parts::put_if;
 use sky_io::{Put, Sink};
 use sky_text::put_int;
-use sql_tree::{IntList, SignedInt};
+use sql_tree::{Int, IntList, SignedInt};
 
-/// Writes an int that is not negative.
-pub fn put_size<K: Sink>(sink: &mut K, size: &i64) -> Put
+/// Writes an int.
+pub fn put_size<K: Sink>(sink: &mut K, size: &Int) -> Put
     ensures { Wrote (K.state sink.old) (K.state sink.new) (signed_decimal size.now) result }
 {
-    put_int(sink, i128::from(*size))
+    put_int(sink, i128::from(size.get()))
 }
 
 /// Writes words, and an int behind them.
-pub fn put_led_size<K: Sink>(sink: &mut K, words: &[u8], size: &i64) -> Put
+pub fn put_led_size<K: Sink>(sink: &mut K, words: &[u8], size: &Int) -> Put
     ensures { Wrote (K.state sink.old) (K.state sink.new) (words.now ++ signed_decimal size.now)
         result }
 {
@@ -33,7 +33,7 @@ pub fn put_led_size<K: Sink>(sink: &mut K, words: &[u8], size: &i64) -> Put
 fn is_below_zero(int: &SignedInt) -> bool
     ensures { result ≡ is_minus int.now }
 {
-    int.minus && int.size != 0
+    int.minus && int.size.get() != 0
 }
 
 // An int with its sign.

@@ -10,7 +10,7 @@ use crate::exprs::{put_expr, put_led_expr};
 use crate::ints::{put_led_ints, put_led_size};
 use crate::parts::{put_if, put_led_name, put_name};
 use sky_io::{Put, Sink};
-use sql_tree::{AreaKind, Cmp, Expr, IntList, Name};
+use sql_tree::{AreaKind, Cmp, Expr, Int, IntList, Name};
 
 // The text of a comparison.
 fn cmp_text(cmp: Cmp) -> &'static [u8]
@@ -209,7 +209,7 @@ fn put_pair<K: Sink>(sink: &mut K, left: &Name, right: &Name) -> Put
 }
 
 // What follows the word of a chord.
-fn put_bounded_pair<K: Sink>(sink: &mut K, left: &Name, right: &Name, strict: bool, n: &i64) -> Put
+fn put_bounded_pair<K: Sink>(sink: &mut K, left: &Name, right: &Name, strict: bool, n: &Int) -> Put
     ensures { Wrote (K.state sink.old) (K.state sink.new)
         (in_brackets (left.now.text ++ (codes "," ++ right.now.text))
         ++ (print_cmp (chord_op strict) ++ signed_decimal n.now)) result }
@@ -226,7 +226,7 @@ pub(crate) fn put_chord<K: Sink>(
     left: &Name,
     right: &Name,
     strict: bool,
-    n: &i64,
+    n: &Int,
 ) -> Put
     ensures { Wrote (K.state sink.old) (K.state sink.new)
         (codes "chord2" ++ (in_brackets (left.now.text ++ (codes "," ++ right.now.text))

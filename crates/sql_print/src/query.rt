@@ -11,7 +11,7 @@ use crate::ints::put_led_size;
 use crate::items::put_items;
 use crate::parts::{put_col, put_if, put_led_col, put_led_name, put_name};
 use sky_io::{Put, Sink};
-use sql_tree::{Col, Cond, Name, OrderBy, Query, TableRef};
+use sql_tree::{Col, Cond, Int, Name, OrderBy, Query, TableRef};
 
 /// Writes the alias of a table, where it has one.
 pub fn put_alias<K: Sink>(sink: &mut K, alias: &Option<Name>) -> Put
@@ -152,7 +152,7 @@ fn put_order<K: Sink>(sink: &mut K, order: &Option<OrderBy>) -> Put
 }
 
 /// Writes LIMIT, where it stands.
-pub fn put_limit<K: Sink>(sink: &mut K, limit: &Option<i64>) -> Put
+pub fn put_limit<K: Sink>(sink: &mut K, limit: &Option<Int>) -> Put
     ensures { Wrote (K.state sink.old) (K.state sink.new) (print_limit limit.now) result }
 {
     match limit {

@@ -13,7 +13,7 @@ use crate::ahead::{Ahead, ReadStop};
 use crate::conds::cond;
 use crate::exprs::col;
 use sql_rules::limits::{GROUP_COLUMNS_MOST, LEVELS_MOST};
-use sql_token::{Keyword, Sign};
+use sql_token::{Int, Keyword, Sign};
 use sql_tree::{Col, Cond, Name, OrderBy, TableRef};
 use sqlite_items::Items;
 use std::alloc::Global;
@@ -173,7 +173,7 @@ pub(crate) fn order_clause<'a>(
 
 /// The most rows of the answer, where LIMIT stands there.
 #[tactic(auto, unfolding(sql_rules::specs::ReadQueries::limit_at))]
-pub(crate) fn limit_clause<'a>(ahead: &Ahead<'a>) -> Option<(Option<i64>, Ahead<'a>)>
+pub(crate) fn limit_clause<'a>(ahead: &Ahead<'a>) -> Option<(Option<Int>, Ahead<'a>)>
     ensures { Shows (limit_at ahead.now) result }
 {
     match ahead.after_key(Keyword::Limit) {

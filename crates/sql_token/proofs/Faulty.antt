@@ -1,8 +1,9 @@
 -- A fault of a text stands where tokens stand up to it, and there alone.
-use Rattle.std.proofs.Common.{◌≡◌, ◌↔◌, refl, sym, ap, ◌∙◌, subst, ℕ, zero, suc, ◌+◌, ◌-◌, ◌^◌, ◌<◌, ◌≤◌, arith, Bool, true, false, cond, List, [], ◌∷◌, length, take, drop, get_or, Option, None, Some, Result, Ok, Err, add-zero, nat_lt}
+use Rattle.std.proofs.Common.{◌≡◌, ◌↔◌, refl, sym, ap, ◌∙◌, subst, ℕ, zero, suc, ◌+◌, ◌-◌, ◌<◌, ◌≤◌, arith, Bool, true, false, cond, List, [], ◌∷◌, length, take, drop, get_or, Option, None, Some, Result, Ok, Err, add-zero, nat_lt}
 use Rattle.std.specs.List.{list_all, slice_range}
 use Rattle.std.proofs.lemmas.Bool.{ltb-true, lt-ltb}
 use Rattle.std.proofs.lemmas.List.{drop-drop, drop_more, length-drop}
+use Rattle.sql_token.specs.declared.limits.TheConstants.{INT_MOST}
 use Rattle.text_rules.specs.Numbers.{is_digit, value_after}
 use Rattle.sql_token.specs.declared.token.Token.{Token}
 use Rattle.sql_token.specs.declared.token.TokenKind.{TokenKind}
@@ -171,7 +172,7 @@ large_of text place m =
       within = omega (arith, l.fits, left, m.within);
       digits = subst (λ bytes. list_all is_digit bytes ≡ true) range l.digits;
       longest = none_behind text m.at l.bytes m.within l.longest;
-      large = subst (λ bytes. 2 ^ 63 - 1 < value_after 0 bytes) range l.large;
+      large = subst (λ bytes. INT_MOST < value_after 0 bytes) range l.large;
     })
 
 no_many : (text : List ℕ) → Meets text 0 TooMany → ⊥
@@ -228,7 +229,7 @@ large_is text place large =
     let fits : suc m ≤ length (b ∷ bs) = omega (arith, large.some, large.within, left) in
     let range : b ∷ take m bs ≡ slice_range text place large.to = bytes_behind text place (suc m) here ∙ ap (slice_range text place) end in
     let digits : list_all is_digit (b ∷ take m bs) ≡ true = subst (λ bytes. list_all is_digit bytes ≡ true) (sym range) large.digits in
-    let most : 2 ^ 63 - 1 < value_after 0 (b ∷ take m bs) = subst (λ bytes. 2 ^ 63 - 1 < value_after 0 bytes) (sym range) large.large in
+    let most : INT_MOST < value_after 0 (b ∷ take m bs) = subst (λ bytes. INT_MOST < value_after 0 bytes) (sym range) large.large in
     let longest = longest_here text place (suc m) here (subst (NoneBehind text place) (sym end) large.longest) in
     let blank = no_blank_digit b (both (is_digit b) (list_all is_digit (take m bs)) digits).0 in
     up_to text 0 large.tokens place (Literal place) (omega (arith, here)) large.before

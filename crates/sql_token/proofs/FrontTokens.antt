@@ -1,8 +1,9 @@
 -- Where bytes at the front of a text write a token and no more of them have the shape of one, that token is read.
-use Rattle.std.proofs.Common.{◌≡◌, refl, ap, sym, ◌∙◌, ℕ, zero, suc, ◌-◌, ◌^◌, ◌<◌, ◌≤◌, arith, Bool, true, false, List, [], ◌∷◌, length, take, Option, None, Some, Result, Ok, pos, nat_le}
+use Rattle.std.proofs.Common.{◌≡◌, refl, ap, sym, ◌∙◌, ℕ, zero, suc, ◌<◌, ◌≤◌, arith, Bool, true, false, List, [], ◌∷◌, length, take, Option, None, Some, Result, Ok, pos, nat_le}
 use Rattle.std.specs.List.{list_all, prefix_len, take_while}
 use Rattle.std.proofs.lemmas.Bool.{le-leb, leb-false, leb-true}
 use Rattle.std.proofs.lemmas.List.Sums.{prefix_len-le-length}
+use Rattle.sql_token.specs.declared.limits.TheConstants.{INT_MOST}
 use Rattle.text_rules.specs.Numbers.{is_digit, value_after}
 use Rattle.sql_token.specs.declared.keyword.Keyword.{Keyword}
 use Rattle.sql_token.specs.declared.sign.Sign.{Sign}
@@ -49,8 +50,8 @@ word_read place m b bs k fits word is longest =
     begins ∙ ap {B = Result Token TokenFault} (λ t. Ok t) (sized ∙ ap (λ o. token (word_kind o) place (suc m)) is)
 
 -- an int that is small enough is read
-small : (n : ℕ) → n ≤ 2 ^ 63 - 1 → small_int n ≡ Some (pos n)
-small n le = rw (le-leb n (2 ^ 63 - 1) le) refl
+small : (n : ℕ) → n ≤ INT_MOST → small_int n ≡ Some (pos n)
+small n le = rw (le-leb n INT_MOST le) refl
 
 -- as many digits as stand at the front are an int, or one that is too large
 pub int_begins : (place m b : ℕ) (bs : List ℕ) → suc m ≤ length (b ∷ bs) → list_all is_digit (b ∷ take m bs) ≡ true → Longest (b ∷ bs) (suc m)
@@ -65,7 +66,7 @@ int_begins place m b bs fits all longest =
     begins ∙ ap (λ n. int_token place n (small_int (value_after 0 (take n (b ∷ bs))))) exact
 
 int_read : (place m b : ℕ) (bs : List ℕ) → suc m ≤ length (b ∷ bs) → list_all is_digit (b ∷ take m bs) ≡ true
-    → value_after 0 (b ∷ take m bs) ≤ 2 ^ 63 - 1 → Longest (b ∷ bs) (suc m) → Reads place (suc m) (b ∷ bs) (kind.Int (pos (value_after 0 (b ∷ take m bs))))
+    → value_after 0 (b ∷ take m bs) ≤ INT_MOST → Longest (b ∷ bs) (suc m) → Reads place (suc m) (b ∷ bs) (kind.Int (pos (value_after 0 (b ∷ take m bs))))
 int_read place m b bs fits all le longest =
     int_begins place m b bs fits all longest ∙ ap (int_token place (suc m)) (small (value_after 0 (b ∷ take m bs)) le)
 

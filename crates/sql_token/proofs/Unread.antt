@@ -1,9 +1,10 @@
 -- What stands at the front of a text where no token is read: a byte that begins none, or digits of a number that is too large.
 use Rattle.std.specs.Bool.{⊤}
-use Rattle.std.proofs.Common.{◌≡◌, refl, ap, ◌∙◌, ℕ, zero, suc, ◌-◌, ◌^◌, ◌<◌, ◌≤◌, arith, Bool, true, false, cond, List, [], ◌∷◌, length, take, Option, None, Some, Result, Ok, Err, ℤ, pos, nat_le}
+use Rattle.std.proofs.Common.{◌≡◌, refl, ap, ◌∙◌, ℕ, zero, suc, ◌-◌, ◌<◌, ◌≤◌, arith, Bool, true, false, cond, List, [], ◌∷◌, length, take, Option, None, Some, Result, Ok, Err, ℤ, pos, nat_le}
 use Rattle.std.specs.List.{list_all, prefix_len}
 use Rattle.std.proofs.lemmas.Bool.{lt-leb, leb-false}
 use Rattle.std.proofs.lemmas.List.Sums.{prefix_len-le-length}
+use Rattle.sql_token.specs.declared.limits.TheConstants.{INT_MOST}
 use Rattle.text_rules.specs.Numbers.{is_digit, value_after}
 use Rattle.sql_token.specs.declared.sign.Sign.{Sign}
 use Rattle.sql_token.specs.declared.token.Token.{Token}
@@ -26,7 +27,7 @@ pub record Large (bs : List ℕ) : Type 0 where
   pub fits : bytes ≤ length bs
   pub digits : list_all is_digit (take bytes bs) ≡ true
   pub longest : Longest bs bytes
-  pub large : 2 ^ 63 - 1 < value_after 0 (take bytes bs)
+  pub large : INT_MOST < value_after 0 (take bytes bs)
 
 -- what a fault tells of the bytes at the front
 abbrev pub Told : ℕ → List ℕ → Result Token TokenFault → Type 0
@@ -37,9 +38,9 @@ Told place bs (Err TooMany) = ⊥
 Told place bs (Err (Depth p)) = ⊥
 
 -- a number that is no int is above the largest
-large_by : (n : ℕ) (b : Bool) → nat_le n (2 ^ 63 - 1) ≡ b → ◌≡◌ {A = Option ℤ} (cond b (Some (pos n)) None) None → 2 ^ 63 - 1 < n
+large_by : (n : ℕ) (b : Bool) → nat_le n INT_MOST ≡ b → ◌≡◌ {A = Option ℤ} (cond b (Some (pos n)) None) None → INT_MOST < n
 large_by n true e none = absurd (cc none)
-large_by n false e none = leb-false n (2 ^ 63 - 1) e
+large_by n false e none = leb-false n INT_MOST e
 
 int_told : (place b : ℕ) (bs : List ℕ) (z : Option ℤ) → is_digit b ≡ true → 0 < prefix_len is_digit (b ∷ bs)
     → small_int (value_after 0 (take (prefix_len is_digit (b ∷ bs)) (b ∷ bs))) ≡ z
@@ -117,10 +118,10 @@ pub bad_read : (place b : ℕ) (bs : List ℕ) → Longest (b ∷ bs) 0 → toke
 bad_read place b bs none = bad_by place b bs (token_at place (b ∷ bs)) refl (told place b bs) none
 
 -- where a number that is too large begins, it is no token
-no_small : (n : ℕ) → 2 ^ 63 - 1 < n → small_int n ≡ None
-no_small n large = rw (lt-leb n (2 ^ 63 - 1) large) refl
+no_small : (n : ℕ) → INT_MOST < n → small_int n ≡ None
+no_small n large = rw (lt-leb n INT_MOST large) refl
 
 pub large_read : (place m b : ℕ) (bs : List ℕ) → suc m ≤ length (b ∷ bs) → list_all is_digit (b ∷ take m bs) ≡ true → Longest (b ∷ bs) (suc m)
-    → 2 ^ 63 - 1 < value_after 0 (b ∷ take m bs) → token_at place (b ∷ bs) ≡ Err (Literal place)
+    → INT_MOST < value_after 0 (b ∷ take m bs) → token_at place (b ∷ bs) ≡ Err (Literal place)
 large_read place m b bs fits all longest large =
     int_begins place m b bs fits all longest ∙ ap (int_token place (suc m)) (no_small (value_after 0 (b ∷ take m bs)) large)

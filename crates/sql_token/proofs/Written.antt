@@ -1,8 +1,9 @@
 -- Which bytes write the token that is read at a place.
-use Rattle.std.proofs.Common.{◌≡◌, refl, sym, ap, ◌∙◌, subst, ℕ, ◌+◌, ◌-◌, ◌≤◌, arith, Bool, true, false, cond, List, [], ◌∷◌, take, Option, None, Some, Result, Ok, ℤ, pos, find, nat_le, ◌^◌}
+use Rattle.std.proofs.Common.{◌≡◌, refl, sym, ap, ◌∙◌, subst, ℕ, ◌+◌, ◌-◌, ◌≤◌, arith, Bool, true, false, cond, List, [], ◌∷◌, take, Option, None, Some, Result, Ok, ℤ, pos, find, nat_le}
 use Rattle.std.specs.List.{list_all, prefix_len, take_while}
 use Rattle.std.proofs.lemmas.Bool.{leb-true}
 use Rattle.std.proofs.lemmas.List.Sums.{take_while-cons}
+use Rattle.sql_token.specs.declared.limits.TheConstants.{INT_MOST}
 use Rattle.text_rules.specs.Numbers.{is_digit, value_after}
 use Rattle.sql_token.specs.declared.keyword.Keyword.{Keyword}
 use Rattle.sql_token.specs.declared.sign.Sign.{Sign}
@@ -67,12 +68,12 @@ word_written bytes (Some k) e word = word_shaped bytes (Some k) e word
 word_written bytes None e word = word_shaped bytes None e word
 
 -- a number that is small enough
-small_value : (n : ℕ) (b : Bool) (z : ℤ) → nat_le n (2 ^ 63 - 1) ≡ b → cond b (Some (pos n)) None ≡ Some z → (z ≡ pos n) × (n ≤ 2 ^ 63 - 1)
-small_value n true z small e = (cc e, leb-true n (2 ^ 63 - 1) small)
+small_value : (n : ℕ) (b : Bool) (z : ℤ) → nat_le n INT_MOST ≡ b → cond b (Some (pos n)) None ≡ Some z → (z ≡ pos n) × (n ≤ INT_MOST)
+small_value n true z small e = (cc e, leb-true n INT_MOST small)
 small_value n false z small e = absurd (cc e)
 
-int_value : (n : ℕ) (z : ℤ) → small_int n ≡ Some z → (z ≡ pos n) × (n ≤ 2 ^ 63 - 1)
-int_value n z e = small_value n (nat_le n (2 ^ 63 - 1)) z refl e
+int_value : (n : ℕ) (z : ℤ) → small_int n ≡ Some z → (z ≡ pos n) × (n ≤ INT_MOST)
+int_value n z e = small_value n (nat_le n INT_MOST) z refl e
 
 int_written : (place bytes : ℕ) (bs : List ℕ) (z : Option ℤ) (t : Token) → list_all is_digit (take bytes bs) ≡ true
     → small_int (value_after 0 (take bytes bs)) ≡ z → int_token place bytes z ≡ Ok t → WrittenIn bs t

@@ -2,8 +2,8 @@
 use Rattle.std.specs.Prelude.{◌≡◌, ℕ, ◌<◌, ◌≤◌, Bool, false, ◌&&◌, List, [], ◌∷◌, length, drop, slice_range, pos}
 use Rattle.std.specs.Prelude.{Option, None, Some, IsTrue}
 use Rattle.std.specs.List.{list_all}
-use Rattle.text_rules.specs.Numbers.{is_digit, value_after}
 use Rattle.sql_token.specs.declared.limits.TheConstants.{INT_MOST}
+use Rattle.text_rules.specs.Numbers.{is_digit, value_after}
 use Rattle.sql_token.specs.declared.sign.Sign.{Sign}
 use Rattle.sql_token.specs.declared.token.Token.{Token}
 use Rattle.sql_token.specs.declared.token.TokenKind.{TokenKind}

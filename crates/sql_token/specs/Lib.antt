@@ -1,4 +1,5 @@
 pub mod Bytes
+pub mod Ints
 pub mod Keywords
 pub mod Signs
 pub mod Faults

@@ -9,6 +9,7 @@ ghost use Rattle.sql_token.specs.Tokens.{token, word_at, int_at, small_int, sign
 ghost use Rattle.sql_token.specs.Signs.{short_sign};
 
 use crate::byte::{begins_word, digits_len, is_digit, word_len};
+use crate::int::Int;
 use crate::keyword::keyword_of;
 use crate::sign::{long_sign, short_sign};
 use crate::token::{Span, Token, TokenKind, TokenStop};
@@ -39,7 +40,7 @@ fn word_at(place: u32, text: &[u8]) -> Token
 }
 
 // The number that digits write, where it is at most 2^63 - 1.
-fn small_int(digits: &[u8]) -> Option<i64>
+fn small_int(digits: &[u8]) -> Option<Int>
     requires { list_all is_digit digits.now ≡ true }
     ensures { result ≡ small_int (value_after 0 digits.now) }
 {
@@ -47,7 +48,7 @@ fn small_int(digits: &[u8]) -> Option<i64>
     for b in digits {
         n = n.checked_mul(10)?.checked_add(u64::from(*b - b'0'))?;
     }
-    i64::try_from(n).ok()
+    Int::new(n)
 }
 
 #[tactic(auto, using(crate::proofs::Ints::all_digits))]

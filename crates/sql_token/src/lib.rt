@@ -9,6 +9,7 @@ mod byte;
 mod depth;
 pub mod examples;
 mod front;
+mod int;
 mod keyword;
 pub mod laws;
 pub mod limits;
@@ -19,6 +20,7 @@ mod tests;
 mod token;
 mod tokens;
 
+pub use int::Int;
 pub use keyword::Keyword;
 pub use sign::Sign;
 pub use token::{Span, Token, TokenKind, TokenStop};

@@ -44,9 +44,9 @@ pub(crate) fn scan(alloc: Global, text: &[u8]) -> Result<Tokens, TokenStop>
 {
     let mut tokens = Tokens::new(alloc);
     let mut place = 0;
-    while let Some(token) = next_token(text, place)? {
-        tokens.push(token)?;
-        place = token.span.to as usize;
+    while let Some(Token { kind, span }) = next_token(text, place)? {
+        tokens.push(Token { kind, span })?;
+        place = span.to as usize;
     }
     Ok(tokens)
 }

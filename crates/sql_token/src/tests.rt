@@ -2,7 +2,7 @@
 ghost use Rattle.std.specs.Prelude.{◌≤◌, length};
 ghost use Rattle.text_rules.specs.declared.limits.TheConstants.{QUERY_TEXT_MOST};
 
-use crate::{Keyword, Sign, TokenKind, TokenStop, Tokens};
+use crate::{Int, Keyword, Sign, TokenKind, TokenStop, Tokens};
 use std::alloc::Global;
 use std::test::Fail;
 
@@ -34,13 +34,18 @@ fn texts_at_the_limits_are_read_and_texts_past_them_refused(rt: HostRuntime) -> 
 #[test]
 fn each_token_has_its_kind(rt: HostRuntime) -> Result<(), Fail> {
     let alloc = rt.alloc();
+    let most = Int::new(9223372036854775807).expect(&rt, "an int");
+    let one = Int::new(1).expect(&rt, "an int");
     for (text, want) in [
         (b"SeLeCt".as_slice(), TokenKind::Keyword(Keyword::Select)),
         (b"area_box".as_slice(), TokenKind::Keyword(Keyword::AreaBox)),
         (b"selects".as_slice(), TokenKind::Name),
         (b"_a1".as_slice(), TokenKind::Name),
-        (b"9223372036854775807".as_slice(), TokenKind::Int(i64::MAX)),
-        (b"00000000000000000000000001".as_slice(), TokenKind::Int(1)),
+        (b"9223372036854775807".as_slice(), TokenKind::Int(most)),
+        (
+            b"00000000000000000000000001".as_slice(),
+            TokenKind::Int(one),
+        ),
         (b"!=".as_slice(), TokenKind::Sign(Sign::Differs)),
         (b"<>".as_slice(), TokenKind::Sign(Sign::Differs)),
     ] {

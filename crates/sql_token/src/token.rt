@@ -1,5 +1,6 @@
 //! A token: what it is and where it stands.
 
+use crate::int::Int;
 use crate::keyword::Keyword;
 use crate::sign::Sign;
 
@@ -17,8 +18,8 @@ pub enum TokenKind {
     Keyword(Keyword),
     /// Any other word. Its text is that of the token's span.
     Name,
-    /// A whole number from 0 to 2^63 - 1.
-    Int(i64),
+    /// A whole number.
+    Int(Int),
     /// A sign.
     Sign(Sign),
 }

@@ -39,7 +39,8 @@ impl Tokens {
         ensures ok { OnOk result (self.new ≡ self.old ++ token ∷ []) }
         ensures err { IfErr result (λ why. why ≡ TokenStop.Memory) }
     {
-        match self.list.push(token) {
+        let Token { kind, span } = token;
+        match self.list.push(Token { kind, span }) {
             Ok(()) => Ok(()),
             Err(_) => Err(TokenStop::Memory),
         }

@@ -2,7 +2,7 @@
 
 use crate::expr::Expr;
 use crate::name::Name;
-use sql_token::Span;
+use sql_token::{Int, Span};
 use sqlite_items::{Boxed, Items};
 
 /// A comparison. `<>` and `!=` are one.
@@ -24,11 +24,11 @@ pub enum AreaKind {
     Boxed,
 }
 
-/// An int as it is written: its sign and its size, 0 to 2^63 - 1. `-0` and `0` are one to `same`, and print alike.
+/// An int as it is written: its sign and its size. `-0` and `0` are one to `same`, and print alike.
 #[derive(Clone, Copy, Debug, PartialEq, Eq)]
 pub struct SignedInt {
     pub minus: bool,
-    pub size: i64,
+    pub size: Int,
 }
 
 /// One int or more.
@@ -100,6 +100,6 @@ pub enum Pred {
         left: Name,
         right: Name,
         strict: bool,
-        n: i64,
+        n: Int,
     },
 }

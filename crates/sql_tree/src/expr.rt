@@ -1,6 +1,7 @@
 //! Expressions: sums of products of factors.
 
 use crate::name::Col;
+use sql_token::Int;
 use sqlite_items::{Boxed, Items};
 
 /// A sum or difference of products, taken from the left.
@@ -39,8 +40,8 @@ pub struct Factor {
 #[cycle(expr)]
 #[derive(Drop)]
 pub enum Atom {
-    /// A whole number from 0 to 2^63 - 1.
-    Int(i64),
+    /// A whole number.
+    Int(Int),
     /// A column.
     Col(Col),
     /// An expression in brackets.

@@ -21,3 +21,4 @@ pub use expr::{Atom, Expr, Factor, Prod, Signed};
 pub use name::{Col, Name};
 pub use query::{Item, ItemKind, ItemList, OrderBy, Query, Selection, TableRef};
 pub use same_query::same;
+pub use sql_token::Int;

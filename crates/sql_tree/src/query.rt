@@ -3,7 +3,7 @@
 use crate::cond::Cond;
 use crate::expr::Expr;
 use crate::name::{Col, Name};
-use sql_token::Span;
+use sql_token::{Int, Span};
 use sqlite_items::Items;
 
 /// A written query.
@@ -17,7 +17,7 @@ pub struct Query {
     /// The columns behind GROUP BY, at most four; none where there is no GROUP BY.
     pub group: Items<Col>,
     pub order: Option<OrderBy>,
-    pub limit: Option<i64>,
+    pub limit: Option<Int>,
 }
 
 /// What stands between SELECT and FROM.

@@ -6,7 +6,7 @@ use crate::cond::{AreaKind, Cmp, Cond, Conj, IntList, Neg, Pred, SignedInt};
 use crate::expr::Expr;
 use crate::name::Name;
 use crate::same_expr::{same_expr, same_int, same_name};
-use sql_token::Span;
+use sql_token::{Int, Span};
 
 fn same_flag(a: &bool, b: &bool) -> bool
     ensures { IsTrue result ↔ (a.now ≡ b.now) }
@@ -29,7 +29,7 @@ fn same_area_kind(a: &AreaKind, b: &AreaKind) -> bool
 fn is_below_zero(a: &SignedInt) -> bool
     ensures { result ≡ is_minus a.now }
 {
-    a.minus && a.size != 0
+    a.minus && a.size.get() != 0
 }
 
 #[tactic(auto, unfolding(crate::specs::Bare::bare_int))]
@@ -108,7 +108,7 @@ fn same_chord(
     left: (&Name, &Name),
     right: (&Name, &Name),
     strict: (&bool, &bool),
-    n: (&i64, &i64),
+    n: (&Int, &Int),
 ) -> bool
     ensures { IsTrue result ↔ ((bare_name left.entry.0.now ≡ bare_name left.entry.1.now)
         × (bare_name right.entry.0.now ≡ bare_name right.entry.1.now)
@@ -254,7 +254,7 @@ fn is_area(kind: &AreaKind, span: &Span, args: &IntList, other: &Pred) -> bool
     }
 }
 
-fn is_chord(left: &Name, right: &Name, strict: &bool, n: &i64, other: &Pred) -> bool
+fn is_chord(left: &Name, right: &Name, strict: &bool, n: &Int, other: &Pred) -> bool
     ensures { IsTrue result ↔ (bare_pred (Pred.Chord left.now right.now strict.now n.now)
         ≡ bare_pred other.now) }
 {

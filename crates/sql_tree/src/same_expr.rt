@@ -5,11 +5,12 @@ ghost use Rattle.sql_tree.specs.Bare.{bare_name, bare_col, bare_atom, bare_expr,
 
 use crate::expr::{Atom, Expr, Factor, Prod, Signed};
 use crate::name::{Col, Name};
+use sql_token::Int;
 
-pub(crate) fn same_int(a: &i64, b: &i64) -> bool
+pub(crate) fn same_int(a: &Int, b: &Int) -> bool
     ensures { IsTrue result ↔ (a.now ≡ b.now) }
 {
-    a == b
+    a.get() == b.get()
 }
 
 pub(crate) fn same_name(a: &Name, b: &Name) -> bool

@@ -8,6 +8,7 @@ use crate::name::Col;
 use crate::query::{Item, ItemKind, ItemList, OrderBy, Query, Selection, TableRef};
 use crate::same_cond::same_cond;
 use crate::same_expr::{same_col, same_expr, same_int, same_name, same_names};
+use sql_token::Int;
 
 fn same_kind(a: &ItemKind, b: &ItemKind) -> bool
     ensures { IsTrue result ↔ (bare_kind a.now ≡ bare_kind b.now) }
@@ -119,7 +120,7 @@ fn same_order(a: &Option<OrderBy>, b: &Option<OrderBy>) -> bool
     }
 }
 
-fn same_limit(a: &Option<i64>, b: &Option<i64>) -> bool
+fn same_limit(a: &Option<Int>, b: &Option<Int>) -> bool
     ensures { IsTrue result ↔ (a.now ≡ b.now) }
 {
     match (a, b) {

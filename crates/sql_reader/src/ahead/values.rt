@@ -7,7 +7,7 @@ ghost use Rattle.sql_token.specs.declared.token.Span.{Span};
 ghost use Rattle.sql_reader.specs.Answers.{Gives, rest_of, Shows};
 
 use super::{Ahead, ReadStop};
-use sql_token::{Keyword, Sign, Span, Token, TokenKind};
+use sql_token::{Int, Keyword, Sign, Span, Token, TokenKind};
 use sql_tree::{AreaKind, Cmp, Name};
 use sqlite_items::Items;
 use std::alloc::Global;
@@ -196,7 +196,7 @@ impl<'a> Ahead<'a> {
     }
 
     /// The int at the front.
-    pub(crate) fn number(&self) -> Option<(i64, Ahead<'a>)>
+    pub(crate) fn number(&self) -> Option<(Int, Ahead<'a>)>
         ensures { Shows (number_at self.now) result }
     {
         match self.tokens {

@@ -1,0 +1,7 @@
+-- Squared radii of caps.
+use Rattle.std.specs.Prelude.{ℤ, pos, ◌≤ℤ◌}
+use Rattle.sky_vector.specs.declared.limits.TheConstants.{CHORD_SQUARED_MOST}
+
+-- the number is from 0 to the largest n that a test of squared distances may name
+abbrev pub IsSquaredRadius : ℤ → Type 0
+IsSquaredRadius n = (pos 0 ≤ℤ n) × (n ≤ℤ pos CHORD_SQUARED_MOST)

@@ -1,0 +1,47 @@
+//! The ints of a text.
+
+ghost use Rattle.std.specs.Prelude.{◌≡◌, ◌<◌, IfNone, IfSome, pos};
+ghost use Rattle.sql_token.specs.Ints.{IsInt};
+ghost use Rattle.sql_token.specs.declared.limits.TheConstants.{INT_MOST};
+
+use std::marker::Model;
+
+/// A whole number that digits of a text may write: from 0 to 2^63 - 1.
+#[derive(Clone, Copy, Debug, PartialEq, Eq)]
+pub struct Int {
+    value: i64,
+}
+
+impl Model for Int {
+    ghost use Rattle.std.specs.Prelude.{ℤ};
+    ghost use Rattle.sql_token.specs.Ints.{IsInt};
+
+    ghost Value = { ℤ };
+
+    ghost view = { λ int. int.value };
+
+    ghost invariant = { λ int. IsInt int.value };
+
+    ghost inverse = { λ z. record { value = z } };
+}
+
+impl Int {
+    /// The int of this value, or `None` where it is above 2^63 - 1. Takes no memory.
+    pub fn new(n: u64) -> Option<Int>
+        ensures made { IfSome result (λ int. int ≡ pos n) }
+        ensures none { IfNone result (INT_MOST < n) }
+    {
+        match i64::try_from(n) {
+            Ok(value) => Some(Int { value }),
+            Err(_) => None,
+        }
+    }
+
+    /// The value. Takes no memory.
+    pub fn get(&self) -> i64
+        ensures value { result ≡ self.now }
+        ensures within { IsInt result }
+    {
+        self.value
+    }
+}
