@@ -16,11 +16,10 @@ use Rattle.column_block.specs.Blocks.{Stored}
 use Rattle.column_block.proofs.Storing.{stored_same}
 use Rattle.sky_rules.specs.Partition.{Partition, chunk_count}
 use Rattle.sky_rules.specs.Bounds.{in_chunk}
-use Rattle.chunk_rules.specs.Filled.{filled_chunks, is_filled}
+use Rattle.chunk_rules.specs.Filled.{filled_chunks}
 use Rattle.chunk_rules.specs.Places.{rows_at}
 use Rattle.chunk_rules.proofs.FilledChunks.{filled_are_chunks}
 use Rattle.chunk_rules.proofs.RowsTaken.{rows_at_places}
-use Rattle.overlap_tables.proofs.Listed.{listed}
 use Rattle.chunk_store.specs.Lists.{AreLists, block_at, has_some, own_test}
 use Rattle.chunk_store.specs.Places.{chunk_block, chunk_rows}
 use Rattle.chunk_store.proofs.Ranges.{filter_below, places_there}
@@ -59,10 +58,6 @@ lists_there g objects lists are k d low =
     subst (All (λ i. i < length objects)) (sym (get_or_default lists k d [] low ∙ are.each k (omega (arith, low, are.all))))
     (places_there (own_test g k) objects)
 
--- a chunk that holds a row is one of those
-pub has_filled : (g : Partition) (objects : List Obj) (c : ℕ) → c < chunk_count g → is_filled g objects c ≡ true → Contains (filled_chunks g objects) c
-has_filled g objects c there holds = listed (is_filled g objects) c (chunk_count g) there holds
-
 -- numbers that ascend do not fall
 pub no_fall : (xs : List ℕ) → AllPairs (λ a b. a < b) xs → (i j : ℕ) → i ≤ j → j < length xs → get_or xs i 0 ≤ get_or xs j 0
 no_fall xs up i j le low = by (compare)
@@ -74,7 +69,7 @@ no_fall xs up i j le low = by (compare)
     by (inl lt) = omega (arith, up i j 0 lt low)
     by (inr is) = subst (λ k. get_or xs i 0 ≤ get_or xs k 0) is (omega arith)
 
--- so a search for one of them finds it
+-- so a search for one of ascending numbers finds it
 pub found : (xs : List ℕ) (x : ℕ) (r : Result ℕ ℕ) → AllPairs (λ a b. a < b) xs → Contains xs x → IsBinarySearchResult (λ y. nat_cmp y x) xs r → IsOk r
 found xs x (Ok i) up has h = refl
 found xs x (Err i) up has h =

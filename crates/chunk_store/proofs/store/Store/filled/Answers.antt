@@ -2,7 +2,8 @@ use Rattle.std.proofs.Common.{◌≡◌, ℕ, ◌<◌, true, List, sym, subst}
 use Rattle.std.specs.Prelude.{All, AllPairs}
 use Rattle.std.proofs.lemmas.List.Elements.{filter_passes}
 use Rattle.sky_rules.specs.Partition.{chunk_count}
-use Rattle.chunk_rules.specs.Filled.{all_chunks, is_filled}
+use Rattle.sky_rules.specs.Chunks.{all_chunks}
+use Rattle.chunk_rules.specs.Filled.{is_filled}
 use Rattle.chunk_rules.proofs.FilledChunks.{filled_are_chunks, filled_ascend}
 use Rattle.chunk_store.proofs.store.Store.filled.Goals as goal
 
