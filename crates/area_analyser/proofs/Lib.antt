@@ -1,0 +1,4 @@
+pub mod Filters
+pub mod Listed
+pub mod Chosen
+pub mod Marking
