@@ -6,6 +6,7 @@
 //! of it, and the call's own line, when it leaves.
 ghost use Rattle.std.specs.Prelude.{◌≡◌, ◌≢◌, ◌-◌, ◌<◌, ◌≤◌, ◌^◌, [], All, IfOk};
 ghost use mathlib.Core.List.{IsPrefix};
+ghost use Rattle.scan_rules.specs.declared.limits.TheConstants.{QUERY_MOST};
 ghost use Rattle.scan_rules.specs.Lines.{seat_of};
 ghost use Rattle.scan_core.specs.Answers.{AnswersAttach, AnswersTake, AnswersCollect, IfTask};
 ghost use Rattle.scan_core.specs.Delivering.{DeliversTask, PiecesFit};
@@ -60,7 +61,7 @@ impl<P: Work> SharedBoard<P> {
     ) -> (Attach<P>, Seat<Board<P>>)
         requires own { seat.turn ≡ self.now }
         requires from_1 { 1 ≤ q }
-        requires to_255 { q ≤ 255 }
+        requires to_255 { q ≤ QUERY_MOST }
         requires in_ring { All (λ chunk. chunk < seat.root.ring) chunks }
         requires asked { All (P.asks seat.root.root q) chunks }
         requires nothing { P.stands seat.root.root q [] empty }

@@ -1,6 +1,7 @@
 -- What the fields of a board say of its journal.
 use Rattle.std.specs.Prelude.{◌≡◌, ℕ, ◌+◌, ◌-◌, ◌<◌, ◌≤◌, List, ◌∷◌, ◌++◌}
 use Rattle.std.specs.Prelude.{AllPairs, length, get_or, Bool, true, not, cond, nat_lt, count_by}
+use Rattle.scan_rules.specs.declared.limits.TheConstants.{RING_MOST, RUNNING_MOST}
 use Rattle.scan_rules.specs.Lines.{takes}
 use Rattle.scan_rules.specs.Numbers.{has}
 use Rattle.scan_rules.specs.Queries.{Journal, is_attached, is_cancelled, is_lost}
@@ -36,13 +37,13 @@ pub record Fits (ring : ℕ) (past : Journal) (q : ℕ) (slot : Slot) : Type 0 w
 -- the fields of a board are words on its journal, which is a run: its place, how many chunks were taken, whether it is
 -- closed, and a slot for each query number below 256. Each list of chunks ascends
 pub record Kept (ring here tickets : ℕ) (closed : Bool) (slots : List Slot) (past : Journal) : Type 0 where
-  pub small : ring ≤ 16384
+  pub small : ring ≤ RING_MOST
   pub low : here ≤ ring
   pub run : IsRun ring past
   pub stands : here ≡ place ring past
   pub counted : tickets ≡ count_by takes past
   pub closes : closed ≡ is_closed past
   pub full : length slots ≡ 256
-  pub few : running_count past ≤ 64
+  pub few : running_count past ≤ RUNNING_MOST
   pub each : (q : ℕ) (d : Slot) → q < 256 → Fits ring past q (get_or slots q d)
   pub ascend : (q : ℕ) → AllPairs (λ a b. a < b) (wanted past q)

@@ -5,9 +5,10 @@
 //! mid-lap is served what it missed on the next lap. A task is delivered with a piece for each of its queries, and
 //! a query that has all its chunks is done. The journal has a line for each call that changed something, and every
 //! field is a word on it (`specs/Kept.antt`).
-ghost use Rattle.std.specs.Prelude.{◌≡◌, ◌<◌, ◌≤◌, ◌+◌, ◌*◌, ◌^◌, [], All, IfOk, IsTrue, true, false, vec_capacity};
+ghost use Rattle.std.specs.Prelude.{◌≡◌, ◌<◌, ◌≤◌, ◌+◌, ◌*◌, [], All, IfOk, IsTrue, true, false, vec_capacity};
 ghost use Rattle.scan_rules.specs.declared.journal_line.JournalLine.TheVariants.{Cancel as CancelLine};
 ghost use Rattle.scan_rules.specs.declared.journal_line.JournalLine.TheVariants.{Close as CloseLine};
+ghost use Rattle.scan_rules.specs.declared.limits.TheConstants.{LINES_BOUND, QUERY_MOST, RING_MOST, RUNNING_MOST};
 ghost use Rattle.scan_rules.specs.Lines.{seat_of};
 ghost use Rattle.scan_rules.specs.Queries.{is_closed, is_running};
 ghost use Rattle.scan_core.specs.Boards.{gains, IsLawful};
@@ -27,13 +28,11 @@ use crate::slots::{
 };
 use crate::task::Task;
 use crate::work::Work;
+use scan_rules::limits::{QUERY_MOST, RUNNING_MOST};
 use scan_rules::{ChunkSet, JournalLine};
 use sky_io::{Lineage, Memory};
 use std::alloc::Global;
 use std::marker::Model;
-
-/// How many queries run at once, at most: as many as a task has room for.
-const MOST_RUNNING: u32 = 64;
 
 /// A board over a ring of chunks, from 0. The root is kept and never looked into.
 #[derive(Drop)]
@@ -72,7 +71,7 @@ impl<P: Work> Model for Board<P> {
 impl<P: Work> Board<P> {
     /// A board without queries over a ring of so many chunks. Takes memory; on `Err` the root is dropped.
     pub fn new(alloc: Global, ring: u32, root: P::Root) -> Result<Board<P>, Memory>
-        requires { ring ≤ 16384 }
+        requires { ring ≤ RING_MOST }
         ensures board { IfOk result (λ board.
             board ≡ record { root = root; ring = ring; past = [] }) }
         ensures lawful { IfOk result (λ board. IsLawful P.asks board) }
@@ -104,7 +103,7 @@ impl<P: Work> Board<P> {
     /// A query is attached with the chunks that it wants and an empty piece. Takes memory, also for all that follows.
     pub fn attach(&mut self, seat: u32, q: u32, chunks: ChunkSet, empty: P) -> Attach<P>
         requires from_1 { 1 ≤ q }
-        requires to_255 { q ≤ 255 }
+        requires to_255 { q ≤ QUERY_MOST }
         requires in_ring { All (λ chunk. chunk < self.old.ring) chunks }
         requires asked { All (P.asks self.old.root q) chunks }
         requires nothing { P.stands self.old.root q [] empty }
@@ -117,7 +116,7 @@ impl<P: Work> Board<P> {
         if attached_at(&self.slots, q as usize) {
             return Attach::Again { chunks, empty };
         }
-        if running_in(&self.slots) >= MOST_RUNNING {
+        if running_in(&self.slots) >= RUNNING_MOST {
             return Attach::Full { chunks, empty };
         }
         let list = chunks.as_slice();
@@ -260,12 +259,12 @@ fn room_for_close(alloc: Global) -> Result<Vec<JournalLine>, Memory>
 }
 
 /// How many lines may come with an Attach and after it, until the next one: the Attach; a Take and a Deliver for each
-/// chunk of the ring; a Deliver for each task in flight; a Cancel for each of 64 queries; a Collect for each slot;
-/// and a Close.
+/// chunk of the ring; a Deliver for each task in flight; a Cancel for each running query; a Collect for each slot; and
+/// a Close.
 fn room_after_attach(ring: u32, flights: u32) -> usize
-    requires small { ring ≤ 16384 }
-    requires few { flights < 2 ^ 23 }
-    ensures { result ≡ 322 + 2 * ring + flights }
+    requires small { ring ≤ RING_MOST }
+    requires few { flights < LINES_BOUND }
+    ensures { result ≡ RUNNING_MOST + QUERY_MOST + 3 + 2 * ring + flights }
 {
-    1 + 2 * ring as usize + flights as usize + 64 + 256 + 1
+    3 + 2 * ring as usize + flights as usize + RUNNING_MOST as usize + QUERY_MOST as usize
 }

@@ -1,6 +1,7 @@
 //! Which chunk the scan takes next, and for which queries: read off the slots, whatever the ring's length.
 ghost use Rattle.std.specs.Prelude.{◌≡◌, ℕ, ◌<◌, ◌≤◌, List, [], ◌∷◌, ◌++◌, length, get_or, true, cond, IfSome, None};
 ghost use Rattle.std.specs.List.{last_or};
+ghost use Rattle.scan_rules.specs.declared.limits.TheConstants.{RING_MOST};
 ghost use Rattle.scan_rules.specs.Scan.{chunk_at, offset};
 ghost use Rattle.scan_core.specs.declared.slot.Slot.{Slot};
 ghost use Rattle.scan_core.specs.Taking.{next_of, first_step, least_from, is_next, served, CanServe, Popped};
@@ -24,7 +25,7 @@ fn offset(ring: u32, place: u32, chunk: u32) -> u32
 
 /// The chunk so many steps on from a place, around the ring.
 pub fn chunk_at(ring: u32, place: u32, steps: u32) -> u32
-    requires small { ring ≤ 16384 }
+    requires small { ring ≤ RING_MOST }
     requires low { place < ring }
     requires step { steps ≤ ring }
     ensures { result ≡ chunk_at ring place steps }
