@@ -23,7 +23,8 @@ leaning_by : (p : Point) (none : Bool) → is_admissible p ≡ true → is_admis
 leaning_by p true h = refl
 leaning_by p false h = h
 
-leaning_is_admissible : (z u v : ℤ) (t h : ℕ) → is_admissible (leaning_point z u v t h) ≡ true
+-- and so is what leans
+pub leaning_is_admissible : (z u v : ℤ) (t h : ℕ) → is_admissible (leaning_point z u v t h) ≡ true
 leaning_is_admissible z u v t h =
     leaning_by (kept_point (record { x = cut_quotient (u *ℤ pos t) h; y = cut_quotient (v *ℤ pos t) h; z = z })) (nat_eq h 0)
     (kept_is_admissible (record { x = cut_quotient (u *ℤ pos t) h; y = cut_quotient (v *ℤ pos t) h; z = z }))
@@ -48,7 +49,8 @@ object_is_row seed i o few d = record {
   few = rw d.further (omega arith);
 }
 
-ids_ascend : (i j : ℕ) (a b : ℤ) → i < j → a ≡ pos (i + 1) → b ≡ pos (j + 1) → a <ℤ b
+-- ids by places ascend with them
+pub ids_ascend : (i j : ℕ) (a b : ℤ) → i < j → a ≡ pos (i + 1) → b ≡ pos (j + 1) → a <ℤ b
 ids_ascend i j a b low ha hb = rw (ha, hb) (omega (arith, ints, low))
 
 pub demo_is_a_catalogue : DemoIsACatalogue

@@ -1,10 +1,11 @@
 //! The demo's input: a catalogue made from a count and a seed, a sky plan and a script.
 //!
 //! Callers see the catalogue as the rows of `specs/DemoRows.antt`, and the two texts as bytes (`specs/DemoTexts.antt`).
-//! Below: `table_rules` for rows, `sky_vector` for points. Above: `demo_laws`, for
-//! what the two texts say.
+//! Below: `table_rules` for rows, `sky_vector` for points. Above: `sky_generate`, which makes the three, and `demo_laws`,
+//! for what the two texts say.
 //! No algorithm: definitions, laws, and worked examples that the checker computes.
 #![tactic(auto)]
 
 pub mod examples;
 pub mod laws;
+pub mod limits;

@@ -1,0 +1,3 @@
+pub mod Roots
+pub mod Places
+pub mod Growth

@@ -1,0 +1,167 @@
+//! Where an object stands: at the height of its first draw, in the direction to which the next two make it lean.
+
+ghost use Rattle.std.specs.Prelude.{◌≡◌, ◌+ℤ◌, ◌-ℤ◌, ◌*ℤ◌, ◌<◌, ◌≤◌, ◌^◌, IsTrue, ◌&&◌};
+ghost use Rattle.std.specs.Prelude.{nat_abs, pos, unsigned_abs};
+ghost use Rattle.demo_rules.specs.DemoRows.{cut_quotient, is_coordinate, kept_point, leaning_point, on_meridian};
+ghost use Rattle.demo_rules.specs.declared.limits.TheConstants.{MODULUS};
+ghost use Rattle.sky_generate.specs.Places.{StandsBy, height_by, lean_by};
+ghost use Rattle.sky_vector.specs.Points.{is_admissible, square};
+ghost use Rattle.sky_vector.specs.Pos.{point};
+ghost use Rattle.sky_vector.specs.Roots.{IsRoot};
+
+use sky_vector::limits::COORDINATE_MOST;
+use sky_vector::{Pos, isqrt, length_ok};
+
+/// Where the object with these draws stands.
+pub(crate) fn place(height: u64, lean_x: u64, lean_y: u64) -> Pos
+    requires x { lean_x < MODULUS }
+    requires y { lean_y < MODULUS }
+    ensures stands { StandsBy height lean_x lean_y (point result) }
+    ensures admissible { IsTrue (is_admissible (point result)) }
+{
+    let z = height_by(height);
+    let u = lean_by(lean_x);
+    let v = lean_by(lean_y);
+    leaning(z, u, v, from_axis(z), length_of(u, v))
+}
+
+/// The height that a draw gives, at most 2^28 up or down.
+fn height_by(draw: u64) -> i64
+    ensures value { result ≡ height_by draw }
+    ensures size { unsigned_abs result ≤ 2 ^ 28 }
+{
+    (draw % 536870913) as i64 - 268435456
+}
+
+/// How far a draw makes an object lean, at most 2^30.
+fn lean_by(draw: u64) -> i64
+    requires { draw < MODULUS }
+    ensures value { result ≡ lean_by draw }
+    ensures size { unsigned_abs result ≤ 2 ^ 30 }
+{
+    draw as i64 - 1073741823
+}
+
+/// How far from the axis the sphere is at this height, at most 2^28.
+#[tactic(auto, using(crate::proofs::Roots::below_the_sphere, crate::proofs::Roots::root_is_short))]
+fn from_axis(z: i64) -> u64
+    requires { unsigned_abs z ≤ 2 ^ 28 }
+    ensures root { IsRoot (nat_abs (pos (2 ^ 56) -ℤ square z)) result }
+    ensures size { result ≤ 2 ^ 28 }
+{
+    isqrt((1 << 56) - height_squared(z))
+}
+
+/// How long the direction (u, v) is.
+#[tactic(auto, using(crate::proofs::Roots::both_squares))]
+fn length_of(u: i64, v: i64) -> u64
+    requires u_size { unsigned_abs u ≤ 2 ^ 30 }
+    requires v_size { unsigned_abs v ≤ 2 ^ 30 }
+    ensures { IsRoot (nat_abs (square u +ℤ square v)) result }
+{
+    isqrt(lean_squared(u) + lean_squared(v))
+}
+
+/// The square of a height, at most 2^56.
+fn height_squared(z: i64) -> u64
+    requires { unsigned_abs z ≤ 2 ^ 28 }
+    ensures value { pos result ≡ square z }
+    ensures most { result ≤ 2 ^ 56 }
+{
+    let size = z.unsigned_abs();
+    size * size
+}
+
+/// The square of how far an object leans, at most 2^60.
+fn lean_squared(lean: i64) -> u64
+    requires { unsigned_abs lean ≤ 2 ^ 30 }
+    ensures value { pos result ≡ square lean }
+    ensures most { result ≤ 2 ^ 60 }
+{
+    let size = lean.unsigned_abs();
+    size * size
+}
+
+/// The point at a height that leans to (u, v): so far from the axis, where (u, v) is so long.
+fn leaning(z: i64, u: i64, v: i64, from_axis: u64, long: u64) -> Pos
+    requires u_size { unsigned_abs u ≤ 2 ^ 30 }
+    requires v_size { unsigned_abs v ≤ 2 ^ 30 }
+    requires far { from_axis ≤ 2 ^ 28 }
+    ensures { point result ≡ leaning_point z u v from_axis long }
+{
+    if long == 0 {
+        return meridian();
+    }
+    kept(
+        cut(stretched(u, from_axis), long),
+        cut(stretched(v, from_axis), long),
+        z,
+    )
+}
+
+/// The product of how far an object leans and how far from the axis it stands.
+fn stretched(lean: i64, by: u64) -> i64
+    requires lean_size { unsigned_abs lean ≤ 2 ^ 30 }
+    requires by_size { by ≤ 2 ^ 28 }
+    ensures value { result ≡ lean *ℤ pos by }
+    ensures size { unsigned_abs result ≤ 2 ^ 58 }
+{
+    lean * by as i64
+}
+
+/// The number divided by a natural one, cut towards zero.
+fn cut(a: i64, by: u64) -> i64
+    requires size { unsigned_abs a ≤ 2 ^ 58 }
+    requires by { 0 < by }
+    ensures { result ≡ cut_quotient a by }
+{
+    let size = (a.unsigned_abs() / by) as i64;
+    if a < 0 { -size } else { size }
+}
+
+/// The point of these parts where it is a position of the sky, and else that on the first meridian.
+fn kept(x: i64, y: i64, z: i64) -> Pos
+    ensures { point result ≡ kept_point (record { x = x; y = y; z = z }) }
+{
+    match Pos::new(x, y, z) {
+        Some(at) => kept_position(at),
+        None => meridian(),
+    }
+}
+
+/// The position where its parts are coordinates and it is admissible, and else that on the first meridian.
+fn kept_position(at: Pos) -> Pos
+    ensures { point result ≡ kept_point (point at) }
+{
+    if is_kept(&at) { at } else { meridian() }
+}
+
+/// Whether the position's parts are coordinates, and it is admissible.
+fn is_kept(at: &Pos) -> bool
+    ensures { result ≡ (is_coordinate at.now.x && is_coordinate at.now.y
+        && is_coordinate at.now.z && is_admissible (point at.now)) }
+{
+    are_coordinates(at) && length_ok(at)
+}
+
+/// Whether the position's parts are coordinates.
+fn are_coordinates(at: &Pos) -> bool
+    ensures { result
+        ≡ (is_coordinate at.now.x && is_coordinate at.now.y && is_coordinate at.now.z) }
+{
+    is_coordinate(at.x) && is_coordinate(at.y) && is_coordinate(at.z)
+}
+
+/// Whether the coordinate is within those of an admissible point.
+fn is_coordinate(a: i64) -> bool
+    ensures { result ≡ is_coordinate a }
+{
+    -(COORDINATE_MOST as i64) <= a && a <= COORDINATE_MOST as i64
+}
+
+/// The position of the equator on the first meridian.
+fn meridian() -> Pos
+    ensures { point result ≡ on_meridian }
+{
+    Pos::new(268435456, 0, 0).unwrap()
+}
