@@ -3,3 +3,4 @@ pub mod LineSteps
 pub mod Fronts
 pub mod RowLines
 pub mod Blocks
+pub mod Indexes

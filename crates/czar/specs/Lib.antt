@@ -5,3 +5,4 @@ pub mod NarrowRun
 pub mod Each
 pub mod Counted
 pub mod Examples
+pub mod Indexed

@@ -109,7 +109,8 @@ fn answer_queries<K: Sink>(
         (record { survey = record { plan = plan; rows = rows }; ranges = Some queries })
         (K.state sink.old) (K.state sink.new) result }
 {
-    match World::build(alloc, plan, rows) {
+    // No range of z asks for an id.
+    match World::build(alloc, plan, rows, false) {
         Ok(world) => write_run(alloc, &Plain::new(&world, queries), sink),
         Err(_) => Outcome::Memory,
     }
