@@ -1,7 +1,8 @@
 //! Comparisons of a column with a number.
 ghost use Rattle.std.specs.Prelude.{◌≡◌, length, get_or, int_le, int_lt, not, pos};
 ghost use Rattle.std.specs.Ordering.{int_eq};
-ghost use Rattle.lane_filter.specs.Tests.{IsKeptBy, compares};
+ghost use Rattle.value_rules.specs.Truth.{compares};
+ghost use Rattle.lane_filter.specs.Tests.{IsKeptBy};
 
 use crate::wide::{Above, AtLeast, AtMost, Below, Differs, Equals, keep_by};
 use sql_tree::Cmp;

@@ -2,7 +2,7 @@
 //!
 //! A loop here goes over equal slices, one row a turn, with no branch and no call that is not laid into it, since that is
 //! what the compiler turns into vector code. The places that are left are listed without a branch too.
-//! Below: `sky_vector` for positions and chords, `sql_tree` for what a comparison is. Above: the scan of a chunk.
+//! Below: `sky_vector` for positions and chords, `sql_tree` and `value_rules` for what a comparison is. Above: the scan of a chunk.
 #![tactic(auto)]
 
 mod compare;

@@ -1,7 +1,8 @@
 //! Worked examples of the demo's queries: what is written for each, byte for byte, computed by the checker.
 
 ghost use Rattle.std.specs.Prelude.{◌≡◌, ◌++◌, codes};
-ghost use Rattle.transcript_examples.specs.DemoWorld.{demo_header, demo_row, demo_plan};
+ghost use Rattle.demo_laws.specs.DemoInput.{demo_plan};
+ghost use Rattle.transcript_examples.specs.DemoWorld.{demo_header, demo_row};
 ghost use Rattle.transcript_examples.specs.Worked.{answered_over};
 
 /// One row, which lies around the south pole.

@@ -13,8 +13,8 @@ use Rattle.session_rules.specs.Ends.{Judged, may_end, may_end_from}
 use Rattle.session_rules.specs.declared.end.EndKind.{EndKind}
 use Rattle.transcript_rules.specs.Blocks.{block, end_lines}
 use Rattle.transcript_rules.specs.Explained.{explain_block, explain_blocks_from}
-use Rattle.transcript_rules.specs.Laws.{OneBlockEach, BlocksInOrder, BlocksAreNumbered, OneExplainedEach}
-use Rattle.transcript_rules.specs.Laws.{ExplainedInOrder}
+use Rattle.transcript_rules.specs.Laws.{BlocksAreNumbered, BlocksInOrder, ExplainedInOrder, OneBlockEach}
+use Rattle.transcript_rules.specs.Laws.{OneExplainedEach}
 use Rattle.transcript_rules.specs.RefusalLines.{quoted}
 use Rattle.transcript_rules.specs.Transcripts.{blocks_from, judged_of, FitEnds}
 

@@ -25,7 +25,7 @@ use Rattle.answer_rules.specs.declared.rewritten.MergePlan.{MergePlan}
 use Rattle.transcript_rules.specs.ColumnNames.{column_name, id_count, id_names}
 use Rattle.transcript_rules.specs.ChunkLines.{chunk_key_names, chunk_order_names}
 use Rattle.transcript_rules.specs.MergeLines.{merge_order_texts, order_key_texts, tie_names}
-use Rattle.transcript_rules.specs.Laws.{LimitedInTheMergesOrder}
+use Rattle.transcript_rules.specs.BlockLaws.{LimitedInTheMergesOrder}
 
 -- the item is an expression
 abbrev is_plain : BoundItem → Bool

@@ -13,8 +13,8 @@ use Rattle.transcript_rules.specs.declared.refusal.Refusal.{Refusal}
 use Rattle.transcript_rules.specs.Refusals.{early_refusal, total_refusal, or_else, refusal_of}
 use Rattle.transcript_rules.specs.Blocks.{block, end_lines}
 use Rattle.transcript_rules.specs.Transcripts.{judged_of}
-use Rattle.transcript_rules.specs.Laws.{IsRefusal, RefusedHasItsReason, CancelledIsAskedFor}
-use Rattle.transcript_rules.specs.Laws.{AnsweredUnlessCancelledOrSpent, EqualQueriesAreAlike}
+use Rattle.transcript_rules.specs.Laws.{AnsweredUnlessCancelledOrSpent, CancelledIsAskedFor}
+use Rattle.transcript_rules.specs.Laws.{EqualQueriesAreAlike, IsRefusal, RefusedHasItsReason}
 use Rattle.transcript_rules.proofs.Blocks.{from_one, split_and}
 use Rattle.transcript_rules.proofs.Shown.{is_block, is_allowed}
 use Rattle.transcript_rules.proofs.Steps.{refused_early, refused_by}

@@ -19,8 +19,8 @@ use Rattle.transcript_rules.specs.RefusalLines.{refusal_line}
 use Rattle.transcript_rules.specs.Tables.{headings}
 use Rattle.transcript_rules.specs.Blocks.{number_line, answer_lines, answered_lines, block}
 use Rattle.transcript_rules.specs.Transcripts.{judged_of}
-use Rattle.transcript_rules.specs.Laws.{IsBlock, IsTable, HasNoRows, RefusedShowsNoRows, EarlyIsTold}
-use Rattle.transcript_rules.specs.Laws.{AnsweredShowsItsTable}
+use Rattle.transcript_rules.specs.Laws.{AnsweredShowsItsTable, EarlyIsTold, HasNoRows, IsBlock, IsTable}
+use Rattle.transcript_rules.specs.Laws.{RefusedShowsNoRows}
 use Rattle.transcript_rules.proofs.Blocks.{blocks_in_order, may_be}
 use Rattle.transcript_rules.proofs.Steps.{refused_early, refused_by}
 

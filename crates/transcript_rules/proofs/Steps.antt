@@ -29,7 +29,8 @@ use Rattle.transcript_rules.specs.Transcripts.{is_none_of, is_idle, judged_of}
 use Rattle.transcript_rules.specs.ChunkLines.{chunk_line}
 use Rattle.transcript_rules.specs.MergeLines.{merge_line}
 use Rattle.transcript_rules.specs.Explained.{chunks_line, plan_lines, explain_lines, explain_block}
-use Rattle.transcript_rules.specs.Laws.{AnsweredIsItsTable, ExplainedIsItsPlan, SpentIsItsLine, WorkIsAPlan}
+use Rattle.transcript_rules.specs.BlockLaws.{AnsweredIsItsTable, ExplainedIsItsPlan, SpentIsItsLine}
+use Rattle.transcript_rules.specs.BlockLaws.{WorkIsAPlan}
 use Rattle.session_rules.specs.Ends.{has_work}
 
 -- a query whose tree and bound query are known is understood

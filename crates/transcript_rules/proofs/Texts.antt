@@ -42,7 +42,7 @@ use Rattle.answer_rules.specs.Rewriting.{chunk_order_of, order_column, of_col, i
 use Rattle.transcript_rules.specs.Tables.{qualified, star_columns}
 use Rattle.transcript_rules.specs.ChunkLines.{item_texts, id_texts, order_texts, part_texts, row_texts, group_texts}
 use Rattle.transcript_rules.specs.ChunkLines.{chunk_texts}
-use Rattle.transcript_rules.specs.Laws.{OneTextEach}
+use Rattle.transcript_rules.specs.BlockLaws.{OneTextEach}
 use Rattle.transcript_rules.proofs.Blocks.{split_and}
 
 -- some item is an aggregate

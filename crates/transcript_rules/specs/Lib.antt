@@ -11,3 +11,4 @@ pub mod Written
 pub mod Examples
 pub mod KeyedTexts
 pub mod Laws
+pub mod BlockLaws

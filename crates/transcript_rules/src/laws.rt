@@ -1,13 +1,15 @@
 //! Laws of transcripts, as functions that do nothing: a caller has what they ensure.
 
 ghost use Rattle.transcript_rules.specs.KeyedTexts.{PlainItemsByKeys};
-ghost use Rattle.transcript_rules.specs.Laws.{AnsweredShowsItsTable, BlocksAreNumbered, BlocksInOrder, EarlyIsTold};
-ghost use Rattle.transcript_rules.specs.Laws.{AnsweredUnlessCancelledOrSpent, CancelledIsAskedFor};
-ghost use Rattle.transcript_rules.specs.Laws.{EqualQueriesAreAlike, ExplainedInOrder, OneBlockEach, OneExplainedEach};
-ghost use Rattle.transcript_rules.specs.Laws.{AnsweredIsItsTable, CancelledIsItsLine, ExplainedIsItsPlan};
-ghost use Rattle.transcript_rules.specs.Laws.{ExplainedIsItsRefusal, LimitedInTheMergesOrder, RefusedIsItsLine};
-ghost use Rattle.transcript_rules.specs.Laws.{SpentIsItsLine, WorkIsAPlan};
-ghost use Rattle.transcript_rules.specs.Laws.{OneTextEach, RefusedHasItsReason, RefusedShowsNoRows};
+ghost use Rattle.transcript_rules.specs.BlockLaws.{AnsweredIsItsTable, CancelledIsItsLine};
+ghost use Rattle.transcript_rules.specs.BlockLaws.{ExplainedIsItsPlan, ExplainedIsItsRefusal};
+ghost use Rattle.transcript_rules.specs.BlockLaws.{LimitedInTheMergesOrder, OneTextEach, RefusedIsItsLine};
+ghost use Rattle.transcript_rules.specs.BlockLaws.{SpentIsItsLine, WorkIsAPlan};
+ghost use Rattle.transcript_rules.specs.Laws.{AnsweredShowsItsTable, AnsweredUnlessCancelledOrSpent};
+ghost use Rattle.transcript_rules.specs.Laws.{BlocksAreNumbered, BlocksInOrder, CancelledIsAskedFor};
+ghost use Rattle.transcript_rules.specs.Laws.{EarlyIsTold, EqualQueriesAreAlike, ExplainedInOrder};
+ghost use Rattle.transcript_rules.specs.Laws.{OneBlockEach, OneExplainedEach, RefusedHasItsReason};
+ghost use Rattle.transcript_rules.specs.Laws.{RefusedShowsNoRows};
 
 /// There is one block for each query, in the order of the script, and each begins with `query K`.
 #[tactic(auto, using(crate::proofs::Blocks::one_block_each, crate::proofs::Blocks::blocks_in_order, crate::proofs::Blocks::blocks_are_numbered))]

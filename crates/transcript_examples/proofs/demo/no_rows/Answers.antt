@@ -37,7 +37,8 @@ use Rattle.transcript_rules.specs.Tables.{headings, table_lines}
 use Rattle.transcript_rules.proofs.Steps.{understood_by, answered_by}
 use Rattle.bind_rules.specs.Binding.{bound_of}
 use Rattle.transcript_rules.proofs.Reading.{columns, sums, conditions, by_compare, by_area, by_chord, printed_columns}
-use Rattle.transcript_examples.specs.DemoWorld.{demo_plan, demo_header}
+use Rattle.demo_laws.specs.DemoInput.{demo_plan}
+use Rattle.transcript_examples.specs.DemoWorld.{demo_header}
 use Rattle.transcript_examples.proofs.DemoQueries.{demo_totals, demo_kinds, demo_belt, demo_pairs}
 use Rattle.transcript_examples.proofs.demo.no_rows.Goals as goal
 

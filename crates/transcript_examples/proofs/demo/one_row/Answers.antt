@@ -38,7 +38,8 @@ use Rattle.transcript_rules.proofs.Steps.{understood_by, answered_by}
 use Rattle.bind_rules.specs.Binding.{bound_of}
 use Rattle.transcript_rules.proofs.Reading.{columns, sums, conditions, by_compare, by_area, by_chord, printed_columns}
 use Rattle.answer_rules.specs.declared.value.Value.TheVariants.{Whole, Fixed4}
-use Rattle.transcript_examples.specs.DemoWorld.{demo_plan, demo_row}
+use Rattle.demo_laws.specs.DemoInput.{demo_plan}
+use Rattle.transcript_examples.specs.DemoWorld.{demo_row}
 use Rattle.transcript_examples.proofs.DemoQueries.{demo_totals, demo_kinds, demo_belt, demo_pairs}
 use Rattle.transcript_examples.proofs.demo.one_row.Goals as goal
 
