@@ -1,0 +1,16 @@
+pub mod Offering
+pub mod Growing
+pub mod Putting
+pub mod Tabling
+pub mod Finishing
+pub mod Standing
+pub mod Piling
+pub mod Summing
+pub mod Settling
+pub mod SameKeys
+pub mod CanMerge
+pub mod Rise
+pub mod Lining
+pub mod Totalling
+pub mod Absorbing
+pub mod Rooting

@@ -1,0 +1,11 @@
+use Rattle.std.proofs.Common.{◌≡◌, drop, map, not}
+use Rattle.std.specs.List.{find, flat_map}
+use Rattle.sky_vector.specs.Numbers.{is_query_number}
+use Rattle.answer_rules.specs.Finish.{merged_totals}
+use Rattle.partial_merge.specs.Groups.{group_of}
+use Rattle.partial_merge.proofs.totals.first_out.Given as goal
+
+abbrev pub invariant-loop-mark : goal.invariant-loop-mark
+invariant-loop-mark l =
+    find (λ t. not (is_query_number t)) (flat_map (λ m. flat_map (merged_totals (group_of l.tallies m)) l.items) (drop l.mark-index l.marks))
+    ≡ find (λ t. not (is_query_number t)) (flat_map (λ m. flat_map (merged_totals (group_of l.tallies m)) l.items) l.marks)

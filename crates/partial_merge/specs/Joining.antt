@@ -1,0 +1,67 @@
+-- What a piece that takes in another one stands for, and when it may be finished.
+use Rattle.std.specs.Prelude.{◌≡◌, ℕ, List, ◌++◌, [], ◌∷◌}
+use Rattle.table_rules.specs.Objects.{Obj}
+use Rattle.sky_rules.specs.Partition.{Partition}
+use Rattle.sql_bound.specs.declared.query.Bound.{Bound}
+use Rattle.value_rules.specs.Sound.{IsSound}
+use Rattle.answer_rules.specs.declared.rewritten.ChunkQuery.{ChunkQuery}
+use Rattle.answer_rules.specs.declared.rewritten.MergePlan.{MergePlan}
+use Rattle.answer_rules.specs.declared.row.OutRow.{OutRow}
+use Rattle.answer_rules.specs.Bases.{Base, IsBase, StandsFor, columns_in}
+use Rattle.answer_rules.specs.Gather.{Partial, gather}
+use Rattle.answer_rules.specs.Keeps.{KeepsFirst}
+use Rattle.answer_rules.specs.Keys.{Key, key_order}
+use Rattle.answer_rules.specs.Parts.{Sums, add_own_sums}
+use Rattle.answer_rules.specs.PieceLaws.{AreDisjoint}
+use Rattle.answer_rules.specs.Pieces.{PieceView, OfRows, OfGroups, PieceFor}
+use Rattle.answer_rules.specs.Ranks.{row_order}
+use Rattle.answer_rules.specs.Rewriting.{chunk_query_of, merge_plan_of}
+use Rattle.answer_rules.specs.Small.{IsSmallGroup}
+use Rattle.partial_merge.specs.Groups.{MayGather}
+
+-- Both stand for one chunk query of one base, over disjoint sets of chunks.
+pub record MayJoin (mine other : PieceView) : Type 0 where
+  pub base : Base
+  pub q : ℕ
+  pub chunks : List ℕ
+  pub others : List ℕ
+  pub this : StandsFor base q chunks mine
+  pub that : StandsFor base q others other
+  pub apart : AreDisjoint chunks others
+
+-- whatever the two stood for over disjoint sets of chunks, the new piece stands for both sets
+abbrev pub Joins : PieceView → PieceView → PieceView → Type 0
+Joins old other new =
+    (g : Partition) (table : List Obj) (cq : ChunkQuery) (chunks others : List ℕ) → AreDisjoint chunks others
+    → PieceFor g table cq chunks old → PieceFor g table cq others other → PieceFor g table cq (chunks ++ others) new
+
+-- the piece is of rows, and takes in one of them: the first n of both are kept
+abbrev pub TakesRow : PieceView → OutRow → PieceView → Type 0
+TakesRow (OfRows pushed rows) row (OfRows limit kept) =
+    (limit ≡ pushed) × KeepsFirst row_order pushed (rows ++ row ∷ []) kept
+TakesRow old row new = ⊥
+
+-- the piece is of rows
+abbrev pub IsOfRows : PieceView → Type 0
+IsOfRows (OfRows pushed rows) = Unit {0}
+IsOfRows (OfGroups parts) = ⊥
+
+-- the piece is of groups, and the group is of the same ways and as small as its rows allow
+abbrev pub MayTakeGroup : PieceView → Partial Key Sums → Type 0
+MayTakeGroup (OfRows pushed rows) g = ⊥
+MayTakeGroup (OfGroups parts) g = MayGather parts (g ∷ []) × IsSmallGroup g
+
+-- the piece with one group more, added to that of its key
+abbrev pub with_group : PieceView → Partial Key Sums → PieceView
+with_group (OfRows pushed rows) g = OfRows pushed rows
+with_group (OfGroups parts) g = OfGroups (gather key_order add_own_sums (parts ++ g ∷ []))
+
+-- The piece's chunk query and the merge are the two parts that a query which can be run is cut into.
+pub record MayFinish (merge : MergePlan) (view : PieceView) : Type 0 where
+  pub base : Base
+  pub fits : IsBase base
+  pub q : Bound
+  pub chunks : List ℕ
+  pub sound : IsSound (columns_in base) q
+  pub merge_is : merge ≡ merge_plan_of q
+  pub stands : PieceFor base.plan base.rows.objects (chunk_query_of q) chunks view

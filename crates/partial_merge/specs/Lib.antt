@@ -1,0 +1,13 @@
+pub mod Cells
+pub mod Rows
+pub mod Views
+pub mod Bags
+pub mod Tables
+pub mod Joining
+pub mod Sizes
+pub mod Groups
+pub mod Held
+pub mod Adding
+pub mod Merging
+pub mod Lines
+pub mod Roots

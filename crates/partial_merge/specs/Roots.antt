@@ -1,0 +1,8 @@
+-- The root of pieces, as it grows.
+use Rattle.std.specs.Prelude.{ℕ, List, [], ◌∷◌, ◌++◌}
+use Rattle.answer_rules.specs.declared.rewritten.ChunkQuery.{ChunkQuery}
+use Rattle.answer_rules.specs.Bases.{Base}
+
+-- the base with one chunk query more
+abbrev pub with_query : Base → ℕ → ChunkQuery → Base
+with_query b q query = record { plan = b.plan; rows = b.rows; queries = b.queries ++ (q, query) ∷ [] }

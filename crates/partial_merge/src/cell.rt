@@ -1,0 +1,54 @@
+//! A value of a row in sixteen bytes, NULL among them: a bag of rows has millions.
+
+ghost use Rattle.std.specs.Prelude.{◌≡◌, negsuc, ◌<ℤ◌, IfSome};
+ghost use Rattle.partial_merge.specs.Cells.{cell_in};
+
+use sky_vector::Num;
+use sky_vector::limits::NUMBER_MOST;
+use std::marker::Model;
+
+/// NULL, or a whole number from -2^100 to 2^100.
+#[derive(Drop)]
+pub(crate) struct Cell {
+    code: i128,
+}
+
+impl Model for Cell {
+    ghost use Rattle.std.specs.Prelude.{Option, ℤ};
+    ghost use Rattle.partial_merge.specs.Cells.{cell_in, IsCode};
+
+    ghost Value = { Option ℤ };
+
+    ghost view = { λ c. cell_in c.code };
+
+    ghost invariant = { λ c. IsCode c.code };
+}
+
+/// The code of NULL, which is below every number.
+const NULL: i128 = i128::MIN;
+
+/// The least number.
+const LEAST: i128 = -(NUMBER_MOST as i128);
+
+impl Cell {
+    /// The cell with this value. Takes no memory.
+    pub(crate) fn new(value: Option<Num>) -> Cell
+        ensures { result ≡ value }
+    {
+        match value {
+            None => Cell { code: NULL },
+            Some(n) => Cell { code: n.get() },
+        }
+    }
+
+    /// The value. Takes no memory.
+    pub(crate) fn get(&self) -> Option<Num>
+        ensures { result ≡ self.now }
+    {
+        if self.code < LEAST {
+            None
+        } else {
+            Num::new(self.code)
+        }
+    }
+}

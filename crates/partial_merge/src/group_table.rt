@@ -1,0 +1,142 @@
+//! The table of groups: their totals tested, their lines put in order, and of the first of them the merged items.
+
+ghost use Rattle.std.specs.Prelude.{◌≡◌, ◌++◌, All, Err, IfErr, IfOk, length, map, Ok, OnOk};
+ghost use Rattle.std.specs.List.{flat_map};
+ghost use Rattle.answer_rules.specs.Finish.{merged_groups, merged_line, merged_value};
+ghost use Rattle.answer_rules.specs.Gather.{Rise};
+ghost use Rattle.answer_rules.specs.Groups.{group_order};
+ghost use Rattle.answer_rules.specs.InOrder.{first, in_order};
+ghost use Rattle.answer_rules.specs.Keys.{key_order};
+ghost use Rattle.answer_rules.specs.Rows.{limit_of};
+ghost use Rattle.partial_merge.specs.Groups.{IsThere, group_of};
+ghost use Rattle.partial_merge.specs.Lines.{group_values, line_values};
+ghost use Rattle.partial_merge.specs.Merging.{IsMergeable, MayMerge};
+ghost use Rattle.partial_merge.specs.Tables.{IsShort};
+ghost use Rattle.sky_io.specs.Stops.{IfBad};
+
+use crate::line::Line;
+use crate::lines::lines;
+use crate::mark::Mark;
+use crate::merged::merged;
+use crate::row_table::put;
+use crate::table::Table;
+use crate::tally::Tally;
+use crate::totals::first_out;
+use answer_rules::{MergeItem, MergePlan, TotalOut, Value};
+use sky_io::{Memory, Stop};
+use sql_bound::{ColList, Int};
+use std::alloc::Global;
+
+/// Puts the merged items of a group behind the others.
+fn put_group(
+    values: &mut Vec<Value>,
+    keys: &ColList,
+    tallies: &[Tally],
+    mark: &Mark,
+    items: &[MergeItem],
+) -> Result<(), Memory>
+    requires may { IsMergeable keys.now items.now tallies.now mark.now }
+    requires short { All IsShort values.old.items }
+    ensures values { OnOk result (values.new.items
+        ≡ values.old.items ++ group_values tallies.now keys.now items.now mark.now) }
+    ensures short { OnOk result (All IsShort values.new.items) }
+{
+    for item in items {
+        put(values, merged(keys, tallies, mark, item))?;
+    }
+    Ok(())
+}
+
+/// The values of the lines, one line behind the other.
+fn values_of(
+    alloc: Global,
+    lines: &[Line],
+    keys: &ColList,
+    tallies: &[Tally],
+    items: &[MergeItem],
+) -> Result<Vec<Value>, Memory>
+    requires { All (λ l. IsMergeable keys.now items.now tallies.now l.mark) lines.now }
+    ensures values { IfOk result (λ values. values.items
+        ≡ flat_map (line_values tallies.now keys.now items.now) lines.now) }
+    ensures short { IfOk result (λ values. All IsShort values.items) }
+{
+    let mut values = Vec::new(alloc);
+    for line in lines {
+        put_group(&mut values, keys, tallies, &line.mark, items)?;
+    }
+    Ok(values)
+}
+
+/// The table of the lines.
+fn line_table(
+    alloc: Global,
+    lines: &[Line],
+    keys: &ColList,
+    tallies: &[Tally],
+    items: &[MergeItem],
+) -> Result<Table, Memory>
+    requires { All (λ l. IsMergeable keys.now items.now tallies.now l.mark) lines.now }
+    ensures { IfOk result (λ table. table
+        ≡ map (line_values tallies.now keys.now items.now) lines.now) }
+{
+    let values = values_of(alloc, lines, keys, tallies, items)?;
+    Ok(Table::of(values, items.len(), lines.len()))
+}
+
+/// Lets all go but the first so many, where there is a limit.
+fn cut(lines: &mut Vec<Line>, limit: Option<Int>)
+    ensures { lines.new.items ≡ first (limit_of limit) lines.old.items }
+{
+    if let Some(n) = limit {
+        lines.truncate(n.get().unsigned_abs() as usize);
+    }
+}
+
+/// The table of groups whose totals are in range.
+fn tested_table(
+    alloc: Global,
+    marks: Vec<Mark>,
+    tallies: &[Tally],
+    keys: &ColList,
+    merge: &MergePlan,
+) -> Result<Table, Memory>
+    requires may { All (IsMergeable keys.now merge.now.items tallies.now) marks.items }
+    requires rise { Rise key_order (map (group_of tallies.now) marks.items) }
+    ensures { IfOk result (λ table. table ≡ map (λ r. r.values) (first (limit_of merge.now.limit)
+        (in_order group_order (map (merged_line keys.now merge.now) (map (group_of tallies.now) marks.items))))) }
+{
+    let mut lines = lines(alloc, marks, keys, merge, tallies)?;
+    lines.sort_unstable();
+    cut(&mut lines, merge.limit);
+    line_table(
+        alloc,
+        lines.as_slice(),
+        keys,
+        tallies,
+        merge.items.as_slice(),
+    )
+}
+
+/// The table of groups that ascend by their keys, or the first total that is out of range. Takes memory for the table
+/// and for a line a group.
+pub(crate) fn group_table(
+    alloc: Global,
+    marks: Vec<Mark>,
+    tallies: &[Tally],
+    keys: &ColList,
+    merge: &MergePlan,
+) -> Result<Table, Stop<TotalOut>>
+    requires there { All (IsThere (length tallies.now)) marks.items }
+    requires may { All (λ g. All (MayMerge keys.now g) merge.now.items)
+        (map (group_of tallies.now) marks.items) }
+    requires rise { Rise key_order (map (group_of tallies.now) marks.items) }
+    ensures ok { IfOk result (λ table.
+        merged_groups keys.now merge.now (map (group_of tallies.now) marks.items) ≡ Ok table) }
+    ensures out { IfErr result (λ stop. IfBad stop (λ out.
+        merged_groups keys.now merge.now (map (group_of tallies.now) marks.items) ≡ Err out.total)) }
+{
+    match first_out(tallies, marks.as_slice(), merge.items.as_slice()) {
+        Some(total) => Err(Stop::Bad(TotalOut { total })),
+        None => Ok(tested_table(alloc, marks, tallies, keys, merge)?),
+    }
+}

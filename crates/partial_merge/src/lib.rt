@@ -1,0 +1,43 @@
+//! Pieces of an answer: what a chunk query gave over a set of chunks, how pieces join, and the table of the last one.
+//!
+//! Callers see a `Piece` as `PieceView` of `answer_rules`, a `Table` as a list of rows of values, and a `PieceRoot`, on
+//! which the pieces of a session rest, as a `Base`. What a piece stands for is told by `PieceFor`; `absorb` keeps it, for
+//! whatever two pieces it is called (`specs/Joining.antt`).
+//! Below: `answer_rules` for what pieces mean and the laws that are used here; `expr_eval` for expressions of keys. Above:
+//! the scans fill pieces, the board joins them, and the session finishes them.
+//! No chunks, no scans and no threads.
+#![tactic(auto)]
+
+mod average;
+mod bag;
+mod cell;
+mod group_table;
+mod heap;
+mod held;
+mod kept;
+pub mod key;
+mod line;
+mod lines;
+mod mark;
+mod merged;
+pub mod piece;
+mod pile;
+pub mod rank;
+mod ranked;
+mod rising;
+pub mod root;
+mod row_table;
+mod settle;
+pub mod table;
+pub mod tally;
+#[cfg(test)]
+mod tests;
+mod totals;
+mod work;
+
+pub use key::Key;
+pub use piece::Piece;
+pub use rank::Rank;
+pub use root::PieceRoot;
+pub use table::Table;
+pub use tally::Tally;

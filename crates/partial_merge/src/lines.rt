@@ -1,0 +1,164 @@
+//! The lines of an answer of groups: of each group its place in the order.
+
+ghost use Rattle.std.specs.Prelude.{◌≡◌, ◌≤◌, ◌+◌, ◌^◌, ◌++◌, [], All, IfOk, length, map, None, slice_get, unwrap_or, vec_capacity, vec_len};
+ghost use Rattle.value_rules.specs.Widths.{IsOfSize};
+ghost use Rattle.answer_rules.specs.Finish.{merge_down, merged_key, merged_order};
+ghost use Rattle.answer_rules.specs.Groups.{number_of};
+ghost use Rattle.answer_rules.specs.Ranks.{rank_class, rank_value};
+ghost use Rattle.partial_merge.specs.Groups.{group_of};
+ghost use Rattle.partial_merge.specs.Lines.{line_by};
+ghost use Rattle.partial_merge.specs.Merging.{IsMergeable};
+ghost use Rattle.partial_merge.specs.Tables.{IsShort};
+
+use crate::key::Key;
+use crate::line::Line;
+use crate::mark::Mark;
+use crate::merged::merged;
+use crate::tally::Tally;
+use answer_rules::{MergeItem, MergeKey, MergeOrder, MergePlan, Value};
+use sky_io::Memory;
+use sql_bound::ColList;
+use std::alloc::Global;
+
+/// The class of a rank: it keeps NULL before the numbers, and behind them where the order goes down.
+fn class(down: bool, key: Option<i128>) -> u8
+    ensures { result ≡ rank_class down key }
+{
+    if key.is_none() == down { 1 } else { 0 }
+}
+
+/// The number of a rank, which turns round where the order goes down.
+fn rank(down: bool, key: Option<i128>) -> i128
+    requires { IsOfSize (2 ^ 126) key }
+    ensures { result ≡ rank_value down key }
+{
+    match key {
+        None => 0,
+        Some(key) => if down { -key } else { key },
+    }
+}
+
+/// Whether the order goes down.
+fn goes_down(order: &Option<MergeOrder>) -> bool
+    ensures { result ≡ merge_down order.now }
+{
+    match order {
+        None => false,
+        Some(order) => order.down,
+    }
+}
+
+/// The number that a value is compared by.
+fn number_of(value: Value) -> Option<i128>
+    requires { IsShort value }
+    ensures number { result ≡ number_of value }
+    ensures small { IsOfSize (2 ^ 126) result }
+{
+    match value {
+        Value::Null => None,
+        Value::Whole(number) => Some(number.get()),
+        Value::Fixed4(value) => Some(value),
+    }
+}
+
+/// The value at a place of a key; one that is not there is NULL.
+fn key_at(key: &Key, place: usize) -> Option<i128>
+    ensures value { result ≡ unwrap_or (slice_get key.now place) None }
+    ensures small { IsOfSize (2 ^ 126) result }
+{
+    let value = *key.as_slice().get(place)?;
+    Some(value? as i128)
+}
+
+/// The value that a group is ordered by.
+fn key_of(
+    keys: &ColList,
+    items: &[MergeItem],
+    tallies: &[Tally],
+    mark: &Mark,
+    key: MergeKey,
+) -> Option<i128>
+    requires { IsMergeable keys.now items.now tallies.now mark.now }
+    ensures value { result ≡ merged_key keys.now items.now (group_of tallies.now mark.now) key }
+    ensures small { IsOfSize (2 ^ 126) result }
+{
+    match key {
+        MergeKey::ChunkKey => None,
+        MergeKey::Item(place) => { number_of(merged(keys, tallies, mark, items.get(place)?)) }
+        MergeKey::Key(place) => key_at(&mark.key, place),
+    }
+}
+
+/// The value that a group is ordered by, if there is an order.
+fn order_key(keys: &ColList, merge: &MergePlan, tallies: &[Tally], mark: &Mark) -> Option<i128>
+    requires { IsMergeable keys.now merge.now.items tallies.now mark.now }
+    ensures value { result
+        ≡ merged_order keys.now merge.now.items (group_of tallies.now mark.now) merge.now.order }
+    ensures small { IsOfSize (2 ^ 126) result }
+{
+    match &merge.order {
+        None => None,
+        Some(order) => key_of(keys, merge.items.as_slice(), tallies, mark, order.key),
+    }
+}
+
+/// The line of a group.
+fn line(keys: &ColList, merge: &MergePlan, tallies: &[Tally], mark: Mark) -> Line
+    requires { IsMergeable keys.now merge.now.items tallies.now mark }
+    ensures { result ≡ line_by tallies.now keys.now merge.now mark }
+{
+    let key = order_key(keys, merge, tallies, &mark);
+    let down = goes_down(&merge.order);
+    Line {
+        class: class(down, key),
+        value: rank(down, key),
+        mark,
+    }
+}
+
+/// Puts the lines of the groups behind the others. Takes no memory.
+fn put_lines(
+    lines: &mut Vec<Line>,
+    marks: Vec<Mark>,
+    keys: &ColList,
+    merge: &MergePlan,
+    tallies: &[Tally],
+)
+    requires room { vec_len lines.old + length marks.items ≤ vec_capacity lines.old }
+    requires may { All (IsMergeable keys.now merge.now.items tallies.now) marks.items }
+    ensures { lines.new.items
+        ≡ lines.old.items ++ map (line_by tallies.now keys.now merge.now) marks.items }
+{
+    for mark in marks {
+        lines.push_reserved(line(keys, merge, tallies, mark));
+    }
+}
+
+/// An empty list with room for so many lines.
+fn room(alloc: Global, count: usize) -> Result<Vec<Line>, Memory>
+    ensures items { IfOk result (λ lines. lines.items ≡ []) }
+    ensures room { IfOk result (λ lines. count ≤ vec_capacity lines) }
+    ensures none { IfOk result (λ lines. vec_len lines ≡ 0) }
+{
+    match Vec::with_capacity(alloc, count) {
+        Ok(lines) => Ok(lines),
+        Err(_) => Err(Memory),
+    }
+}
+
+/// The lines of the groups, in their order.
+pub(crate) fn lines(
+    alloc: Global,
+    marks: Vec<Mark>,
+    keys: &ColList,
+    merge: &MergePlan,
+    tallies: &[Tally],
+) -> Result<Vec<Line>, Memory>
+    requires { All (IsMergeable keys.now merge.now.items tallies.now) marks.items }
+    ensures { IfOk result (λ lines. lines.items
+        ≡ map (line_by tallies.now keys.now merge.now) marks.items) }
+{
+    let mut lines = room(alloc, marks.len())?;
+    put_lines(&mut lines, marks, keys, merge, tallies);
+    Ok(lines)
+}

@@ -1,0 +1,103 @@
+//! The merged items of a group.
+
+ghost use Rattle.std.specs.Prelude.{◌≡◌, ◌<◌, IfSome, length, None, slice_get, unwrap_or};
+ghost use Rattle.sky_vector.specs.Numbers.{IsQueryNumber};
+ghost use Rattle.value_rules.specs.Widths.{IsOfSize, most};
+ghost use Rattle.answer_rules.specs.Finish.{average_of, merged_value};
+ghost use Rattle.answer_rules.specs.Parts.{count_part};
+ghost use Rattle.answer_rules.specs.Rows.{shown};
+ghost use Rattle.partial_merge.specs.Groups.{IsThere, group_of};
+ghost use Rattle.partial_merge.specs.Merging.{IsTested, MayMerge};
+ghost use Rattle.partial_merge.specs.Tables.{IsShort};
+
+use crate::average::rounded;
+use crate::mark::Mark;
+use crate::row_table::shown;
+use crate::tally::Tally;
+use answer_rules::{MergeItem, Value};
+use expr_eval::value_on_key;
+use sky_vector::Num;
+use sql_bound::ColList;
+
+/// The parts of a group.
+pub(crate) fn parts_of<'t>(tallies: &'t [Tally], mark: &Mark) -> &'t [Tally]
+    requires { IsThere (length tallies.now) mark.now }
+    ensures { result.now ≡ (group_of tallies.now mark.now).part.parts }
+{
+    &tallies[mark.from as usize..mark.to as usize]
+}
+
+/// How many values the part at a place counts; one that is not there counts none.
+fn seen_at(parts: &[Tally], n: usize) -> u32
+    ensures { result ≡ (unwrap_or (slice_get parts.now n) (count_part 0)).seen }
+{
+    match parts.get(n) {
+        None => 0,
+        Some(part) => part.seen(),
+    }
+}
+
+/// What the values of the part at a place come to; one that is not there has none.
+pub(crate) fn value_at(parts: &[Tally], n: usize) -> Option<i128>
+    ensures { result ≡ (unwrap_or (slice_get parts.now n) (count_part 0)).value }
+{
+    match parts.get(n) {
+        None => None,
+        Some(part) => part.value(),
+    }
+}
+
+/// The number with this value.
+fn number(value: i128) -> Num
+    requires { IsQueryNumber value }
+    ensures { result ≡ value }
+{
+    match Num::new(value) {
+        None => unreachable!(),
+        Some(number) => number,
+    }
+}
+
+/// A whole number, or NULL.
+fn whole(value: Option<i128>) -> Value
+    requires { IsOfSize most value }
+    ensures { result ≡ shown value }
+{
+    match value {
+        None => Value::Null,
+        Some(value) => Value::Whole(number(value)),
+    }
+}
+
+/// An average, or NULL.
+fn average(total: Option<i128>, count: u32) -> Value
+    requires small { IsOfSize most total }
+    requires some { IfSome total (λ t. 0 < count) }
+    ensures average { result ≡ average_of total count }
+    ensures short { IsShort result }
+{
+    match total {
+        None => Value::Null,
+        Some(total) => Value::Fixed4(rounded(total, count)),
+    }
+}
+
+/// A merged item of a group, its total tested.
+pub(crate) fn merged(keys: &ColList, tallies: &[Tally], mark: &Mark, item: &MergeItem) -> Value
+    requires there { IsThere (length tallies.now) mark.now }
+    requires may { MayMerge keys.now (group_of tallies.now mark.now) item.now }
+    requires tested { IsTested (group_of tallies.now mark.now) item.now }
+    ensures value { result ≡ merged_value keys.now (group_of tallies.now mark.now) item.now }
+    ensures short { IsShort result }
+{
+    let parts = parts_of(tallies, mark);
+    match item {
+        MergeItem::Column(_) => Value::Null,
+        MergeItem::OfKeys(e) => shown(value_on_key(e, keys, mark.key.as_slice())),
+        MergeItem::Count(n) => Value::Whole(number(seen_at(parts, *n) as i128)),
+        MergeItem::Sum(n) => whole(value_at(parts, *n)),
+        MergeItem::Min(n) => whole(value_at(parts, *n)),
+        MergeItem::Max(n) => whole(value_at(parts, *n)),
+        MergeItem::Avg { sum, count } => average(value_at(parts, *sum), seen_at(parts, *count)),
+    }
+}

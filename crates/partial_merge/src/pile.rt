@@ -1,0 +1,227 @@
+//! A pile of groups: their keys in one list, and all their parts in another.
+//!
+//! A key may stand in it more than once; what contracts see is the list in which those of one key are added up.
+
+ghost use Rattle.std.specs.Prelude.{◌≡◌, ◌+◌, ◌≤◌, ◌-◌, ◌^◌, ◌++◌, ◌∷◌, [], All, Err, length, map, IfErr, IfOk, Ok, OnErr, OnOk, vec_capacity, vec_len};
+ghost use Rattle.answer_rules.specs.Finish.{groups_merged, merged_groups};
+ghost use Rattle.answer_rules.specs.Gather.{gather};
+ghost use Rattle.answer_rules.specs.Keys.{key_order};
+ghost use Rattle.answer_rules.specs.Parts.{add_own_sums};
+ghost use Rattle.answer_rules.specs.Small.{IsSmallGroup};
+ghost use Rattle.partial_merge.specs.Merging.{MayMerge};
+ghost use Rattle.sky_io.specs.Stops.{IfBad};
+ghost use Rattle.partial_merge.specs.Groups.{ArePiled, IsThere, MayGather, group_by, moved, pile_of};
+
+use crate::group_table::group_table;
+use crate::key::Key;
+use crate::mark::Mark;
+use crate::rising::{put_lone, rise};
+use crate::settle::keep_short;
+use crate::table::Table;
+use crate::tally::Tally;
+use answer_rules::{MergePlan, TotalOut};
+use sky_io::{Memory, Stop};
+use sql_bound::ColList;
+use std::alloc::Global;
+use std::marker::Model;
+
+/// The groups of a piece.
+#[derive(Drop)]
+pub(crate) struct Pile {
+    alloc: Global,
+    marks: Vec<Mark>,
+    tallies: Vec<Tally>,
+    settled: usize,
+}
+
+/// How long a pile may become before it is settled for the first time, twice over.
+const SHORT: usize = 32;
+
+impl Model for Pile {
+    ghost use Rattle.partial_merge.specs.Groups.{ArePiled, Gathered, pile_of};
+
+    ghost Value = { Gathered };
+
+    ghost view = { λ p. pile_of p.tallies.items p.marks.items };
+
+    ghost invariant = { λ p. ArePiled p.tallies.items p.marks.items };
+}
+
+/// The largest place of a part.
+const LAST: usize = u32::MAX as usize;
+
+/// The place behind the parts, behind which so many more have a place, or want of memory.
+pub(crate) fn place_behind(tallies: &Vec<Tally>, more: usize) -> Result<u32, Memory>
+    ensures place { IfOk result (λ n. n ≡ length tallies.now.items) }
+    ensures room { IfOk result (λ n. n + more ≤ 2 ^ 32 - 1) }
+{
+    if more > LAST || tallies.len() > LAST - more {
+        return Err(Memory);
+    }
+    Ok(tallies.len() as u32)
+}
+
+/// Makes room for so many more groups.
+fn reserve(marks: &mut Vec<Mark>, more: usize) -> Result<(), Memory>
+    ensures same { marks.new.items ≡ marks.old.items }
+    ensures room { OnOk result (vec_len marks.new + more ≤ vec_capacity marks.new) }
+{
+    match marks.reserve(more) {
+        Ok(()) => Ok(()),
+        Err(_) => Err(Memory),
+    }
+}
+
+/// Puts the parts behind the others.
+fn append(tallies: &mut Vec<Tally>, mut more: Vec<Tally>) -> Result<(), Memory>
+    ensures ok { OnOk result (tallies.new.items ≡ tallies.old.items ++ more.items) }
+    ensures err { OnErr result (tallies.new.items ≡ tallies.old.items) }
+{
+    match tallies.append(&mut more) {
+        Ok(()) => Ok(()),
+        Err(_) => Err(Memory),
+    }
+}
+
+/// Puts the groups behind the others, their parts so much farther behind. Takes no memory.
+fn put_moved(marks: &mut Vec<Mark>, others: Vec<Mark>, by: u32, count: usize)
+    requires room { vec_len marks.old + length others.items ≤ vec_capacity marks.old }
+    requires there { All (IsThere count) others.items }
+    requires fits { by + count ≤ 2 ^ 32 - 1 }
+    ensures { marks.new.items ≡ marks.old.items ++ map (moved by) others.items }
+{
+    for other in others {
+        marks.push_reserved(other.moved(by));
+    }
+}
+
+/// Takes in the groups of another pile, whose parts go behind these. After `Err` nothing has changed.
+fn join(
+    marks: &mut Vec<Mark>,
+    tallies: &mut Vec<Tally>,
+    others: Vec<Mark>,
+    more: Vec<Tally>,
+) -> Result<(), Memory>
+    requires mine { ArePiled tallies.old.items marks.old.items }
+    requires theirs { ArePiled more.items others.items }
+    requires alike { MayGather (pile_of tallies.old.items marks.old.items)
+        (pile_of more.items others.items) }
+    ensures mine { ArePiled tallies.new.items marks.new.items }
+    ensures joined { OnOk result (pile_of tallies.new.items marks.new.items
+        ≡ gather key_order add_own_sums (pile_of tallies.old.items marks.old.items
+        ++ pile_of more.items others.items)) }
+    ensures marks { OnErr result (marks.new.items ≡ marks.old.items) }
+    ensures tallies { OnErr result (tallies.new.items ≡ tallies.old.items) }
+{
+    let count = more.len();
+    let by = place_behind(tallies, count)?;
+    reserve(marks, others.len())?;
+    append(tallies, more)?;
+    put_moved(marks, others, by, count);
+    Ok(())
+}
+
+/// Puts a group behind the others, and its parts behind theirs. After `Err` nothing has changed.
+fn put(
+    marks: &mut Vec<Mark>,
+    tallies: &mut Vec<Tally>,
+    key: Key,
+    rows: u32,
+    parts: Vec<Tally>,
+) -> Result<(), Memory>
+    requires mine { ArePiled tallies.old.items marks.old.items }
+    requires alike { MayGather (pile_of tallies.old.items marks.old.items)
+        (group_by key rows parts.items ∷ []) }
+    requires small { IsSmallGroup (group_by key rows parts.items) }
+    ensures mine { ArePiled tallies.new.items marks.new.items }
+    ensures put { OnOk result (pile_of tallies.new.items marks.new.items
+        ≡ gather key_order add_own_sums (pile_of tallies.old.items marks.old.items
+        ++ group_by key rows parts.items ∷ [])) }
+    ensures marks { OnErr result (marks.new.items ≡ marks.old.items) }
+    ensures tallies { OnErr result (tallies.new.items ≡ tallies.old.items) }
+{
+    let count = parts.len();
+    let by = place_behind(tallies, count)?;
+    reserve(marks, 1)?;
+    append(tallies, parts)?;
+    marks.push_reserved(Mark {
+        key,
+        rows,
+        from: by,
+        to: by + count as u32,
+    });
+    Ok(())
+}
+
+impl Pile {
+    /// A pile without groups. Takes no memory.
+    pub(crate) fn empty(alloc: Global) -> Pile
+        ensures { result ≡ [] }
+    {
+        Pile {
+            alloc,
+            marks: Vec::new(alloc),
+            tallies: Vec::new(alloc),
+            settled: SHORT,
+        }
+    }
+
+    /// Takes in a group of the same ways. After `Err` nothing has changed.
+    pub(crate) fn push(&mut self, key: Key, rows: u32, parts: Vec<Tally>) -> Result<(), Memory>
+        requires alike { MayGather self.old (group_by key rows parts.items ∷ []) }
+        requires small { IsSmallGroup (group_by key rows parts.items) }
+        ensures put { OnOk result (self.new
+            ≡ gather key_order add_own_sums (self.old ++ group_by key rows parts.items ∷ [])) }
+        ensures same { OnErr result (self.new ≡ self.old) }
+    {
+        put(&mut self.marks, &mut self.tallies, key, rows, parts)
+    }
+
+    /// Takes in the groups of another pile of the same ways. After `Err` nothing has changed.
+    pub(crate) fn absorb(&mut self, other: Pile) -> Result<(), Memory>
+        requires alike { MayGather self.old other }
+        ensures joined { OnOk result (self.new
+            ≡ gather key_order add_own_sums (self.old ++ other)) }
+        ensures same { OnErr result (self.new ≡ self.old) }
+    {
+        let Pile {
+            alloc: _,
+            marks,
+            tallies,
+            settled: _,
+        } = other;
+        join(&mut self.marks, &mut self.tallies, marks, tallies)?;
+        self.settled = keep_short(self.alloc, &mut self.marks, &mut self.tallies, self.settled);
+        Ok(())
+    }
+
+    /// The table of the groups by these keys, or the first total that is out of range.
+    pub(crate) fn finish(
+        self,
+        alloc: Global,
+        keys: &ColList,
+        merge: &MergePlan,
+    ) -> Result<Table, Stop<TotalOut>>
+        requires { All (λ g. All (MayMerge keys.now g) merge.now.items)
+            (groups_merged keys.now self) }
+        ensures ok { IfOk result (λ table.
+            merged_groups keys.now merge.now (groups_merged keys.now self) ≡ Ok table) }
+        ensures out { IfErr result (λ stop. IfBad stop (λ out.
+            merged_groups keys.now merge.now (groups_merged keys.now self) ≡ Err out.total)) }
+    {
+        let Pile {
+            alloc: _,
+            mut marks,
+            mut tallies,
+            settled: _,
+        } = self;
+        rise(alloc, &mut marks, &mut tallies)?;
+        put_lone(alloc, &mut marks, keys)?;
+        group_table(alloc, marks, tallies.as_slice(), keys, merge)
+    }
+
+    /// How many groups it keeps, a key perhaps more than once. Takes no memory.
+    pub(crate) fn len(&self) -> usize {
+        self.marks.len()
+    }
+}

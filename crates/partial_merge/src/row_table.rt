@@ -1,0 +1,105 @@
+//! The table of rows that are in order.
+
+ghost use Rattle.std.specs.Prelude.{◌≡◌, ◌+◌, ◌*◌, ◌≤◌, ◌++◌, ◌∷◌, [], All, length, map, IfOk, OnOk, OnErr, None, unwrap_or, slice_get};
+ghost use Rattle.std.specs.List.{flat_map};
+ghost use Rattle.answer_rules.specs.Finish.{column_value};
+ghost use Rattle.answer_rules.specs.Rows.{shown};
+ghost use Rattle.partial_merge.specs.Rows.{IsIn, row_of, row_values};
+ghost use Rattle.partial_merge.specs.Tables.{IsShort};
+
+use crate::cell::Cell;
+use crate::ranked::Ranked;
+use crate::table::Table;
+use answer_rules::{MergeItem, Value};
+use sky_io::Memory;
+use sky_vector::Num;
+use std::alloc::Global;
+
+/// The value as one of an answer.
+pub(crate) fn shown(value: Option<Num>) -> Value
+    ensures { result ≡ shown value }
+{
+    match value {
+        None => Value::Null,
+        Some(n) => Value::Whole(n),
+    }
+}
+
+/// The value in a column; one that is not there is NULL.
+fn cell_at(cells: &[Cell], n: usize) -> Option<Num>
+    ensures { result ≡ unwrap_or (slice_get cells.now n) None }
+{
+    cells.get(n)?.get()
+}
+
+/// A merged item of a row.
+fn column(cells: &[Cell], item: &MergeItem) -> Value
+    ensures { result ≡ column_value cells.now item.now }
+{
+    match item {
+        MergeItem::Column(n) => shown(cell_at(cells, *n)),
+        _ => Value::Null,
+    }
+}
+
+/// Puts the value behind the others.
+pub(crate) fn put(values: &mut Vec<Value>, value: Value) -> Result<(), Memory>
+    ensures { OnOk result (values.new.items ≡ values.old.items ++ value ∷ []) }
+{
+    match values.push(value) {
+        Ok(()) => Ok(()),
+        Err(_) => Err(Memory),
+    }
+}
+
+/// Puts the merged items of a row behind the others.
+fn put_row(values: &mut Vec<Value>, cells: &[Cell], items: &[MergeItem]) -> Result<(), Memory>
+    ensures { OnOk result (values.new.items
+        ≡ values.old.items ++ map (column_value cells.now) items.now) }
+{
+    for item in items {
+        put(values, column(cells, item))?;
+    }
+    Ok(())
+}
+
+/// The values of a row.
+fn cells_of<'c>(cells: &'c [Cell], row: &Ranked) -> &'c [Cell]
+    requires { IsIn (length cells.now) row.now }
+    ensures { result.now ≡ (row_of cells.now row.now).cells }
+{
+    &cells[row.from as usize..row.to as usize]
+}
+
+/// The values of the answer's rows.
+fn row_values(
+    alloc: Global,
+    rows: &[Ranked],
+    cells: &[Cell],
+    items: &[MergeItem],
+) -> Result<Vec<Value>, Memory>
+    requires { All (IsIn (length cells.now)) rows.now }
+    ensures { IfOk result (λ values. values.items
+        ≡ flat_map (row_values cells.now items.now) rows.now) }
+{
+    let mut values = Vec::new(alloc);
+    for row in rows {
+        put_row(&mut values, cells_of(cells, row), items)?;
+    }
+    Ok(values)
+}
+
+/// The table of these rows. Takes memory for it.
+pub(crate) fn row_table(
+    alloc: Global,
+    rows: &[Ranked],
+    cells: &[Cell],
+    items: &[MergeItem],
+) -> Result<Table, Memory>
+    requires { All (IsIn (length cells.now)) rows.now }
+    ensures { IfOk result (λ table. table ≡ map (λ r. map (column_value r.cells) items.now)
+        (map (row_of cells.now) rows.now)) }
+{
+    let values = row_values(alloc, rows, cells, items)?;
+    Ok(Table::of(values, items.len(), rows.len()))
+}

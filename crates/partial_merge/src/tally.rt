@@ -1,0 +1,102 @@
+//! A part of a group for one aggregate, in 32 bytes.
+
+ghost use Rattle.std.specs.Prelude.{◌≡◌, ◌≤◌, ◌^◌, nat_abs};
+ghost use Rattle.value_rules.specs.Widths.{IsOfSize};
+ghost use Rattle.answer_rules.specs.Gather.{plus};
+ghost use Rattle.answer_rules.specs.Parts.{add_own, join_by};
+ghost use Rattle.partial_merge.specs.Adding.{MayAdd};
+
+use answer_rules::Way;
+use std::marker::Model;
+
+/// The way of an aggregate, how many values it counts, and what they come to, if there are any.
+#[derive(Drop)]
+pub struct Tally {
+    way: Way,
+    some: bool,
+    seen: u32,
+    value: i128,
+}
+
+impl Model for Tally {
+    ghost use Rattle.answer_rules.specs.Parts.{Part};
+    ghost use Rattle.partial_merge.specs.Groups.{tally_of};
+
+    ghost Value = { Part };
+
+    ghost view = { λ t. tally_of t.way t.seen t.some t.value };
+}
+
+impl Tally {
+    /// The part of this way, of so many values that come to this. Takes no memory.
+    pub fn new(way: Way, seen: u32, value: Option<i128>) -> Tally
+        ensures { result ≡ record { way = way; seen = seen; value = value } }
+    {
+        match value {
+            None => Tally {
+                way,
+                some: false,
+                seen,
+                value: 0,
+            },
+            Some(value) => Tally {
+                way,
+                some: true,
+                seen,
+                value,
+            },
+        }
+    }
+
+    /// How many values it counts.
+    pub(crate) fn seen(&self) -> u32
+        ensures { result ≡ self.now.seen }
+    {
+        self.seen
+    }
+
+    /// What the values come to, if there are any.
+    pub(crate) fn value(&self) -> Option<i128>
+        ensures { result ≡ self.now.value }
+    {
+        if self.some { Some(self.value) } else { None }
+    }
+
+    /// The part of the values of both, by the way of this one. Takes no memory.
+    pub(crate) fn added(&self, other: &Tally) -> Tally
+        requires { MayAdd self.now other.now }
+        ensures { result ≡ add_own self.now other.now }
+    {
+        Tally::new(
+            self.way,
+            self.seen + other.seen,
+            joined(self.way, self.value(), other.value()),
+        )
+    }
+}
+
+/// What two values come to.
+fn join_two(way: Way, a: i128, b: i128) -> i128
+    requires a_size { nat_abs a ≤ 2 ^ 124 }
+    requires b_size { nat_abs b ≤ 2 ^ 124 }
+    ensures { result ≡ join_by way a b }
+{
+    match way {
+        Way::Added => a + b,
+        Way::Least => if a <= b { a } else { b },
+        Way::Greatest => if a <= b { b } else { a },
+    }
+}
+
+/// What two values come to, where either may be missing.
+fn joined(way: Way, a: Option<i128>, b: Option<i128>) -> Option<i128>
+    requires a_size { IsOfSize (2 ^ 124) a }
+    requires b_size { IsOfSize (2 ^ 124) b }
+    ensures { result ≡ plus (join_by way) a b }
+{
+    match (a, b) {
+        (None, b) => b,
+        (Some(a), None) => Some(a),
+        (Some(a), Some(b)) => Some(join_two(way, a, b)),
+    }
+}

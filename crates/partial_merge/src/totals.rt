@@ -1,0 +1,92 @@
+//! Totals of groups that are out of range.
+
+ghost use Rattle.std.specs.Prelude.{◌≡◌, All, find, length, map, not, option_to_list, pos, unwrap_or};
+ghost use Rattle.std.specs.List.{flat_map};
+ghost use Rattle.sky_vector.specs.Numbers.{is_query_number};
+ghost use Rattle.answer_rules.specs.Finish.{merged_out, merged_totals};
+ghost use Rattle.partial_merge.specs.Groups.{IsThere, group_of};
+
+use crate::mark::Mark;
+use crate::merged::{parts_of, value_at};
+use crate::tally::Tally;
+use answer_rules::MergeItem;
+use sky_vector::Num;
+
+/// The total, or 0 where there is none.
+fn total_or_0(total: Option<i128>) -> i128
+    ensures { result ≡ unwrap_or total (pos 0) }
+{
+    match total {
+        None => 0,
+        Some(total) => total,
+    }
+}
+
+/// The total that an item takes of a group, if it takes one.
+fn total(tallies: &[Tally], mark: &Mark, item: &MergeItem) -> Option<i128>
+    requires { IsThere (length tallies.now) mark.now }
+    ensures { option_to_list result ≡ merged_totals (group_of tallies.now mark.now) item.now }
+{
+    let parts = parts_of(tallies, mark);
+    match item {
+        MergeItem::Sum(n) => Some(total_or_0(value_at(parts, *n))),
+        MergeItem::Avg { sum, count: _ } => Some(total_or_0(value_at(parts, *sum))),
+        _ => None,
+    }
+}
+
+/// Whether the total is no number of a query.
+fn is_out(total: i128) -> bool
+    ensures { result ≡ not (is_query_number total) }
+{
+    match Num::new(total) {
+        None => true,
+        Some(_) => false,
+    }
+}
+
+/// The total, where it is out of range.
+fn if_out(total: Option<i128>) -> Option<i128>
+    ensures { result ≡ find (λ t. not (is_query_number t)) (option_to_list total) }
+{
+    let total = total?;
+    if is_out(total) { Some(total) } else { None }
+}
+
+/// The total that an item takes of a group, where it is out of range.
+fn out_of(tallies: &[Tally], mark: &Mark, item: &MergeItem) -> Option<i128>
+    requires { IsThere (length tallies.now) mark.now }
+    ensures { result ≡ find (λ t. not (is_query_number t))
+        (merged_totals (group_of tallies.now mark.now) item.now) }
+{
+    if_out(total(tallies, mark, item))
+}
+
+/// The first total of a group that is out of range, by item.
+fn first_of(tallies: &[Tally], mark: &Mark, items: &[MergeItem]) -> Option<i128>
+    requires { IsThere (length tallies.now) mark.now }
+    ensures { result ≡ find (λ t. not (is_query_number t))
+        (flat_map (merged_totals (group_of tallies.now mark.now)) items.now) }
+{
+    for item in items {
+        let out = out_of(tallies, mark, item);
+        if out.is_some() {
+            return out;
+        }
+    }
+    None
+}
+
+/// The first total that is out of range, by group, then by item.
+pub(crate) fn first_out(tallies: &[Tally], marks: &[Mark], items: &[MergeItem]) -> Option<i128>
+    requires { All (IsThere (length tallies.now)) marks.now }
+    ensures { result ≡ merged_out items.now (map (group_of tallies.now) marks.now) }
+{
+    for mark in marks {
+        let out = first_of(tallies, mark, items);
+        if out.is_some() {
+            return out;
+        }
+    }
+    None
+}
