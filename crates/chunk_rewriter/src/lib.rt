@@ -14,3 +14,6 @@ mod query;
 
 pub use cut::rewrite;
 pub use query::copy_of;
+
+#[cfg(test)]
+mod tests;
