@@ -4,13 +4,13 @@
     scripts/compare_places.py FOLDER [--program FILE] [--positions N] [--seed SEED]
 
 For each of ten skies it draws N positions (10,000) on and beside sides, borders of stripes and substripes, the axis and
-the poles, and at exactly the overlap radius of a side or a border. The program `place_judge` tells the chunk of each, its
+the poles, and at exactly the overlap radius of a side or a border. The program `judge` tells the chunk of each, its
 subchunk and the other chunks that it is near. Here the same is found from the text of the sky, in whole numbers: every
 chunk is tested, and every row and column of the one that holds the position, by heights and by the half planes of a table
 of directions. No division finds a wedge or a row.
 
-FILE is the built program, by default crates/place_judge/out/place_judge, where `rt run` in its crate leaves it. The texts
-`sky` and `positions` are written in FOLDER, which is made where it isn't there. It prints a line for each sky, and before
+FILE is the built program, by default crates/judge/out/judge, where `rt run` in its crate leaves it. The text `sky` is
+written in FOLDER, which is made where it isn't there. It prints a line for each sky, and before
 it the first lines that differ. The status is 0 where none differs, and 1 else.
 """
 import argparse
@@ -249,9 +249,8 @@ def told(program, folder, sky, positions):
     """The lines that the program writes for the positions."""
     with open(os.path.join(folder, "sky"), "w") as file:
         file.write(sky.text)
-    with open(os.path.join(folder, "positions"), "w") as file:
-        file.writelines(f"{x} {y} {z}\n" for x, y, z in positions)
-    ended = subprocess.run([program, "sky", "positions"], cwd=folder, capture_output=True, text=True, check=True)
+    lines = "judge place sky\n" + "".join(f"{x} {y} {z}\n" for x, y, z in positions)
+    ended = subprocess.run([program], cwd=folder, input=lines, capture_output=True, text=True, check=True)
     return ended.stdout.splitlines()
 
 
@@ -279,7 +278,7 @@ def compare(program, folder, sky, positions):
 def main():
     parser = argparse.ArgumentParser(description=__doc__, formatter_class=argparse.RawDescriptionHelpFormatter)
     parser.add_argument("folder")
-    parser.add_argument("--program", default=os.path.join(HERE, "..", "crates", "place_judge", "out", "place_judge"))
+    parser.add_argument("--program", default=os.path.join(HERE, "..", "crates", "judge", "out", "judge"))
     parser.add_argument("--positions", type=int, default=10_000)
     parser.add_argument("--seed", type=int, default=1)
     words = parser.parse_args()

@@ -3,15 +3,15 @@
 
 A generator writes queries from the grammar, and of each a second text with one token changed. A reader of its own,
 recursive descent straight from the grammar, says of each text whether it is a query, or which fault is the first.
-The program `query_judge` says the same of the same texts, a line each. Texts on which the two differ are printed.
+The program `judge` says the same of the same texts, a line each. Texts on which the two differ are printed.
 
-Then `query_judge print` prints each query back. A printer of its own, which goes from word to word by the rules of the
+Then the same program prints each query back. A printer of its own, which goes from word to word by the rules of the
 printed form, says what is wanted. What was printed is judged and printed again: it has to be a query, with the same
 printed text.
 
 usage: random_queries.py PROGRAM [--count N] [--seed N]
 
-PROGRAM is the built program, crates/query_judge/out/query_judge after `rt run` in `crates/query_judge`. Nothing is written but
+PROGRAM is the built program, crates/judge/out/judge after `rt run` in `crates/judge`. Nothing is written but
 lines on standard output. The status is 0 where no text differs, and 1 else.
 """
 
@@ -353,10 +353,10 @@ def limits():
     yield ")" * 5 + "(" * 33
 
 
-def answers_of(program, words, texts):
-    """What the program says of the texts."""
-    given = "\n".join(texts) + "\n"
-    done = subprocess.run([program] + words, input=given.encode(), capture_output=True, check=True)
+def answers_of(program, form, texts):
+    """What the program says of the texts, judged by a form."""
+    given = "\n".join([f"judge {form}", *texts]) + "\n"
+    done = subprocess.run([program], input=given.encode(), capture_output=True, check=True)
     answers = done.stdout.decode().split("\n")[:-1]
     if len(answers) != len(texts):
         sys.exit(f"{len(texts)} texts and {len(answers)} answers")
@@ -384,17 +384,17 @@ def main():
         texts += [writer.text(query), writer.text(writer.changed(query))]
     texts = [text for text in texts if len(text) <= 16384]
     verdicts = [judged(text) for text in texts]
-    apart = differ(texts, verdicts, answers_of(given.program, [], texts))
+    apart = differ(texts, verdicts, answers_of(given.program, "read", texts))
     counts = collections.Counter(re.sub(r" \d+$", "", verdict) for verdict in verdicts)
     told = ", ".join(f"{count} {kind}" for kind, count in counts.most_common())
     print(f"{len(texts)} texts: {told}; {apart} differ")
 
     wants = [printed(text) if verdict == "query" else verdict for text, verdict in zip(texts, verdicts)]
-    answers = answers_of(given.program, ["print"], texts)
+    answers = answers_of(given.program, "print", texts)
     apart_printed = differ(texts, wants, answers)
     back = [answer for answer, verdict in zip(answers, verdicts) if verdict == "query"]
-    apart_again = differ(back, ["query"] * len(back), answers_of(given.program, [], back))
-    apart_again += differ(back, back, answers_of(given.program, ["print"], back))
+    apart_again = differ(back, ["query"] * len(back), answers_of(given.program, "read", back))
+    apart_again += differ(back, back, answers_of(given.program, "print", back))
     print(f"{len(back)} queries printed: {apart_printed} differ; read and printed again: {apart_again} differ")
     return 1 if apart or apart_printed or apart_again else 0
 
