@@ -6,6 +6,7 @@
 It prints each finding, or 'check_text: ok', and writes nothing. It looks for:
 - a label of a planning paper, such as a letter with a number: a rule is stated where it is used;
 - a path of one machine;
+- a mark of a merge that is not done, as git puts it at the head of a line;
 - an .rt or .antt file outside of a crate's src/, specs/ and proofs/;
 - a clause of more than 100 columns;
 - a must-fail edit that the claims of docs/proofs don't name in as many rows as there are crates with that edit;
@@ -24,6 +25,8 @@ LABEL = re.compile(
     r"(?<![\w.#-])(?:(?:document|paper) 0[1-4]\b|(?:T[1-5]\.[1-9]|[DRW][1-9][0-9]?b?|H[1-5])(?![\w.%]))"
     r"|\b0[1-4] section"
 )
+# seven of one sign: with a blank behind them, or the seven of the middle alone
+MERGE = re.compile(r"(?:[<>|]{7} |={7}$)")
 MACHINE = re.compile(r"(?<![\w.])/(?:work|opt|tmp|root|home)/")
 CLAUSE = re.compile(r"\s*(?:requires|ensures)\*?\b")
 CRATE = re.compile(r"crates/[a-z0-9_]+/(?:src|specs|proofs)/")
@@ -45,6 +48,8 @@ def findings(name, lines):
             yield "names a label of a planning paper", number, line
         if MACHINE.search(line):
             yield "names a path of one machine", number, line
+        if MERGE.match(line):
+            yield "is left of a merge", number, line
         if name.endswith(".rt") and CLAUSE.match(line) and len(line) > WIDEST_CLAUSE:
             yield f"has a clause of {len(line)} columns", number, line
 

@@ -5,7 +5,8 @@ edits.
     scripts/check_times.py [--every SECONDS]
 
 It runs .ci/run at the top of the repository, which proves from nothing, and looks at the running provers every half
-second: a prover's last reading counts, so that a run shorter than that is missed. The check's own lines go to standard
+second: a prover's last reading counts, so that a run shorter than that is missed. It sees all provers of the machine, so
+nothing else may prove meanwhile. The check's own lines go to standard
 error, the table to standard output, dearest crate first. It ends with the check's status and writes nothing else. Linux
 alone, since it reads /proc.
 """
