@@ -1,5 +1,6 @@
 //! The columns of a catalogue: objectId, x, y and z, then the further ones by name.
-ghost use Rattle.std.specs.Prelude.{◌≡◌, ◌+◌, ◌≤◌, length, [], ◌∷◌, ◌++◌, true, false, IfErr, OnErr, OnOk, nat_lt, not};
+ghost use Rattle.std.specs.Prelude.{◌≡◌, ◌+◌, ◌<◌, ◌≤◌, length, [], ◌∷◌, ◌++◌, true, false, Some, IfErr, OnErr, OnOk};
+ghost use Rattle.std.specs.Prelude.{nat_lt, not, slice_get};
 ghost use Rattle.std.specs.List.{list_any};
 ghost use Rattle.std.specs.Str.{bytes_eq};
 ghost use Rattle.sky_io.specs.Stops.{IfBad};
@@ -7,7 +8,7 @@ ghost use Rattle.table_rules.specs.Names.{can_follow, column_names, column_of};
 ghost use Rattle.table_rules.specs.Objects.{column_bound};
 ghost use Rattle.table_rules.specs.declared.limits.TheConstants.{COLUMNS_MOST, FURTHER_COLUMNS_MOST};
 
-use crate::name::{first_column, further_column, is_name};
+use crate::name::{first_column, further_column, further_name, is_name};
 use sky_io::Stop;
 use sky_vector::limits::COORDINATE_MOST;
 use std::alloc::Global;
@@ -104,6 +105,21 @@ impl Schema {
         ensures few { length self.now ≤ FURTHER_COLUMNS_MOST }
     {
         4 + self.names.len() as u32
+    }
+
+    /// The name of the column, which is counted from 0. Takes no memory.
+    #[tactic(auto, using(crate::proofs::Names::name_behind))]
+    pub fn name(&self, col: u32) -> &[u8]
+        requires { col < 4 + length self.now }
+        ensures { slice_get (column_names self.now) col ≡ Some result.now }
+    {
+        match col {
+            0 => b"objectId",
+            1 => b"x",
+            2 => b"y",
+            3 => b"z",
+            _ => further_name(self.names.as_slice(), col as usize - 4),
+        }
     }
 
     /// The largest size of a value in the column, which is counted from 0. Takes no memory.

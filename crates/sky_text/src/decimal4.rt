@@ -1,10 +1,9 @@
 //! Writes numbers with four decimals.
 ghost use Rattle.std.specs.Prelude.{◌≡◌, ◌+◌, ◌≤◌, ◌<◌, ◌^◌, ◌∷◌, nat_abs};
-ghost use Rattle.std.specs.Fmt.{decimal};
 ghost use Rattle.sky_io.specs.Sinks.{Wrote};
 ghost use Rattle.text_rules.specs.Numbers.{four_decimals, four_digits, ten_thousandths};
 
-use itoa::Buffer;
+use crate::put::put_natural;
 use sky_io::{Put, Sink};
 
 /// Writes a number of ten-thousandths, of a size of at most 2^120, as a whole part, a point and four digits, with a minus
@@ -37,13 +36,6 @@ fn put_size<K: Sink>(sink: &mut K, size: u128) -> Put
         Put::Failed => Put::Failed,
         Put::Done => put_decimals(sink, (size % 10000) as u32),
     }
-}
-
-fn put_natural<K: Sink>(sink: &mut K, n: u128) -> Put
-    ensures { Wrote (K.state sink.old) (K.state sink.new) (decimal n) result }
-{
-    let mut buffer = Buffer::new();
-    sink.put(buffer.format(n).as_bytes())
 }
 
 fn put_decimals<K: Sink>(sink: &mut K, part: u32) -> Put

@@ -15,7 +15,7 @@ pub use decimal4::put_decimal4;
 pub use lines::{Line, Lines, is_note};
 pub use number::{read_int, read_natural, read_whole};
 pub use pieces::Pieces;
-pub use put::{put_count, put_int};
+pub use put::{put_count, put_int, put_natural};
 
 #[cfg(test)]
 mod tests;

@@ -21,3 +21,11 @@ pub fn put_count<K: Sink>(sink: &mut K, count: u64) -> Put
     let mut buffer = Buffer::new();
     sink.put(buffer.format(count).as_bytes())
 }
+
+/// Writes a number that is not negative, of any size, in decimal. Takes no memory.
+pub fn put_natural<K: Sink>(sink: &mut K, n: u128) -> Put
+    ensures { Wrote (K.state sink.old) (K.state sink.new) (decimal n) result }
+{
+    let mut buffer = Buffer::new();
+    sink.put(buffer.format(n).as_bytes())
+}
