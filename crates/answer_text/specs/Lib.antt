@@ -1,2 +1,4 @@
 pub mod Report
 pub mod Examples
+pub mod Parted
+pub mod Explaining

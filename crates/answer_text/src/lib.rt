@@ -1,11 +1,37 @@
-//! The texts that the program writes: the load report so far.
+//! The texts that the program writes: the load report, and the blocks of queries in a transcript and in an explain text.
 //!
-//! Callers see what a call writes as its text, appended to the sink (`specs/Report.antt`).
-//! Below: `chunk_store` for the rows of each chunk, `sky_text` for numbers, `sky_io` for the sink. Above: the top call.
-//! Nothing is computed here but lengths, and no memory is taken.
+//! Callers see what a call writes as its text, appended to the sink: the report's in `specs/Report.antt`, the others' in
+//! `transcript_rules`.
+//! Below: `transcript_rules` for the texts, `sql_print` for parts of queries, `partial_merge` for the table of an answer,
+//! `chunk_store` for the rows of each chunk, `sky_text` for numbers, `sky_io` for the sink. Above: the czar and the top
+//! call.
+//! Nothing is computed here but lengths and places, and no memory is taken.
 #![tactic(auto)]
 
+mod chunk_items;
+mod chunk_order;
+mod chunk_query;
+mod column_places;
+mod columns;
+mod ended;
 pub mod examples;
+pub mod explained;
+mod group_parts;
+mod key_exprs;
+mod merge_order;
+mod merged;
+mod merged_items;
+mod pieces;
+mod refused;
 mod report;
+pub mod shown;
+mod values;
 
+pub use ended::{put_cancelled, put_spent};
+pub use explained::{Explained, put_explain};
+pub use refused::put_refusal;
 pub use report::put_report;
+pub use shown::{Shown, put_table};
+
+#[cfg(test)]
+mod tests;

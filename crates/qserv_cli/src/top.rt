@@ -124,7 +124,7 @@ fn write_report<K: Sink>(alloc: Global, store: &Store, sink: &mut K) -> Outcome
     let Ok(ends) = all_answered(alloc, 0) else {
         return Outcome::Memory;
     };
-    match put_report(sink, 0, store, b"") {
+    match put_report(sink, store) {
         Put::Failed => Outcome::SinkFault { ends },
         Put::Done => send(sink, ends),
     }

@@ -1,0 +1,121 @@
+//! The columns of a star by name. One function writes one rule of the form.
+ghost use Rattle.std.specs.Prelude.{◌≡◌, ◌++◌, ◌+◌, ◌<◌, ◌≤◌, Some, codes, length, slice_get};
+ghost use Rattle.sky_io.specs.Sinks.{Wrote};
+ghost use Rattle.table_rules.specs.Names.{column_names};
+ghost use Rattle.sql_rules.specs.PrintedExprs.{behind_each};
+ghost use Rattle.bind_rules.specs.Columns.{qualifier};
+ghost use Rattle.transcript_rules.specs.Tables.{by_commas, star_columns};
+ghost use Rattle.answer_text.specs.Parted.{columns_from, dotted};
+
+use bind_checks::qualifier;
+use sky_io::{Put, Sink};
+use sky_row::Schema;
+use sql_tree::TableRef;
+
+// Two pieces.
+fn put_two<K: Sink>(sink: &mut K, first: &[u8], second: &[u8]) -> Put
+    ensures { Wrote (K.state sink.old) (K.state sink.new) (first.now ++ second.now) result }
+{
+    match sink.put(first) {
+        Put::Failed => Put::Failed,
+        Put::Done => sink.put(second),
+    }
+}
+
+// A name behind its qualifier and a dot, both of which may be empty.
+fn put_dotted<K: Sink>(sink: &mut K, side: &[u8], dot: &[u8], name: &[u8]) -> Put
+    ensures { Wrote (K.state sink.old) (K.state sink.new)
+        (dotted side.now dot.now name.now) result }
+{
+    match sink.put(side) {
+        Put::Failed => Put::Failed,
+        Put::Done => put_two(sink, dot, name),
+    }
+}
+
+/// Writes a further column, and the comma before it.
+pub(crate) fn put_further_column<K: Sink>(sink: &mut K, side: &[u8], dot: &[u8], name: &[u8]) -> Put
+    ensures { Wrote (K.state sink.old) (K.state sink.new)
+        (codes "," ++ dotted side.now dot.now name.now) result }
+{
+    match sink.put(b",") {
+        Put::Failed => Put::Failed,
+        Put::Done => put_dotted(sink, side, dot, name),
+    }
+}
+
+// The columns from a place on, each behind a comma.
+fn put_columns_from<K: Sink>(
+    sink: &mut K,
+    schema: &Schema,
+    side: &[u8],
+    dot: &[u8],
+    from: u32,
+) -> Put
+    requires { from ≤ 4 + length schema.now }
+    ensures { Wrote (K.state sink.old) (K.state sink.new)
+        (behind_each (codes ",") (columns_from side.now dot.now schema.now from)) result }
+{
+    for col in from..schema.width() {
+        match put_further_column(sink, side, dot, schema.name(col)) {
+            Put::Failed => return Put::Failed,
+            Put::Done => {}
+        }
+    }
+    Put::Done
+}
+
+// All columns, with commas between them.
+fn put_columns<K: Sink>(sink: &mut K, schema: &Schema, side: &[u8], dot: &[u8]) -> Put
+    ensures { Wrote (K.state sink.old) (K.state sink.new)
+        (by_commas (columns_from side.now dot.now schema.now 0)) result }
+{
+    match put_dotted(sink, side, dot, schema.name(0)) {
+        Put::Failed => Put::Failed,
+        Put::Done => put_columns_from(sink, schema, side, dot, 1),
+    }
+}
+
+// All columns of a table, qualified.
+fn put_qualified<K: Sink>(sink: &mut K, schema: &Schema, table: &TableRef) -> Put
+    ensures { Wrote (K.state sink.old) (K.state sink.new)
+        (by_commas (columns_from (qualifier table.now) (codes ".") schema.now 0)) result }
+{
+    put_columns(sink, schema, qualifier(table), b".")
+}
+
+// The same, each behind a comma.
+fn put_further_qualified<K: Sink>(sink: &mut K, schema: &Schema, table: &TableRef) -> Put
+    ensures { Wrote (K.state sink.old) (K.state sink.new)
+        (behind_each (codes ",") (columns_from (qualifier table.now) (codes ".") schema.now 0))
+        result }
+{
+    put_columns_from(sink, schema, qualifier(table), b".", 0)
+}
+
+// The columns of both tables of a join.
+fn put_both<K: Sink>(sink: &mut K, schema: &Schema, first: &TableRef, second: &TableRef) -> Put
+    ensures { Wrote (K.state sink.old) (K.state sink.new)
+        (by_commas (star_columns schema.now first.now (Some second.now))) result }
+{
+    match put_qualified(sink, schema, first) {
+        Put::Failed => Put::Failed,
+        Put::Done => put_further_qualified(sink, schema, second),
+    }
+}
+
+/// Writes the columns that a star stands for.
+pub(crate) fn put_star<K: Sink>(
+    sink: &mut K,
+    schema: &Schema,
+    first: &TableRef,
+    second: &Option<TableRef>,
+) -> Put
+    ensures { Wrote (K.state sink.old) (K.state sink.new)
+        (by_commas (star_columns schema.now first.now second.now)) result }
+{
+    match second {
+        Some(second) => put_both(sink, schema, first, second),
+        None => put_columns(sink, schema, b"", b""),
+    }
+}
