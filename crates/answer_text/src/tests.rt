@@ -52,7 +52,7 @@ fn an_end_without_rows_is_one_line(rt: HostRuntime) -> Result<(), Fail> {
     assert_eq!(rt; put_spent(&mut sink, 255), Put::Done);
     assert_eq!(rt;
         sink.bytes(),
-        b"query 1\ncancelled\nquery 255\nout of memory\n"
+        b"query 1\ncancelled\nquery 255\nout of memory\n".as_slice()
     );
     Ok(())
 }
