@@ -1,4 +1,5 @@
 pub mod Deep
 pub mod DemoQueries
+pub mod DemoReads
 pub mod GroupQueries
 pub mod RowQueries

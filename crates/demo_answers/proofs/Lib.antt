@@ -1,0 +1,3 @@
+mod Fluxes
+mod Overlap
+mod Queries
