@@ -1,0 +1,13 @@
+pub mod Answering
+pub mod Shuffles
+pub mod Filters
+pub mod Parting
+pub mod Walking
+pub mod Listing
+pub mod Windows
+pub mod Ordering
+pub mod Sweeping
+pub mod Gaining
+pub mod Lining
+pub mod Sounding
+pub mod Joining

@@ -1,0 +1,35 @@
+-- What a step of a join puts into the piece.
+use Rattle.std.specs.Prelude.{◌≡◌, ℤ, List, Option, ◌++◌, map}
+use Rattle.std.specs.List.{flat_map}
+use Rattle.table_rules.specs.Objects.{Obj}
+use Rattle.value_rules.specs.Values.{Pick}
+use Rattle.answer_rules.specs.Keeps.{KeepsFirst}
+use Rattle.answer_rules.specs.Pieces.{PieceView, OfRows, OfGroups, chunk_lines}
+use Rattle.answer_rules.specs.Ranks.{row_order}
+use Rattle.answer_rules.specs.Rows.{out_row}
+use Rattle.answer_rules.specs.declared.rewritten.ChunkQuery.{ChunkQuery}
+use Rattle.answer_rules.specs.declared.row.OutRow.{OutRow}
+use Rattle.near_join.specs.Walk.{joins, pairs_of}
+
+-- what the chunk query computes of these pairs
+abbrev pub lines_for : ChunkQuery → List Pick → List OutRow
+lines_for cq pairs = map (out_row (chunk_lines cq)) pairs
+
+-- a row with other values
+abbrev pub with_cells : List (Option ℤ) → OutRow → OutRow
+with_cells cells r = record { class = r.class; value = r.value; first = r.first; second = r.second; cells = cells }
+
+-- the piece is of rows, and takes in those of these pairs: the first n of both are kept
+abbrev pub Gains : ChunkQuery → List Pick → PieceView → PieceView → Type 0
+Gains cq ps (OfRows pushed rows) (OfRows limit kept) =
+    (limit ≡ pushed) × KeepsFirst row_order pushed (rows ++ lines_for cq ps) kept
+Gains cq ps (OfRows pushed rows) (OfGroups parts) = ⊥
+Gains cq ps (OfGroups parts) new = ⊥
+
+-- the pairs of one row with those of the others that it joins
+abbrev pub row_pairs : ChunkQuery → ℤ → List Obj → Obj → List Pick
+row_pairs cq limit others u = pairs_of (joins limit cq.conds) others u
+
+-- the pairs of some rows with those of the others that they join
+abbrev pub swept_pairs : ChunkQuery → ℤ → List Obj → List Obj → List Pick
+swept_pairs cq limit others rows = flat_map (row_pairs cq limit others) rows

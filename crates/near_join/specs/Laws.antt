@@ -1,0 +1,43 @@
+-- The laws of the join: subchunk by subchunk, with the overlap of each, no pair is missed and none comes twice.
+use Rattle.std.specs.Prelude.{ℕ, ℤ, pos, int_le, ◌<◌, ◌≤ℤ◌, ◌++◌, List, [], ◌∷◌, map}
+use Rattle.std.specs.List.{filter, flat_map, range_with_len}
+use Rattle.std.specs.List.Sorted.{IsPermutation}
+use Rattle.sky_vector.specs.Points.{chord_squared, square}
+use Rattle.table_rules.specs.Objects.{Obj}
+use Rattle.sky_rules.specs.Limits.{IsSky}
+use Rattle.sky_rules.specs.Partition.{Partition, chunk_count, overlap_at, sub_count}
+use Rattle.sky_rules.specs.Bounds.{in_chunk}
+use Rattle.sql_bound.specs.declared.cond.BoundCond.{BoundCond}
+use Rattle.sql_bound.specs.declared.query.Shape.TheVariants.{Pairs}
+use Rattle.value_rules.specs.Values.{Pick, pair}
+use Rattle.answer_rules.specs.Coverage.{AreInTheSky}
+use Rattle.answer_rules.specs.Picks.{found, near_pairs}
+use Rattle.chunk_rules.specs.Places.{rows_at}
+use Rattle.chunk_store.specs.Places.{sub_rows, sub_overlap_rows}
+use Rattle.near_join.specs.Walk.{joins, walked_pairs}
+
+-- the walk over a chunk's subchunks finds the pairs whose first row the chunk holds, each once, where the limit is at
+-- most the square of the chunk's overlap radius
+abbrev pub WalkFindsAll : Type 0
+WalkFindsAll =
+    (g : Partition) (table : List Obj) (limit : ℤ) (conds : List BoundCond) (c : ℕ) → IsSky g → AreInTheSky table
+    → c < chunk_count g → limit ≤ℤ square (pos (overlap_at g c))
+    → IsPermutation (found g table (Pairs limit) conds (c ∷ [])) (walked_pairs g table (joins limit conds) c)
+
+-- the rows of a subchunk and those of its overlap, as lists of rows
+abbrev pub rows_beside : Partition → List Obj → ℕ → ℕ → List Obj
+rows_beside g table c s = rows_at table (sub_rows g table c s ++ sub_overlap_rows g table c s)
+
+-- the pairs of a row with those of the others that are near enough
+abbrev pub pairs_with : ℤ → List Obj → Obj → List Pick
+pairs_with limit others u = map (pair u) (filter (λ v. int_le (chord_squared u.at v.at) limit) others)
+
+-- the pairs whose first row lies in a chunk are, each exactly once, those found by walking its subchunks, the rows of
+-- each, and for each row the rows of that subchunk and of its overlap: over the lists that a store gives
+abbrev pub PairsOfSubs : Type 0
+PairsOfSubs =
+    (g : Partition) (table : List Obj) (c : ℕ) (limit : ℤ) → IsSky g → AreInTheSky table → c < chunk_count g
+    → limit ≤ℤ square (pos (overlap_at g c))
+    → IsPermutation (filter (λ p. in_chunk g c p.first.at) (near_pairs limit table))
+    (flat_map (λ s. flat_map (pairs_with limit (rows_beside g table c s)) (rows_at table (sub_rows g table c s)))
+    (range_with_len 0 (sub_count g c)))

@@ -1,0 +1,94 @@
+-- Rows by their places in ascending height, with the parts of their positions side by side.
+use Rattle.std.specs.Prelude.{◌≡◌, ℕ, ◌+◌, ◌*◌, ◌%◌, ◌<◌, ℤ, pos, ◌+ℤ◌, unsigned_abs, Bool, ◌||◌, List, [], ◌∷◌, ◌++◌, length, map, get_or, All}
+use Rattle.std.specs.List.{filter}
+use Rattle.std.specs.List.Sorted.{IsPermutation}
+use Rattle.sky_vector.specs.Points.{IsWithin, Point}
+use Rattle.sky_vector.specs.declared.limits.TheConstants.{PART_MOST}
+use Rattle.table_rules.specs.Objects.{Obj}
+use Rattle.table_rules.specs.declared.limits.TheConstants.{ROWS_MOST}
+use Rattle.sky_row.specs.Columns.{no_row, objects_at}
+use Rattle.sky_rules.specs.Bounds.{Bounds, in_chunk, near_bounds}
+use Rattle.sky_rules.specs.Partition.{Partition}
+use Rattle.overlap_tables.specs.Overlaps.{in_full_overlap}
+use Rattle.near_join.specs.Walk.{reach_objects}
+use Rattle.near_join.specs.Windows.{Ascend}
+
+-- What contracts see of a strip: the places of its rows, and the parts of their positions.
+pub record StripView : Type 0 where
+  pub places : List ℕ
+  pub xs : List ℤ
+  pub ys : List ℤ
+  pub zs : List ℤ
+
+-- Columns of one length, whose positions are within the grid.
+pub record IsWhole (s : StripView) : Type 0 where
+  pub wide_x : length s.xs ≡ length s.places
+  pub wide_y : length s.ys ≡ length s.places
+  pub wide_z : length s.zs ≡ length s.places
+  pub x : All IsWithin s.xs
+  pub y : All IsWithin s.ys
+  pub z : All IsWithin s.zs
+
+-- the position of the row with a number, from 0, in a strip
+abbrev pub row_in : StripView → ℕ → Point
+row_in s i = record { x = get_or s.xs i (pos 0); y = get_or s.ys i (pos 0); z = get_or s.zs i (pos 0) }
+
+-- a strip with one row more
+abbrev pub with_row : StripView → ℕ → Point → StripView
+with_row s place at = record {
+  places = s.places ++ place ∷ [];
+  xs = s.xs ++ at.x ∷ [];
+  ys = s.ys ++ at.y ∷ [];
+  zs = s.zs ++ at.z ∷ [];
+}
+
+-- the row at a place
+abbrev pub object_at : List Obj → ℕ → Obj
+object_at objects place = get_or objects place no_row
+
+-- the heights of the rows at these places
+abbrev pub heights_at : List Obj → List ℕ → List ℤ
+heights_at objects places = map (λ p. (object_at objects p).at.z) places
+
+-- The columns are those of the rows at the places, which the table has.
+pub record IsListed (objects : List Obj) (s : StripView) : Type 0 where
+  pub there : All (λ p. p < length objects) s.places
+  pub xs : s.xs ≡ map (λ p. (object_at objects p).at.x) s.places
+  pub ys : s.ys ≡ map (λ p. (object_at objects p).at.y) s.places
+  pub zs : s.zs ≡ heights_at objects s.places
+
+-- the height at a place
+abbrev pub height_in : List ℤ → ℕ → ℤ
+height_in zs place = get_or zs place (pos 0)
+
+-- a height with a place, which is below the most rows, as one number: the height from 0, and behind it room for a place
+abbrev pub word : ℤ → ℕ → ℕ
+word z place = unsigned_abs (z +ℤ pos PART_MOST) * ROWS_MOST + place
+
+-- the place in a word
+abbrev pub place_in : ℕ → ℕ
+place_in w = w % ROWS_MOST
+
+-- the words of the heights at these places
+abbrev pub words_of : List ℤ → List ℕ → List ℕ
+words_of zs places = map (λ p. word (height_in zs p) p) places
+
+-- the row is in the chunk or in its full overlap
+abbrev pub in_strip : Partition → ℕ → Obj → Bool
+in_strip g c o = in_chunk g c o.at || in_full_overlap g c o.at
+
+-- The strip of a chunk: its rows and those of its full overlap, by ascending height.
+pub record IsChunkStrip (g : Partition) (objects : List Obj) (c : ℕ) (s : StripView) : Type 0 where
+  pub all : IsPermutation (filter (in_strip g c) objects) (objects_at objects s.places)
+  pub listed : IsListed objects s
+  pub rise : Ascend s.zs
+
+-- The strip of a subchunk: its rows and those of its overlap, by ascending height.
+pub record IsSubStrip (g : Partition) (objects : List Obj) (c s : ℕ) (near : StripView) : Type 0 where
+  pub all : IsPermutation (reach_objects g objects c s) (objects_at objects near.places)
+  pub listed : IsListed objects near
+  pub rise : Ascend near.zs
+
+-- the row at the place is in the near region of the bounds, for a radius
+abbrev pub is_beside : List Obj → ℕ → Bounds → ℕ → Bool
+is_beside objects r bounds place = near_bounds r bounds (object_at objects place).at

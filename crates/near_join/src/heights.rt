@@ -1,0 +1,69 @@
+//! The window of a sweep by height: in ascending heights, those that are near enough to one height stand side by side, so
+//! that two searches by halving find them.
+
+ghost use Rattle.std.specs.Prelude.{◌≡◌, ◌≤ℤ◌, ◌<ℤ◌, ◌^◌, ℤ, pos, negsuc};
+ghost use Rattle.sky_vector.specs.Points.{IsWithin};
+ghost use Rattle.near_join.specs.Windows.{Ascend, IsBetween, IsRoot, IsWindow};
+
+/// The places, from the first up to and without the second, of the ascending heights whose squared difference from z is at
+/// most the limit, in squared grid units; (0, 0) where there are none. Takes no memory.
+pub fn window(zs: &[i64], z: i64, limit: i64) -> (usize, usize)
+    requires ascend { Ascend zs.now }
+    requires z_within { IsWithin z }
+    requires limit { negsuc 0 ≤ℤ limit }
+    ensures { IsWindow zs.now z limit result.0 result.1 }
+{
+    within(zs, z, root(limit))
+}
+
+/// The largest difference whose square is at most the limit, and -1 for a limit below 0.
+pub(crate) fn root(limit: i64) -> i64
+    requires { negsuc 0 ≤ℤ limit }
+    ensures root { IsRoot limit result }
+    ensures least { negsuc 0 ≤ℤ result }
+    ensures most { result ≤ℤ pos (2 ^ 32) }
+{
+    if limit < 0 { -1 } else { limit.isqrt() }
+}
+
+/// The window for the root of a limit.
+pub(crate) fn within(zs: &[i64], z: i64, root: i64) -> (usize, usize)
+    requires ascend { Ascend zs.now }
+    requires z_within { IsWithin z }
+    requires least { negsuc 0 ≤ℤ root }
+    requires most { root ≤ℤ pos (2 ^ 32) }
+    ensures { (limit : ℤ) → IsRoot limit root → IsWindow zs.now z limit result.0 result.1 }
+{
+    between(zs, z - root, z + root)
+}
+
+/// The places of the heights from low to high, and (0, 0) where there are none.
+pub(crate) fn between(zs: &[i64], low: i64, high: i64) -> (usize, usize)
+    requires { Ascend zs.now }
+    ensures { IsBetween zs.now low high result.0 result.1 }
+{
+    let from = zs.partition_point(|a| *a < low);
+    let to = zs.partition_point(|a| *a <= high);
+    if from < to { (from, to) } else { (0, 0) }
+}
+
+/// The same of heights in 32 bits, for the root of a limit.
+pub(crate) fn within_narrow(zs: &[i32], z: i64, root: i64) -> (usize, usize)
+    requires ascend { Ascend zs.now }
+    requires z_within { IsWithin z }
+    requires least { negsuc 0 ≤ℤ root }
+    requires most { root ≤ℤ pos (2 ^ 32) }
+    ensures { (limit : ℤ) → IsRoot limit root → IsWindow zs.now z limit result.0 result.1 }
+{
+    between_narrow(zs, z - root, z + root)
+}
+
+/// The places of the heights, in 32 bits, from low to high, and (0, 0) where there are none.
+pub(crate) fn between_narrow(zs: &[i32], low: i64, high: i64) -> (usize, usize)
+    requires { Ascend zs.now }
+    ensures { IsBetween zs.now low high result.0 result.1 }
+{
+    let from = zs.partition_point(|a| i64::from(*a) < low);
+    let to = zs.partition_point(|a| i64::from(*a) <= high);
+    if from < to { (from, to) } else { (0, 0) }
+}

@@ -1,0 +1,16 @@
+//! Laws of the join, as functions that do nothing: a caller has what they ensure.
+
+ghost use Rattle.near_join.specs.Laws.{PairsOfSubs, WalkFindsAll};
+
+/// The pairs whose first row lies in a chunk are those of its subchunks' rows with the rows of each and of its overlap,
+/// each exactly once.
+#[tactic(auto, using(crate::proofs::Listing::pairs_of_subs))]
+pub fn pairs_of_subs()
+    ensures { PairsOfSubs }
+{}
+
+/// The walk over the subchunks of a chunk finds the pairs of the chunk that meet some conditions, each once.
+#[tactic(auto, using(crate::proofs::Walking::walk_finds_all))]
+pub fn walk_finds_all()
+    ensures { WalkFindsAll }
+{}

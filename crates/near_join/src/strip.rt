@@ -1,0 +1,148 @@
+//! Rows by their places, in ascending height, with their positions as three columns: a sweep reads them from front to back,
+//! and looks up a row only where it is near enough.
+
+ghost use Rattle.std.specs.Prelude.{◌≡◌, ◌<◌, ◌++◌, ◌∷◌, [], All, IfOk, OnOk, length, get_or, pos};
+ghost use Rattle.sky_vector.specs.Points.{IsWithin};
+ghost use Rattle.sky_vector.specs.Pos.{point};
+ghost use Rattle.sky_rules.specs.Partition.{chunk_count};
+ghost use Rattle.near_join.specs.Strips.{IsChunkStrip, IsListed, IsWhole, row_in, with_row};
+
+use crate::order::places_by_height;
+use chunk_store::Store;
+use sky_io::Memory;
+use sky_row::{Rows, gather};
+use sky_vector::Pos;
+use std::alloc::Global;
+use std::marker::Model;
+
+/// Rows by their places in the table, with the parts of their positions side by side.
+#[derive(Drop)]
+pub(crate) struct Strip {
+    places: Vec<u32>,
+    xs: Vec<i32>,
+    ys: Vec<i32>,
+    zs: Vec<i32>,
+}
+
+impl Model for Strip {
+    ghost use Rattle.near_join.specs.Strips.{StripView};
+
+    ghost Value = { StripView };
+
+    ghost view = { λ s. record { places = s.places.items; xs = s.xs.items; ys = s.ys.items; zs = s.zs.items } };
+}
+
+impl Strip {
+    /// A strip without rows. Takes no memory.
+    pub(crate) fn empty(alloc: Global) -> Strip
+        ensures { result ≡ record { places = []; xs = []; ys = []; zs = [] } }
+    {
+        Strip {
+            places: Vec::new(alloc),
+            xs: Vec::new(alloc),
+            ys: Vec::new(alloc),
+            zs: Vec::new(alloc),
+        }
+    }
+
+    /// The places of the rows.
+    pub(crate) fn places(&self) -> &[u32]
+        ensures { result.now ≡ self.now.places }
+    {
+        self.places.as_slice()
+    }
+
+    /// The heights of the rows.
+    pub(crate) fn zs(&self) -> &[i32]
+        ensures { result.now ≡ self.now.zs }
+    {
+        self.zs.as_slice()
+    }
+
+    /// The position of the row with this number, from 0, in the strip.
+    pub(crate) fn at(&self, i: usize) -> Pos
+        requires whole { IsWhole self.now }
+        requires there { i < length self.now.places }
+        ensures { point result ≡ row_in self.now i }
+    {
+        point_of(
+            part_at(self.xs.as_slice(), i),
+            part_at(self.ys.as_slice(), i),
+            part_at(self.zs.as_slice(), i),
+        )
+    }
+
+    /// Puts the row with this number in another strip behind the others. Where there is no memory, some of the columns may
+    /// have it.
+    pub(crate) fn push(&mut self, from: &Strip, i: usize) -> Result<(), Memory>
+        requires whole { IsWhole from.now }
+        requires there { i < length from.now.places }
+        ensures { OnOk result (self.new
+            ≡ with_row self.old (get_or from.now.places i 0) (row_in from.now i)) }
+    {
+        push(&mut self.places, from.places[i])?;
+        push(&mut self.xs, from.xs[i])?;
+        push(&mut self.ys, from.ys[i])?;
+        push(&mut self.zs, from.zs[i])
+    }
+}
+
+/// The part of a position at a number.
+fn part_at(parts: &[i32], i: usize) -> i32
+    requires within { All IsWithin parts.now }
+    requires there { i < length parts.now }
+    ensures value { result ≡ get_or parts.now i (pos 0) }
+    ensures within { IsWithin result }
+{
+    parts[i]
+}
+
+/// The position with these parts.
+fn point_of(x: i32, y: i32, z: i32) -> Pos
+    requires x { IsWithin x }
+    requires y { IsWithin y }
+    requires z { IsWithin z }
+    ensures { point result ≡ record { x = x; y = y; z = z } }
+{
+    Pos {
+        x: i64::from(x),
+        y: i64::from(y),
+        z: i64::from(z),
+    }
+}
+
+/// Puts the value behind the others.
+fn push<T: Copy>(values: &mut Vec<T>, value: T) -> Result<(), Memory>
+    ensures { OnOk result (values.new.items ≡ values.old.items ++ value ∷ []) }
+{
+    match values.push(value) {
+        Ok(()) => Ok(()),
+        Err(_) => Err(Memory),
+    }
+}
+
+/// The rows of a chunk and of its full overlap, in ascending height. Takes memory for them, 24 bytes a row.
+pub(crate) fn chunk_strip(alloc: Global, store: &Store, chunk: u32) -> Result<Strip, Memory>
+    requires { chunk < chunk_count store.now.plan }
+    ensures { IfOk result (λ s.
+        IsChunkStrip store.now.plan store.now.rows.objects chunk s) }
+{
+    let rows = store.rows();
+    let _ = rows.len();
+    let own = store.chunk(chunk);
+    let beside = store.full_overlap(chunk);
+    let places = places_by_height(alloc, rows.zs(), own, beside)?;
+    gathered(alloc, rows, places)
+}
+
+/// The strip of the rows at these places, in their order. Takes memory for each column once.
+fn gathered(alloc: Global, rows: &Rows, places: Vec<u32>) -> Result<Strip, Memory>
+    requires { All (λ place. place < length rows.now.objects) places.items }
+    ensures places { IfOk result (λ s. s.places ≡ places.items) }
+    ensures listed { IfOk result (λ s. IsListed rows.now.objects s) }
+{
+    let xs = gather(alloc, rows.xs(), places.as_slice())?;
+    let ys = gather(alloc, rows.ys(), places.as_slice())?;
+    let zs = gather(alloc, rows.zs(), places.as_slice())?;
+    Ok(Strip { places, xs, ys, zs })
+}
