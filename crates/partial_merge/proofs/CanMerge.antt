@@ -1,5 +1,5 @@
 -- Of a piece of groups each item of the query's merge can be merged.
-use Rattle.std.proofs.Common.{◌≡◌, ℕ, zero, suc, ◌+◌, ◌<◌, ℤ, nat_abs, true, List, [], ◌∷◌, ◌++◌, map, length, length-append, Option, Some, None, refl, sym, ap, subst, ◌∙◌, arith, append_assoc, Ordering}
+use Rattle.std.proofs.Common.{◌≡◌, ℕ, zero, suc, ◌+◌, ◌<◌, ℤ, nat_abs, true, List, [], ◌∷◌, ◌++◌, map, length, length-append, refl, sym, ap, subst, ◌∙◌, arith, append_assoc, Ordering}
 use Rattle.std.specs.List.{All, AllByRecursion as Each, flat_map, list_all}
 use Rattle.std.specs.Prelude.{IfSome, slice_get, unwrap_or}
 use Rattle.std.proofs.lemmas.Bool.{and_parts}
@@ -33,7 +33,7 @@ use Rattle.answer_rules.specs.Keys.{Key, key_of, key_order, keys_in, of_key}
 use Rattle.answer_rules.specs.Parts.{Part, Sums, count_part, part_over, partials_of, sums_over}
 use Rattle.answer_rules.specs.Picks.{found}
 use Rattle.answer_rules.specs.Pieces.{PieceView, OfRows, OfGroups, PieceBy, PieceFor}
-use Rattle.answer_rules.specs.Rewriting.{chunk_items_of, chunk_query_of, group_merged, group_parts, merge_plan_of, merged_from}
+use Rattle.answer_rules.specs.Rewriting.{chunk_items_of, chunk_query_of, group_merged, group_parts, merged_from}
 use Rattle.answer_rules.specs.Small.{IsSmallGroup, IsSmallPart}
 use Rattle.answer_rules.proofs.Apart.{each_filter, each_map}
 use Rattle.answer_rules.proofs.Cuts.{cut_is_sound}

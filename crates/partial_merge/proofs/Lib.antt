@@ -7,10 +7,10 @@ pub mod Standing
 pub mod Piling
 pub mod Summing
 pub mod Settling
-pub mod SameKeys
 pub mod CanMerge
 pub mod Rise
 pub mod Lining
 pub mod Totalling
 pub mod Absorbing
 pub mod Rooting
+pub mod Repacking

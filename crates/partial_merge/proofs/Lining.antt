@@ -1,5 +1,5 @@
 -- Lines that were sorted are the lines of the answer in order.
-use Rattle.std.proofs.Common.{◌≡◌, ℕ, zero, suc, List, [], ◌∷◌, map, length, Option, Some, None, refl, sym, ap, subst, ◌∙◌, IsPermutation, IsSorted}
+use Rattle.std.proofs.Common.{◌≡◌, ℕ, zero, suc, List, [], ◌∷◌, map, Option, Some, None, refl, sym, ap, subst, ◌∙◌, IsPermutation, IsSorted}
 use Rattle.std.specs.List.{All, AllByRecursion as Each}
 use Rattle.std.specs.Prelude.{false}
 use Rattle.std.specs.Cmp.{IsTotalOrder}
@@ -11,14 +11,12 @@ use Rattle.std.proofs.lemmas.List.Sorted.{IsPermutation-map, All-permutation}
 use Rattle.sql_bound.specs.declared.expr.BoundCol.{BoundCol}
 use Rattle.answer_rules.specs.declared.rewritten.MergeItem.{MergeItem}
 use Rattle.answer_rules.specs.declared.rewritten.MergePlan.{MergePlan}
-use Rattle.answer_rules.specs.declared.value.Value.{Value}
 use Rattle.answer_rules.specs.Finish.{merged_line}
 use Rattle.answer_rules.specs.Gather.{Rise}
 use Rattle.answer_rules.specs.Groups.{GroupLine, group_order}
 use Rattle.answer_rules.specs.InOrder.{first, in_order}
 use Rattle.answer_rules.specs.Keys.{key_order}
 use Rattle.answer_rules.specs.Parts.{Part}
-use Rattle.answer_rules.specs.Rows.{limit_of}
 use Rattle.answer_rules.proofs.Apart.{each_map}
 use Rattle.answer_rules.proofs.Ascending.{sorted_ascends}
 use Rattle.answer_rules.proofs.Sorting.{Ascends, only_order}

@@ -1,26 +1,31 @@
--- Two groups of one key, added up, leave the pile as it is seen.
-use Rattle.std.proofs.Common.{◌≡◌, ℕ, ◌+◌, ◌-◌, ◌^◌, ◌≤◌, ℤ, ◌+ℤ◌, nat_abs, int_le, Bool, true, false, List, [], ◌∷◌, ◌++◌, map, length, length-append, take, drop, Option, Some, None, refl, sym, ap, subst, ◌∙◌, arith, Equal, IsPermutation}
-use Rattle.std.specs.List.{AllByRecursion as Each}
+-- Settling a pile: the groups are gathered from the last one on.
+use Rattle.std.proofs.Common.{◌≡◌, ℕ, suc, ◌+◌, ◌-◌, ◌*◌, ◌^◌, ◌<◌, ◌≤◌, ℤ, ◌+ℤ◌, nat_abs, int_le, Bool, true, false, List, [], ◌∷◌, ◌++◌, map, reverse, length, length-append, get_or, take, drop, Option, Some, None, refl, sym, ap, subst, ◌∙◌, arith, Ordering, Less, Equal, Greater, is_eq, is_lt, IsPermutation, IsSorted}
+use Rattle.std.specs.List.{All, AllByRecursion as Each}
 use Rattle.std.specs.Prelude.{if◌then◌else◌}
+use Rattle.std.specs.Cmp.{IsTotalOrder}
+use Rattle.std.specs.Ordering.{on, ordering_reverse}
 use Rattle.std.proofs.Math.Seq.{drop-append_seam}
-use Rattle.std.proofs.lemmas.Cmp.{tied_itself}
+use Rattle.std.proofs.lemmas.Cmp.{on_total}
 use Rattle.std.proofs.lemmas.Int.{ints}
-use Rattle.std.proofs.lemmas.List.{append_assoc, length-drop, length-map, length-take, map-append}
+use Rattle.std.proofs.lemmas.List.{append-nil, append_assoc, length-drop, length-map, length-take, map-append, reverse-append}
 use Rattle.std.proofs.lemmas.List.Elements.{All-from_recursion, recursion_from_All}
 use Rattle.std.proofs.lemmas.List.Sums.{sum_by-append, sum_by-cons}
-use Rattle.std.proofs.lemmas.List.Sorted.{All-permutation, IsPermutation-append_right, IsPermutation-map, IsPermutation-to_front, sum_by-IsPermutation}
+use Rattle.std.proofs.lemmas.List.Sorted.{All-permutation, IsPermutation-map, sum_by-IsPermutation}
 use Rattle.value_rules.specs.Widths.{IsOfSize, most}
 use Rattle.answer_rules.specs.declared.way.Way.{Way}
 use Rattle.answer_rules.specs.declared.way.Way.TheVariants.{Added, Least, Greatest}
-use Rattle.answer_rules.specs.Gather.{Partial, gather, plus, put_by}
+use Rattle.answer_rules.specs.Gather.{Partial, gather, plus, put_by, put_group}
 use Rattle.answer_rules.specs.Keys.{Key, key_order}
 use Rattle.answer_rules.specs.Parts.{Part, Sums, add_own, add_own_parts, add_own_sums, join_by}
 use Rattle.answer_rules.specs.Small.{IsSmallGroup, IsSmallPart, part_bound, rows_in}
-use Rattle.answer_rules.proofs.OwnWays.{own_alike, own_permuted}
+use Rattle.answer_rules.proofs.Ascending.{sorted_ascends}
+use Rattle.answer_rules.proofs.Gathering.{put_each}
+use Rattle.answer_rules.proofs.OwnWays.{gathered_have, own_again, own_permuted, own_rows}
+use Rattle.answer_rules.proofs.Sorting.{Ascends}
 use Rattle.answer_rules.proofs.Totals.{key_total}
-use Rattle.partial_merge.specs.Adding.{AllMayAdd, IsAs, MayAdd, Settles, TwoFit, both_of, parts_of, sums_of}
+use Rattle.partial_merge.specs.Adding.{AllMayAdd, IsAs, MayAdd, MayPut, TwoFit, parts_of, placed, stacked, summed, width_in}
 use Rattle.partial_merge.specs.declared.mark.Mark.{Mark}
-use Rattle.partial_merge.specs.Groups.{AreAlike, ArePiled, Gathered, HaveWays, IsThere, group_of, most_rows, ways_in}
+use Rattle.partial_merge.specs.Groups.{AreAlike, ArePiled, Gathered, HaveWays, IsThere, group_of, most_rows, pile_of, ways_in, width_of}
 use Rattle.partial_merge.proofs.Piling.{alike_from, groups_grow}
 use Rattle.partial_merge.proofs.Summing.{add_long}
 
@@ -98,35 +103,35 @@ sum_ways (x ∷ xs) (y ∷ ys) e = ap (λ l. x.way ∷ l) (sum_ways xs ys (ap re
 same_long : (xs ys : List Part) → ways xs ≡ ways ys → length xs ≡ length ys
 same_long xs ys e = sym (length-map xs (λ p. p.way)) ∙ ap length e ∙ length-map ys (λ p. p.way)
 
--- ---- two groups of one key
+-- ---- the order of two keys
 
-abbrev pub added : Partial Key Sums → Partial Key Sums → Partial Key Sums
-added a b = record { key = a.key; part = add_own_sums a.part b.part }
+is_equal : (o : Ordering) → is_eq o ≡ true → o ≡ Equal
+is_equal Less h = absurd (cc h)
+is_equal Equal h = refl
+is_equal Greater h = absurd (cc h)
 
-abbrev keyed : Sums → Key → Gathered
-keyed s k = (let g : Partial Key Sums = record { key = k; part = s } in g) ∷ []
+less_by : (o p : Ordering) → o ≡ ordering_reverse p → is_lt p ≡ false → is_eq o ≡ false → o ≡ Less
+less_by Less p e a b = refl
+less_by Equal p e a b = absurd (cc b)
+less_by Greater Less e a b = absurd (cc a)
+less_by Greater Equal e a b = absurd (cc e)
+less_by Greater Greater e a b = absurd (cc e)
 
-one_of_two : (a b : Partial Key Sums) → a.key ≡ b.key → gather key_order add_own_sums (added a b ∷ []) ≡ gather key_order add_own_sums (a ∷ (b ∷ []))
-one_of_two a b e =
-    let tie : key_order a.key b.key ≡ Equal = ap (key_order a.key) (sym e) ∙ tied_itself key_total a.key in
-    ap (keyed (add_own_sums a.part b.part)) e
-    ∙ sym (ap (λ o. put_by add_own_sums o a b [] (a ∷ [])) tie)
+is_less : (a b : Key) → is_lt (key_order b a) ≡ false → is_eq (key_order a b) ≡ false → key_order a b ≡ Less
+is_less a b h k = less_by (key_order a b) (key_order b a) (IsTotalOrder.antisymm key_total a b) h k
 
--- added up among others
-added_among : (own : List Way) (o r : Gathered) (a b : Partial Key Sums) → a.key ≡ b.key → HaveWays own o → HaveWays own r → HaveWays own (a ∷ (b ∷ [])) → HaveWays own (added a b ∷ []) → gather key_order add_own_sums (o ++ (added a b ∷ r)) ≡ gather key_order add_own_sums (o ++ (a ∷ (b ∷ r)))
-added_among own o r a b e ho hr hab hc =
-    own_alike own o (a ∷ (b ∷ r)) o (added a b ∷ r) ho (hab.0, (hab.1.0, hr)) ho (hc.0, hr) refl
-    (own_alike own (a ∷ (b ∷ [])) r (added a b ∷ []) r hab hr hc hr (one_of_two a b e) refl)
+-- ---- a group is put before another one, or added to it
 
--- ---- a pile with two groups next to one another
+abbrev pub onto : Partial Key Sums → Partial Key Sums → Partial Key Sums
+onto g h = record { key = h.key; part = add_own_sums g.part h.part }
 
-abbrev first_ways : Gathered → List Way
-first_ways [] = []
-first_ways (g ∷ gs) = ways_in g
+put_before : (g h : Partial Key Sums) (hs : Gathered) → key_order g.key h.key ≡ Less → put_group key_order add_own_sums g (h ∷ hs) ≡ g ∷ (h ∷ hs)
+put_before g h hs e = ap (λ o. put_by add_own_sums o g h hs (put_group key_order add_own_sums g hs)) e
 
-have_first : (gs : Gathered) → AreAlike gs → HaveWays (first_ways gs) gs
-have_first [] a = tt
-have_first (g ∷ gs) a = a
+put_onto : (g h : Partial Key Sums) (hs : Gathered) → key_order g.key h.key ≡ Equal → put_group key_order add_own_sums g (h ∷ hs) ≡ onto g h ∷ hs
+put_onto g h hs e = ap (λ o. put_by add_own_sums o g h hs (put_group key_order add_own_sums g hs)) e
+
+-- ---- lists
 
 each_front : {X : Type 0} (P : X → Type 0) (xs ys : List X) → Each P (xs ++ ys) → Each P xs
 each_front P [] ys h = tt
@@ -140,142 +145,139 @@ each_both : {X : Type 0} (P : X → Type 0) (xs ys : List X) → Each P xs → E
 each_both P [] ys h k = k
 each_both P (x ∷ xs) ys h k = (h.0, each_both P xs ys h.1 k)
 
--- What is known of two groups of a pile and of the others.
-record Laid (parts : List Part) (out : List Mark) (last mark : Mark) (rest : List Mark) : Type 0 where
-  own : List Way
-  groups : map (group_of parts) (out ++ (last ∷ (mark ∷ rest))) ≡ map (group_of parts) out ++ (group_of parts last ∷ (group_of parts mark ∷ map (group_of parts) rest))
-  out_there : Each (IsThere (length parts)) out
-  last_there : IsThere (length parts) last
-  mark_there : IsThere (length parts) mark
-  rest_there : Each (IsThere (length parts)) rest
-  out_ways : HaveWays own (map (group_of parts) out)
-  last_ways : ways_in (group_of parts last) ≡ own
-  mark_ways : ways_in (group_of parts mark) ≡ own
-  rest_ways : HaveWays own (map (group_of parts) rest)
-  out_small : Each IsSmallGroup (map (group_of parts) out)
-  last_small : IsSmallGroup (group_of parts last)
-  mark_small : IsSmallGroup (group_of parts mark)
-  rest_small : Each IsSmallGroup (map (group_of parts) rest)
-  few : rows_in (map (group_of parts) out) + (last.rows + (mark.rows + rows_in (map (group_of parts) rest))) ≤ most_rows
+each_reversed : {X : Type 0} (P : X → Type 0) (xs : List X) → Each P xs → Each P (reverse xs)
+each_reversed P [] h = tt
+each_reversed P (x ∷ xs) h = subst (Each P) (sym (reverse-append (x ∷ []) xs)) (each_both P (reverse xs) (x ∷ []) (each_reversed P xs h.1) (h.0, tt))
 
-rows_of_two : (o r : Gathered) (a b : Partial Key Sums) → rows_in (o ++ (a ∷ (b ∷ r))) ≡ rows_in o + (a.part.rows + (b.part.rows + rows_in r))
-rows_of_two o r a b =
-    let f : Partial Key Sums → ℕ = λ g. g.part.rows in
-    omega (arith, sum_by-append f o (a ∷ (b ∷ r)), sum_by-cons f a (b ∷ r), sum_by-cons f b r)
+abbrev first_ways : Gathered → List Way
+first_ways [] = []
+first_ways (g ∷ gs) = ways_in g
 
-rows_of_one : (o r : Gathered) (a : Partial Key Sums) → rows_in (o ++ (a ∷ r)) ≡ rows_in o + (a.part.rows + rows_in r)
-rows_of_one o r a =
-    let f : Partial Key Sums → ℕ = λ g. g.part.rows in
-    omega (arith, sum_by-append f o (a ∷ r), sum_by-cons f a r)
-
-laid : (parts : List Part) (out : List Mark) (last mark : Mark) (rest : List Mark) → ArePiled parts (out ++ (last ∷ (mark ∷ rest))) → Laid parts out last mark rest
-laid parts out last mark rest p =
-    let G : Mark → Partial Key Sums = group_of parts in
-    let marks : List Mark = out ++ (last ∷ (mark ∷ rest)) in
-    let groups : map G marks ≡ map G out ++ (G last ∷ (G mark ∷ map G rest)) = map-append G out (last ∷ (mark ∷ rest)) in
-    let own : List Way = first_ways (map G marks) in
-    let there : Each (IsThere (length parts)) marks = recursion_from_All (IsThere (length parts)) marks p.there in
-    let back = each_back (IsThere (length parts)) out (last ∷ (mark ∷ rest)) there in
-    let ws : HaveWays own (map G out ++ (G last ∷ (G mark ∷ map G rest))) = subst (HaveWays own) groups (have_first (map G marks) p.alike) in
-    let wback = each_back (λ g. ways_in g ≡ own) (map G out) (G last ∷ (G mark ∷ map G rest)) ws in
-    let ss : Each IsSmallGroup (map G out ++ (G last ∷ (G mark ∷ map G rest))) = subst (Each IsSmallGroup) groups p.small in
-    let sback = each_back IsSmallGroup (map G out) (G last ∷ (G mark ∷ map G rest)) ss in
-    record {
-      own = own;
-      groups = groups;
-      out_there = each_front (IsThere (length parts)) out (last ∷ (mark ∷ rest)) there;
-      last_there = back.0;
-      mark_there = back.1.0;
-      rest_there = back.1.1;
-      out_ways = each_front (λ g. ways_in g ≡ own) (map G out) (G last ∷ (G mark ∷ map G rest)) ws;
-      last_ways = wback.0;
-      mark_ways = wback.1.0;
-      rest_ways = wback.1.1;
-      out_small = each_front IsSmallGroup (map G out) (G last ∷ (G mark ∷ map G rest)) ss;
-      last_small = sback.0;
-      mark_small = sback.1.0;
-      rest_small = sback.1.1;
-      few = omega (arith, p.few, ap rows_in groups, rows_of_two (map G out) (map G rest) (G last) (G mark));
-    }
+have_first : (gs : Gathered) → AreAlike gs → HaveWays (first_ways gs) gs
+have_first [] a = tt
+have_first (g ∷ gs) a = a
 
 parts_long : (parts : List Part) (m : Mark) → IsThere (length parts) m → length (parts_of parts m) ≡ m.to - m.from
 parts_long parts m h = omega (arith, h.order, h.there, length-take (m.to - m.from) (drop m.from parts), length-drop m.from parts)
-
--- two groups of a pile may be added up
-pub two_fit : (parts : List Part) (out : List Mark) (last mark : Mark) (rest : List Mark) → ArePiled parts (out ++ (last ∷ (mark ∷ rest))) → TwoFit parts last mark
-two_fit parts out last mark rest p =
-    let l = laid parts out last mark rest p in
-    let same : ways (parts_of parts last) ≡ ways (parts_of parts mark) = Laid.last_ways l ∙ sym (Laid.mark_ways l) in
-    let few : last.rows + mark.rows ≤ most_rows = omega (arith, Laid.few l) in
-    record {
-      last_there = Laid.last_there l;
-      mark_there = Laid.mark_there l;
-      wide = sym (parts_long parts mark (Laid.mark_there l)) ∙ sym (same_long (parts_of parts last) (parts_of parts mark) same) ∙ parts_long parts last (Laid.last_there l);
-      rows = few;
-      add = all_may_add last.rows mark.rows (parts_of parts last) (parts_of parts mark) few (Laid.last_small l) (Laid.mark_small l);
-    }
 
 take_all : (ps : List Part) → take (length ps) ps ≡ ps
 take_all [] = refl
 take_all (p ∷ ps) = ap (λ l. p ∷ l) (take_all ps)
 
-more_there : (a b : ℕ) (ms : List Mark) → a ≤ b → Each (IsThere a) ms → Each (IsThere b) ms
-more_there a b [] l h = tt
-more_there a b (m ∷ ms) l h = (record { order = IsThere.order h.0; there = omega (arith, l, IsThere.there h.0) }, more_there a b ms l h.1)
+pub none_left : (ms : List Mark) → length ms ≡ 0 → ms ≡ []
+none_left [] e = refl
+none_left (m ∷ ms) e = absurd (omega (arith, e))
+
+-- ---- the new pile
 
 abbrev group_with : Key → ℕ → List Part → Partial Key Sums
 group_with key rows parts = record { key = key; part = record { rows = rows; parts = parts } }
 
--- the sum of the two, its parts behind all others
-both_is : (parts sums : List Part) (last mark : Mark) → length sums ≡ last.to - last.from → sums ≡ sums_of parts last mark → group_of (parts ++ sums) (both_of parts last mark) ≡ added (group_of parts last) (group_of parts mark)
-both_is parts sums last mark long e =
-    let n : ℕ = length parts in
-    let width : (n + (last.to - last.from)) - n ≡ length sums = omega (arith, long) in
-    ap (group_with last.key (last.rows + mark.rows))
-    (ap (λ k. take k (drop n (parts ++ sums))) width ∙ ap (take (length sums)) (drop-append_seam parts sums) ∙ take_all sums ∙ e)
+-- so many parts behind all others
+behind_is : (fresh more : List Part) (w : ℕ) → length more ≡ w → take ((length fresh + w) - length fresh) (drop (length fresh) (fresh ++ more)) ≡ more
+behind_is fresh more w e =
+    let width : (length fresh + w) - length fresh ≡ length more = omega (arith, e) in
+    ap (λ k. take k (drop (length fresh) (fresh ++ more))) width ∙ ap (take (length more)) (drop-append_seam fresh more) ∙ take_all more
 
--- the pile with the sum in the place of the two is seen as it was
-pub merged : (parts : List Part) (out : List Mark) (last mark : Mark) (rest : List Mark) → last.key ≡ mark.key → ArePiled parts (out ++ (last ∷ (mark ∷ rest))) → IsAs parts (out ++ (last ∷ (mark ∷ rest))) (parts ++ sums_of parts last mark) (out ++ (both_of parts last mark ∷ rest))
-merged parts out last mark rest key p =
-    let l = laid parts out last mark rest p in
-    let G : Mark → Partial Key Sums = group_of parts in
-    let sums : List Part = sums_of parts last mark in
-    let both : Mark = both_of parts last mark in
-    let a : Partial Key Sums = G last in
-    let b : Partial Key Sums = G mark in
-    let same : ways (parts_of parts last) ≡ ways (parts_of parts mark) = Laid.last_ways l ∙ sym (Laid.mark_ways l) in
-    let long : length sums ≡ last.to - last.from = add_long (parts_of parts last) (parts_of parts mark) (same_long (parts_of parts last) (parts_of parts mark) same) ∙ parts_long parts last (Laid.last_there l) in
-    let groups : map (group_of (parts ++ sums)) (out ++ (both ∷ rest)) ≡ map G out ++ (added a b ∷ map G rest) =
-    map-append (group_of (parts ++ sums)) out (both ∷ rest)
-    ∙ ap (λ xs. xs ++ map (group_of (parts ++ sums)) (both ∷ rest)) (groups_grow parts sums out (Laid.out_there l))
-    ∙ ap (λ c. map G out ++ (c ∷ map (group_of (parts ++ sums)) rest)) (both_is parts sums last mark long refl)
-    ∙ ap (λ xs. map G out ++ (added a b ∷ xs)) (groups_grow parts sums rest (Laid.rest_there l))
-    in
-    let sum_has : ways_in (added a b) ≡ Laid.own l = sum_ways (parts_of parts last) (parts_of parts mark) same ∙ Laid.last_ways l in
-    let small : IsSmallGroup (added a b) = all_small last.rows mark.rows (parts_of parts last) (parts_of parts mark) same (Laid.last_small l) (Laid.mark_small l) in
-    let more : length parts ≤ length (parts ++ sums) = omega (arith, length-append parts sums) in
-    let there : IsThere (length (parts ++ sums)) both = record { order = omega arith; there = omega (arith, length-append parts sums, long) } in
+stacked_push : (fresh more : List Part) (out : List Mark) (m : Mark) → Each (IsThere (length fresh)) out → stacked (fresh ++ more) (out ++ m ∷ []) ≡ group_of (fresh ++ more) m ∷ stacked fresh out
+stacked_push fresh more out m h =
+    ap (map (group_of (fresh ++ more))) (reverse-append out (m ∷ []))
+    ∙ ap (λ l. group_of (fresh ++ more) m ∷ l) (groups_grow fresh more (reverse out) (each_reversed (IsThere (length fresh)) out h))
+
+stacked_last : (fresh : List Part) (out : List Mark) (last : Mark) → stacked fresh (out ++ last ∷ []) ≡ group_of fresh last ∷ stacked fresh out
+stacked_last fresh out last = ap (map (group_of fresh)) (reverse-append out (last ∷ []))
+
+alone_put : (parts fresh : List Part) (out : List Mark) (mark : Mark) → IsThere (length parts) mark → Each (IsThere (length fresh)) out → stacked (fresh ++ parts_of parts mark) (out ++ placed (length fresh) mark ∷ []) ≡ group_of parts mark ∷ stacked fresh out
+alone_put parts fresh out mark h k =
+    stacked_push fresh (parts_of parts mark) out (placed (length fresh) mark) k
+    ∙ ap (λ g. g ∷ stacked fresh out) (ap (group_with mark.key mark.rows) (behind_is fresh (parts_of parts mark) (width_of mark) (parts_long parts mark h)))
+
+fit_long : (parts fresh : List Part) (mark last : Mark) → TwoFit parts mark fresh last → length (add_own_parts (parts_of parts mark) (parts_of fresh last)) ≡ width_of mark
+fit_long parts fresh mark last f =
+    let mine : length (parts_of parts mark) ≡ width_of mark = parts_long parts mark f.mark_there in
+    add_long (parts_of parts mark) (parts_of fresh last) (mine ∙ sym f.wide ∙ sym (parts_long fresh last f.last_there)) ∙ mine
+
+sum_put : (parts fresh : List Part) (out : List Mark) (mark last : Mark) → TwoFit parts mark fresh last → Each (IsThere (length fresh)) out → stacked (fresh ++ add_own_parts (parts_of parts mark) (parts_of fresh last)) (out ++ summed (length fresh) mark last ∷ []) ≡ onto (group_of parts mark) (group_of fresh last) ∷ stacked fresh out
+sum_put parts fresh out mark last f k =
+    let sums : List Part = add_own_parts (parts_of parts mark) (parts_of fresh last) in
+    stacked_push fresh sums out (summed (length fresh) mark last) k
+    ∙ ap (λ g. g ∷ stacked fresh out) (ap (group_with last.key (mark.rows + last.rows)) (behind_is fresh sums (width_of mark) (fit_long parts fresh mark last f)))
+
+-- ---- where the parts stand
+
+more_there : (a b : ℕ) (ms : List Mark) → a ≤ b → Each (IsThere a) ms → Each (IsThere b) ms
+more_there a b [] l h = tt
+more_there a b (m ∷ ms) l h = (record { order = IsThere.order h.0; there = omega (arith, l, IsThere.there h.0) }, more_there a b ms l h.1)
+
+behind_there : (fresh more : List Part) (out : List Mark) (m : Mark) → m.from ≡ length fresh → m.to ≡ length fresh + length more → Each (IsThere (length fresh)) out → All (IsThere (length (fresh ++ more))) (out ++ m ∷ [])
+behind_there fresh more out m a b h =
+    let long : length (fresh ++ more) ≡ length fresh + length more = length-append fresh more in
+    All-from_recursion (IsThere (length (fresh ++ more))) (out ++ m ∷ [])
+    (each_both (IsThere (length (fresh ++ more))) out (m ∷ []) (more_there (length fresh) (length (fresh ++ more)) out (omega (arith, long)) h) (record { order = omega (arith, a, b); there = omega (arith, b, long) }, tt))
+
+pub alone_there : (parts fresh : List Part) (out : List Mark) (mark : Mark) → IsThere (length parts) mark → All (IsThere (length fresh)) out → All (IsThere (length (fresh ++ parts_of parts mark))) (out ++ placed (length fresh) mark ∷ [])
+alone_there parts fresh out mark h k =
+    behind_there fresh (parts_of parts mark) out (placed (length fresh) mark) refl (ap (λ n. length fresh + n) (sym (parts_long parts mark h))) (recursion_from_All (IsThere (length fresh)) out k)
+
+pub sum_there : (parts fresh : List Part) (out : List Mark) (mark last : Mark) → TwoFit parts mark fresh last → All (IsThere (length fresh)) (out ++ last ∷ []) → All (IsThere (length (fresh ++ add_own_parts (parts_of parts mark) (parts_of fresh last)))) (out ++ summed (length fresh) mark last ∷ [])
+sum_there parts fresh out mark last f k =
+    behind_there fresh (add_own_parts (parts_of parts mark) (parts_of fresh last)) out (summed (length fresh) mark last) refl (ap (λ n. length fresh + n) (sym (fit_long parts fresh mark last f)))
+    (each_front (IsThere (length fresh)) out (last ∷ []) (recursion_from_All (IsThere (length fresh)) (out ++ last ∷ []) k))
+
+-- ---- one group more
+
+pub put_first : (parts fresh : List Part) (mark : Mark) → IsThere (length parts) mark → stacked (fresh ++ parts_of parts mark) ([] ++ placed (length fresh) mark ∷ []) ≡ put_group key_order add_own_sums (group_of parts mark) (stacked fresh [])
+put_first parts fresh mark h = alone_put parts fresh [] mark h tt
+
+may_first : (parts fresh : List Part) (out : List Mark) (mark last : Mark) → MayPut (group_of parts mark) (stacked fresh (out ++ last ∷ [])) → MayPut (group_of parts mark) (group_of fresh last ∷ stacked fresh out)
+may_first parts fresh out mark last m = subst (MayPut (group_of parts mark)) (stacked_last fresh out last) m
+
+-- the group and the last one may be added up
+pub two_fit : (parts fresh : List Part) (out : List Mark) (mark last : Mark) → IsThere (length parts) mark → All (IsThere (length fresh)) (out ++ last ∷ []) → MayPut (group_of parts mark) (stacked fresh (out ++ last ∷ [])) → TwoFit parts mark fresh last
+two_fit parts fresh out mark last h k may =
+    let m = may_first parts fresh out mark last may in
+    let there : IsThere (length fresh) last = (each_back (IsThere (length fresh)) out (last ∷ []) (recursion_from_All (IsThere (length fresh)) (out ++ last ∷ []) k)).0 in
+    let same : ways (parts_of parts mark) ≡ ways (parts_of fresh last) = m.1 in
     record {
-      piled = record {
-        there = All-from_recursion (IsThere (length (parts ++ sums))) (out ++ (both ∷ rest))
-            (each_both (IsThere (length (parts ++ sums))) out (both ∷ rest) (more_there _ _ out more (Laid.out_there l)) (there, more_there _ _ rest more (Laid.rest_there l)));
-        alike = subst AreAlike (sym groups) (alike_from (Laid.own l) _ (each_both (λ g. ways_in g ≡ Laid.own l) (map G out) (added a b ∷ map G rest) (Laid.out_ways l) (sum_has, Laid.rest_ways l)));
-        small = subst (Each IsSmallGroup) (sym groups) (each_both IsSmallGroup (map G out) (added a b ∷ map G rest) (Laid.out_small l) (small, Laid.rest_small l));
-        few = omega (arith, ap rows_in groups, rows_of_one (map G out) (map G rest) (added a b), Laid.few l);
-      };
-      same =
-          ap (gather key_order add_own_sums) groups
-          ∙ added_among (Laid.own l) (map G out) (map G rest) a b key (Laid.out_ways l) (Laid.rest_ways l) (Laid.last_ways l, (Laid.mark_ways l, tt)) (sum_has, tt)
-          ∙ sym (ap (gather key_order add_own_sums) (Laid.groups l));
+      mark_there = h;
+      last_there = there;
+      wide = sym (parts_long fresh last there) ∙ sym (same_long (parts_of parts mark) (parts_of fresh last) same) ∙ parts_long parts mark h;
+      rows = m.4;
+      add = all_may_add mark.rows last.rows (parts_of parts mark) (parts_of fresh last) m.4 m.2 m.3;
     }
 
--- ---- the loop
+pub put_sums_up : (parts fresh : List Part) (out : List Mark) (mark last : Mark) → IsThere (length parts) mark → All (IsThere (length fresh)) (out ++ last ∷ []) → MayPut (group_of parts mark) (stacked fresh (out ++ last ∷ [])) → is_eq (key_order mark.key last.key) ≡ true → stacked (fresh ++ add_own_parts (parts_of parts mark) (parts_of fresh last)) (out ++ summed (length fresh) mark last ∷ []) ≡ put_group key_order add_own_sums (group_of parts mark) (stacked fresh (out ++ last ∷ []))
+put_sums_up parts fresh out mark last h k may e =
+    let front : Each (IsThere (length fresh)) out = each_front (IsThere (length fresh)) out (last ∷ []) (recursion_from_All (IsThere (length fresh)) (out ++ last ∷ []) k) in
+    sum_put parts fresh out mark last (two_fit parts fresh out mark last h k may) front
+    ∙ sym (ap (put_group key_order add_own_sums (group_of parts mark)) (stacked_last fresh out last) ∙ put_onto (group_of parts mark) (group_of fresh last) (stacked fresh out) (is_equal (key_order mark.key last.key) e))
 
-pub as_itself : (parts : List Part) (marks : List Mark) → ArePiled parts marks → IsAs parts marks parts marks
-as_itself parts marks p = record { piled = p; same = refl }
+pub put_before_last : (parts fresh : List Part) (out : List Mark) (mark last : Mark) → IsThere (length parts) mark → All (IsThere (length fresh)) (out ++ last ∷ []) → MayPut (group_of parts mark) (stacked fresh (out ++ last ∷ [])) → is_eq (key_order mark.key last.key) ≡ false → stacked (fresh ++ parts_of parts mark) ((out ++ last ∷ []) ++ placed (length fresh) mark ∷ []) ≡ put_group key_order add_own_sums (group_of parts mark) (stacked fresh (out ++ last ∷ []))
+put_before_last parts fresh out mark last h k may e =
+    let m = may_first parts fresh out mark last may in
+    alone_put parts fresh (out ++ last ∷ []) mark h (recursion_from_All (IsThere (length fresh)) (out ++ last ∷ []) k)
+    ∙ ap (λ s. group_of parts mark ∷ s) (stacked_last fresh out last)
+    ∙ sym (ap (put_group key_order add_own_sums (group_of parts mark)) (stacked_last fresh out last) ∙ put_before (group_of parts mark) (group_of fresh last) (stacked fresh out) (is_less mark.key last.key m.0 e))
 
-pub as_then : (a b c : List Part) (x y z : List Mark) → IsAs a x b y → IsAs b y c z → IsAs a x c z
-as_then a b c x y z h k = record { piled = k.piled; same = k.same ∙ h.same }
+-- ---- what is gathered of small groups is small
+
+small_by : (own : List Way) (g h : Partial Key Sums) (hs put : Gathered) → ways_in g ≡ own → ways_in h ≡ own → IsSmallGroup g → IsSmallGroup h → Each IsSmallGroup hs → Each IsSmallGroup put → (o : Ordering) → Each IsSmallGroup (put_by add_own_sums o g h hs put)
+small_by own g h hs put a b sg sh shs sp Less = (sg, (sh, shs))
+small_by own g h hs put a b sg sh shs sp Equal = (all_small g.part.rows h.part.rows g.part.parts h.part.parts (a ∙ sym b) sg sh, shs)
+small_by own g h hs put a b sg sh shs sp Greater = (sh, sp)
+
+put_small : (own : List Way) (g : Partial Key Sums) (hs : Gathered) → ways_in g ≡ own → HaveWays own hs → IsSmallGroup g → Each IsSmallGroup hs → Each IsSmallGroup (put_group key_order add_own_sums g hs)
+put_small own g [] a b sg shs = (sg, tt)
+put_small own g (h ∷ hs) a b sg shs = small_by own g h hs (put_group key_order add_own_sums g hs) a b.0 sg shs.0 shs.1 (put_small own g hs a b.1 sg shs.1) (key_order g.key h.key)
+
+gathered_small : (own : List Way) (gs : Gathered) → HaveWays own gs → Each IsSmallGroup gs → Each IsSmallGroup (gather key_order add_own_sums gs)
+gathered_small own [] h s = tt
+gathered_small own (g ∷ gs) h s = put_small own g (gather key_order add_own_sums gs) h.0 (gathered_have own gs h.1) s.0 (gathered_small own gs h.1 s.1)
+
+-- what holds of all keys holds of those that are gathered
+gathered_keys : (Q : Key → Type 0) (gs : Gathered) → Each (λ g. Q g.key) gs → Each (λ g. Q g.key) (gather key_order add_own_sums gs)
+gathered_keys Q [] h = tt
+gathered_keys Q (g ∷ gs) h = put_each key_order add_own_sums Q g (gather key_order add_own_sums gs) h.0 (gathered_keys Q gs h.1)
 
 -- the order plays no part
 pub as_permuted : (parts : List Part) (xs ys : List Mark) → ArePiled parts xs → IsPermutation xs ys → IsAs parts xs parts ys
@@ -294,31 +296,178 @@ as_permuted parts xs ys p m =
       same = own_permuted own (map G xs) (map G ys) have groups;
     }
 
--- the two that are added up, whatever comes behind
-pub merge_settles : (parts : List Part) (out : List Mark) (last mark : Mark) → last.key ≡ mark.key → Settles parts (out ++ (last ∷ (mark ∷ []))) (parts ++ sums_of parts last mark) (out ++ (both_of parts last mark ∷ []))
-merge_settles parts out last mark key rest p =
-    let old : (out ++ (last ∷ (mark ∷ []))) ++ rest ≡ out ++ (last ∷ (mark ∷ rest)) = append_assoc out (last ∷ (mark ∷ [])) rest in
-    let new : (out ++ (both_of parts last mark ∷ [])) ++ rest ≡ out ++ (both_of parts last mark ∷ rest) = append_assoc out (both_of parts last mark ∷ []) rest in
-    subst (λ ms. IsAs parts ms (parts ++ sums_of parts last mark) ((out ++ (both_of parts last mark ∷ [])) ++ rest)) (sym old)
-    (subst (λ ms. IsAs parts (out ++ (last ∷ (mark ∷ rest))) (parts ++ sums_of parts last mark) ms) (sym new)
-    (merged parts out last mark rest key (subst (ArePiled parts) old p)))
+-- ---- how many parts a group has
 
-pub front_fits : (parts : List Part) (out : List Mark) (last mark : Mark) (rest : List Mark) → ArePiled parts ((out ++ (last ∷ (mark ∷ []))) ++ rest) → TwoFit parts last mark
-front_fits parts out last mark rest p = two_fit parts out last mark rest (subst (ArePiled parts) (append_assoc out (last ∷ (mark ∷ [])) rest) p)
+abbrev HaveWidth : ℕ → List Mark → Type 0
+HaveWidth n marks = Each (λ m. width_of m ≡ n) marks
 
--- a group that is put behind the last one
-pub step_settles : (parts : List Part) (old out : List Mark) (last mark : Mark) (now : List Part) (new : List Mark) → old ≡ out ++ (last ∷ []) → Settles parts (out ++ (last ∷ (mark ∷ []))) now new → Settles parts (old ++ (mark ∷ [])) now new
-step_settles parts old out last mark now new e s =
-    subst (λ ms. Settles parts ms now new) (sym (ap (λ o. o ++ (mark ∷ [])) e ∙ append_assoc out (last ∷ []) (mark ∷ []))) s
+ways_long : (parts : List Part) (m : Mark) (own : List Way) → IsThere (length parts) m → ways_in (group_of parts m) ≡ own → width_of m ≡ length own
+ways_long parts m own h e = sym (parts_long parts m h) ∙ sym (length-map (parts_of parts m) (λ p. p.way)) ∙ ap length e
 
-pub step_front : (old out : List Mark) (last mark : Mark) → old ≡ out ++ (last ∷ []) → old ++ (mark ∷ []) ≡ out ++ (last ∷ (mark ∷ []))
-step_front old out last mark e = ap (λ o. o ++ (mark ∷ [])) e ∙ append_assoc out (last ∷ []) (mark ∷ [])
+each_width : (parts : List Part) (own : List Way) (n : ℕ) (marks : List Mark) → n ≡ length own → Each (IsThere (length parts)) marks → HaveWays own (map (group_of parts) marks) → HaveWidth n marks
+each_width parts own n [] e h w = tt
+each_width parts own n (m ∷ marks) e h w = (ways_long parts m own h.0 w.0 ∙ sym e, each_width parts own n marks e h.1 w.1)
 
--- the next group of the loop stands between what is done and what is left
-pub next_as : (start parts : List Part) (marks out left rest : List Mark) (mark : Mark) → IsAs start marks parts (out ++ left) → left ≡ rest ++ (mark ∷ []) → IsAs start marks parts ((out ++ (mark ∷ [])) ++ rest)
-next_as start parts marks out left rest mark h e =
-    let moved : IsPermutation (out ++ left) ((out ++ (mark ∷ [])) ++ rest) =
-    subst (λ l. IsPermutation (out ++ l) ((out ++ (mark ∷ [])) ++ rest)) (sym e)
-    (subst (IsPermutation (out ++ (rest ++ (mark ∷ [])))) (sym (append_assoc out (mark ∷ []) rest)) (IsPermutation-append_right out (rest ++ (mark ∷ [])) (mark ∷ rest) (IsPermutation-to_front rest mark)))
-    in
-    as_then start parts parts marks (out ++ left) ((out ++ (mark ∷ [])) ++ rest) h (as_permuted parts (out ++ left) ((out ++ (mark ∷ [])) ++ rest) h.piled moved)
+pub same_width : (parts : List Part) (marks : List Mark) → ArePiled parts marks → HaveWidth (width_in marks) marks
+same_width parts [] p = tt
+same_width parts (m ∷ marks) p =
+    let there : Each (IsThere (length parts)) (m ∷ marks) = recursion_from_All (IsThere (length parts)) (m ∷ marks) p.there in
+    each_width parts (ways_in (group_of parts m)) (width_of m) (m ∷ marks) (ways_long parts m (ways_in (group_of parts m)) there.0 refl) there p.alike
+
+-- the first of some groups
+pub first_width : (marks : List Mark) (d : Mark) → 0 < length marks → width_of (get_or marks 0 d) ≡ width_in marks
+first_width [] d h = absurd (omega (arith, h))
+first_width (m ∷ marks) d h = refl
+
+pub no_width : (marks : List Mark) → length marks ≡ 0 → 0 ≡ width_in marks
+no_width [] e = refl
+no_width (m ∷ marks) e = absurd (omega (arith, e))
+
+-- ---- the loop
+
+abbrev mark_order : Mark → Mark → Ordering
+mark_order = on (λ m. m.key) key_order
+
+-- The groups that were taken are gathered in the new pile; the others are left.
+pub record Halfway (parts : List Part) (marks left : List Mark) (fresh : List Part) (out : List Mark) : Type 0 where
+  pub taken : List Mark
+  pub piled : ArePiled parts (left ++ taken)
+  pub same : pile_of parts (left ++ taken) ≡ pile_of parts marks
+  pub up : Ascends mark_order (left ++ taken)
+  pub wide : HaveWidth (width_in marks) left
+  pub done : stacked fresh out ≡ pile_of parts taken
+  pub there : All (IsThere (length fresh)) out
+
+pub at_first : (parts : List Part) (marks sorted : List Mark) (fresh : List Part) (out : List Mark) → ArePiled parts marks → IsPermutation marks sorted → IsSorted mark_order sorted → fresh ≡ [] → out ≡ [] → Halfway parts marks sorted fresh out
+at_first parts marks sorted fresh out p m s e f =
+    let same : IsAs parts marks parts sorted = as_permuted parts marks sorted p m in
+    let whole : sorted ++ [] ≡ sorted = append-nil sorted in
+    record {
+      taken = [];
+      piled = subst (ArePiled parts) (sym whole) same.piled;
+      same = ap (pile_of parts) whole ∙ same.same;
+      up = subst (Ascends mark_order) (sym whole) (sorted_ascends mark_order (on_total (λ (x : Mark). x.key) key_total) sorted s);
+      wide = recursion_from_All (λ x. width_of x ≡ width_in marks) sorted (All-permutation (λ x. width_of x ≡ width_in marks) marks sorted m (All-from_recursion (λ x. width_of x ≡ width_in marks) marks (same_width parts marks p)));
+      done = ap (λ o. stacked fresh o) f;
+      there = subst (λ o. All (IsThere (length fresh)) o) (sym f) (All-from_recursion (IsThere (length fresh)) [] tt);
+    }
+
+ascends_back : (xs ys : List Mark) → Ascends mark_order (xs ++ ys) → Ascends mark_order ys
+ascends_back [] ys h = h
+ascends_back (x ∷ xs) ys h = ascends_back xs ys h.1
+
+-- What is known of the next group.
+pub record Next (parts : List Part) (marks rest taken : List Mark) (mark : Mark) : Type 0 where
+  pub piled : ArePiled parts (rest ++ (mark ∷ taken))
+  pub same : pile_of parts (rest ++ (mark ∷ taken)) ≡ pile_of parts marks
+  pub up : Ascends mark_order (rest ++ (mark ∷ taken))
+  pub wide : HaveWidth (width_in marks) (rest ++ (mark ∷ []))
+
+pub next_of : (parts : List Part) (marks left rest : List Mark) (mark : Mark) (fresh : List Part) (out : List Mark) (h : Halfway parts marks left fresh out) → left ≡ rest ++ (mark ∷ []) → Next parts marks rest h.taken mark
+next_of parts marks left rest mark fresh out h e =
+    let whole : left ++ h.taken ≡ rest ++ (mark ∷ h.taken) = ap (λ l. l ++ h.taken) e ∙ append_assoc rest (mark ∷ []) h.taken in
+    record {
+      piled = subst (ArePiled parts) whole h.piled;
+      same = ap (pile_of parts) (sym whole) ∙ h.same;
+      up = subst (Ascends mark_order) whole h.up;
+      wide = subst (HaveWidth (width_in marks)) e h.wide;
+    }
+
+pub next_there : (parts : List Part) (marks rest taken : List Mark) (mark : Mark) → Next parts marks rest taken mark → IsThere (length parts) mark
+next_there parts marks rest taken mark n = (each_back (IsThere (length parts)) rest (mark ∷ taken) (recursion_from_All (IsThere (length parts)) (rest ++ (mark ∷ taken)) n.piled.there)).0
+
+pub next_wide : (parts : List Part) (marks rest taken : List Mark) (mark : Mark) → Next parts marks rest taken mark → width_of mark ≡ width_in marks
+next_wide parts marks rest taken mark n = (each_back (λ m. width_of m ≡ width_in marks) rest (mark ∷ []) n.wide).0
+
+each_key : (parts : List Part) (Q : Key → Type 0) (marks : List Mark) → Each (λ m. Q m.key) marks → Each (λ g. Q g.key) (map (group_of parts) marks)
+each_key parts Q [] h = tt
+each_key parts Q (m ∷ marks) h = (h.0, each_key parts Q marks h.1)
+
+-- by the first of what is gathered
+may_by : (own : List Way) (g : Partial Key Sums) (hs : Gathered) → Each (λ h. is_lt (key_order h.key g.key) ≡ false) hs → ways_in g ≡ own → HaveWays own hs → IsSmallGroup g → Each IsSmallGroup hs → g.part.rows + rows_in hs ≤ most_rows → MayPut g hs
+may_by own g [] k a b s t r = tt
+may_by own g (h ∷ hs) k a b s t r = (k.0, a ∙ sym b.0, s, t.0, omega (arith, r, sum_by-cons (λ (x : Partial Key Sums). x.part.rows) h hs))
+
+pub may_put : (parts : List Part) (marks rest taken : List Mark) (mark : Mark) → Next parts marks rest taken mark → MayPut (group_of parts mark) (pile_of parts taken)
+may_put parts marks rest taken mark n =
+    let G : Mark → Partial Key Sums = group_of parts in
+    let all : List Mark = rest ++ (mark ∷ taken) in
+    let groups : map G all ≡ map G rest ++ (G mark ∷ map G taken) = map-append G rest (mark ∷ taken) in
+    let own : List Way = first_ways (map G all) in
+    let w = each_back (λ g. ways_in g ≡ own) (map G rest) (G mark ∷ map G taken) (subst (HaveWays own) groups (have_first (map G all) n.piled.alike)) in
+    let s = each_back IsSmallGroup (map G rest) (G mark ∷ map G taken) (subst (Each IsSmallGroup) groups n.piled.small) in
+    let u = ascends_back rest (mark ∷ taken) n.up in
+    may_by own (G mark) (pile_of parts taken)
+    (gathered_keys (λ k. is_lt (key_order k mark.key) ≡ false) (map G taken) (each_key parts (λ k. is_lt (key_order k mark.key) ≡ false) taken u.0))
+    w.0 (gathered_have own (map G taken) w.1) s.0 (gathered_small own (map G taken) w.1 s.1)
+    (omega (arith, n.piled.few, ap rows_in groups, sum_by-append (λ (x : Partial Key Sums). x.part.rows) (map G rest) (G mark ∷ map G taken), sum_by-cons (λ (x : Partial Key Sums). x.part.rows) (G mark) (map G taken), own_rows own (map G taken) w.1))
+
+pub one_more : (parts : List Part) (marks left rest : List Mark) (mark : Mark) (fresh now : List Part) (out new : List Mark) (h : Halfway parts marks left fresh out) → Next parts marks rest h.taken mark → stacked now new ≡ put_group key_order add_own_sums (group_of parts mark) (stacked fresh out) → All (IsThere (length now)) new → Halfway parts marks rest now new
+one_more parts marks left rest mark fresh now out new h n e t = record {
+  taken = mark ∷ h.taken;
+  piled = n.piled;
+  same = n.same;
+  up = n.up;
+  wide = each_front (λ m. width_of m ≡ width_in marks) rest (mark ∷ []) n.wide;
+  done = e ∙ ap (put_group key_order add_own_sums (group_of parts mark)) h.done;
+  there = t;
+}
+
+-- room for the parts of one group goes
+pub mul_less : (n m w : ℕ) → m + 1 ≡ n → n * w ≡ m * w + w
+mul_less n m w e =
+    let next : n ≡ suc m = omega (arith, e) in
+    ap (λ k. k * w) next ∙ omega arith
+
+-- ---- what is left in the end
+
+pub settled_is : (parts : List Part) (marks left : List Mark) (fresh : List Part) (out : List Mark) → Halfway parts marks left fresh out → left ≡ [] → stacked fresh out ≡ pile_of parts marks
+settled_is parts marks left fresh out h e = h.done ∙ sym (ap (λ l. pile_of parts (l ++ h.taken)) e) ∙ h.same
+
+-- what a pile comes to is a pile
+pub settled_piled : (parts : List Part) (marks : List Mark) (fresh : List Part) (new : List Mark) → ArePiled parts marks → map (group_of fresh) new ≡ pile_of parts marks → All (IsThere (length fresh)) new → ArePiled fresh new
+settled_piled parts marks fresh new p e t =
+    let gs : Gathered = map (group_of parts) marks in
+    let own : List Way = first_ways gs in
+    let have : HaveWays own gs = have_first gs p.alike in
+    record {
+      there = t;
+      alike = subst AreAlike (sym e) (alike_from own (pile_of parts marks) (gathered_have own gs have));
+      small = subst (Each IsSmallGroup) (sym e) (gathered_small own gs have p.small);
+      few = omega (arith, p.few, ap rows_in e, own_rows own gs have);
+    }
+
+pub reversed_there : (fresh : List Part) (out : List Mark) → All (IsThere (length fresh)) out → All (IsThere (length fresh)) (reverse out)
+reversed_there fresh out h = All-from_recursion (IsThere (length fresh)) (reverse out) (each_reversed (IsThere (length fresh)) out (recursion_from_All (IsThere (length fresh)) out h))
+
+-- a pile that was settled is seen as it was
+pub settled_as : (parts : List Part) (marks : List Mark) (fresh : List Part) (new : List Mark) → ArePiled parts marks → ArePiled fresh new → map (group_of fresh) new ≡ pile_of parts marks → IsAs parts marks fresh new
+settled_as parts marks fresh new p q e =
+    let gs : Gathered = map (group_of parts) marks in
+    record {
+      piled = q;
+      same = ap (gather key_order add_own_sums) e ∙ own_again (first_ways gs) gs (have_first gs p.alike);
+    }
+
+-- a pile that stayed is
+pub stayed_as : (parts : List Part) (marks : List Mark) (now : List Part) (left : List Mark) → ArePiled parts marks → now ≡ parts → left ≡ marks → IsAs parts marks now left
+stayed_as parts marks now left p e f =
+    subst (λ (ps : List Part). IsAs parts marks ps left) (sym e) (subst (λ (ms : List Mark). IsAs parts marks parts ms) (sym f) (record { piled = p; same = refl }))
+
+-- ---- a pile comes to no more groups than it keeps
+
+put_length : (g h : Partial Key Sums) (hs put : Gathered) (o : Ordering) → length put ≤ length hs + 1 → length (put_by add_own_sums o g h hs put) ≤ length (h ∷ hs) + 1
+put_length g h hs put Less k = omega arith
+put_length g h hs put Equal k = omega arith
+put_length g h hs put Greater k = omega (arith, k)
+
+put_short : (g : Partial Key Sums) (hs : Gathered) → length (put_group key_order add_own_sums g hs) ≤ length hs + 1
+put_short g [] = omega arith
+put_short g (h ∷ hs) = put_length g h hs (put_group key_order add_own_sums g hs) (key_order g.key h.key) (put_short g hs)
+
+gathered_short : (gs : Gathered) → length (gather key_order add_own_sums gs) ≤ length gs
+gathered_short [] = omega arith
+gathered_short (g ∷ gs) = omega (arith, put_short g (gather key_order add_own_sums gs), gathered_short gs)
+
+pub pile_short : (parts : List Part) (marks : List Mark) → length (pile_of parts marks) ≤ length marks
+pile_short parts marks = omega (arith, gathered_short (map (group_of parts) marks), length-map marks (group_of parts))

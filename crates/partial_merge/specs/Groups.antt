@@ -1,5 +1,5 @@
 -- Groups as a pile keeps them: a key, the number of rows, and the places of the parts.
-use Rattle.std.specs.Prelude.{◌≡◌, ℕ, ◌+◌, ◌^◌, ◌≤◌, ℤ, Bool, length, map, List, [], ◌∷◌, None, Some, All, slice_range, if◌then◌else◌}
+use Rattle.std.specs.Prelude.{◌≡◌, ℕ, ◌+◌, ◌-◌, ◌≤◌, ℤ, Bool, length, map, List, [], ◌∷◌, None, Some, All, slice_range, if◌then◌else◌}
 use Rattle.std.specs.List.{AllByRecursion}
 use Rattle.table_rules.specs.declared.limits.TheConstants.{ROWS_MOST}
 use Rattle.answer_rules.specs.declared.way.Way.{Way}
@@ -29,6 +29,10 @@ group_by key rows parts = record { key = key; part = record { rows = rows; parts
 pub record IsThere (parts : ℕ) (m : Mark) : Type 0 where
   pub order : m.from ≤ m.to
   pub there : m.to ≤ parts
+
+-- how many parts the group has
+abbrev pub width_of : Mark → ℕ
+width_of m = m.to - m.from
 
 -- the group with its parts so much farther behind
 abbrev pub moved : ℕ → Mark → Mark

@@ -1,4 +1,5 @@
 pub mod Cells
+pub mod KeyValues
 pub mod Rows
 pub mod Views
 pub mod Bags

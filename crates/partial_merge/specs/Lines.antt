@@ -1,7 +1,6 @@
 -- The lines of an answer of groups, before they are put in order.
-use Rattle.std.specs.Prelude.{◌≡◌, map, List, [], ◌∷◌}
+use Rattle.std.specs.Prelude.{map, List}
 use Rattle.std.specs.declared.cmp.Ordering.{Ordering}
-use Rattle.std.specs.declared.cmp.Ordering.TheVariants.{Less}
 use Rattle.std.specs.Ordering.{int_cmp, nat_cmp, on, then_cmp}
 use Rattle.sql_bound.specs.declared.expr.BoundCol.{BoundCol}
 use Rattle.answer_rules.specs.declared.rewritten.MergeItem.{MergeItem}
@@ -44,9 +43,3 @@ line_of parts keys items l = record {
   key = l.mark.key;
   values = line_values parts keys items l;
 }
-
--- each key comes before the next one
-abbrev pub AreRising : List Mark → Type 0
-AreRising [] = Unit {0}
-AreRising (m ∷ []) = Unit {0}
-AreRising (m ∷ (n ∷ ms)) = (key_order m.key n.key ≡ Less) × AreRising (n ∷ ms)

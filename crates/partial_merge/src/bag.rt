@@ -3,19 +3,18 @@
 //!
 //! Nothing is in order before the end. Without a limit a bag keeps all rows that come; with a limit n it is a heap of the
 //! first n, and a row that comes behind n others is looked at and forgotten. The values of rows that had to go stay until
-//! the bag does.
+//! the list of values has doubled; then those of the others are copied into a new one (`packing`).
 
-ghost use Rattle.std.specs.Prelude.{◌≡◌, ◌≤◌, ◌+◌, ◌-◌, ◌^◌, ◌++◌, ◌∷◌, [], All, length, map, IfOk, IfSome, OnErr, OnOk, Some, None, vec_len, vec_capacity};
+ghost use Rattle.std.specs.Prelude.{◌≡◌, ◌≤◌, ◌+◌, ◌-◌, ◌++◌, ◌∷◌, [], length, IfOk, IfSome, OnErr, OnOk, vec_len, vec_capacity};
 ghost use Rattle.answer_rules.specs.Finish.{merged_rows};
-ghost use Rattle.answer_rules.specs.InOrder.{first};
 ghost use Rattle.answer_rules.specs.Keeps.{AreApart, KeepsFirst};
-ghost use Rattle.answer_rules.specs.Rows.{limit_of};
 ghost use Rattle.answer_rules.specs.Ranks.{row_order};
 ghost use Rattle.partial_merge.specs.Bags.{IsKept, out_row, pushed_in, ranks_in, rows_in};
-ghost use Rattle.partial_merge.specs.Rows.{IsIn, moved, rank_order, row_of};
 
 use crate::cell::Cell;
-use crate::kept::{Kept, count, into_ranks, is_too_late, join, none_kept, place_behind, put};
+use crate::kept::{Kept, count, into_ranks, is_too_late, join, none_kept, put};
+use crate::lists::{cut, reserve};
+use crate::packing::keep_small;
 use crate::rank::Rank;
 use crate::ranked::Ranked;
 use crate::row_table::row_table;
@@ -23,16 +22,20 @@ use crate::table::Table;
 use answer_rules::MergePlan;
 use sky_io::Memory;
 use sky_vector::Num;
-use sql_bound::Int;
 use std::alloc::Global;
 use std::marker::Model;
 
 /// The rows of a piece, in any order.
 #[derive(Drop)]
 pub(crate) struct Bag {
+    alloc: Global,
     kept: Kept,
     cells: Vec<Cell>,
+    packed: usize,
 }
+
+/// How many values a bag may have before it is packed for the first time, twice over.
+const SHORT: usize = 512;
 
 impl Model for Bag {
     ghost use Rattle.partial_merge.specs.Views.{BagView};
@@ -45,17 +48,6 @@ impl Model for Bag {
     ghost view = { λ b. view_of b.kept b.cells.items };
 
     ghost invariant = { λ b. IsKept (length b.cells.items) b.kept };
-}
-
-/// Makes room for so many more values.
-fn reserve(cells: &mut Vec<Cell>, more: usize) -> Result<(), Memory>
-    ensures same { cells.new.items ≡ cells.old.items }
-    ensures room { OnOk result (vec_len cells.new + more ≤ vec_capacity cells.new) }
-{
-    match cells.reserve(more) {
-        Ok(()) => Ok(()),
-        Err(_) => Err(Memory),
-    }
 }
 
 /// Puts the values behind the others. Takes no memory.
@@ -84,20 +76,58 @@ fn put_row(
     ensures rows { OnErr result (ranks_in kept.new ≡ ranks_in kept.old) }
     ensures cells { OnErr result (cells.new.items ≡ cells.old.items) }
 {
-    let from = place_behind(cells, values.len())?;
+    let from = cells.len();
     reserve(cells, values.len())?;
-    put(kept, rank.at(from, from + values.len() as u32))?;
+    put(kept, rank.at(from, from + values.len()))?;
     put_values(cells, values);
     Ok(())
 }
 
-/// Lets all go but the first so many, where there is a limit.
-fn cut(rows: &mut Vec<Ranked>, limit: Option<Int>)
-    ensures { rows.new.items ≡ first (limit_of limit) rows.old.items }
+/// Keeps one row more, and tells how many values there were after the last packing. After `Err` nothing has changed.
+fn put_and_pack(
+    alloc: Global,
+    kept: &mut Kept,
+    cells: &mut Vec<Cell>,
+    packed: usize,
+    rank: &Rank,
+    values: &[Option<Num>],
+) -> Result<usize, Memory>
+    requires mine { IsKept (length cells.old.items) kept.old }
+    ensures mine { IsKept (length cells.new.items) kept.new }
+    ensures pushed { pushed_in kept.new ≡ pushed_in kept.old }
+    ensures kept { OnOk result (KeepsFirst row_order (pushed_in kept.old)
+        (rows_in cells.old.items kept.old ++ out_row rank.now values.now ∷ [])
+        (rows_in cells.new.items kept.new)) }
+    ensures rows { OnErr result (ranks_in kept.new ≡ ranks_in kept.old) }
+    ensures cells { OnErr result (cells.new.items ≡ cells.old.items) }
 {
-    if let Some(n) = limit {
-        rows.truncate(n.get().unsigned_abs() as usize);
-    }
+    put_row(kept, cells, rank, values)?;
+    Ok(keep_small(alloc, kept, cells, packed))
+}
+
+/// Takes in the rows of another bag of the same limit, and tells how many values there were after the last packing. After
+/// `Err` nothing has changed.
+fn join_and_pack(
+    alloc: Global,
+    kept: &mut Kept,
+    cells: &mut Vec<Cell>,
+    packed: usize,
+    theirs: Kept,
+    more: Vec<Cell>,
+) -> Result<usize, Memory>
+    requires mine { IsKept (length cells.old.items) kept.old }
+    requires theirs { IsKept (length more.items) theirs }
+    requires alike { pushed_in theirs ≡ pushed_in kept.old }
+    ensures mine { IsKept (length cells.new.items) kept.new }
+    ensures pushed { pushed_in kept.new ≡ pushed_in kept.old }
+    ensures joined { OnOk result (KeepsFirst row_order (pushed_in kept.old)
+        (rows_in cells.old.items kept.old ++ rows_in more.items theirs)
+        (rows_in cells.new.items kept.new)) }
+    ensures rows { OnErr result (rows_in cells.new.items kept.new
+        ≡ rows_in cells.old.items kept.old) }
+{
+    join(kept, cells, theirs, more)?;
+    Ok(keep_small(alloc, kept, cells, packed))
 }
 
 impl Bag {
@@ -106,8 +136,10 @@ impl Bag {
         ensures { result ≡ record { pushed = limit; rows = [] } }
     {
         Bag {
+            alloc,
             kept: none_kept(alloc, limit),
             cells: Vec::new(alloc),
+            packed: SHORT,
         }
     }
 
@@ -121,7 +153,15 @@ impl Bag {
         if is_too_late(&self.kept, &rank.at(0, 0)) {
             return Ok(());
         }
-        put_row(&mut self.kept, &mut self.cells, rank, values)
+        self.packed = put_and_pack(
+            self.alloc,
+            &mut self.kept,
+            &mut self.cells,
+            self.packed,
+            rank,
+            values,
+        )?;
+        Ok(())
     }
 
     /// Takes in the rows of another bag of the same limit. After `Err` nothing has changed.
@@ -132,8 +172,21 @@ impl Bag {
             (self.old.rows ++ other.rows) self.new.rows) }
         ensures same { OnErr result (self.new ≡ self.old) }
     {
-        let Bag { kept, cells } = other;
-        join(&mut self.kept, &mut self.cells, kept, cells)
+        let Bag {
+            alloc: _,
+            kept,
+            cells,
+            packed: _,
+        } = other;
+        self.packed = join_and_pack(
+            self.alloc,
+            &mut self.kept,
+            &mut self.cells,
+            self.packed,
+            kept,
+            cells,
+        )?;
+        Ok(())
     }
 
     /// How many rows it holds: at most the limit, where there is one. Takes no memory.
@@ -149,7 +202,12 @@ impl Bag {
         requires { AreApart row_order self.rows }
         ensures { IfOk result (λ table. table ≡ merged_rows merge.now self.rows) }
     {
-        let Bag { kept, cells } = self;
+        let Bag {
+            alloc: _,
+            kept,
+            cells,
+            packed: _,
+        } = self;
         let mut rows = into_ranks(kept);
         rows.sort_unstable();
         cut(&mut rows, merge.limit);

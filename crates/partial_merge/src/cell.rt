@@ -41,6 +41,13 @@ impl Cell {
         }
     }
 
+    /// The cell once more. Takes no memory.
+    pub(crate) fn copy(&self) -> Cell
+        ensures { result ≡ self.now }
+    {
+        Cell { code: self.code }
+    }
+
     /// The value. Takes no memory.
     pub(crate) fn get(&self) -> Option<Num>
         ensures { result ≡ self.now }

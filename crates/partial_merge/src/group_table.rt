@@ -2,7 +2,7 @@
 
 ghost use Rattle.std.specs.Prelude.{◌≡◌, ◌++◌, All, Err, IfErr, IfOk, length, map, Ok, OnOk};
 ghost use Rattle.std.specs.List.{flat_map};
-ghost use Rattle.answer_rules.specs.Finish.{merged_groups, merged_line, merged_value};
+ghost use Rattle.answer_rules.specs.Finish.{merged_groups, merged_line};
 ghost use Rattle.answer_rules.specs.Gather.{Rise};
 ghost use Rattle.answer_rules.specs.Groups.{group_order};
 ghost use Rattle.answer_rules.specs.InOrder.{first, in_order};
@@ -16,6 +16,7 @@ ghost use Rattle.sky_io.specs.Stops.{IfBad};
 
 use crate::line::Line;
 use crate::lines::lines;
+use crate::lists::cut;
 use crate::mark::Mark;
 use crate::merged::merged;
 use crate::row_table::put;
@@ -24,7 +25,7 @@ use crate::tally::Tally;
 use crate::totals::first_out;
 use answer_rules::{MergeItem, MergePlan, TotalOut, Value};
 use sky_io::{Memory, Stop};
-use sql_bound::{ColList, Int};
+use sql_bound::ColList;
 use std::alloc::Global;
 
 /// Puts the merged items of a group behind the others.
@@ -81,15 +82,6 @@ fn line_table(
 {
     let values = values_of(alloc, lines, keys, tallies, items)?;
     Ok(Table::of(values, items.len(), lines.len()))
-}
-
-/// Lets all go but the first so many, where there is a limit.
-fn cut(lines: &mut Vec<Line>, limit: Option<Int>)
-    ensures { lines.new.items ≡ first (limit_of limit) lines.old.items }
-{
-    if let Some(n) = limit {
-        lines.truncate(n.get().unsigned_abs() as usize);
-    }
 }
 
 /// The table of groups whose totals are in range.

@@ -1,6 +1,6 @@
 //! What a piece holds: rows, or groups.
 
-ghost use Rattle.std.specs.Prelude.{◌≡◌, Err, IfErr, IfOk, Ok, OnErr, OnOk};
+ghost use Rattle.std.specs.Prelude.{◌≡◌, ◌≤◌, Err, IfErr, IfOk, Ok, OnErr, OnOk};
 ghost use Rattle.answer_rules.specs.PieceLaws.{empty_view};
 ghost use Rattle.answer_rules.specs.Rows.{limit_of};
 ghost use Rattle.partial_merge.specs.Held.{MayTake, Took, view_in};
@@ -81,11 +81,11 @@ pub(crate) fn push_group(
     held: &mut Held,
     key: Key,
     rows: u32,
-    parts: Vec<Tally>,
+    parts: &[Tally],
 ) -> Result<(), Memory>
-    requires alike { MayTakeGroup (view_in held.old) (group_by key rows parts.items) }
+    requires alike { MayTakeGroup (view_in held.old) (group_by key rows parts.now) }
     ensures put { OnOk result (view_in held.new
-        ≡ with_group (view_in held.old) (group_by key rows parts.items)) }
+        ≡ with_group (view_in held.old) (group_by key rows parts.now)) }
     ensures same { OnErr result (view_in held.new ≡ view_in held.old) }
 {
     match held {
@@ -94,9 +94,10 @@ pub(crate) fn push_group(
     }
 }
 
-/// How many rows there are, or groups.
+/// How many rows there are, or groups, a key perhaps more than once.
 pub(crate) fn count(held: &Held) -> usize
     ensures held { IsOfRows (view_in held.now) → result ≡ size_of (view_in held.now) }
+    ensures most { size_of (view_in held.now) ≤ result }
     ensures few { IsWithin result (view_in held.now) }
 {
     match held {

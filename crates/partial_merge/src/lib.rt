@@ -3,8 +3,9 @@
 //! Callers see a `Piece` as `PieceView` of `answer_rules`, a `Table` as a list of rows of values, and a `PieceRoot`, on
 //! which the pieces of a session rest, as a `Base`. What a piece stands for is told by `PieceFor`; `absorb` keeps it, for
 //! whatever two pieces it is called (`specs/Joining.antt`).
-//! Below: `answer_rules` for what pieces mean and the laws that are used here; `expr_eval` for expressions of keys. Above:
-//! the scans fill pieces, the board joins them, and the session finishes them.
+//! Below: `answer_rules` for what pieces mean and the laws that are used here, `expr_eval` for expressions of keys, and
+//! `scan_core` for `Work`, by which a board joins pieces. Above: the scans fill pieces, the board joins them, and the
+//! session finishes them.
 //! No chunks, no scans and no threads.
 #![tactic(auto)]
 
@@ -16,18 +17,22 @@ mod heap;
 mod held;
 mod kept;
 pub mod key;
+pub mod limits;
 mod line;
 mod lines;
+mod lists;
+mod lone;
 mod mark;
 mod merged;
+mod packing;
 pub mod piece;
 mod pile;
 pub mod rank;
 mod ranked;
-mod rising;
 pub mod root;
 mod row_table;
 mod settle;
+mod short_key;
 pub mod table;
 pub mod tally;
 #[cfg(test)]

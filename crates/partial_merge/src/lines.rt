@@ -1,6 +1,6 @@
 //! The lines of an answer of groups: of each group its place in the order.
 
-ghost use Rattle.std.specs.Prelude.{◌≡◌, ◌≤◌, ◌+◌, ◌^◌, ◌++◌, [], All, IfOk, length, map, None, slice_get, unwrap_or, vec_capacity, vec_len};
+ghost use Rattle.std.specs.Prelude.{◌≡◌, ◌≤◌, ◌+◌, ◌^◌, ◌++◌, All, IfOk, length, map, None, slice_get, unwrap_or, vec_capacity, vec_len};
 ghost use Rattle.value_rules.specs.Widths.{IsOfSize};
 ghost use Rattle.answer_rules.specs.Finish.{merge_down, merged_key, merged_order};
 ghost use Rattle.answer_rules.specs.Groups.{number_of};
@@ -12,6 +12,7 @@ ghost use Rattle.partial_merge.specs.Tables.{IsShort};
 
 use crate::key::Key;
 use crate::line::Line;
+use crate::lists::room;
 use crate::mark::Mark;
 use crate::merged::merged;
 use crate::tally::Tally;
@@ -131,18 +132,6 @@ fn put_lines(
 {
     for mark in marks {
         lines.push_reserved(line(keys, merge, tallies, mark));
-    }
-}
-
-/// An empty list with room for so many lines.
-fn room(alloc: Global, count: usize) -> Result<Vec<Line>, Memory>
-    ensures items { IfOk result (λ lines. lines.items ≡ []) }
-    ensures room { IfOk result (λ lines. count ≤ vec_capacity lines) }
-    ensures none { IfOk result (λ lines. vec_len lines ≡ 0) }
-{
-    match Vec::with_capacity(alloc, count) {
-        Ok(lines) => Ok(lines),
-        Err(_) => Err(Memory),
     }
 }
 

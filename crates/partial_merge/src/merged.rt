@@ -24,7 +24,7 @@ pub(crate) fn parts_of<'t>(tallies: &'t [Tally], mark: &Mark) -> &'t [Tally]
     requires { IsThere (length tallies.now) mark.now }
     ensures { result.now ≡ (group_of tallies.now mark.now).part.parts }
 {
-    &tallies[mark.from as usize..mark.to as usize]
+    &tallies[mark.from..mark.to]
 }
 
 /// How many values the part at a place counts; one that is not there counts none.

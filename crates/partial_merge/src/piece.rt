@@ -6,7 +6,7 @@
 //! Callers see a piece as its rows with the limit of the chunk query, or as its groups (`PieceView`). What it stands for
 //! is told by `PieceFor`; `absorb` keeps that, whatever the two pieces stood for.
 
-ghost use Rattle.std.specs.Prelude.{◌≡◌, Err, IfErr, IfOk, Ok, OnErr, OnOk};
+ghost use Rattle.std.specs.Prelude.{◌≡◌, ◌≤◌, Err, IfErr, IfOk, Ok, OnErr, OnOk};
 ghost use Rattle.answer_rules.specs.Finish.{finished};
 ghost use Rattle.answer_rules.specs.PieceLaws.{empty_view};
 ghost use Rattle.answer_rules.specs.Rows.{limit_of};
@@ -68,17 +68,19 @@ impl<'w> Piece<'w> {
     }
 
     /// Takes in a group of this key with so many rows and these parts, as a scan finds it. After `Err` nothing has changed.
-    pub fn push_group(&mut self, key: Key, rows: u32, parts: Vec<Tally>) -> Result<(), Memory>
-        requires alike { MayTakeGroup self.old (group_by key rows parts.items) }
-        ensures put { OnOk result (self.new ≡ with_group self.old (group_by key rows parts.items)) }
+    pub fn push_group(&mut self, key: Key, rows: u32, parts: &[Tally]) -> Result<(), Memory>
+        requires alike { MayTakeGroup self.old (group_by key rows parts.now) }
+        ensures put { OnOk result (self.new ≡ with_group self.old (group_by key rows parts.now)) }
         ensures same { OnErr result (self.new ≡ self.old) }
     {
         push_group(&mut self.held, key, rows, parts)
     }
 
-    /// How many rows it holds, at most n of a chunk query with LIMIT n, or how many groups it keeps. Takes no memory.
+    /// How many rows it holds, at most n of a chunk query with LIMIT n, or how many groups it keeps, a key perhaps more than
+    /// once. Takes no memory.
     pub fn held(&self) -> usize
         ensures held { IsOfRows self.now → result ≡ size_of self.now }
+        ensures most { size_of self.now ≤ result }
         ensures few { IsWithin result self.now }
     {
         count(&self.held)

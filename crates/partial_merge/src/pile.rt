@@ -14,9 +14,10 @@ ghost use Rattle.partial_merge.specs.Groups.{ArePiled, IsThere, MayGather, group
 
 use crate::group_table::group_table;
 use crate::key::Key;
+use crate::lists::{append, reserve};
+use crate::lone::put_lone;
 use crate::mark::Mark;
-use crate::rising::{put_lone, rise};
-use crate::settle::keep_short;
+use crate::settle::{keep_short, settle};
 use crate::table::Table;
 use crate::tally::Tally;
 use answer_rules::{MergePlan, TotalOut};
@@ -47,47 +48,31 @@ impl Model for Pile {
     ghost invariant = { λ p. ArePiled p.tallies.items p.marks.items };
 }
 
-/// The largest place of a part.
-const LAST: usize = u32::MAX as usize;
-
-/// The place behind the parts, behind which so many more have a place, or want of memory.
-pub(crate) fn place_behind(tallies: &Vec<Tally>, more: usize) -> Result<u32, Memory>
-    ensures place { IfOk result (λ n. n ≡ length tallies.now.items) }
-    ensures room { IfOk result (λ n. n + more ≤ 2 ^ 32 - 1) }
+/// Puts copies of the parts behind the others. Takes no memory.
+fn put_reserved(tallies: &mut Vec<Tally>, parts: &[Tally])
+    requires { vec_len tallies.old + length parts.now ≤ vec_capacity tallies.old }
+    ensures { tallies.new.items ≡ tallies.old.items ++ parts.now }
 {
-    if more > LAST || tallies.len() > LAST - more {
-        return Err(Memory);
-    }
-    Ok(tallies.len() as u32)
-}
-
-/// Makes room for so many more groups.
-fn reserve(marks: &mut Vec<Mark>, more: usize) -> Result<(), Memory>
-    ensures same { marks.new.items ≡ marks.old.items }
-    ensures room { OnOk result (vec_len marks.new + more ≤ vec_capacity marks.new) }
-{
-    match marks.reserve(more) {
-        Ok(()) => Ok(()),
-        Err(_) => Err(Memory),
+    for part in parts {
+        tallies.push_reserved(part.copy());
     }
 }
 
-/// Puts the parts behind the others.
-fn append(tallies: &mut Vec<Tally>, mut more: Vec<Tally>) -> Result<(), Memory>
-    ensures ok { OnOk result (tallies.new.items ≡ tallies.old.items ++ more.items) }
+/// Puts copies of the parts behind the others.
+fn put_parts(tallies: &mut Vec<Tally>, parts: &[Tally]) -> Result<(), Memory>
+    ensures ok { OnOk result (tallies.new.items ≡ tallies.old.items ++ parts.now) }
     ensures err { OnErr result (tallies.new.items ≡ tallies.old.items) }
 {
-    match tallies.append(&mut more) {
-        Ok(()) => Ok(()),
-        Err(_) => Err(Memory),
-    }
+    reserve(tallies, parts.len())?;
+    put_reserved(tallies, parts);
+    Ok(())
 }
 
 /// Puts the groups behind the others, their parts so much farther behind. Takes no memory.
-fn put_moved(marks: &mut Vec<Mark>, others: Vec<Mark>, by: u32, count: usize)
+fn put_moved(marks: &mut Vec<Mark>, others: Vec<Mark>, by: usize, count: usize)
     requires room { vec_len marks.old + length others.items ≤ vec_capacity marks.old }
     requires there { All (IsThere count) others.items }
-    requires fits { by + count ≤ 2 ^ 32 - 1 }
+    requires fits { by + count ≤ 2 ^ 64 - 1 }
     ensures { marks.new.items ≡ marks.old.items ++ map (moved by) others.items }
 {
     for other in others {
@@ -114,41 +99,41 @@ fn join(
     ensures tallies { OnErr result (tallies.new.items ≡ tallies.old.items) }
 {
     let count = more.len();
-    let by = place_behind(tallies, count)?;
+    let by = tallies.len();
     reserve(marks, others.len())?;
     append(tallies, more)?;
     put_moved(marks, others, by, count);
     Ok(())
 }
 
-/// Puts a group behind the others, and its parts behind theirs. After `Err` nothing has changed.
+/// Puts a group behind the others, and copies of its parts behind theirs. After `Err` nothing has changed.
 fn put(
     marks: &mut Vec<Mark>,
     tallies: &mut Vec<Tally>,
     key: Key,
     rows: u32,
-    parts: Vec<Tally>,
+    parts: &[Tally],
 ) -> Result<(), Memory>
     requires mine { ArePiled tallies.old.items marks.old.items }
     requires alike { MayGather (pile_of tallies.old.items marks.old.items)
-        (group_by key rows parts.items ∷ []) }
-    requires small { IsSmallGroup (group_by key rows parts.items) }
+        (group_by key rows parts.now ∷ []) }
+    requires small { IsSmallGroup (group_by key rows parts.now) }
     ensures mine { ArePiled tallies.new.items marks.new.items }
     ensures put { OnOk result (pile_of tallies.new.items marks.new.items
         ≡ gather key_order add_own_sums (pile_of tallies.old.items marks.old.items
-        ++ group_by key rows parts.items ∷ [])) }
+        ++ group_by key rows parts.now ∷ [])) }
     ensures marks { OnErr result (marks.new.items ≡ marks.old.items) }
     ensures tallies { OnErr result (tallies.new.items ≡ tallies.old.items) }
 {
     let count = parts.len();
-    let by = place_behind(tallies, count)?;
+    let by = tallies.len();
     reserve(marks, 1)?;
-    append(tallies, parts)?;
+    put_parts(tallies, parts)?;
     marks.push_reserved(Mark {
         key,
         rows,
         from: by,
-        to: by + count as u32,
+        to: by + count,
     });
     Ok(())
 }
@@ -167,11 +152,11 @@ impl Pile {
     }
 
     /// Takes in a group of the same ways. After `Err` nothing has changed.
-    pub(crate) fn push(&mut self, key: Key, rows: u32, parts: Vec<Tally>) -> Result<(), Memory>
-        requires alike { MayGather self.old (group_by key rows parts.items ∷ []) }
-        requires small { IsSmallGroup (group_by key rows parts.items) }
+    pub(crate) fn push(&mut self, key: Key, rows: u32, parts: &[Tally]) -> Result<(), Memory>
+        requires alike { MayGather self.old (group_by key rows parts.now ∷ []) }
+        requires small { IsSmallGroup (group_by key rows parts.now) }
         ensures put { OnOk result (self.new
-            ≡ gather key_order add_own_sums (self.old ++ group_by key rows parts.items ∷ [])) }
+            ≡ gather key_order add_own_sums (self.old ++ group_by key rows parts.now ∷ [])) }
         ensures same { OnErr result (self.new ≡ self.old) }
     {
         put(&mut self.marks, &mut self.tallies, key, rows, parts)
@@ -215,13 +200,15 @@ impl Pile {
             mut tallies,
             settled: _,
         } = self;
-        rise(alloc, &mut marks, &mut tallies)?;
-        put_lone(alloc, &mut marks, keys)?;
+        settle(alloc, &mut marks, &mut tallies)?;
+        put_lone(&mut marks, keys)?;
         group_table(alloc, marks, tallies.as_slice(), keys, merge)
     }
 
     /// How many groups it keeps, a key perhaps more than once. Takes no memory.
-    pub(crate) fn len(&self) -> usize {
+    pub(crate) fn len(&self) -> usize
+        ensures { length self.now ≤ result }
+    {
         self.marks.len()
     }
 }

@@ -64,11 +64,11 @@ fn put_row(values: &mut Vec<Value>, cells: &[Cell], items: &[MergeItem]) -> Resu
 }
 
 /// The values of a row.
-fn cells_of<'c>(cells: &'c [Cell], row: &Ranked) -> &'c [Cell]
+pub(crate) fn cells_of<'c>(cells: &'c [Cell], row: &Ranked) -> &'c [Cell]
     requires { IsIn (length cells.now) row.now }
     ensures { result.now ≡ (row_of cells.now row.now).cells }
 {
-    &cells[row.from as usize..row.to as usize]
+    &cells[row.from..row.to]
 }
 
 /// The values of the answer's rows.

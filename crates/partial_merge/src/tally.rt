@@ -48,6 +48,18 @@ impl Tally {
         }
     }
 
+    /// The part once more. Takes no memory.
+    pub(crate) fn copy(&self) -> Tally
+        ensures { result ≡ self.now }
+    {
+        Tally {
+            way: self.way,
+            some: self.some,
+            seen: self.seen,
+            value: self.value,
+        }
+    }
+
     /// How many values it counts.
     pub(crate) fn seen(&self) -> u32
         ensures { result ≡ self.now.seen }

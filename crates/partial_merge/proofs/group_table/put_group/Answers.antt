@@ -1,4 +1,4 @@
-use Rattle.std.proofs.Common.{◌≡◌, ◌∷◌, ◌++◌, [], List, ap, subst, sym, ◌∙◌}
+use Rattle.std.proofs.Common.{List, subst, sym}
 use Rattle.std.specs.List.{All}
 use Rattle.answer_rules.specs.declared.value.Value.{Value}
 use Rattle.answer_rules.specs.Finish.{merged_value}

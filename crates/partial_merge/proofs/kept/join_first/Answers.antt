@@ -1,4 +1,4 @@
-use Rattle.std.proofs.Common.{◌++◌, ℤ, List, Option, Some, map, length, All, heap_items, subst, sym}
+use Rattle.std.proofs.Common.{◌++◌, ℤ, List, Option, Some, map, length, All, heap_items, subst, sym, ◌≡◌, ◌+◌, arith, length-append, ap, ◌∙◌}
 use Rattle.answer_rules.specs.Keeps.{KeepsFirst}
 use Rattle.answer_rules.specs.Ranks.{row_order}
 use Rattle.answer_rules.specs.declared.row.OutRow.{OutRow}
@@ -11,8 +11,8 @@ use Rattle.partial_merge.proofs.kept.join_first.Goals as goal
 -- what is kept of the rows that were there and of the others
 kept_of_both : (c : goal.After-offer_moved) → KeepsFirst rank_order (Some c.args.limit) (heap_items c.args.heap.now ++ map (moved (length c.args.cells.now.items)) c.args.others.now) (heap_items c.offer_moved.new.heap)
 kept_of_both c =
-    subst (λ n. KeepsFirst rank_order (Some c.args.limit) (heap_items c.args.heap.now ++ map (moved n) c.args.others.now) (heap_items c.offer_moved.new.heap)) c.in_ok-by.ensures.place
-    (subst (λ rows. KeepsFirst rank_order (Some c.args.limit) (rows ++ map (moved c.in_ok-by.by) c.args.others.now) (heap_items c.offer_moved.new.heap)) c.reserve_in.ensures.same c.offer_moved.ensures.kept)
+    subst (λ n. KeepsFirst rank_order (Some c.args.limit) (heap_items c.args.heap.now ++ map (moved n) c.args.others.now) (heap_items c.offer_moved.new.heap)) (c.len-by.ensures ∙ c.args.cells.now.ok.0)
+    (subst (λ rows. KeepsFirst rank_order (Some c.args.limit) (rows ++ map (moved c.len-by.result) c.args.others.now) (heap_items c.offer_moved.new.heap)) c.reserve_in.ensures.same c.offer_moved.ensures.kept)
 
 pub returns-clause-joined : goal.returns-clause-joined
 returns-clause-joined c =
@@ -30,3 +30,9 @@ returns-clause-there c =
     in
     subst (λ cells. All (IsIn (length cells)) (heap_items c.offer_moved.new.heap)) (sym c.in_ok-append.ensures.ok)
     (all_kept rank_order (IsIn (length (c.args.cells.now.items ++ c.args.more.items))) (Some c.args.limit) _ _ (kept_of_both c) there)
+
+-- the values of both stand in one list, which has no more than a list can
+pub offer_moved-requires-clause-fits : goal.offer_moved-requires-clause-fits
+offer_moved-requires-clause-fits c =
+    let long : length c.append.new.list.items ≡ length c.args.cells.now.items + length c.args.more.items = ap length c.in_ok-append.ensures.ok ∙ length-append c.args.cells.now.items c.args.more.items in
+    omega (arith, long, c.len-by.ensures, c.args.cells.now.ok.0, c.len-count.ensures, c.args.more.ok.0, c.append.new.list.ok.0, c.append.new.list.ok.1, c.append.new.list.small)

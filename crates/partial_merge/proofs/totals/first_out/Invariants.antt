@@ -1,4 +1,4 @@
-use Rattle.std.proofs.Common.{◌≡◌, drop, map, not}
+use Rattle.std.proofs.Common.{◌≡◌, drop, not}
 use Rattle.std.specs.List.{find, flat_map}
 use Rattle.sky_vector.specs.Numbers.{is_query_number}
 use Rattle.answer_rules.specs.Finish.{merged_totals}

@@ -13,13 +13,13 @@ use Rattle.partial_merge.proofs.pile.Pile.finish.Goals as goal
 groups_are : (c : goal.After-as_slice) → map (group_of c.as_slice.result.now) c.put_lone.new.marks.items ≡ groups_merged c.args.keys.now c.args.self
 groups_are c =
     ap (λ (ps : List Part). map (group_of ps) c.put_lone.new.marks.items) c.as_slice.ensures.value
-    ∙ c.in_ok-put_lone.ensures.groups c.rise.new.tallies.items
-    ∙ ap (groups_merged c.args.keys.now) (c.in_ok-rise.ensures.same ∙ c.self.view_is)
+    ∙ c.in_ok-put_lone.ensures.groups c.settle.new.tallies.items
+    ∙ ap (groups_merged c.args.keys.now) (c.in_ok-settle.ensures.settled ∙ c.self.view_is)
 
 pub group_table-requires-clause-there : goal.group_table-requires-clause-there
 group_table-requires-clause-there c =
     subst (λ (ps : List Part). All (IsThere (length ps)) c.put_lone.new.marks.items) (sym c.as_slice.ensures.value)
-    (c.in_ok-put_lone.ensures.there (length c.rise.new.tallies.items) c.in_ok-rise.ensures.there)
+    (c.in_ok-put_lone.ensures.there (length c.settle.new.tallies.items) c.settle.ensures.piled.there)
 
 pub group_table-requires-clause-may : goal.group_table-requires-clause-may
 group_table-requires-clause-may c = subst (λ (gs : Gathered). All (λ g. All (MayMerge c.args.keys.now g) c.args.merge.now.items) gs) (sym (groups_are c)) c.requires

@@ -1,0 +1,8 @@
+-- The values of a key, wherever they stand.
+use Rattle.std.specs.Prelude.{ℤ, List, Option}
+use Rattle.partial_merge.specs.declared.key.Values.{Values}
+use Rattle.partial_merge.specs.declared.key.Values.TheVariants as values
+
+abbrev pub values_in : Values → List (Option ℤ)
+values_in (values.Short k) = k
+values_in (values.Long v) = v.items

@@ -1,0 +1,52 @@
+//! Lists that grow: room for more, more behind the others, and the first of them.
+
+ghost use Rattle.std.specs.Prelude.{◌≡◌, ◌≤◌, ◌+◌, ◌++◌, [], IfOk, OnErr, OnOk, vec_capacity, vec_len};
+ghost use Rattle.answer_rules.specs.InOrder.{first};
+ghost use Rattle.answer_rules.specs.Rows.{limit_of};
+
+use sky_io::Memory;
+use sql_bound::Int;
+use std::alloc::Global;
+
+/// An empty list with room for so many elements.
+pub(crate) fn room<T>(alloc: Global, count: usize) -> Result<Vec<T>, Memory>
+    ensures items { IfOk result (λ list. list.items ≡ []) }
+    ensures room { IfOk result (λ list. count ≤ vec_capacity list) }
+    ensures none { IfOk result (λ list. vec_len list ≡ 0) }
+{
+    match Vec::with_capacity(alloc, count) {
+        Ok(list) => Ok(list),
+        Err(_) => Err(Memory),
+    }
+}
+
+/// Makes room for so many more elements.
+pub(crate) fn reserve<T>(list: &mut Vec<T>, more: usize) -> Result<(), Memory>
+    ensures same { list.new.items ≡ list.old.items }
+    ensures room { OnOk result (vec_len list.new + more ≤ vec_capacity list.new) }
+{
+    match list.reserve(more) {
+        Ok(()) => Ok(()),
+        Err(_) => Err(Memory),
+    }
+}
+
+/// Puts the elements behind the others. After `Err` nothing has changed.
+pub(crate) fn append<T: Drop>(list: &mut Vec<T>, mut more: Vec<T>) -> Result<(), Memory>
+    ensures ok { OnOk result (list.new.items ≡ list.old.items ++ more.items) }
+    ensures err { OnErr result (list.new.items ≡ list.old.items) }
+{
+    match list.append(&mut more) {
+        Ok(()) => Ok(()),
+        Err(_) => Err(Memory),
+    }
+}
+
+/// Lets all go but the first so many, where there is a limit.
+pub(crate) fn cut<T: Drop>(list: &mut Vec<T>, limit: Option<Int>)
+    ensures { list.new.items ≡ first (limit_of limit) list.old.items }
+{
+    if let Some(n) = limit {
+        list.truncate(n.get().unsigned_abs() as usize);
+    }
+}

@@ -1,0 +1,147 @@
+//! Packing a bag: the values of rows that had to go are let go.
+//!
+//! With a limit the rows of a bag are few, and the values of all rows that ever were among them stand in its list. When the
+//! list has doubled, the values of the rows that are left are copied into a new one; the old one goes. Until the copy is
+//! whole nothing is changed.
+
+ghost use Rattle.std.specs.Prelude.{◌≡◌, ◌≤◌, ◌+◌, ◌-◌, ◌++◌, ◌∷◌, [], All, length, map, slice_range, vec_capacity, vec_len, OnErr, OnOk, Some};
+ghost use Rattle.std.specs.BinaryHeap.{heap_items, IsHeap};
+ghost use Rattle.answer_rules.specs.Keeps.{KeepsFirst};
+ghost use Rattle.answer_rules.specs.Ranks.{row_order};
+ghost use Rattle.partial_merge.specs.Bags.{IsKept, pushed_in, ranks_in, rows_in};
+ghost use Rattle.partial_merge.specs.Rows.{IsIn, placed, rank_order, row_of};
+
+use crate::cell::Cell;
+use crate::kept::{Kept, join_first, put_last};
+use crate::lists::reserve;
+use crate::ranked::Ranked;
+use crate::row_table::cells_of;
+use sky_io::Memory;
+use std::alloc::Global;
+use std::collections::BinaryHeap;
+
+/// Puts copies of the values behind the others. Takes no memory.
+fn put_reserved(cells: &mut Vec<Cell>, values: &[Cell])
+    requires { vec_len cells.old + length values.now ≤ vec_capacity cells.old }
+    ensures { cells.new.items ≡ cells.old.items ++ values.now }
+{
+    for value in values {
+        cells.push_reserved(value.copy());
+    }
+}
+
+/// Puts copies of the values behind the others.
+fn put_copies(cells: &mut Vec<Cell>, values: &[Cell]) -> Result<(), Memory>
+    ensures { OnOk result (cells.new.items ≡ cells.old.items ++ values.now) }
+{
+    reserve(cells, values.len())?;
+    put_reserved(cells, values);
+    Ok(())
+}
+
+/// Puts the row behind the others, and copies of its values behind theirs.
+fn put_row(
+    rows: &mut Vec<Ranked>,
+    live: &mut Vec<Cell>,
+    row: &Ranked,
+    cells: &[Cell],
+) -> Result<(), Memory>
+    requires { IsIn (length cells.now) row.now }
+    ensures cells { OnOk result (live.new.items
+        ≡ live.old.items ++ slice_range cells.now row.now.from row.now.to) }
+    ensures rows { OnOk result (rows.new.items
+        ≡ rows.old.items ++ placed (length live.old.items) row.now ∷ []) }
+{
+    let from = live.len();
+    put_copies(live, cells_of(cells, row))?;
+    put_last(rows, row.placed(from))?;
+    Ok(())
+}
+
+/// Puts the rows behind the others, and copies of their values behind theirs.
+fn put_rows(
+    rows: &mut Vec<Ranked>,
+    live: &mut Vec<Cell>,
+    others: &[Ranked],
+    cells: &[Cell],
+) -> Result<(), Memory>
+    requires there { All (IsIn (length cells.now)) others.now }
+    requires mine { All (IsIn (length live.old.items)) rows.old.items }
+    ensures same { OnOk result (map (row_of live.new.items) rows.new.items
+        ≡ map (row_of live.old.items) rows.old.items ++ map (row_of cells.now) others.now) }
+    ensures mine { OnOk result (All (IsIn (length live.new.items)) rows.new.items) }
+{
+    for other in others {
+        put_row(rows, live, other, cells)?;
+    }
+    Ok(())
+}
+
+/// Leaves the rows of the heap with the values of these alone. After `Err` nothing has changed.
+fn pack_heap(
+    alloc: Global,
+    heap: &mut BinaryHeap<Ranked>,
+    limit: usize,
+    cells: &mut Vec<Cell>,
+) -> Result<(), Memory>
+    requires order { IsHeap rank_order (heap_items heap.old) }
+    requires few { length (heap_items heap.old) ≤ limit }
+    requires mine { All (IsIn (length cells.old.items)) (heap_items heap.old) }
+    ensures order { IsHeap rank_order (heap_items heap.new) }
+    ensures few { length (heap_items heap.new) ≤ limit }
+    ensures mine { All (IsIn (length cells.new.items)) (heap_items heap.new) }
+    ensures kept { OnOk result (KeepsFirst row_order (Some limit)
+        (map (row_of cells.old.items) (heap_items heap.old))
+        (map (row_of cells.new.items) (heap_items heap.new))) }
+    ensures rows { OnErr result (heap_items heap.new ≡ heap_items heap.old) }
+    ensures cells { OnErr result (cells.new.items ≡ cells.old.items) }
+{
+    let mut rows = Vec::new(alloc);
+    let mut live = Vec::new(alloc);
+    put_rows(&mut rows, &mut live, heap.as_slice(), cells.as_slice())?;
+    let mut left = BinaryHeap::new(alloc);
+    let mut fresh = Vec::new(alloc);
+    join_first(&mut left, limit, &mut fresh, rows.as_slice(), live)?;
+    *heap = left;
+    *cells = fresh;
+    Ok(())
+}
+
+/// Leaves the values of the rows that are kept. Where all are kept, so are all values. After `Err` nothing has changed.
+fn pack(alloc: Global, kept: &mut Kept, cells: &mut Vec<Cell>) -> Result<(), Memory>
+    requires mine { IsKept (length cells.old.items) kept.old }
+    ensures mine { IsKept (length cells.new.items) kept.new }
+    ensures pushed { pushed_in kept.new ≡ pushed_in kept.old }
+    ensures kept { OnOk result (KeepsFirst row_order (pushed_in kept.old)
+        (rows_in cells.old.items kept.old) (rows_in cells.new.items kept.new)) }
+    ensures rows { OnErr result (ranks_in kept.new ≡ ranks_in kept.old) }
+    ensures cells { OnErr result (cells.new.items ≡ cells.old.items) }
+{
+    match kept {
+        Kept::All(_) => Ok(()),
+        Kept::First { limit, heap } => pack_heap(alloc, heap, *limit, cells),
+    }
+}
+
+/// Packs a bag that has twice as many values as it had after the last time, and tells how many it has then. Where there is
+/// no memory it is tried again at the next call.
+pub(crate) fn keep_small(
+    alloc: Global,
+    kept: &mut Kept,
+    cells: &mut Vec<Cell>,
+    packed: usize,
+) -> usize
+    requires mine { IsKept (length cells.old.items) kept.old }
+    ensures mine { IsKept (length cells.new.items) kept.new }
+    ensures pushed { pushed_in kept.new ≡ pushed_in kept.old }
+    ensures kept { KeepsFirst row_order (pushed_in kept.old) (rows_in cells.old.items kept.old)
+        (rows_in cells.new.items kept.new) }
+{
+    if cells.len() / 2 < packed {
+        return packed;
+    }
+    match pack(alloc, kept, cells) {
+        Ok(()) => cells.len(),
+        Err(_) => packed,
+    }
+}
