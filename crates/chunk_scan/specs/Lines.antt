@@ -1,0 +1,34 @@
+-- What a piece holds of some rows of the table.
+use Rattle.std.specs.Prelude.{◌≡◌, ℤ, List, map, Option}
+use Rattle.table_rules.specs.Objects.{Obj}
+use Rattle.value_rules.specs.Values.{row}
+use Rattle.answer_rules.specs.declared.rewritten.ChunkQuery.{ChunkQuery}
+use Rattle.answer_rules.specs.declared.row.OutRow.{OutRow}
+use Rattle.answer_rules.specs.Keeps.{KeepsFirst}
+use Rattle.answer_rules.specs.Pieces.{PieceView, OfRows, OfGroups, chunk_lines}
+use Rattle.answer_rules.specs.Parts.{partials_of}
+use Rattle.answer_rules.specs.Ranks.{row_order}
+use Rattle.sql_bound.specs.declared.query.Shape.{Shape}
+use Rattle.sql_bound.specs.declared.query.Shape.TheVariants.{Rows, Pairs, Groups}
+use Rattle.answer_rules.specs.Rows.{limit_of, out_row}
+
+-- a row with other values
+abbrev pub with_cells : List (Option ℤ) → OutRow → OutRow
+with_cells cells r = record { class = r.class; value = r.value; first = r.first; second = r.second; cells = cells }
+
+-- the piece is of these rows, in any order, but for some that are none of the first n where there is a LIMIT n
+abbrev pub IsOfRowsOver : ChunkQuery → List Obj → PieceView → Type 0
+IsOfRowsOver cq objects (OfRows pushed rows) =
+    (pushed ≡ limit_of cq.limit)
+    × KeepsFirst row_order (limit_of cq.limit) (map (λ o. out_row (chunk_lines cq) (row o)) objects) rows
+IsOfRowsOver cq objects (OfGroups parts) = ⊥
+
+-- the piece is of these rows: as rows, or as the parts of their groups
+abbrev pub IsPieceBy : Shape → ChunkQuery → List Obj → PieceView → Type 0
+IsPieceBy Rows cq objects view = IsOfRowsOver cq objects view
+IsPieceBy (Pairs limit) cq objects view = ⊥
+IsPieceBy (Groups keys) cq objects view = view ≡ OfGroups (partials_of keys cq.items (map row objects))
+
+-- by the shape of the chunk query
+abbrev pub IsPieceOver : ChunkQuery → List Obj → PieceView → Type 0
+IsPieceOver cq objects view = IsPieceBy cq.shape cq objects view

@@ -1,0 +1,78 @@
+//! The piece of a chunk.
+
+ghost use Rattle.std.specs.Prelude.{◌≡◌, ◌∷◌, [], ◌+◌, ◌<◌, ◌≤◌, All, IfOk, length, true, false};
+ghost use Rattle.table_rules.specs.declared.limits.TheConstants.{ROWS_MOST};
+ghost use Rattle.sky_rules.specs.Limits.{IsSky};
+ghost use Rattle.sky_rules.specs.Partition.{chunk_count};
+ghost use Rattle.chunk_rules.specs.Filled.{is_filled};
+ghost use Rattle.answer_rules.specs.Coverage.{AreInTheSky};
+ghost use Rattle.answer_rules.specs.Pieces.{PieceFor};
+ghost use Rattle.answer_rules.specs.SoundChunks.{IsSoundChunk};
+ghost use Rattle.sky_row.specs.Columns.{objects_at};
+ghost use Rattle.value_rules.specs.Sound.{is_paired};
+ghost use Rattle.chunk_scan.specs.Lines.{IsPieceOver};
+
+use crate::group_piece::group_piece;
+use crate::row_piece::row_piece;
+use crate::standing::standing;
+use answer_rules::ChunkQuery;
+use chunk_store::Store;
+use partial_merge::Piece;
+use sky_io::Memory;
+use sky_row::Rows;
+use sql_bound::Shape;
+use std::alloc::Global;
+
+/// What the query finds in the chunk alone. Takes memory for a place a row of the chunk that meets the conditions, and for
+/// what the piece keeps.
+pub fn scan<'w>(
+    alloc: Global,
+    store: &'w Store,
+    chunk: u32,
+    query: &ChunkQuery,
+) -> Result<Piece<'w>, Memory>
+    requires there { chunk < chunk_count store.now.plan }
+    requires filled { is_filled store.now.plan store.now.rows.objects chunk ≡ true }
+    requires rows { is_paired query.now.shape ≡ false }
+    requires sound { IsSoundChunk (4 + length store.now.rows.names) query.now }
+    ensures { IfOk result (PieceFor store.now.plan store.now.rows.objects query.now (chunk ∷ [])) }
+{
+    know(store);
+    let block = store.block(chunk);
+    let own = store.chunk(chunk);
+    let places = standing(alloc, block, store.rows(), own, query.conds.as_slice())?;
+    piece_at(alloc, store.rows(), own, query, places.as_slice())
+}
+
+/// What a store tells of itself: its plan is within the limits, and its rows lie in the sky and are not too many. Takes no
+/// memory.
+fn know(store: &Store)
+    ensures plan { IsSky store.now.plan }
+    ensures rows { AreInTheSky store.now.rows.objects }
+    ensures few { length store.now.rows.objects ≤ ROWS_MOST }
+{
+    let _ = store.plan().chunks();
+    let _ = store.rows().len();
+}
+
+/// The piece of the rows at these places among those of the chunk.
+fn piece_at<'w>(
+    alloc: Global,
+    rows: &Rows,
+    own: &[u32],
+    query: &ChunkQuery,
+    places: &[u32],
+) -> Result<Piece<'w>, Memory>
+    requires rows { is_paired query.now.shape ≡ false }
+    requires sound { IsSoundChunk (4 + length rows.now.names) query.now }
+    requires few { length places.now ≤ ROWS_MOST }
+    requires own { All (λ place. place < length rows.now.objects) own.now }
+    requires there { All (λ place. place < length own.now) places.now }
+    ensures { IfOk result (IsPieceOver query.now
+        (objects_at (objects_at rows.now.objects own.now) places.now)) }
+{
+    match &query.shape {
+        Shape::Groups { keys } => { group_piece(alloc, rows, own, query, keys.as_slice(), places) },
+        _ => row_piece(alloc, rows, own, query, places),
+    }
+}
