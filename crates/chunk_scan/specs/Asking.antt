@@ -1,0 +1,54 @@
+-- What kernels ask of a row, and which conditions they answer with it.
+use Rattle.std.specs.Prelude.{◌≡◌, ℕ, ◌<◌, ◌≤◌, ℤ, Bool, true, false, IsTrue, Option, is_none, is_some}
+use Rattle.table_rules.specs.Objects.{Obj, cell}
+use Rattle.sql_tree.specs.declared.cond.Cmp.{Cmp}
+use Rattle.sql_bound.specs.declared.area.AreaTest.TheVariants.{Cap}
+use Rattle.sql_bound.specs.declared.expr.BoundCol.{BoundCol}
+use Rattle.value_rules.specs.Areas.{area_holds}
+use Rattle.value_rules.specs.ColumnTests.{is_within, passes}
+use Rattle.value_rules.specs.Formulas.{Formula}
+use Rattle.value_rules.specs.Sound.{has_col, is_sound_formula}
+use Rattle.value_rules.specs.Truth.{is_true, truth_at}
+use Rattle.value_rules.specs.Values.{cell_of, row}
+use Rattle.chunk_scan.specs.declared.known.Early.{Early}
+use Rattle.chunk_scan.specs.declared.known.Known.{Known}
+use Rattle.chunk_scan.specs.declared.known.Known.TheVariants.{Compare, Range, Present, Absent, Near}
+
+-- the value compares so with the number; NULL does not
+abbrev pub is_compared : Cmp → ℤ → Option ℤ → Bool
+is_compared op n value = passes (record { col = record { second = false; col = 0 }; op = op; number = n }) value
+
+-- the value is from the first number to the last; NULL is not
+abbrev pub is_in_range : ℤ → ℤ → Option ℤ → Bool
+is_in_range low high value = is_within (record { col = record { second = false; col = 0 }; low = low; high = high }) value
+
+-- the answer for a row
+abbrev pub asks : Known → Obj → Bool
+asks (Compare col op n) o = is_compared op n (cell o col)
+asks (Range col low high) o = is_in_range low high (cell o col)
+asks (Present col) o = is_some (cell o col)
+asks (Absent col) o = is_none (cell o col)
+asks (Near centre n) o = area_holds (Cap centre n) o.at
+
+-- the table has the column that is asked
+abbrev pub IsThere : ℕ → Known → Type 0
+IsThere columns (Compare col op n) = col < columns
+IsThere columns (Range col low high) = col < columns
+IsThere columns (Present col) = col < columns
+IsThere columns (Absent col) = col < columns
+IsThere columns (Near centre n) = Unit {0}
+
+-- the formula holds on a row
+abbrev pub holds_on : Formula → Obj → Bool
+holds_on f o = is_true (truth_at (cell_of (row o)) o.at f)
+
+-- a column of the first row
+abbrev pub first_col : ℕ → BoundCol
+first_col col = record { second = false; col = col }
+
+-- A question that is answered with yes wherever the formula holds and, where it is the whole of it, nowhere else; its
+-- column is there where the formula can be computed.
+pub record IsEarly (f : Formula) (e : Early) : Type 0 where
+  pub kept : (o : Obj) → holds_on f o ≡ true → asks e.test o ≡ true
+  pub whole : e.whole ≡ true → (o : Obj) → asks e.test o ≡ holds_on f o
+  pub there : (columns : ℕ) → 4 ≤ columns → IsTrue (is_sound_formula (has_col columns false) f) → IsThere columns e.test

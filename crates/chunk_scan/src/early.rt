@@ -1,0 +1,175 @@
+//! Which conditions a kernel knows: a column compared with a number, on either side, a column BETWEEN two numbers, IS NULL
+//! and IS NOT NULL of a column, and areas.
+//!
+//! A number is an int, or an int behind a minus. What stands in brackets, behind NOT or in OR is left to the evaluator.
+ghost use Rattle.std.specs.Prelude.{◌≡◌, ◌≤ℤ◌, ℤ, IfSome, Option, Some, false, neg_ℤ, pos, true, if◌then◌else◌};
+ghost use Rattle.sql_tree.specs.declared.cond.Cmp.TheVariants.{AtMost};
+ghost use Rattle.sql_bound.specs.declared.expr.BoundCol.{BoundCol};
+ghost use Rattle.value_rules.specs.ColumnTests.{mirrored};
+ghost use Rattle.value_rules.specs.Formulas.{And, Compares, IsNull, formula_of, formula_of_pred, negated_if};
+ghost use Rattle.value_rules.specs.Terms.{Column, term_of, term_of_factor};
+ghost use Rattle.value_rules.specs.Values.{value_at};
+ghost use Rattle.chunk_scan.specs.Asking.{IsEarly, first_col};
+
+use crate::early_area::of_area;
+use crate::known::{Early, Known};
+use sql_bound::{BoundAtom, BoundCol, BoundCond, BoundExpr, BoundFactor, BoundPred};
+use sql_tree::Cmp;
+
+/// What a kernel can do for the condition, if one knows it.
+#[tactic(auto, using(crate::proofs::KnownConds::plain_cond))]
+pub(crate) fn early(c: &BoundCond) -> Option<Early>
+    ensures { IfSome result (IsEarly (formula_of c.now)) }
+{
+    if c.not {
+        return None;
+    }
+    of_pred(&c.pred)
+}
+
+/// The same of a condition without NOT.
+fn of_pred(pred: &BoundPred) -> Option<Early>
+    ensures { IfSome result (IsEarly (formula_of_pred pred.now)) }
+{
+    match pred {
+        BoundPred::Compare { left, op, right } => compared(left, *op, right),
+        BoundPred::Between {
+            not,
+            value,
+            low,
+            high,
+        } => between(*not, value, low, high),
+        BoundPred::IsNull { not, value } => presence(*not, value),
+        BoundPred::Area(test) => Some(of_area(test)),
+        _ => None,
+    }
+}
+
+/// A question that is the whole of its condition.
+fn whole(test: Known) -> Option<Early>
+    ensures { result ≡ Some (record { test = test; whole = true }) }
+{
+    Some(Early { test, whole: true })
+}
+
+/// A column compared with a number, or the mirrored comparison where the number stands first.
+#[tactic(auto, using(crate::proofs::KnownConds::compare_early))]
+fn compared(left: &BoundExpr, op: Cmp, right: &BoundExpr) -> Option<Early>
+    ensures { IfSome result (IsEarly (Compares op (term_of left.now) (term_of right.now))) }
+{
+    match (column_of(left), number_of(right)) {
+        (Some(col), Some(n)) => whole(Known::Compare { col, op, n }),
+        _ => number_first(left, op, right),
+    }
+}
+
+/// A number compared with a column.
+#[tactic(auto, using(crate::proofs::KnownConds::mirrored_early))]
+fn number_first(left: &BoundExpr, op: Cmp, right: &BoundExpr) -> Option<Early>
+    ensures { IfSome result (IsEarly (Compares op (term_of left.now) (term_of right.now))) }
+{
+    let n = number_of(left)?;
+    let col = column_of(right)?;
+    whole(Known::Compare {
+        col,
+        op: mirrored(op),
+        n,
+    })
+}
+
+/// A column BETWEEN two numbers.
+#[tactic(auto, using(crate::proofs::KnownConds::between_early))]
+fn between(not: bool, value: &BoundExpr, low: &BoundExpr, high: &BoundExpr) -> Option<Early>
+    ensures { IfSome result (IsEarly (negated_if not
+        (And (Compares AtMost (term_of low.now) (term_of value.now))
+        (Compares AtMost (term_of value.now) (term_of high.now))))) }
+{
+    if not {
+        return None;
+    }
+    let col = column_of(value)?;
+    let low = number_of(low)?;
+    let high = number_of(high)?;
+    whole(Known::Range { col, low, high })
+}
+
+/// IS NULL of a column, or with `not` IS NOT NULL.
+#[tactic(auto, using(crate::proofs::KnownConds::present_early, crate::proofs::KnownConds::absent_early))]
+fn presence(not: bool, value: &BoundExpr) -> Option<Early>
+    ensures { IfSome result (IsEarly (negated_if not (IsNull (term_of value.now)))) }
+{
+    let col = column_of(value)?;
+    if not {
+        whole(Known::Present { col })
+    } else {
+        whole(Known::Absent { col })
+    }
+}
+
+/// The comparison with its sides exchanged.
+fn mirrored(op: Cmp) -> Cmp
+    ensures { result ≡ mirrored op }
+{
+    match op {
+        Cmp::Equal => Cmp::Equal,
+        Cmp::Differs => Cmp::Differs,
+        Cmp::Less => Cmp::More,
+        Cmp::AtMost => Cmp::AtLeast,
+        Cmp::More => Cmp::Less,
+        Cmp::AtLeast => Cmp::AtMost,
+    }
+}
+
+/// The one factor that the expression is.
+fn factor_of(e: &BoundExpr) -> Option<&BoundFactor>
+    ensures { IfSome result (λ factor. term_of e.now ≡ term_of_factor factor.now) }
+{
+    if e.rest.len() == 0 && e.first.rest.len() == 0 {
+        Some(&e.first.first)
+    } else {
+        None
+    }
+}
+
+/// The column of the first row that the expression is, by its number.
+fn column_of(e: &BoundExpr) -> Option<u32>
+    ensures { IfSome result (λ col. term_of e.now ≡ Column (first_col col)) }
+{
+    let factor = factor_of(e)?;
+    match &factor.atom {
+        BoundAtom::Col(col) => first_column(factor.minus, col),
+        _ => None,
+    }
+}
+
+/// The number of a column of the first row, without a minus before it.
+fn first_column(minus: bool, col: &BoundCol) -> Option<u32>
+    ensures is { IfSome result (λ found. first_col found ≡ col.now) }
+    ensures plus { IfSome result (λ found. minus ≡ false) }
+{
+    if minus || col.second {
+        None
+    } else {
+        Some(col.col)
+    }
+}
+
+/// The number as which the expression is written.
+fn number_of(e: &BoundExpr) -> Option<i64>
+    ensures { IfSome result (λ n. (cells : BoundCol → Option ℤ)
+        → value_at cells (term_of e.now) ≡ Some n) }
+{
+    let factor = factor_of(e)?;
+    match &factor.atom {
+        BoundAtom::Int(n) => Some(signed(factor.minus, n.get())),
+        _ => None,
+    }
+}
+
+/// The number, or with `minus` what it takes from 0.
+fn signed(minus: bool, n: i64) -> i64
+    requires { pos 0 ≤ℤ n }
+    ensures { result ≡ if minus then neg_ℤ n else n }
+{
+    if minus { -n } else { n }
+}

@@ -1,0 +1,43 @@
+//! What a kernel can do for an area test.
+ghost use Rattle.std.specs.Prelude.{◌≡◌};
+ghost use Rattle.value_rules.specs.Formulas.{LiesIn};
+ghost use Rattle.chunk_scan.specs.Asking.{IsEarly};
+ghost use Rattle.chunk_scan.specs.declared.known.Known.TheVariants.{Range};
+
+use crate::known::{Early, Known};
+use sql_bound::AreaTest;
+
+/// The column of the heights.
+const HEIGHTS: u32 = 3;
+
+/// A band and a cap are a question each; of a box its heights are one, and its sides are left to the evaluator.
+#[tactic(auto, using(crate::proofs::KnownConds::band_early, crate::proofs::KnownConds::cap_early, crate::proofs::KnownConds::box_early))]
+pub(crate) fn of_area(test: &AreaTest) -> Early
+    ensures { IsEarly (LiesIn test.now) result }
+{
+    match test {
+        AreaTest::Band { lo, hi } => heights(*lo, *hi, true),
+        AreaTest::Cap { centre, n } => Early {
+            test: Known::Near {
+                centre: *centre,
+                n: *n,
+            },
+            whole: true,
+        },
+        AreaTest::Boxed { lo, hi, a: _, b: _ } => heights(*lo, *hi, false),
+    }
+}
+
+/// The heights from `lo` to `hi`.
+fn heights(lo: i64, hi: i64, whole: bool) -> Early
+    ensures { result ≡ record { test = Range 3 lo hi; whole = whole } }
+{
+    Early {
+        test: Known::Range {
+            col: HEIGHTS,
+            low: lo,
+            high: hi,
+        },
+        whole,
+    }
+}
