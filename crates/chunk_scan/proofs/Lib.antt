@@ -5,3 +5,9 @@ pub mod Scanned
 pub mod Totalled
 pub mod Sounding
 pub mod Answering
+pub mod Places
+pub mod Narrowing
+pub mod Masks
+pub mod Kernels
+pub mod KnownConds
+pub mod Beyond

@@ -1,3 +1,4 @@
+pub mod Asking
 pub mod Standing
 pub mod Lines
 pub mod Grouped

@@ -17,14 +17,15 @@ use crate::row_piece::row_piece;
 use crate::standing::standing;
 use answer_rules::ChunkQuery;
 use chunk_store::Store;
+use column_eval::Scratch;
 use partial_merge::Piece;
 use sky_io::Memory;
 use sky_row::Rows;
 use sql_bound::Shape;
 use std::alloc::Global;
 
-/// What the query finds in the chunk alone. Takes memory for a place a row of the chunk that meets the conditions, and for
-/// what the piece keeps.
+/// What the query finds in the chunk alone. Takes memory for a truth and a place a row of the chunk, for the evaluator, and
+/// for what the piece keeps.
 pub fn scan<'w>(
     alloc: Global,
     store: &'w Store,
@@ -40,8 +41,10 @@ pub fn scan<'w>(
     know(store);
     let block = store.block(chunk);
     let own = store.chunk(chunk);
-    let places = standing(alloc, block, store.rows(), own, query.conds.as_slice())?;
-    piece_at(alloc, store.rows(), own, query, places.as_slice())
+    let rows = store.rows();
+    let mut scratch = Scratch::new(alloc);
+    let places = standing(alloc, block, query.conds.as_slice(), &mut scratch)?;
+    piece_at(alloc, rows, own, query, places.as_slice())
 }
 
 /// What a store tells of itself: its plan is within the limits, and its rows lie in the sky and are not too many. Takes no

@@ -77,7 +77,7 @@ fn push_one(
     fill(cells, keys, first)?;
     let key = Key::from_slice(alloc, cells.as_slice())?;
     let parts = totals(alloc, items, first)?;
-    piece.push_group(key, 1, parts)
+    piece.push_group(key, 1, parts.as_slice())
 }
 
 /// Puts the row's values in the key columns in place of what the list held; `None` is NULL.

@@ -1,65 +1,202 @@
-//! Which rows of a block meet conditions.
-
-ghost use Rattle.std.specs.Prelude.{◌≡◌, ◌+◌, ◌<◌, ◌≤◌, ◌++◌, All, IfOk, IsTrue, OnOk, false, true, length};
-ghost use Rattle.std.specs.List.{list_all};
-ghost use Rattle.table_rules.specs.declared.limits.TheConstants.{ROWS_MOST};
-ghost use Rattle.sky_row.specs.Columns.{objects_at};
-ghost use Rattle.chunk_store.specs.Lists.{kept_if};
+//! The places of the rows that meet all conditions of a query.
+//!
+//! First each condition that a kernel knows clears a mask of all rows. Then the places that are left are listed, and each
+//! other condition is judged at these alone, and takes out those at which it does not hold.
+ghost use Rattle.std.specs.Prelude.{◌≡◌, ◌+◌, ◌<◌, ◌≤◌, ◌^◌, ℕ, Bool, All, IfOk, IsTrue, OnOk, length, map, replicate, take, true, false};
+ghost use Rattle.std.specs.List.{filter, list_all};
+ghost use Rattle.lane_filter.specs.Tests.{places_of};
 ghost use Rattle.value_rules.specs.Sound.{has_col, is_sound_cond};
-ghost use Rattle.chunk_scan.specs.Standing.{standing};
+ghost use Rattle.chunk_scan.specs.Standing.{IsNarrowed, IsNarrowedBy, AreDone, holds_at, meets_at, standing};
 
-use crate::place::row_at;
+use crate::early::early;
+use crate::kernel::keep_asked;
 use column_block::Block;
-use expr_eval::meets;
+use column_eval::{Scratch, truths};
+use lane_filter::picked;
 use sky_io::Memory;
-use sky_row::Rows;
 use sql_bound::BoundCond;
 use std::alloc::Global;
 
-/// The places, ascending, of the rows of the block that meet all of the conditions; they are rows of the table, at these
-/// places of it. Takes memory for the places.
+/// The places, ascending, of the rows of the block that meet all of the conditions. Takes memory for a truth and a place a
+/// row, and for what the evaluator needs.
+#[tactic(auto, using(crate::proofs::Places::done_at_places, crate::proofs::Places::standing_places, crate::proofs::Places::there_places))]
 pub(crate) fn standing(
     alloc: Global,
     block: &Block,
-    rows: &Rows,
-    own: &[u32],
     conds: &[BoundCond],
+    scratch: &mut Scratch,
 ) -> Result<Vec<u32>, Memory>
-    requires own { All (λ place. place < length rows.now.objects) own.now }
-    requires few { length own.now ≤ ROWS_MOST }
-    requires same { block.now.objects ≡ objects_at rows.now.objects own.now }
-    requires sound { IsTrue (list_all
-        (is_sound_cond (has_col (4 + length rows.now.names) false)) conds.now) }
-    ensures value { IfOk result (λ places.
-        places.items ≡ standing conds.now block.now.objects) }
+    requires few { length block.now.objects < 2 ^ 32 }
+    requires sound { IsTrue (list_all (is_sound_cond (has_col (4 + block.now.width) false))
+        conds.now) }
+    ensures value { IfOk result (λ places. places.items ≡ standing conds.now block.now.objects) }
     ensures there { IfOk result (λ places.
         All (λ place. place < length block.now.objects) places.items) }
 {
-    let mut places = Vec::new(alloc);
-    for k in 0..own.len() {
-        let place = k as u32;
-        push_if(
-            &mut places,
-            meets(conds, &row_at(rows, own, place), None),
-            place,
-        )?;
-    }
+    let mut mask = filled(alloc, true, block.len())?;
+    let done = narrow_all(alloc, block, conds, mask.as_mut_slice())?;
+    let mut places = places_in(alloc, mask.as_slice())?;
+    keep_all(block, conds, done.as_slice(), &mut places, scratch)?;
     Ok(places)
 }
 
-/// Puts the place behind the others where the answer is yes.
-fn push_if(places: &mut Vec<u32>, is: bool, place: u32) -> Result<(), Memory>
-    ensures { OnOk result (places.new.items ≡ places.old.items ++ kept_if is place) }
+/// So many times one flag.
+pub(crate) fn filled(alloc: Global, flag: bool, count: usize) -> Result<Vec<bool>, Memory>
+    ensures { IfOk result (λ list. list.items ≡ replicate count flag) }
 {
-    if is { push(places, place) } else { Ok(()) }
-}
-
-/// Puts the place behind the others.
-fn push(places: &mut Vec<u32>, place: u32) -> Result<(), Memory>
-    ensures { OnOk result (places.new.items ≡ places.old.items ++ kept_if true place) }
-{
-    match places.push(place) {
-        Ok(()) => Ok(()),
+    match vec![in alloc; flag; count] {
+        Ok(list) => Ok(list),
         Err(_) => Err(Memory),
     }
+}
+
+/// So many places, all of them 0.
+fn zeros(alloc: Global, count: usize) -> Result<Vec<u32>, Memory>
+    ensures { IfOk result (λ list. list.items ≡ replicate count 0) }
+{
+    match vec![in alloc; 0u32; count] {
+        Ok(list) => Ok(list),
+        Err(_) => Err(Memory),
+    }
+}
+
+/// Lets the kernels clear the mask by each condition that they know, and tells which conditions are done with.
+#[tactic(auto, using(crate::proofs::Narrowing::narrowed_none, crate::proofs::Narrowing::narrowed_more))]
+fn narrow_all(
+    alloc: Global,
+    block: &Block,
+    conds: &[BoundCond],
+    mask: &mut [bool],
+) -> Result<Vec<bool>, Memory>
+    requires all { mask.old ≡ replicate (length block.now.objects) true }
+    requires sound { IsTrue (list_all (is_sound_cond (has_col (4 + block.now.width) false))
+        conds.now) }
+    ensures narrowed { IfOk result (λ done.
+        IsNarrowed conds.now block.now.objects done.items mask.new) }
+    ensures count { IfOk result (λ done. length done.items ≡ length conds.now) }
+    ensures len { length mask.new ≡ length mask.old }
+{
+    let mut done = filled(alloc, false, conds.len())?;
+    for i in 0..conds.len() {
+        done[i] = narrow_by(block, &conds[i], mask);
+    }
+    Ok(done)
+}
+
+/// Lets a kernel clear the mask by the condition, where one knows it, and tells whether the condition is done with.
+#[tactic(auto, using(crate::proofs::Narrowing::narrowed_by, crate::proofs::Narrowing::narrowed_not))]
+fn narrow_by(block: &Block, c: &BoundCond, mask: &mut [bool]) -> bool
+    requires rows { length block.now.objects ≡ length mask.old }
+    requires sound { IsTrue (is_sound_cond (has_col (4 + block.now.width) false) c.now) }
+    ensures { IsNarrowedBy c.now block.now.objects result mask.old mask.new }
+{
+    match early(c) {
+        None => false,
+        Some(early) => {
+            keep_asked(block, early.test, mask);
+            early.whole
+        },
+    }
+}
+
+/// The places at which the mask is true, ascending.
+fn places_in(alloc: Global, mask: &[bool]) -> Result<Vec<u32>, Memory>
+    requires { length mask.now < 2 ^ 32 }
+    ensures { IfOk result (λ places. places.items ≡ places_of mask.now) }
+{
+    let mut places = zeros(alloc, mask.len())?;
+    let count = picked(mask, places.as_mut_slice());
+    places.truncate(count);
+    Ok(places)
+}
+
+/// Takes out the places at which a condition that is not done with does not hold.
+#[tactic(auto, using(crate::proofs::Places::rest_step, crate::proofs::Places::rest_end, crate::proofs::Places::done_rest))]
+fn keep_all(
+    block: &Block,
+    conds: &[BoundCond],
+    done: &[bool],
+    places: &mut Vec<u32>,
+    scratch: &mut Scratch,
+) -> Result<(), Memory>
+    requires count { length done.now ≡ length conds.now }
+    requires there { All (λ place. place < length block.now.objects) places.old.items }
+    requires sound { IsTrue (list_all (is_sound_cond (has_col (4 + block.now.width) false))
+        conds.now) }
+    requires done { AreDone conds.now block.now.objects done.now places.old.items }
+    ensures { OnOk result (places.new.items
+        ≡ filter (meets_at conds.now block.now.objects) places.old.items) }
+{
+    for i in 0..conds.len() {
+        keep_unless(done[i], block, &conds[i], places, scratch)?;
+    }
+    Ok(())
+}
+
+/// Takes out the places at which the condition does not hold, of which there is none where it is done with.
+#[tactic(auto, using(crate::proofs::Places::all_stay))]
+fn keep_unless(
+    done: bool,
+    block: &Block,
+    c: &BoundCond,
+    places: &mut Vec<u32>,
+    scratch: &mut Scratch,
+) -> Result<(), Memory>
+    requires there { All (λ place. place < length block.now.objects) places.old.items }
+    requires sound { IsTrue (is_sound_cond (has_col (4 + block.now.width) false) c.now) }
+    requires done { done ≡ true
+        → All (λ k. holds_at c.now block.now.objects k ≡ true) places.old.items }
+    ensures { OnOk result (places.new.items
+        ≡ filter (holds_at c.now block.now.objects) places.old.items) }
+{
+    if done {
+        Ok(())
+    } else {
+        keep_holding(block, c, places, scratch)
+    }
+}
+
+/// Takes out the places at which the condition does not hold. After `Err` nothing has changed.
+#[tactic(auto, using(crate::proofs::Places::held))]
+fn keep_holding(
+    block: &Block,
+    c: &BoundCond,
+    places: &mut Vec<u32>,
+    scratch: &mut Scratch,
+) -> Result<(), Memory>
+    requires there { All (λ place. place < length block.now.objects) places.old.items }
+    requires sound { IsTrue (is_sound_cond (has_col (4 + block.now.width) false) c.now) }
+    ensures { OnOk result (places.new.items
+        ≡ filter (holds_at c.now block.now.objects) places.old.items) }
+{
+    let found = truths(block, c, places.as_slice(), scratch)?;
+    keep_true(places, found.holds());
+    found.give_back(scratch);
+    Ok(())
+}
+
+/// Keeps the places at which the mask is true, in their order. Takes no memory.
+fn keep_true(places: &mut Vec<u32>, mask: &[bool])
+    requires { length mask.now ≡ length places.old.items }
+    ensures { (test : ℕ → Bool) → mask.now ≡ map test places.old.items
+        → places.new.items ≡ filter test places.old.items }
+{
+    let count = to_front(places.as_mut_slice(), mask);
+    places.truncate(count);
+}
+
+/// Moves the places at which the mask is true to the front, in their order, and tells how many there are.
+fn to_front(places: &mut [u32], mask: &[bool]) -> usize
+    requires { length mask.now ≡ length places.old }
+    ensures value { (test : ℕ → Bool) → mask.now ≡ map test places.old
+        → take result places.new ≡ filter test places.old }
+    ensures most { result ≤ length mask.now }
+    ensures len { length places.new ≡ length places.old }
+{
+    let mut count = 0usize;
+    for i in 0..mask.len() {
+        places[count] = places[i];
+        count += usize::from(mask[i]);
+    }
+    count
 }

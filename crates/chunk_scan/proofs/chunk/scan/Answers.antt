@@ -10,16 +10,13 @@ use Rattle.chunk_scan.proofs.Found.{block_few, block_is, places_few, rows_len}
 use Rattle.chunk_scan.proofs.Scanned.{scanned}
 use Rattle.chunk_scan.proofs.chunk.scan.Goals as goal
 
-pub standing-requires-clause-same : goal.standing-requires-clause-same
-standing-requires-clause-same c = block_is c.args.store.now.plan c.args.store.now.rows c.rows.result.now c.args.chunk c.block-block.result.now.objects c.chunk-own.result.now c.block-block.ensures.places c.chunk-own.ensures.value c.rows.ensures
-
 pub standing-requires-clause-few : goal.standing-requires-clause-few
 standing-requires-clause-few c =
     let g = c.args.store.now.plan in
     let objects = c.args.store.now.rows.objects in
     let block = c.block-block.result.now.objects in
     let few = block_few g objects c.args.chunk block (c.block-block.ensures.places ∙ chunk_taken g objects c.args.chunk) c.know.ensures.few in
-    omega (arith, few, rows_len block c.rows.result.now.objects c.chunk-own.result.now (standing-requires-clause-same c))
+    omega (arith, few)
 
 pub piece_at-requires-clause-few : goal.piece_at-requires-clause-few
 piece_at-requires-clause-few c =
@@ -34,7 +31,7 @@ pub piece_at-requires-clause-there : goal.piece_at-requires-clause-there
 piece_at-requires-clause-there c =
     let block = c.block-block.result.now.objects in
     subst (All (λ i. i < length c.chunk-own.result.now)) (sym c.as_slice-2.ensures.value)
-    (subst (λ (n : ℕ). All (λ i. i < n) c.in_ok-places.places.items) (rows_len block c.rows.result.now.objects c.chunk-own.result.now (block_is c.args.store.now.plan c.args.store.now.rows c.rows.result.now c.args.chunk c.block-block.result.now.objects c.chunk-own.result.now c.block-block.ensures.places c.chunk-own.ensures.value c.rows.ensures)) c.in_ok-places.ensures.there)
+    (subst (λ (n : ℕ). All (λ i. i < n) c.in_ok-places.places.items) (rows_len block c.rows-rows.result.now.objects c.chunk-own.result.now (block_is c.args.store.now.plan c.args.store.now.rows c.rows-rows.result.now c.args.chunk c.block-block.result.now.objects c.chunk-own.result.now c.block-block.ensures.places c.chunk-own.ensures.value c.rows-rows.ensures)) c.in_ok-places.ensures.there)
 
 pub returns : goal.returns
 returns c =
@@ -44,8 +41,8 @@ returns c =
     let block = c.block-block.result.now.objects in
     let own = c.chunk-own.result.now in
     let places = c.as_slice-2.result.now in
-    let same : objects_at c.rows-2.result.now.objects own ≡ block =
-    ap (λ (t : Catalogue). objects_at t.objects own) (c.rows-2.ensures ∙ sym c.rows.ensures) ∙ sym (block_is c.args.store.now.plan c.args.store.now.rows c.rows.result.now c.args.chunk c.block-block.result.now.objects c.chunk-own.result.now c.block-block.ensures.places c.chunk-own.ensures.value c.rows.ensures) in
+    let same : objects_at c.rows-rows.result.now.objects own ≡ block =
+    sym (block_is c.args.store.now.plan c.args.store.now.rows c.rows-rows.result.now c.args.chunk c.block-block.result.now.objects c.chunk-own.result.now c.block-block.ensures.places c.chunk-own.ensures.value c.rows-rows.ensures) in
     if_ok c.piece_at.result _ _
     (λ view h. scanned g objects cq c.args.chunk block places view c.know.ensures.plan c.know.ensures.rows c.requires.there c.requires.rows
     (c.block-block.ensures.places ∙ chunk_taken g objects c.args.chunk)

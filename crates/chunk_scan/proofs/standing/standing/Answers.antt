@@ -1,35 +1,30 @@
-use Rattle.std.proofs.Common.{◌≡◌, ◌∙◌, ◌<◌, ◌++◌, arith, ap, sym, subst, filter, slice_get, length, ℕ}
+use Rattle.std.proofs.Common.{◌∙◌, ◌<◌, ap, filter, length, subst, sym}
 use Rattle.std.specs.Prelude.{All}
-use Rattle.std.specs.List.{range_with_len}
-use Rattle.table_rules.specs.Objects.{Obj}
-use Rattle.chunk_rules.specs.Places.{passes}
-use Rattle.chunk_store.specs.Lists.{kept_if}
-use Rattle.chunk_store.proofs.Ranges.{filter_more, places_there}
-use Rattle.value_rules.specs.Truth.{meets}
-use Rattle.value_rules.specs.Values.{row}
-use Rattle.chunk_scan.proofs.Found.{row_passes, rows_len}
+use Rattle.lane_filter.specs.Tests.{places_of}
+use Rattle.chunk_scan.specs.Standing.{AreDone, meets_at}
+use Rattle.chunk_scan.proofs.Places.{done_at_places, places_below, standing_places, there_places, written_whole}
 use Rattle.chunk_scan.proofs.standing.standing.Goals as goal
 
-pub loop-k-preserved : goal.loop-k-preserved
-loop-k-preserved c =
-    let conds = c.args.conds.now in
-    let block = c.args.block.now.objects in
-    let k = c.loop-k.k in
-    let low : k < length c.args.own.now = omega (arith, c.loop-k-test.true) in
-    let passed = λ (i : ℕ). passes (λ (o : Obj). meets conds (row o)) (slice_get block i) in
-    let same = c.meets.ensures ∙ row_passes conds block c.args.rows.now.objects c.args.own.now k c.row_at.result c.requires.same low c.row_at.ensures.value in
-    record {
-      kept = c.in_ok-push_if.ensures
-          ∙ (ap (λ l. l ++ kept_if c.meets.result k) c.loop-k.invariant.kept
-          ∙ (ap (λ b. filter passed (range_with_len 0 k) ++ kept_if b k) same ∙ sym (filter_more passed k)));
-      end = omega (arith, c.loop-k-test.true);
-    }
+pub keep_all-requires-clause-there : goal.keep_all-requires-clause-there
+keep_all-requires-clause-there c =
+    subst (All (λ place. place < length c.args.block.now.objects)) (sym (c.in_ok-places.ensures ∙ ap places_of (c.as_slice.ensures.value
+    ∙ written_whole c.in_ok-mask.mask.items c.narrow_all.new.mask c.in_ok-mask.mask.len (c.in_ok-done.ensures.len ∙ c.as_mut_slice.ensures.len))))
+    (places_below c.args.conds.now c.args.block.now.objects c.in_ok-done.done.items c.narrow_all.new.mask c.in_ok-done.ensures.narrowed)
+
+pub keep_all-requires-clause-done : goal.keep_all-requires-clause-done
+keep_all-requires-clause-done c =
+    subst (λ flags. AreDone c.args.conds.now c.args.block.now.objects flags c.in_ok-places.places.items) (sym c.as_slice-2.ensures.value)
+    (subst (AreDone c.args.conds.now c.args.block.now.objects c.in_ok-done.done.items)
+    (sym (c.in_ok-places.ensures ∙ ap places_of (c.as_slice.ensures.value
+    ∙ written_whole c.in_ok-mask.mask.items c.narrow_all.new.mask c.in_ok-mask.mask.len (c.in_ok-done.ensures.len ∙ c.as_mut_slice.ensures.len))))
+    (done_at_places c.args.conds.now c.args.block.now.objects c.in_ok-done.done.items c.narrow_all.new.mask c.in_ok-done.ensures.narrowed))
+
+pub returns-clause-value : goal.returns-clause-value
+returns-clause-value c =
+    c.in_ok-keep_all.ensures
+    ∙ (ap (filter (meets_at c.args.conds.now c.args.block.now.objects)) (c.in_ok-places.ensures ∙ ap places_of (c.as_slice.ensures.value
+    ∙ written_whole c.in_ok-mask.mask.items c.narrow_all.new.mask c.in_ok-mask.mask.len (c.in_ok-done.ensures.len ∙ c.as_mut_slice.ensures.len)))
+    ∙ standing_places c.args.conds.now c.args.block.now.objects c.in_ok-done.done.items c.narrow_all.new.mask c.in_ok-done.ensures.narrowed)
 
 pub returns-clause-there : goal.returns-clause-there
-returns-clause-there c =
-    let conds = c.args.conds.now in
-    let block = c.args.block.now.objects in
-    let passed = λ (i : ℕ). passes (λ (o : Obj). meets conds (row o)) (slice_get block i) in
-    let end : c.loop-k.k ≡ length block = omega (arith, c.loop-k.invariant.end, c.loop-k-test.false, rows_len block c.args.rows.now.objects c.args.own.now c.requires.same) in
-    subst (All (λ i. i < length block)) (sym (c.loop-k.invariant.kept ∙ ap (λ n. filter passed (range_with_len 0 n)) end))
-    (places_there (λ (o : Obj). meets conds (row o)) block)
+returns-clause-there c = there_places c.args.conds.now c.args.block.now.objects c.keep_all.new.places.items (returns-clause-value c)
