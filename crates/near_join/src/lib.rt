@@ -19,6 +19,3 @@ mod sweep;
 
 pub use chunk::join;
 pub use heights::window;
-
-#[cfg(test)]
-mod tests;
