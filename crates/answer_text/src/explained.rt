@@ -18,6 +18,7 @@ use sky_row::Schema;
 use sql_tree::Query;
 
 /// What explains a query: its tree, the columns, what it is cut into, and the chunks of its plan.
+#[derive(Drop)]
 pub struct Explained<'a> {
     pub head: &'a Query,
     pub schema: &'a Schema,

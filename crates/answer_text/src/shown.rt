@@ -17,6 +17,7 @@ use sql_print::put_heading;
 use sql_tree::{Item, ItemList, Query, Selection};
 
 /// What is shown of a query that is answered: its tree, the columns, its rows, and how many chunks its plan has.
+#[derive(Drop)]
 pub struct Shown<'a> {
     pub head: &'a Query,
     pub schema: &'a Schema,
