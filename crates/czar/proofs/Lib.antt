@@ -1,6 +1,10 @@
-pub mod Places
-pub mod LineSteps
-pub mod Fronts
-pub mod RowLines
-pub mod Blocks
-pub mod Indexes
+pub mod Each
+pub mod Ending
+pub mod Gathering
+pub mod Inverting
+pub mod Planning
+pub mod Told
+pub mod Understood
+pub mod EndBlocks
+pub mod PlanBlocks
+pub mod BlocksByPlace

@@ -1,8 +1,7 @@
-pub mod NarrowLines
-pub mod NarrowScript
-pub mod NarrowTranscript
-pub mod NarrowRun
-pub mod Each
-pub mod Counted
-pub mod Examples
+pub mod Built
+pub mod Understandings
 pub mod Indexed
+pub mod Plans
+pub mod Ends
+pub mod Told
+pub mod Running

@@ -1,20 +1,24 @@
-//! The front end of the engine: the world that queries are asked of, and the transcript of the queries of a script.
+//! The front end of the engine: the queries of a script are planned, run over their chunks, merged, and told.
 //!
-//! Callers see a `World` as its survey, a `Plain` as its `Run` and what is written as its `text_of` (`specs/NarrowRun.antt`).
-//! Below: `chunk_store` for the rows of each chunk, `object_index` for ids, `sky_text` for numbers, `sky_io` for the sink.
-//! Above: the program's top call.
-//! No SQL but one form of query, and no file: texts are slices that the caller holds.
+//! Callers see a script's plans as `ArePlans` (`specs/Plans.antt`) and its ends as `EndsShow` (`specs/Ends.antt`): an answer
+//! is that of the flat table, in which nothing is said of chunks.
+//! Below: `sql_reader` and `sql_bind` for what a query is, `area_analyser` for its chunks, `chunk_rewriter` for its two
+//! halves, `chunk_scan` and `near_join` for a chunk's work, `partial_merge` for the merge, `answer_text` for its text. Above:
+//! the program's top call.
+//! No file and no thread: texts are slices that the caller holds.
 #![tactic(auto)]
 
-mod each;
-pub mod examples;
-mod run;
-mod script;
-#[cfg(test)]
-mod tests;
+pub mod end;
+mod explained;
+mod lookup;
+pub mod plan;
+mod running;
+pub mod session;
 mod transcript;
-mod world;
+pub mod understanding;
 
-pub use run::{Plain, put_plain};
-pub use script::{Queries, read_script};
-pub use world::World;
+pub use end::End;
+pub use explained::put_explained;
+pub use plan::{Plan, explain};
+pub use session::{has_queries_alone, run_session};
+pub use transcript::put_transcript;

@@ -1,13 +1,9 @@
 -- Of a text that was fetched to one byte past its limit: the whole of it where it is no longer, and a front of a longer one.
-use Rattle.std.proofs.Common.{◌≡◌, ℕ, ◌+◌, ◌<◌, ◌≤◌, Bool, true, false, List, length, take, Option, None, Some, if◌then◌else◌, nat_le, refl, sym, ap, subst, arith, ◌∙◌}
+use Rattle.std.proofs.Common.{◌≡◌, ℕ, ◌+◌, ◌<◌, ◌≤◌, Bool, true, false, List, length, take, Option, None, Some, nat_le, refl, sym, subst, arith, ◌∙◌}
 use Rattle.std.proofs.lemmas.List.{take_all, length-take-le}
 use Rattle.std.proofs.lemmas.Bool.{leb-true}
-use Rattle.std.specs.Option.{option_and_then}
-use Rattle.text_rules.specs.declared.limits.TheConstants.{SCRIPT_TEXT_MOST}
 use Rattle.sky_io.specs.Shelves.{ShelfState, GivesText, named_text}
-use Rattle.czar.specs.NarrowLines.{ended_lines}
-use Rattle.czar.specs.NarrowScript.{Range, narrow_script, script_lines}
-use Rattle.qserv_cli.specs.Reached.{Texts, IfTold, IsLong, AreRangesOf, limit_of}
+use Rattle.qserv_cli.specs.Reached.{Texts, IfTold, IsLong, limit_of}
 use Rattle.qserv_cli.specs.Steps.{IsGiven, IsRead, IsWhole, OfNamed}
 use Rattle.qserv_cli.specs.declared.outcome.Which.{Which}
 
@@ -75,55 +71,3 @@ of_whole old new name text slice which Holds whole same h = record {
   same = whole.read.same;
   holds = holds_told old.texts name text slice Holds whole.read.holds same h;
 }
-
-cut_by :
-    {A : Type 0} (limit : ℕ) (g : List ℕ → Option A) (t : List ℕ) (b : Bool) → nat_le (length t) limit ≡ b →
-    (if nat_le (length (take (limit + 1) t)) limit then g (take (limit + 1) t) else None) ≡
-    (if nat_le (length t) limit then g t else None)
-cut_by limit g t true h =
-    let le : length t ≤ limit = leb-true (length t) limit h in
-    let le' : length t ≤ limit + 1 = omega arith in
-    rw (take_all (limit + 1) t le') refl
-cut_by limit g t false h =
-    let long : limit < length t = grind arith in
-    let more : limit + 1 ≤ length t = omega arith in
-    let cut : length (take (limit + 1) t) ≡ limit + 1 = length-take-le (limit + 1) t more in
-    let long' : nat_le (length (take (limit + 1) t)) limit ≡ false = grind (arith, cut) in
-    rw (long', h) refl
-
--- a script that is cut reads as the whole one: neither is read
-script_cut : (t cut : List ℕ) → cut ≡ take (SCRIPT_TEXT_MOST + 1) t → narrow_script cut ≡ narrow_script t
-script_cut t cut is =
-    ap narrow_script is
-    ∙ cut_by SCRIPT_TEXT_MOST (λ text. option_and_then script_lines (ended_lines text)) t (nat_le (length t) SCRIPT_TEXT_MOST) refl
-
-script_told :
-    (told : Option Texts) (name cut : List ℕ) (ranges : Option (List Range)) →
-    GivesText told name SCRIPT_TEXT_MOST cut → ranges ≡ narrow_script cut →
-    IfTold told (λ texts. narrow_script (named_text name texts) ≡ ranges)
-script_told None name cut ranges given is = tt
-script_told (Some texts) name cut ranges given is = sym (is ∙ script_cut (named_text name texts) cut given)
-
--- What the given text reads as, the named script does.
-pub script_read :
-    (old new : ShelfState) (name text slice : List ℕ) (ranges : Option (List Range)) →
-    IsGiven name SCRIPT_TEXT_MOST text old new → slice ≡ text → ranges ≡ narrow_script slice →
-    IsRead (OfNamed name (λ text. narrow_script text ≡ ranges)) old new
-script_read old new name text slice ranges got same is =
-    record { same = got.same; holds = script_told old.texts name text ranges got.given (is ∙ ap narrow_script same) }
-
-ranges_told :
-    (told : Option Texts) (name : List ℕ) (ranges : List Range) →
-    IfTold told (OfNamed name (λ text. narrow_script text ≡ Some ranges)) →
-    IfTold told (λ texts. AreRangesOf (Some name) texts (Some ranges))
-ranges_told None name ranges h = tt
-ranges_told (Some texts) name ranges h = (h, refl)
-
--- What the given text reads as is what the form asks.
-pub ranges_read :
-    (old new : ShelfState) (name text slice : List ℕ) (ranges : List Range) →
-    IsGiven name SCRIPT_TEXT_MOST text old new → slice ≡ text → Some ranges ≡ narrow_script slice →
-    IsRead (λ texts. AreRangesOf (Some name) texts (Some ranges)) old new
-ranges_read old new name text slice ranges got same is =
-    let read = script_read old new name text slice (Some ranges) got same is in
-    record { same = read.same; holds = ranges_told old.texts name ranges read.holds }

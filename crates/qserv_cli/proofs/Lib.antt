@@ -1,5 +1,10 @@
 pub mod Cuts
 pub mod Completeness
-pub mod ScriptStops
 pub mod Writing
+pub mod EndLists
+pub mod ScriptStops
+pub mod Tasks
+pub mod DemoEnds
+pub mod Demos
 pub mod FaultLines
+pub mod ScriptLines

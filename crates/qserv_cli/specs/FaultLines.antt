@@ -5,6 +5,8 @@ use Rattle.sky_rules.specs.declared.fault.SkyFault.{SkyFault}
 use Rattle.sky_rules.specs.declared.fault.SkyFault.TheVariants as sky
 use Rattle.table_rules.specs.declared.fault.LoadFault.{LoadFault}
 use Rattle.table_rules.specs.declared.fault.LoadFault.TheVariants as load
+use Rattle.session_script.specs.declared.fault.ScriptFault.{ScriptFault}
+use Rattle.session_script.specs.declared.fault.ScriptFault.TheVariants as script
 
 -- a thing with its number
 abbrev pub place : List ℕ → ℕ → List ℕ
@@ -40,3 +42,13 @@ catalogue_line (load.Range row field value) =
 catalogue_line (load.Length row) = row_line row (codes ": length\n")
 catalogue_line (load.Repeated row id) = row_line row (valued (codes ": repeated id ") id)
 catalogue_line load.TooManyRows = codes "catalogue: too many rows\n"
+
+-- what is said of a number in a line of a script
+abbrev pub script_place : ℕ → List ℕ → List ℕ
+script_place line behind = numbered (codes "script line ") line behind
+
+-- the line of a script's fault
+abbrev pub script_line : ScriptFault → List ℕ
+script_line (script.UnknownQuery line number) = script_place line (numbered (codes ": unknown query ") number (codes "\n"))
+script_line (script.LineTooLong line) = script_place line (codes ": too long\n")
+script_line (script.TooManyQueries line) = script_place line (codes ": too many queries\n")

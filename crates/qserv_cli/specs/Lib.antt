@@ -1,8 +1,9 @@
 pub mod Words
-pub mod TextNames
+pub mod WordForms
 pub mod FaultLines
 pub mod Outcomes
 pub mod Reached
+pub mod Jobs
 pub mod Explained
 pub mod Completes
 pub mod Steps

@@ -1,12 +1,12 @@
 -- What is told of an outcome: the exit status, and the line on standard error.
 use Rattle.std.specs.Prelude.{ℕ, List, [], ◌++◌, Option, None, Some, codes, unwrap_or}
-use Rattle.qserv_cli.specs.Words.{Names}
-use Rattle.qserv_cli.specs.FaultLines.{sky_line, catalogue_line}
+use Rattle.qserv_cli.specs.Words.{Form, Names, names_of}
+use Rattle.qserv_cli.specs.FaultLines.{sky_line, catalogue_line, script_line}
 use Rattle.qserv_cli.specs.declared.outcome.Which.{Which}
 use Rattle.qserv_cli.specs.declared.outcome.Which.TheVariants.{Sky, Catalogue, Script}
 use Rattle.qserv_cli.specs.declared.outcome.Outcome.{Outcome}
-use Rattle.qserv_cli.specs.declared.outcome.Outcome.TheVariants.{Done, Usage, BadSky, BadCatalogue, NotBuilt, TooLong}
-use Rattle.qserv_cli.specs.declared.outcome.Outcome.TheVariants.{ShelfFault, SinkFault, Memory}
+use Rattle.qserv_cli.specs.declared.outcome.Outcome.TheVariants.{Done, Usage, BadSky, BadCatalogue, BadScript, NotBuilt}
+use Rattle.qserv_cli.specs.declared.outcome.Outcome.TheVariants.{TooLong, ShelfFault, SinkFault, Memory}
 
 -- the exit status
 abbrev pub status_of : Outcome → ℕ
@@ -14,30 +14,36 @@ status_of (Done ends) = 0
 status_of Usage = 2
 status_of (BadSky fault) = 3
 status_of (BadCatalogue fault) = 4
+status_of (BadScript fault) = 5
 status_of (TooLong which) = 6
 status_of (ShelfFault which) = 7
 status_of (SinkFault ends) = 8
 status_of Memory = 9
 status_of (NotBuilt which) = 10
 
--- the name that the words give to a text, and nothing where the form has no such text
-abbrev pub name_of : Names → Which → List ℕ
-name_of names Sky = names.sky
-name_of names Catalogue = names.catalogue
-name_of names Script = unwrap_or names.script []
+-- the name of a text, where there is such a text
+abbrev pub name_at : Names → Which → Option (List ℕ)
+name_at names Sky = names.sky
+name_at names Catalogue = names.catalogue
+name_at names Script = names.script
 
--- the same, and nothing where the words are no form
-abbrev pub name_in : Option Names → Which → List ℕ
+-- the same, and nothing where there is no such text
+abbrev pub name_of : Names → Which → List ℕ
+name_of names which = unwrap_or (name_at names which) []
+
+-- the name that the words give to a text, and nothing where they are no form
+abbrev pub name_in : Option Form → Which → List ℕ
 name_in None which = []
-name_in (Some names) which = name_of names which
+name_in (Some form) which = name_of (names_of form) which
 
 -- the line of an outcome with its line feed, and nothing for Done
-abbrev pub outcome_line : Outcome → Option Names → List ℕ
+abbrev pub outcome_line : Outcome → Option Form → List ℕ
 outcome_line (Done ends) form = []
 outcome_line Usage form =
     codes "usage: qserv load SKY CSV; query SKY CSV SCRIPT WORKERS; explain SKY CSV SCRIPT; demo COUNT SEED WORKERS\n"
 outcome_line (BadSky fault) form = sky_line fault
 outcome_line (BadCatalogue fault) form = catalogue_line fault
+outcome_line (BadScript fault) form = script_line fault
 outcome_line (NotBuilt which) form = name_in form which ++ codes ": not built\n"
 outcome_line (TooLong which) form = name_in form which ++ codes ": too long\n"
 outcome_line (ShelfFault which) form = name_in form which ++ codes ": cannot be read\n"

@@ -1,5 +1,5 @@
 -- Which of the named texts is reached: they are fetched and judged one by one, sky, catalogue, script.
-use Rattle.std.specs.Prelude.{◌≡◌, ℕ, ◌≤◌, ◌<◌, List, length, Option, None, Some, IsSome, Ok, Err}
+use Rattle.std.specs.Prelude.{◌≡◌, ℕ, ◌≤◌, ◌<◌, true, false, List, length, Option, None, Some, IsSome, Ok, Err}
 use Rattle.text_rules.specs.declared.limits.TheConstants.{SCRIPT_TEXT_MOST, SKY_TEXT_MOST, TEXT_MOST}
 use Rattle.sky_io.specs.Shelves.{named_text, times}
 use Rattle.sky_rules.specs.Partition.{Partition}
@@ -8,10 +8,14 @@ use Rattle.sky_rules.specs.declared.fault.SkyFault.{SkyFault}
 use Rattle.table_rules.specs.Objects.{Catalogue as Table}
 use Rattle.table_rules.specs.declared.fault.LoadFault.{LoadFault}
 use Rattle.catalogue_load.specs.Catalogue.{catalogue_of}
-use Rattle.chunk_store.specs.Survey.{Survey}
-use Rattle.czar.specs.NarrowScript.{Range, narrow_script}
-use Rattle.qserv_cli.specs.Words.{Names}
-use Rattle.qserv_cli.specs.Outcomes.{name_of}
+use Rattle.session_script.specs.Scripts.{script_of}
+use Rattle.session_script.specs.Views.{ScriptView}
+use Rattle.session_script.specs.declared.fault.ScriptFault.{ScriptFault}
+use Rattle.czar.specs.Built.{are_queries}
+use Rattle.qserv_cli.specs.Words.{Form, Load, Asks, Demo, Names, names_of}
+use Rattle.qserv_cli.specs.Outcomes.{name_at, name_of}
+use Rattle.qserv_cli.specs.declared.task.Task.{Task}
+use Rattle.qserv_cli.specs.declared.task.Task.TheVariants.{Answer, Explain}
 use Rattle.qserv_cli.specs.declared.outcome.Which.{Which}
 use Rattle.qserv_cli.specs.declared.outcome.Which.TheVariants.{Sky, Catalogue, Script}
 
@@ -34,6 +38,10 @@ limit_of Sky = SKY_TEXT_MOST
 limit_of Catalogue = TEXT_MOST
 limit_of Script = SCRIPT_TEXT_MOST
 
+-- the text is longer than its limit
+abbrev pub IsLong : Which → List ℕ → Type 0
+IsLong which text = limit_of which < length text
+
 -- the text is accepted as this plan of the sky
 abbrev pub IsSkyOf : List ℕ → Partition → Type 0
 IsSkyOf text plan = (length text ≤ SKY_TEXT_MOST) × (sky_of text ≡ Ok plan)
@@ -50,61 +58,78 @@ IsCatalogueOf text table = (length text ≤ TEXT_MOST) × (catalogue_of text ≡
 abbrev pub IsCatalogueFault : List ℕ → LoadFault → Type 0
 IsCatalogueFault text fault = (length text ≤ TEXT_MOST) × (catalogue_of text ≡ Err fault)
 
--- the text is longer than its limit
-abbrev pub IsLong : Which → List ℕ → Type 0
-IsLong which text = limit_of which < length text
+-- The text is accepted as this script.
+pub record IsScriptOf (text : List ℕ) (view : ScriptView) : Type 0 where
+  pub short : length text ≤ SCRIPT_TEXT_MOST
+  pub same : view.text ≡ text
+  pub read : script_of text ≡ Ok view.steps
+
+-- the text is within its limit, and has this first fault
+abbrev pub IsScriptFault : List ℕ → ScriptFault → Type 0
+IsScriptFault text fault = (length text ≤ SCRIPT_TEXT_MOST) × (script_of text ≡ Err fault)
+
+-- what is asked of the script is built: it is explained, or it is answered and its lines are queries alone
+abbrev pub IsBuilt : Task → ScriptView → Type 0
+IsBuilt Answer view = are_queries view.steps ≡ true
+IsBuilt Explain view = Unit {0}
+
+-- it is not: the script is to be answered, and has a cancel or a wait line
+abbrev pub IsNotBuilt : Task → ScriptView → Type 0
+IsNotBuilt Answer view = are_queries view.steps ≡ false
+IsNotBuilt Explain view = ⊥
+
+-- the text is a script of which the form asks what is built
+abbrev pub IsBuiltFor : Form → List ℕ → Type 0
+IsBuiltFor (Load sky catalogue) text = ⊥
+IsBuiltFor (Asks task sky catalogue script) text = (view : ScriptView) × IsScriptOf text view × IsBuilt task view
+IsBuiltFor (Demo count seed) text = ⊥
+
+-- the text is a script of which the form asks what is not built
+abbrev pub IsNotBuiltFor : Form → List ℕ → Type 0
+IsNotBuiltFor (Load sky catalogue) text = ⊥
+IsNotBuiltFor (Asks task sky catalogue script) text = (view : ScriptView) × IsScriptOf text view × IsNotBuilt task view
+IsNotBuiltFor (Demo count seed) text = ⊥
 
 -- the text is accepted
-abbrev pub IsAccepted : Which → List ℕ → Type 0
-IsAccepted Sky text = (plan : Partition) × IsSkyOf text plan
-IsAccepted Catalogue text = (table : Table) × IsCatalogueOf text table
-IsAccepted Script text = IsSome (narrow_script text)
+abbrev pub IsAccepted : Form → Which → List ℕ → Type 0
+IsAccepted form Sky text = (plan : Partition) × IsSkyOf text plan
+IsAccepted form Catalogue text = (table : Table) × IsCatalogueOf text table
+IsAccepted form Script text = IsBuiltFor form text
+
+-- the sky plan is accepted
+abbrev pub IsSkyAccepted : Names → Texts → Type 0
+IsSkyAccepted names texts = (plan : Partition) × IsSkyOf (text_at names texts Sky) plan
+
+-- the catalogue is accepted
+abbrev pub IsCatalogueAccepted : Names → Texts → Type 0
+IsCatalogueAccepted names texts = (table : Table) × IsCatalogueOf (text_at names texts Catalogue) table
 
 -- each text before this one is accepted
 abbrev pub AreEarlierAccepted : Names → Texts → Which → Type 0
 AreEarlierAccepted names texts Sky = Unit {0}
-AreEarlierAccepted names texts Catalogue = IsAccepted Sky (text_at names texts Sky)
-AreEarlierAccepted names texts Script =
-    IsAccepted Sky (text_at names texts Sky) × IsAccepted Catalogue (text_at names texts Catalogue)
+AreEarlierAccepted names texts Catalogue = IsSkyAccepted names texts
+AreEarlierAccepted names texts Script = IsSkyAccepted names texts × IsCatalogueAccepted names texts
 
 -- the form has the text
 abbrev pub HasText : Names → Which → Type 0
-HasText names Sky = Unit {0}
-HasText names Catalogue = Unit {0}
-HasText names Script = IsSome names.script
+HasText names which = IsSome (name_at names which)
 
--- the last text of the form
-abbrev pub last_in : Option (List ℕ) → Which
-last_in None = Catalogue
-last_in (Some script) = Script
+-- each text of the form is accepted
+abbrev pub AreAccepted : Form → Texts → Type 0
+AreAccepted form texts =
+    (which : Which) → HasText (names_of form) which → IsAccepted form which (text_at (names_of form) texts which)
 
--- the last text of the form
-abbrev pub last_of : Names → Which
-last_of names = last_in names.script
-
--- the count of a name's failures is what it was
-abbrev pub IsStill : List ℕ → List (List ℕ) → List (List ℕ) → Type 0
-IsStill name old new = times name new ≡ times name old
+-- the count of a text's failures is what it was
+abbrev pub IsStill : Names → List (List ℕ) → List (List ℕ) → Which → Type 0
+IsStill names old new which = times (name_of names which) new ≡ times (name_of names which) old
 
 -- neither this text's count of failures nor an earlier one's has risen
 abbrev pub AreStill : Names → List (List ℕ) → List (List ℕ) → Which → Type 0
-AreStill names old new Sky = IsStill names.sky old new
-AreStill names old new Catalogue = IsStill names.sky old new × IsStill names.catalogue old new
+AreStill names old new Sky = IsStill names old new Sky
+AreStill names old new Catalogue = IsStill names old new Sky × IsStill names old new Catalogue
 AreStill names old new Script =
-    IsStill names.sky old new × IsStill names.catalogue old new × IsStill (name_of names Script) old new
+    IsStill names old new Sky × IsStill names old new Catalogue × IsStill names old new Script
 
--- the ranges are those of the script, where the form has one
-abbrev pub AreRangesOf : Option (List ℕ) → Texts → Option (List Range) → Type 0
-AreRangesOf None texts ranges = ranges ≡ None
-AreRangesOf (Some name) texts ranges = (narrow_script (named_text name texts) ≡ ranges) × IsSome ranges
-
--- What a form asks for: a survey, and the queries where it has a script.
-pub record Job : Type 0 where
-  pub survey : Survey
-  pub ranges : Option (List Range)
-
--- This is the job of the named texts, which are accepted.
-pub record IsJobOf (names : Names) (texts : Texts) (job : Job) : Type 0 where
-  pub plan : IsSkyOf (text_at names texts Sky) job.survey.plan
-  pub rows : IsCatalogueOf (text_at names texts Catalogue) job.survey.rows
-  pub ranges : AreRangesOf names.script texts job.ranges
+-- the count of no text's failures has risen
+abbrev pub AreAllStill : Names → List (List ℕ) → List (List ℕ) → Type 0
+AreAllStill names old new = (which : Which) → HasText names which → IsStill names old new which

@@ -1,17 +1,22 @@
 -- What each step of the top call says, from the fetch of one text to the writing of a job.
-use Rattle.std.specs.Prelude.{◌≡◌, ◌<◌, ◌≤◌, ℕ, List, false, length, Option, None, Some}
+use Rattle.std.specs.Prelude.{◌≡◌, ◌<◌, ◌≤◌, ℕ, List, false, length, Option, Ok, Err}
 use Rattle.sky_io.specs.Shelves.{ShelfState, GivesText, GrewBy, named_text, times}
 use Rattle.sky_io.specs.Sinks.{SinkState, Appended, AppendedPart, Rose, Flushed}
 use Rattle.sky_io.specs.declared.sink.Put.TheVariants as Put
-use Rattle.czar.specs.NarrowScript.{narrow_script}
-use Rattle.qserv_cli.specs.Words.{Names}
-use Rattle.qserv_cli.specs.Reached.{Texts, IfTold, Job, IsSkyFault, IsCatalogueFault, IsLong, limit_of}
-use Rattle.qserv_cli.specs.Explained.{AllAnswered, ExplainedOf, shown, text_of_job}
+use Rattle.demo_rules.specs.DemoTexts.{demo_script}
+use Rattle.chunk_store.specs.Survey.{Survey}
+use Rattle.session_script.specs.Scripts.{script_of}
+use Rattle.session_script.specs.Views.{ScriptView}
+use Rattle.session_rules.specs.declared.end.EndKind.{EndKind}
+use Rattle.qserv_cli.specs.Words.{Demo, names_from}
+use Rattle.qserv_cli.specs.Reached.{Texts, IfTold, IsBuilt, IsNotBuilt, IsScriptOf, IsSkyFault, IsCatalogueFault, IsLong, limit_of}
+use Rattle.qserv_cli.specs.Jobs.{Job, Runs, EndsFit, IsSurveyOf, job_on, text_of_job}
+use Rattle.qserv_cli.specs.Explained.{ExplainedOf, IsStop, shown}
+use Rattle.qserv_cli.specs.declared.task.Task.{Task}
 use Rattle.qserv_cli.specs.declared.outcome.Which.{Which}
 use Rattle.qserv_cli.specs.declared.outcome.Which.TheVariants.{Sky, Catalogue, Script}
-use Rattle.session_rules.specs.declared.end.EndKind.{EndKind}
 use Rattle.qserv_cli.specs.declared.outcome.Outcome.{Outcome}
-use Rattle.qserv_cli.specs.declared.outcome.Outcome.TheVariants.{Done, BadSky, BadCatalogue, NotBuilt, TooLong}
+use Rattle.qserv_cli.specs.declared.outcome.Outcome.TheVariants.{Done, BadSky, BadCatalogue, BadScript, NotBuilt, TooLong}
 use Rattle.qserv_cli.specs.declared.outcome.Outcome.TheVariants.{ShelfFault, SinkFault, Memory}
 
 -- The text was given, and the shelf is as it was.
@@ -61,27 +66,32 @@ abbrev pub IsCatalogueStop : List ℕ → ShelfState → ShelfState → Outcome 
 IsCatalogueStop name old new (BadCatalogue fault) = IsRead (OfNamed name (λ text. IsCatalogueFault text fault)) old new
 IsCatalogueStop name old new outcome = IsWholeStop name Catalogue old new outcome
 
--- why a script was not read
-abbrev pub IsScriptStop : List ℕ → ShelfState → ShelfState → Outcome → Type 0
-IsScriptStop name old new (NotBuilt named) =
-    (named ≡ Script) × IsRead (OfNamed name (λ text. narrow_script text ≡ None)) old new
-IsScriptStop name old new outcome = IsFetchFault name Script old new outcome
+-- the shelf alone explains the outcome, of a form with these names: over any sink that nothing was done to
+abbrev pub IsShelfStop : (sky catalogue : List ℕ) → Option (List ℕ) → ShelfState → ShelfState → Outcome → Type 0
+IsShelfStop sky catalogue script old new outcome =
+    (sink : SinkState) → IsStop (names_from sky catalogue script) (shown old new sink sink) outcome
 
--- the outcome is explained by the shelf alone: over any sink that nothing was done to
-abbrev pub IsExplainedByShelf : Names → ShelfState → ShelfState → Outcome → Type 0
-IsExplainedByShelf names old new outcome = (sink : SinkState) → ExplainedOf names (shown old new sink sink) outcome
+-- the same, of any form with a sky plan and a catalogue of these names
+abbrev pub IsSurveyStop : (sky catalogue : List ℕ) → ShelfState → ShelfState → Outcome → Type 0
+IsSurveyStop sky catalogue old new outcome =
+    (script : Option (List ℕ)) → IsShelfStop sky catalogue script old new outcome
+
+-- The named texts are a survey and this text of a script, which is within its limit.
+pub record AreGiven (sky catalogue script : List ℕ) (survey : Survey) (text : List ℕ) (old new : ShelfState) : Type 0 where
+  pub short : length text ≤ limit_of Script
+  pub read : IsRead (λ texts. IsSurveyOf sky catalogue survey texts × (named_text script texts ≡ text)) old new
 
 -- All was written and sent.
 pub record IsSent (job : Job) (ends : List EndKind) (old new : SinkState) : Type 0 where
-  pub answered : AllAnswered job ends
-  pub written : Appended old.written (text_of_job job) new.written
+  pub fits : EndsFit job ends
+  pub written : Appended old.written (text_of_job job ends) new.written
   pub calm : new.faults ≡ old.faults
   pub sent : new.held ≡ false
 
 -- The sink failed, with a front of the text written.
 pub record IsTorn (job : Job) (ends : List EndKind) (old new : SinkState) : Type 0 where
-  pub answered : AllAnswered job ends
-  pub written : AppendedPart old.written (text_of_job job) new.written
+  pub fits : EndsFit job ends
+  pub written : AppendedPart old.written (text_of_job job ends) new.written
   pub cause : Rose old.faults new.faults
 
 -- what the writing of a job comes to
@@ -96,3 +106,38 @@ abbrev pub IsFlushed : List EndKind → SinkState → SinkState → Outcome → 
 IsFlushed ends old new (Done told) = (told ≡ ends) × Flushed old new Put.Done
 IsFlushed ends old new (SinkFault told) = (told ≡ ends) × Flushed old new Put.Failed
 IsFlushed ends old new _ = ⊥
+
+-- what the work on a script comes to: it is not built, or its job is written
+abbrev pub IsTaskOn : Task → Survey → ScriptView → SinkState → SinkState → Outcome → Type 0
+IsTaskOn task survey view old new (NotBuilt which) = (which ≡ Script) × IsNotBuilt task view × (new ≡ old)
+IsTaskOn task survey view old new Memory = new ≡ old
+IsTaskOn task survey view old new outcome = IsBuilt task view × IsWritten (job_on task survey view) old new outcome
+
+-- The text is read as the script on which the work comes to this.
+pub record IsTaskAsRead (task : Task) (survey : Survey) (text : List ℕ) (old new : SinkState) (outcome : Outcome) : Type 0 where
+  pub view : ScriptView
+  pub same : view.text ≡ text
+  pub steps : script_of text ≡ Ok view.steps
+  pub work : IsTaskOn task survey view old new outcome
+
+-- what the work on the text of a script comes to: the text has a fault, or it is read and worked on
+abbrev pub IsTaskOver : Task → Survey → List ℕ → SinkState → SinkState → Outcome → Type 0
+IsTaskOver task survey text old new (BadScript fault) = (script_of text ≡ Err fault) × (new ≡ old)
+IsTaskOver task survey text old new Memory = new ≡ old
+IsTaskOver task survey text old new outcome = IsTaskAsRead task survey text old new outcome
+
+-- The job on the demo's script over a survey is written so.
+pub record IsDemoWritten (survey : Survey) (old new : SinkState) (outcome : Outcome) : Type 0 where
+  pub view : ScriptView
+  pub read : IsScriptOf demo_script view
+  pub work : IsWritten (Runs survey view) old new outcome
+
+-- what the work on the demo's script over a survey comes to
+abbrev pub IsDemoOver : Survey → SinkState → SinkState → Outcome → Type 0
+IsDemoOver survey old new Memory = new ≡ old
+IsDemoOver survey old new outcome = IsDemoWritten survey old new outcome
+
+-- whatever the shelf, the outcome is that of the demo, and the shelf is as it was
+abbrev pub IsDemo : ℕ → ℕ → SinkState → SinkState → Outcome → Type 0
+IsDemo count seed old new outcome =
+    (shelf : ShelfState) → ExplainedOf (Demo count seed) (shown shelf shelf old new) outcome

@@ -1,34 +1,78 @@
 -- The forms of the command line.
 use Rattle.std.specs.Prelude.{ℕ, Bool, false, ◌==◌, ◌&&◌, List, [], ◌∷◌, Option, None, Some, map, codes}
-use Rattle.std.specs.Prelude.{if◌then◌else◌, String}
+use Rattle.std.specs.Prelude.{if◌then◌else◌, nat_le, String}
 use Rattle.std.specs.String.{string_bytes}
 use Rattle.std.specs.Str.{bytes_eq}
 use Rattle.std.specs.declared.alloc.Global.{Global}
 use Rattle.text_rules.specs.Numbers.{natural}
+use Rattle.table_rules.specs.declared.limits.TheConstants.{ROWS_MOST}
+use Rattle.demo_rules.specs.declared.limits.TheConstants.{SEED_MOST}
+use Rattle.qserv_cli.specs.declared.task.Task.{Task}
+use Rattle.qserv_cli.specs.declared.task.Task.TheVariants.{Answer, Explain}
 
--- The names of the texts of a form: the form `load` has no script.
+-- What the words ask for, with the names of the texts.
+pub data Form : Type 0 where
+  -- to report how the rows of a catalogue lie in the chunks of a sky plan
+  Load : (sky catalogue : List ℕ) → Form
+  -- to answer or to explain the queries of a script over them
+  Asks : (task : Task) (sky catalogue script : List ℕ) → Form
+  -- to answer the queries of the demo's script over its sky plan and so many objects, drawn from a seed
+  Demo : (count seed : ℕ) → Form
+
+-- The names of the texts of a form, of those that it has.
 pub record Names : Type 0 where
-  pub sky : List ℕ
-  pub catalogue : List ℕ
+  pub sky : Option (List ℕ)
+  pub catalogue : Option (List ℕ)
   pub script : Option (List ℕ)
 
--- the names of these texts
+-- the names of a sky plan and a catalogue, and of a script where there is one
 abbrev pub names_from : (sky catalogue : List ℕ) → Option (List ℕ) → Names
-names_from sky catalogue script = record { sky = sky; catalogue = catalogue; script = script }
+names_from sky catalogue script = record { sky = Some sky; catalogue = Some catalogue; script = script }
+
+-- the names of the texts of a form
+abbrev pub names_of : Form → Names
+names_of (Load sky catalogue) = names_from sky catalogue None
+names_of (Asks task sky catalogue script) = names_from sky catalogue (Some script)
+names_of (Demo count seed) = record { sky = None; catalogue = None; script = None }
 
 -- a number is there and is 0
 abbrev pub is_zero : Option ℕ → Bool
 is_zero None = false
 is_zero (Some n) = n == 0
 
--- the names of the forms `load SKY CSV` and `query SKY CSV SCRIPT WORKERS`, where WORKERS is 1 to 10 digits of value 0; None
--- of all other words
-abbrev pub form_of : List (List ℕ) → Option Names
-form_of (word ∷ sky ∷ catalogue ∷ []) =
-    if bytes_eq word (codes "load") then Some (names_from sky catalogue None) else None
+-- the number, where it is there and lies between two others
+abbrev pub number_between : (least most : ℕ) → Option ℕ → Option ℕ
+number_between least most None = None
+number_between least most (Some n) = if nat_le least n && nat_le n most then Some n else None
+
+-- the demo of this count and this seed, where they and the number of workers are there
+abbrev pub demo_of : (count seed workers : Option ℕ) → Option Form
+demo_of (Some count) (Some seed) (Some workers) = Some (Demo count seed)
+demo_of (Some count) (Some seed) None = None
+demo_of (Some count) None workers = None
+demo_of None seed workers = None
+
+-- the demo of a count up to 2^22, a seed from 1 to 2^31 - 2 and no workers, of 1 to 10 digits each
+abbrev pub demo_by : (count seed workers : List ℕ) → Option Form
+demo_by count seed workers =
+    demo_of (number_between 0 ROWS_MOST (natural 10 count)) (number_between 1 SEED_MOST (natural 10 seed))
+    (number_between 0 0 (natural 10 workers))
+
+-- the form of four words, by the first
+abbrev pub form_of_four : (word second third fourth : List ℕ) → Option Form
+form_of_four word second third fourth =
+    if bytes_eq word (codes "explain") then Some (Asks Explain second third fourth)
+    else if bytes_eq word (codes "demo") then demo_by second third fourth
+    else None
+
+-- the forms `load SKY CSV`, `explain SKY CSV SCRIPT`, `query SKY CSV SCRIPT WORKERS` and `demo COUNT SEED WORKERS`, of which the
+-- numbers are 1 to 10 digits and WORKERS is 0; None of all other words
+abbrev pub form_of : List (List ℕ) → Option Form
+form_of (word ∷ sky ∷ catalogue ∷ []) = if bytes_eq word (codes "load") then Some (Load sky catalogue) else None
+form_of (word ∷ second ∷ third ∷ fourth ∷ []) = form_of_four word second third fourth
 form_of (word ∷ sky ∷ catalogue ∷ script ∷ workers ∷ []) =
     if bytes_eq word (codes "query") && is_zero (natural 10 workers)
-    then Some (names_from sky catalogue (Some script))
+    then Some (Asks Answer sky catalogue script)
     else None
 form_of _ = None
 

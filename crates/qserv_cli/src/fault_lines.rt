@@ -46,7 +46,7 @@ pub fn put_catalogue_fault<K: Sink>(sink: &mut K, fault: &LoadFault) -> Put
 }
 
 // Writes a thing with its number.
-fn put_place<K: Sink>(sink: &mut K, thing: &[u8], n: u32) -> Put
+pub(crate) fn put_place<K: Sink>(sink: &mut K, thing: &[u8], n: u32) -> Put
     ensures { Wrote (K.state sink.old) (K.state sink.new) (place thing.now n) result }
 {
     match sink.put(thing) {
@@ -56,7 +56,7 @@ fn put_place<K: Sink>(sink: &mut K, thing: &[u8], n: u32) -> Put
 }
 
 // Writes a thing with its number, and what is said of it.
-fn put_numbered<K: Sink>(sink: &mut K, thing: &[u8], n: u32, behind: &[u8]) -> Put
+pub(crate) fn put_numbered<K: Sink>(sink: &mut K, thing: &[u8], n: u32, behind: &[u8]) -> Put
     ensures { Wrote (K.state sink.old) (K.state sink.new) (numbered thing.now n behind.now) result }
 {
     match put_place(sink, thing, n) {

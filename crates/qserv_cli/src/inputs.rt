@@ -1,59 +1,69 @@
 //! The texts of a form, each fetched and read before the next is fetched: sky, catalogue, script.
 //!
-//! A text is fetched to one byte past its limit, so that a longer one shows itself. A sky plan and a catalogue that are
-//! longer are refused as too long; a longer script is not read, and its first bytes stand for it (`proofs/Cuts.antt`).
-//! Each raw text is let go before the next is fetched.
-ghost use Rattle.std.specs.Prelude.{◌≡◌, ◌≤◌, ◌^◌, IfOk, IfErr, IfNone, None, Some, length, unwrap_or};
-ghost use Rattle.std.specs.Option.{option_copied};
+//! A text is fetched to one byte past its limit, so that a longer one shows itself; it is refused as too long. The raw
+//! texts of the sky plan and of the catalogue are let go before the next is fetched. A script stands over its text, so its
+//! text is given raw, and whoever holds it reads it.
+ghost use Rattle.std.specs.Prelude.{◌≡◌, ◌≤◌, ◌^◌, IfOk, IfErr, length, Some};
 ghost use Rattle.catalogue_load.specs.Catalogue.{catalogue_of};
-ghost use Rattle.czar.specs.NarrowScript.{narrow_script};
-ghost use Rattle.qserv_cli.specs.Words.{names_from};
-ghost use Rattle.qserv_cli.specs.Inputs.{AreInputs, IsScriptStopOf};
-ghost use Rattle.qserv_cli.specs.Reached.{AreRangesOf, IsCatalogueOf, IsSkyOf, limit_of};
-ghost use Rattle.qserv_cli.specs.Steps.{IsCatalogueStop, IsExplainedByShelf, IsFetchFault, IsGiven, IsRead};
-ghost use Rattle.qserv_cli.specs.Steps.{IsScriptStop, IsSkyStop, IsWhole, IsWholeStop, OfNamed};
+ghost use Rattle.qserv_cli.specs.Inputs.{survey_of};
+ghost use Rattle.qserv_cli.specs.Jobs.{IsSurveyOf};
+ghost use Rattle.qserv_cli.specs.Reached.{IsCatalogueOf, IsSkyOf, limit_of};
+ghost use Rattle.qserv_cli.specs.Steps.{AreGiven, IsCatalogueStop, IsFetchFault, IsGiven, IsRead, IsShelfStop};
+ghost use Rattle.qserv_cli.specs.Steps.{IsSkyStop, IsSurveyStop, IsWhole, IsWholeStop, OfNamed};
 
 use crate::outcome::{Outcome, Which};
 use catalogue_load::load;
-use czar::{Queries, read_script};
-use sky_io::{Fetch, Memory, Shelf, Stop};
+use sky_io::{Fetch, Shelf, Stop};
 use sky_plan::SkyPlan;
 use sky_row::Rows;
 use std::alloc::Global;
 use text_rules::limits::{SCRIPT_TEXT_MOST, SKY_TEXT_MOST, TEXT_MOST};
 
-/// What the texts of a form say; the form `load` has no queries.
+/// What a sky plan and a catalogue say.
 #[derive(Drop)]
 pub struct Inputs {
     pub plan: SkyPlan,
     pub rows: Rows,
-    pub queries: Option<Queries>,
 }
 
-/// Fetches and reads the texts of these names. Takes memory. Where it stops, the shelf alone explains the outcome.
-pub fn fetch_inputs<S: Shelf>(
+/// Fetches and reads the sky plan and the catalogue of these names. Takes memory. Where it stops, the shelf alone explains
+/// the outcome.
+pub fn fetch_survey<S: Shelf>(
     alloc: Global,
     shelf: &mut S,
     sky: &str,
     catalogue: &str,
-    script: Option<&str>,
 ) -> Result<Inputs, Outcome>
-    ensures ok { IfOk result (λ inputs. IsRead
-        (AreInputs (names_from sky.now catalogue.now (option_copied script.entry)) inputs)
+    ensures ok { IfOk result (λ inputs. IsRead (IsSurveyOf sky.now catalogue.now (survey_of inputs))
         (S.state shelf.old) (S.state shelf.new)) }
-    ensures err { IfErr result (IsExplainedByShelf
-        (names_from sky.now catalogue.now (option_copied script.entry))
-        (S.state shelf.old) (S.state shelf.new)) }
+    ensures err { IfErr result
+        (IsSurveyStop sky.now catalogue.now (S.state shelf.old) (S.state shelf.new)) }
 {
     let plan = fetch_sky(alloc, shelf, sky)?;
     let rows = fetch_catalogue(alloc, shelf, catalogue)?;
-    match fetch_script(alloc, shelf, script) {
-        Ok(queries) => Ok(Inputs {
-            plan,
-            rows,
-            queries,
-        }),
+    Ok(Inputs { plan, rows })
+}
+
+/// Fetches the texts of these names, and reads the sky plan and the catalogue; the script is given as its text. Takes
+/// memory. Where it stops, the shelf alone explains the outcome.
+pub fn fetch_all<S: Shelf>(
+    alloc: Global,
+    shelf: &mut S,
+    sky: &str,
+    catalogue: &str,
+    script: &str,
+) -> Result<(Inputs, Vec<u8>), Outcome>
+    ensures ok { IfOk result (λ given. AreGiven sky.now catalogue.now script.now
+        (survey_of given.0) given.1.items (S.state shelf.old) (S.state shelf.new)) }
+    ensures err { IfErr result (IsShelfStop sky.now catalogue.now (Some script.now)
+        (S.state shelf.old) (S.state shelf.new)) }
+{
+    match fetch_survey(alloc, shelf, sky, catalogue) {
         Err(outcome) => Err(outcome),
+        Ok(inputs) => match fetch_whole(alloc, shelf, script, SCRIPT_TEXT_MOST, Which::Script) {
+            Err(outcome) => Err(outcome),
+            Ok(text) => Ok((inputs, text)),
+        },
     }
 }
 
@@ -82,45 +92,6 @@ fn fetch_catalogue<S: Shelf>(alloc: Global, shelf: &mut S, name: &str) -> Result
         Ok(rows) => Ok(rows),
         Err(Stop::Bad(fault)) => Err(Outcome::BadCatalogue { fault }),
         Err(Stop::Memory) => Err(Outcome::Memory),
-    }
-}
-
-// Fetches and reads the script, where the form has one.
-fn fetch_script<S: Shelf>(
-    alloc: Global,
-    shelf: &mut S,
-    name: Option<&str>,
-) -> Result<Option<Queries>, Outcome>
-    ensures ok { IfOk result (λ queries. IsRead
-        (λ texts. AreRangesOf (option_copied name.entry) texts queries)
-        (S.state shelf.old) (S.state shelf.new)) }
-    ensures err { IfErr result (IsScriptStopOf (option_copied name.entry)
-        (S.state shelf.old) (S.state shelf.new)) }
-{
-    match name {
-        None => Ok(None),
-        Some(name) => fetch_queries(alloc, shelf, name),
-    }
-}
-
-// Fetches and reads a script.
-fn fetch_queries<S: Shelf>(
-    alloc: Global,
-    shelf: &mut S,
-    name: &str,
-) -> Result<Option<Queries>, Outcome>
-    ensures ok { IfOk result (λ queries. IsRead
-        (λ texts. AreRangesOf (Some name.now) texts queries)
-        (S.state shelf.old) (S.state shelf.new)) }
-    ensures err { IfErr result (IsScriptStop name.now (S.state shelf.old) (S.state shelf.new)) }
-{
-    let text = fetch_text(alloc, shelf, name, SCRIPT_TEXT_MOST, Which::Script)?;
-    match read_script(alloc, text.as_slice()) {
-        Ok(Some(queries)) => Ok(Some(queries)),
-        Ok(None) => Err(Outcome::NotBuilt {
-            which: Which::Script,
-        }),
-        Err(Memory) => Err(Outcome::Memory),
     }
 }
 

@@ -1,14 +1,25 @@
-//! Answers a script of queries over a sky plan and a catalogue, by the words of its command line.
+//! Answers or explains a script of queries over a sky plan and a catalogue, by the words of its command line.
 //!
 //! The top call `qserv` is generic over the shelf that holds the texts and the sink that takes the answers; its contract
 //! (`specs/Explained.antt`) says what each outcome means and which outcome must come.
-//! Below: `czar` reads the texts and writes the transcript, `sky_io` is the outside. Above: nothing, this is the program.
+//! Below: `sky_plan`, `catalogue_load` and `session_script` read the texts, `sky_generate` makes those of the demo, `czar`
+//! runs and writes the queries, `sky_io` is the outside. Above: nothing, this is the program.
 //! No reading of a text, no SQL and no sky here: the order of the work, the outcomes, and what is told of them.
 #![tactic(auto)]
 
+#[cfg(test)]
+mod answer_tests;
+mod demo;
+#[cfg(test)]
+mod demo_tests;
+mod ends;
 mod fault_lines;
 mod inputs;
 mod outcome;
+mod script_lines;
+#[cfg(test)]
+mod script_tests;
+mod task;
 #[cfg(test)]
 mod tests;
 #[cfg(test)]
@@ -16,6 +27,9 @@ mod text_tests;
 mod told;
 mod top;
 mod words;
+mod work;
+#[cfg(test)]
+mod worked;
 
 use outcome::{Outcome, status};
 use sky_io::{ErrSink, FolderShelf, OpenGate, OutSink, Sink};

@@ -1,12 +1,10 @@
 //! How the top call ends.
-ghost use Rattle.std.specs.Prelude.{◌≡◌, IfOk, replicate};
-ghost use Rattle.session_rules.specs.declared.end.EndKind.TheVariants.{Answered};
+ghost use Rattle.std.specs.Prelude.{◌≡◌};
 ghost use Rattle.qserv_cli.specs.Outcomes.{status_of};
 
-pub use session_rules::{EndKind, Ends};
-use sky_io::Memory;
+use session_rules::Ends;
+use session_script::ScriptFault;
 use sky_rules::SkyFault;
-use std::alloc::Global;
 use table_rules::LoadFault;
 
 /// One of the texts of a form, in the order in which they are fetched.
@@ -17,20 +15,10 @@ pub enum Which {
     Script,
 }
 
-/// The ends of so many queries that are all answered. Takes memory.
-pub fn all_answered(alloc: Global, count: u32) -> Result<Ends, Memory>
-    ensures { IfOk result (λ ends. ends ≡ replicate count Answered) }
-{
-    match vec![in alloc; EndKind::Answered; count as usize] {
-        Ok(ends) => Ok(Ends::from_vec(ends)),
-        Err(_) => Err(Memory),
-    }
-}
-
 /// How the top call ends.
 #[derive(Drop)]
 pub enum Outcome {
-    /// All was written and sent.
+    /// All was written and sent. There is an end for each query that is answered.
     Done { ends: Ends },
     /// The words are none of the forms.
     Usage,
@@ -38,7 +26,9 @@ pub enum Outcome {
     BadSky { fault: SkyFault },
     /// The catalogue isn't accepted; its first fault.
     BadCatalogue { fault: LoadFault },
-    /// The script isn't in the form that the program answers so far.
+    /// The script isn't accepted; its first fault.
+    BadScript { fault: ScriptFault },
+    /// The script is to be answered and has a line that the program can't answer so far: a cancel or a wait.
     NotBuilt { which: Which },
     /// A text is longer than its limit.
     TooLong { which: Which },
@@ -59,6 +49,7 @@ pub fn status(outcome: &Outcome) -> u8
         Outcome::Usage => 2,
         Outcome::BadSky { .. } => 3,
         Outcome::BadCatalogue { .. } => 4,
+        Outcome::BadScript { .. } => 5,
         Outcome::TooLong { .. } => 6,
         Outcome::ShelfFault { .. } => 7,
         Outcome::SinkFault { .. } => 8,

@@ -1,66 +1,18 @@
 //! What no clause says: that texts are read with memory left, what is reported of worked ones, and how their faults are told.
-use crate::outcome::{Outcome, status};
-use crate::told::put_outcome;
-use crate::top::qserv;
-use sky_io::{MemSink, OpenGate, PlainShelf};
+use crate::worked::{CATALOGUE, OWN_OVERLAPS, Output, SKY, run};
 use std::alloc::Global;
 use std::sync::Wait;
 use std::test::Fail;
 use std::thread::Threads;
 
-const SKY: &str = "overlap 5\nstripe -268435472 4 2 2\nstripe 0 4 2 2\n";
-
-const OWN_OVERLAPS: &str = "version 2\nstripe -268435472 4 2 2 5\nstripe 0 4 2 2 2\n";
-
-const CATALOGUE: &str =
-    "objectId,x,y,z,flux\n1,268435456,0,0,10\n2,268435456,3,0,20\n3,268435456,0,4,30\n4,268435456,-3,0,40\n5,268435456,0,-1,50\n6,0,0,268435456,60\n";
-
-// The sky plan and a catalogue, by their names.
-fn texts_of(alloc: Global, sky: &str, csv: &str) -> Result<Vec<(String, Vec<u8>)>, Fail> {
-    let mut texts = Vec::new(alloc);
-    for (name, text) in [("sky", sky), ("csv", csv)] {
-        texts.push((
-            String::from_str(alloc, name)?,
-            text.as_bytes().to_vec(alloc)?,
-        ))?;
-    }
-    Ok(texts)
-}
-
-fn load_words(alloc: Global) -> Result<Vec<String>, Fail> {
-    let mut all = Vec::new(alloc);
-    for word in ["load", "sky", "csv"] {
-        all.push(String::from_str(alloc, word)?)?;
-    }
-    Ok(all)
-}
-
-// What is written of a sky plan and a catalogue, the status, and what is told.
+// The report of a sky plan and a catalogue.
 fn loaded<R: Threads + Wait + Sync>(
     rt: &R,
     alloc: Global,
     sky: &str,
     csv: &str,
-) -> Result<(MemSink, u8, MemSink), Fail> {
-    let words = load_words(alloc)?;
-    let mut shelf = PlainShelf::new(texts_of(alloc, sky, csv)?);
-    let mut sink = MemSink::new(alloc, 1000, Vec::new(alloc))?;
-    let outcome = qserv(
-        rt,
-        alloc,
-        words.as_slice(),
-        &mut shelf,
-        &mut sink,
-        &OpenGate,
-    );
-    let told = line_of(alloc, &outcome, words.as_slice())?;
-    Ok((sink, status(&outcome), told))
-}
-
-fn line_of(alloc: Global, outcome: &Outcome, words: &[String]) -> Result<MemSink, Fail> {
-    let mut sink = MemSink::new(alloc, 1000, Vec::new(alloc))?;
-    put_outcome(&mut sink, outcome, words);
-    Ok(sink)
+) -> Result<Output, Fail> {
+    run(rt, alloc, &["load", "sky", "csv"], sky, csv, b"")
 }
 
 #[test]
@@ -75,10 +27,10 @@ fn a_report_counts_the_rows_of_each_chunk_and_of_its_overlap(rt: HostRuntime) ->
             "6 rows, 3 of 8 chunks\nchunk 0: 1 rows, 4 overlap\nchunk 4: 4 rows, 1 overlap\nchunk 7: 1 rows, 4 overlap\n",
         ),
     ] {
-        let (sink, status, told) = loaded(&rt, rt.alloc(), sky, CATALOGUE)?;
-        assert_eq!(rt; sink.bytes(), want.as_bytes());
-        assert_eq!(rt; status, 0, "of {sky}");
-        assert!(rt; told.bytes().is_empty(), "of {sky}");
+        let run = loaded(&rt, rt.alloc(), sky, CATALOGUE)?;
+        assert_eq!(rt; run.sink.bytes(), want.as_bytes());
+        assert_eq!(rt; run.status, 0, "of {sky}");
+        assert!(rt; run.told.bytes().is_empty(), "of {sky}");
     }
     Ok(())
 }
@@ -99,10 +51,10 @@ fn the_first_fault_of_a_sky_plan_is_told_with_its_line(rt: HostRuntime) -> Resul
             "sky line 3: order\n",
         ),
     ] {
-        let (sink, status, told) = loaded(&rt, rt.alloc(), sky, CATALOGUE)?;
-        assert_eq!(rt; status, 3, "of {sky}");
-        assert_eq!(rt; told.bytes(), line.as_bytes(), "of {sky}");
-        assert!(rt; sink.bytes().is_empty(), "of {sky}");
+        let run = loaded(&rt, rt.alloc(), sky, CATALOGUE)?;
+        assert_eq!(rt; run.status, 3, "of {sky}");
+        assert_eq!(rt; run.told.bytes(), line.as_bytes(), "of {sky}");
+        assert!(rt; run.sink.bytes().is_empty(), "of {sky}");
     }
     Ok(())
 }
@@ -141,10 +93,10 @@ fn the_first_fault_of_a_catalogue_is_told_with_its_place(rt: HostRuntime) -> Res
             "catalogue row 1: field 3 is not a number\n",
         ),
     ] {
-        let (sink, status, told) = loaded(&rt, rt.alloc(), SKY, csv)?;
-        assert_eq!(rt; status, 4, "of {csv}");
-        assert_eq!(rt; told.bytes(), line.as_bytes(), "of {csv}");
-        assert!(rt; sink.bytes().is_empty(), "of {csv}");
+        let run = loaded(&rt, rt.alloc(), SKY, csv)?;
+        assert_eq!(rt; run.status, 4, "of {csv}");
+        assert_eq!(rt; run.told.bytes(), line.as_bytes(), "of {csv}");
+        assert!(rt; run.sink.bytes().is_empty(), "of {csv}");
     }
     Ok(())
 }
@@ -155,10 +107,10 @@ fn quotes_a_missing_line_end_and_null_are_accepted(rt: HostRuntime) -> Result<()
         "objectId,x,y,z\n1,\"268435456\",0,0",
         "objectId,x,y,z,flux\n1,268435456,0,0,",
     ] {
-        let (sink, status, _) = loaded(&rt, rt.alloc(), SKY, csv)?;
-        assert_eq!(rt; status, 0, "of {csv}");
+        let run = loaded(&rt, rt.alloc(), SKY, csv)?;
+        assert_eq!(rt; run.status, 0, "of {csv}");
         assert_eq!(rt;
-            sink.bytes(),
+            run.sink.bytes(),
             b"1 rows, 1 of 8 chunks\nchunk 4: 1 rows, 0 overlap\n".as_slice(),
             "of {csv}"
         );
@@ -175,9 +127,9 @@ fn a_sky_plan_of_one_byte_more_than_65536_is_too_long(rt: HostRuntime) -> Result
         for _ in sky.len()..bytes {
             sky.push_str("x")?;
         }
-        let (_, status, told) = loaded(&rt, alloc, sky.as_str(), CATALOGUE)?;
-        assert_eq!(rt; status, want, "of {bytes} bytes");
-        assert_eq!(rt; told.bytes(), line.as_bytes(), "of {bytes} bytes");
+        let run = loaded(&rt, alloc, sky.as_str(), CATALOGUE)?;
+        assert_eq!(rt; run.status, want, "of {bytes} bytes");
+        assert_eq!(rt; run.told.bytes(), line.as_bytes(), "of {bytes} bytes");
     }
     Ok(())
 }

@@ -1,12 +1,13 @@
 //! The line that is told of an outcome.
-ghost use Rattle.std.specs.Prelude.{◌≡◌, ◌++◌};
+ghost use Rattle.std.specs.Prelude.{◌≡◌, ◌++◌, Some};
 ghost use Rattle.sky_io.specs.Sinks.{Wrote};
-ghost use Rattle.qserv_cli.specs.Outcomes.{outcome_line, name_in};
-ghost use Rattle.qserv_cli.specs.Words.{form_of, bytes_of};
+ghost use Rattle.qserv_cli.specs.Outcomes.{outcome_line, name_in, name_of};
+ghost use Rattle.qserv_cli.specs.Words.{form_of, bytes_of, names_from};
 
 use crate::fault_lines::{put_catalogue_fault, put_sky_fault};
 use crate::outcome::{Outcome, Which};
-use crate::words::{TextNames, text_names};
+use crate::script_lines::put_script_fault;
+use crate::words::{Form, read_words};
 use sky_io::{Put, Sink};
 
 /// The line of `Usage`: the forms of the command line.
@@ -23,6 +24,7 @@ pub fn put_outcome<K: Sink>(sink: &mut K, outcome: &Outcome, words: &[String]) -
         Outcome::Usage => sink.put(USAGE),
         Outcome::BadSky { fault } => put_sky_fault(sink, fault),
         Outcome::BadCatalogue { fault } => put_catalogue_fault(sink, fault),
+        Outcome::BadScript { fault } => put_script_fault(sink, fault),
         Outcome::NotBuilt { which } => put_named(sink, name_in(words, *which), b": not built\n"),
         Outcome::TooLong { which } => put_named(sink, name_in(words, *which), b": too long\n"),
         Outcome::ShelfFault { which } => put_named(
@@ -39,20 +41,29 @@ pub fn put_outcome<K: Sink>(sink: &mut K, outcome: &Outcome, words: &[String]) -
 fn name_in(words: &[String], which: Which) -> &str
     ensures { result.now ≡ name_in (form_of (bytes_of words.now)) which }
 {
-    let Some(
-        TextNames {
-            sky,
-            catalogue,
-            script,
-        },
-    ) = text_names(words)
-    else {
-        return "";
-    };
+    match read_words(words) {
+        None | Some(Form::Demo { .. }) => "",
+        Some(Form::Load { sky, catalogue }) => name_among(sky, catalogue, "", which),
+        Some(
+            Form::Asks {
+                sky,
+                catalogue,
+                script,
+                ..
+            },
+        ) => name_among(sky, catalogue, script, which),
+    }
+}
+
+// The name of a text among the three.
+fn name_among<'a>(sky: &'a str, catalogue: &'a str, script: &'a str, which: Which) -> &'a str
+    ensures { result.now
+        ≡ name_of (names_from sky.now catalogue.now (Some script.now)) which }
+{
     match which {
         Which::Sky => sky,
         Which::Catalogue => catalogue,
-        Which::Script => script.unwrap_or(""),
+        Which::Script => script,
     }
 }
 

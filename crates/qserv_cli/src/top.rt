@@ -1,29 +1,25 @@
 //! The top call: words, then the texts, then the work, then the writing.
-ghost use Rattle.std.specs.Prelude.{◌≡◌, ◌↔◌, IfOk, None, Some};
-ghost use Rattle.std.specs.Option.{option_copied};
-ghost use Rattle.qserv_cli.specs.Words.{form_of, bytes_of, names_from};
+ghost use Rattle.std.specs.Prelude.{◌≡◌, ◌↔◌, None};
+ghost use Rattle.qserv_cli.specs.Words.{Load, Asks, form_of, bytes_of};
+ghost use Rattle.qserv_cli.specs.WordForms.{IsWithin, asked_by};
 ghost use Rattle.qserv_cli.specs.Explained.{Explained, ExplainedOf, shown};
 ghost use Rattle.qserv_cli.specs.Completes.{Complete};
-ghost use Rattle.qserv_cli.specs.Inputs.{job_of};
-ghost use Rattle.qserv_cli.specs.Steps.{IsFlushed, IsWritten};
 
-use crate::inputs::{Inputs, fetch_inputs};
-use crate::outcome::{Ends, Outcome, all_answered};
-use crate::words::{TextNames, text_names};
-use answer_text::put_report;
-use chunk_store::Store;
-use czar::{Plain, Queries, World, put_plain};
-use sky_io::{Gate, Put, Shelf, Sink};
-use sky_plan::SkyPlan;
-use sky_row::Rows;
+use crate::demo::run_demo;
+use crate::inputs::{fetch_all, fetch_survey};
+use crate::outcome::Outcome;
+use crate::task::Task;
+use crate::words::{Form, read_words};
+use crate::work::{do_task, report};
+use sky_io::{Gate, Shelf, Sink};
 use std::alloc::Global;
 use std::sync::Wait;
 use std::thread::Threads;
 
-/// Does what the words ask: fetches the texts from the shelf, answers the script or reports how the rows lie in the chunks,
-/// and writes to the sink. All texts are accepted before the first byte is written, and writing takes no memory. Takes
-/// memory for the texts, the rows and their chunks. With no workers, as the forms have it so far, it starts no thread and
-/// passes no gate.
+/// Does what the words ask: fetches the texts from the shelf, reports how the rows lie in the chunks, or answers or explains
+/// the queries of the script, and writes to the sink. All texts are accepted and all answers made before the first byte is
+/// written, and writing takes no memory. Takes memory for the texts, the rows and their chunks, and the answers. With no
+/// workers, as the forms have it so far, it starts no thread and passes no gate.
 pub fn qserv<R: Threads + Wait + Sync, S: Shelf, K: Sink, G: Gate>(
     _rt: &R,
     alloc: Global,
@@ -40,116 +36,70 @@ pub fn qserv<R: Threads + Wait + Sync, S: Shelf, K: Sink, G: Gate>(
         (shown (S.state shelf.old) (S.state shelf.new) (K.state sink.old) (K.state sink.new))
         result }
 {
-    match text_names(words) {
+    match read_words(words) {
         None => Outcome::Usage,
-        Some(
-            TextNames {
-                sky,
-                catalogue,
-                script,
-            },
-        ) => run_form(alloc, sky, catalogue, script, shelf, sink),
+        Some(form) => run_form(alloc, &form, shelf, sink),
     }
 }
 
-// Does the work of a form with these names.
+// Does what a form asks.
 fn run_form<S: Shelf, K: Sink>(
     alloc: Global,
-    sky: &str,
-    catalogue: &str,
-    script: Option<&str>,
+    form: &Form<'_>,
     shelf: &mut S,
     sink: &mut K,
 ) -> Outcome
-    ensures { ExplainedOf (names_from sky.now catalogue.now (option_copied script.entry))
+    requires { IsWithin form.now }
+    ensures { ExplainedOf (asked_by form.now)
         (shown (S.state shelf.old) (S.state shelf.new) (K.state sink.old) (K.state sink.new))
         result }
 {
-    match fetch_inputs(alloc, shelf, sky, catalogue, script) {
-        Ok(inputs) => do_job(alloc, inputs, sink),
+    match form {
+        Form::Load { sky, catalogue } => run_load(alloc, sky, catalogue, shelf, sink),
+        Form::Asks {
+            task,
+            sky,
+            catalogue,
+            script,
+        } => run_task(alloc, *task, sky, catalogue, script, shelf, sink),
+        Form::Demo { count, seed } => run_demo(alloc, *count, *seed, sink),
+    }
+}
+
+// Reports how the rows of the named catalogue lie in the chunks of the named sky plan.
+fn run_load<S: Shelf, K: Sink>(
+    alloc: Global,
+    sky: &str,
+    catalogue: &str,
+    shelf: &mut S,
+    sink: &mut K,
+) -> Outcome
+    ensures { ExplainedOf (Load sky.now catalogue.now)
+        (shown (S.state shelf.old) (S.state shelf.new) (K.state sink.old) (K.state sink.new))
+        result }
+{
+    match fetch_survey(alloc, shelf, sky, catalogue) {
+        Ok(inputs) => report(alloc, inputs, sink),
         Err(outcome) => outcome,
     }
 }
 
-// Writes what the inputs ask for.
-fn do_job<K: Sink>(alloc: Global, inputs: Inputs, sink: &mut K) -> Outcome
-    ensures { IsWritten (job_of inputs) (K.state sink.old) (K.state sink.new) result }
-{
-    let Inputs {
-        plan,
-        rows,
-        queries,
-    } = inputs;
-    match queries {
-        None => report_rows(alloc, plan, rows, sink),
-        Some(queries) => answer_queries(alloc, plan, rows, queries, sink),
-    }
-}
-
-// Writes the report of the rows in their chunks. It asks for no row by its id, so no index is made.
-fn report_rows<K: Sink>(alloc: Global, plan: SkyPlan, rows: Rows, sink: &mut K) -> Outcome
-    ensures { IsWritten (record { survey = record { plan = plan; rows = rows }; ranges = None })
-        (K.state sink.old) (K.state sink.new) result }
-{
-    match Store::build(alloc, plan, rows) {
-        Ok(store) => write_report(alloc, &store, sink),
-        Err(_) => Outcome::Memory,
-    }
-}
-
-// Makes the world of the rows, and writes the transcript of the queries.
-fn answer_queries<K: Sink>(
+// Does what is asked of the named script over the named sky plan and catalogue.
+fn run_task<S: Shelf, K: Sink>(
     alloc: Global,
-    plan: SkyPlan,
-    rows: Rows,
-    queries: Queries,
+    task: Task,
+    sky: &str,
+    catalogue: &str,
+    script: &str,
+    shelf: &mut S,
     sink: &mut K,
 ) -> Outcome
-    ensures { IsWritten
-        (record { survey = record { plan = plan; rows = rows }; ranges = Some queries })
-        (K.state sink.old) (K.state sink.new) result }
+    ensures { ExplainedOf (Asks task sky.now catalogue.now script.now)
+        (shown (S.state shelf.old) (S.state shelf.new) (K.state sink.old) (K.state sink.new))
+        result }
 {
-    // No range of z asks for an id.
-    match World::build(alloc, plan, rows, false) {
-        Ok(world) => write_run(alloc, &Plain::new(&world, queries), sink),
-        Err(_) => Outcome::Memory,
-    }
-}
-
-// Writes the report of a store and sends it.
-fn write_report<K: Sink>(alloc: Global, store: &Store, sink: &mut K) -> Outcome
-    ensures { IsWritten (record { survey = store.now; ranges = None })
-        (K.state sink.old) (K.state sink.new) result }
-{
-    let Ok(ends) = all_answered(alloc, 0) else {
-        return Outcome::Memory;
-    };
-    match put_report(sink, store) {
-        Put::Failed => Outcome::SinkFault { ends },
-        Put::Done => send(sink, ends),
-    }
-}
-
-// Writes the transcript of a run and sends it. The ends are made before the first byte is written.
-fn write_run<K: Sink>(alloc: Global, run: &Plain<'_>, sink: &mut K) -> Outcome
-    ensures { IsWritten (record { survey = run.now.survey; ranges = Some run.now.ranges })
-        (K.state sink.old) (K.state sink.new) result }
-{
-    let Ok(ends) = all_answered(alloc, run.queries()) else {
-        return Outcome::Memory;
-    };
-    match put_plain(sink, run) {
-        Put::Failed => Outcome::SinkFault { ends },
-        Put::Done => send(sink, ends),
-    }
-}
-
-// Sends what is held back, once all is written.
-fn send<K: Sink>(sink: &mut K, ends: Ends) -> Outcome
-    ensures { IsFlushed ends (K.state sink.old) (K.state sink.new) result }
-{
-    match sink.flush_out() {
-        Put::Failed => Outcome::SinkFault { ends },
-        Put::Done => Outcome::Done { ends },
+    match fetch_all(alloc, shelf, sky, catalogue, script) {
+        Ok((inputs, text)) => do_task(alloc, task, inputs, text.as_slice(), sink),
+        Err(outcome) => outcome,
     }
 }

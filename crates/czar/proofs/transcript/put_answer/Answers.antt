@@ -1,10 +1,8 @@
-use Rattle.czar.specs.NarrowTranscript.{answer, row_lines}
-use Rattle.sky_io.proofs.Writes.{wrote_one, wrote_two}
+use Rattle.czar.proofs.BlocksByPlace.{wrote_as}
+use Rattle.czar.proofs.EndBlocks.{answered_block}
 use Rattle.czar.proofs.transcript.put_answer.Goals as goal
 
-pub returns-in-None : goal.returns-in-None
-returns-in-None g c = wrote_one _ _ (row_lines (answer c.args.query.now c.args.rows.now.objects)) _ c.in-None.ensures.wrote
-
-pub returns-in-Some : goal.returns-in-Some
-returns-in-Some g c =
-    wrote_two _ _ _ (row_lines (answer c.args.query.now c.args.rows.now.objects)) _ _ c.in-Some.ensures.wrote (rw c.in-Some.ensures.count at c.put_end.ensures)
+pub returns : goal.returns
+returns g c =
+    wrote_as _ _ _ _ _ (answered_block c.args.world.now.plan c.args.world.now.rows c.args.number c.args.text.now c.args.head.now c.args.table.now c.args.chunks c.requires)
+    (rw (c.schema-schema.ensures, c.rows.ensures) at c.put_table.ensures)

@@ -1,5 +1,4 @@
 use Rattle.std.proofs.Common.{codes}
-use Rattle.std.specs.Fmt.{signed_decimal}
 use Rattle.sky_io.proofs.Writes.{wrote_one, wrote_two}
 use Rattle.qserv_cli.specs.FaultLines.{place}
 use Rattle.qserv_cli.proofs.fault_lines.put_in_row.Goals as goal

@@ -1,7 +1,4 @@
-use Rattle.std.proofs.Common.{codes}
-use Rattle.std.specs.Fmt.{signed_decimal}
-use Rattle.sky_io.proofs.Writes.{wrote_one, wrote_two}
-use Rattle.qserv_cli.specs.FaultLines.{place}
+use Rattle.sky_io.proofs.Writes.{wrote_two}
 use Rattle.qserv_cli.proofs.fault_lines.put_valued.Goals as goal
 
 pub returns-in-Done : goal.returns-in-Done

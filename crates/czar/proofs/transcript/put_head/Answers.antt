@@ -1,9 +1,0 @@
-use Rattle.std.proofs.Common.{codes}
-use Rattle.sky_io.proofs.Writes.{wrote_one, wrote_two}
-use Rattle.czar.proofs.transcript.put_head.Goals as goal
-
-pub returns-in-Failed : goal.returns-in-Failed
-returns-in-Failed g c = wrote_one _ _ (codes "query ") _ c.in-Failed.ensures
-
-pub returns-in-Done : goal.returns-in-Done
-returns-in-Done g c = wrote_two _ _ _ (codes "query ") _ _ c.in-Done.ensures c.put_heading.ensures

@@ -1,9 +1,0 @@
-use Rattle.std.specs.Fmt.{decimal}
-use Rattle.sky_io.proofs.Writes.{wrote_one, wrote_two}
-use Rattle.czar.proofs.transcript.put_heading.Goals as goal
-
-pub returns-in-Failed : goal.returns-in-Failed
-returns-in-Failed g c = wrote_one _ _ (decimal c.args.number) _ c.in-Failed.ensures
-
-pub returns-in-Done : goal.returns-in-Done
-returns-in-Done g c = wrote_two _ _ _ (decimal c.args.number) _ _ c.in-Done.ensures c.put.ensures

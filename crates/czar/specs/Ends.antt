@@ -1,0 +1,46 @@
+-- What the queries of a script end with: an answer over the flat table, or the reason for which there is none.
+use Rattle.std.specs.Prelude.{◌≡◌, ℕ, List, [], ◌∷◌, None, Some, Ok, length}
+use Rattle.table_rules.specs.Objects.{Catalogue}
+use Rattle.sky_rules.specs.Partition.{Partition}
+use Rattle.sql_rules.specs.PrintedExprs.{Bytes}
+use Rattle.sql_tree.specs.declared.query.Query.{Query}
+use Rattle.answer_rules.specs.Answers.{flat_answer}
+use Rattle.answer_rules.specs.Plans.{plan_of}
+use Rattle.answer_rules.specs.declared.value.Value.{Value}
+use Rattle.session_rules.specs.declared.end.EndKind.{EndKind}
+use Rattle.session_rules.specs.declared.end.EndKind.TheVariants as kind
+use Rattle.transcript_rules.specs.Refusals.{Understood, understood, early_refusal, refusal_of}
+use Rattle.czar.specs.declared.end.End.{End}
+use Rattle.czar.specs.declared.end.End.TheVariants.{Answered, Refused, Cancelled, Spent}
+
+-- how a query ended
+abbrev pub kind_of : End → EndKind
+kind_of (Answered head table chunks) = kind.Answered
+kind_of (Refused why) = kind.Refused
+kind_of Cancelled = kind.Cancelled
+kind_of Spent = kind.Spent
+
+-- A query that is answered: its tree, its answer over the flat table, and the size of its plan.
+pub record IsAnswered (g : Partition) (c : Catalogue) (text : Bytes) (head : Query) (table : List (List Value)) (chunks : ℕ)
+    : Type 0 where
+  pub understanding : Understood
+  pub known : understood c.names text ≡ Ok understanding
+  pub tree : head ≡ understanding.tree
+  pub answer : flat_answer c.objects understanding.bound ≡ Ok table
+  pub count : chunks ≡ length (plan_of g c.objects understanding.bound)
+  pub accepted : early_refusal g c text ≡ None
+
+-- the end shows what the query with this line comes to; a query that was cancelled, or whose work wanted for memory, shows
+-- nothing
+abbrev pub EndShows : Partition → Catalogue → Bytes → End → Type 0
+EndShows g c text (Answered head table chunks) = IsAnswered g c text head table chunks
+EndShows g c text (Refused why) = refusal_of g c text ≡ Some why
+EndShows g c text Cancelled = Unit {0}
+EndShows g c text Spent = Unit {0}
+
+-- an end for each of the queries with these lines, in their order
+abbrev pub EndsShow : Partition → Catalogue → List Bytes → List End → Type 0
+EndsShow g c [] [] = Unit {0}
+EndsShow g c [] (end ∷ ends) = ⊥
+EndsShow g c (text ∷ texts) [] = ⊥
+EndsShow g c (text ∷ texts) (end ∷ ends) = EndShows g c text end × EndsShow g c texts ends

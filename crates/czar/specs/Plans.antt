@@ -1,0 +1,50 @@
+-- What is planned for the queries of a script: of each its chunk query, its merge and its chunks, or why it is refused.
+use Rattle.std.specs.Prelude.{◌≡◌, ℕ, List, [], ◌∷◌, None, Some, Ok}
+use Rattle.table_rules.specs.Objects.{Catalogue}
+use Rattle.sky_rules.specs.Partition.{Partition}
+use Rattle.sql_rules.specs.PrintedExprs.{Bytes}
+use Rattle.sql_tree.specs.declared.query.Query.{Query}
+use Rattle.sql_bound.specs.declared.query.Bound.{Bound}
+use Rattle.answer_rules.specs.Plans.{plan_of}
+use Rattle.answer_rules.specs.Rewriting.{rewritten}
+use Rattle.answer_rules.specs.declared.rewritten.Rewritten.{Rewritten}
+use Rattle.transcript_rules.specs.Refusals.{Understood, understood, early_refusal}
+use Rattle.czar.specs.Understandings.{IsUnderstanding}
+use Rattle.czar.specs.declared.understanding.Understanding.{Understanding}
+use Rattle.czar.specs.declared.plan.Plan.{Plan}
+use Rattle.czar.specs.declared.plan.Plan.TheVariants.{Planned, Refused}
+
+-- A query that can be run: its tree, how it is cut in two, and the chunks that it needs.
+pub record IsPlanned (g : Partition) (c : Catalogue) (text : Bytes) (head : Query) (query : Rewritten) (chunks : List ℕ)
+    : Type 0 where
+  pub understanding : Understood
+  pub known : understood c.names text ≡ Ok understanding
+  pub tree : head ≡ understanding.tree
+  pub cut : query ≡ rewritten understanding.bound
+  pub plan : chunks ≡ plan_of g c.objects understanding.bound
+  pub accepted : early_refusal g c text ≡ None
+
+-- the plan of the query with this line, or the reason for which it is refused before it is run
+abbrev pub PlanFor : Partition → Catalogue → Bytes → Plan → Type 0
+PlanFor g c text (Planned head query chunks) = IsPlanned g c text head query chunks
+PlanFor g c text (Refused why) = early_refusal g c text ≡ Some why
+
+-- so of each line that is understood as this tree, bound so
+abbrev pub IsPlanOf : Partition → Catalogue → Query → Bound → Plan → Type 0
+IsPlanOf g c tree bound plan =
+    (text : Bytes) → understood c.names text ≡ Ok (record { tree = tree; bound = bound }) → PlanFor g c text plan
+
+-- so of each line of which this is understood
+abbrev pub IsPlanBy : Partition → Catalogue → Understanding → Plan → Type 0
+IsPlanBy g c it plan = (text : Bytes) → IsUnderstanding c.names text it → PlanFor g c text plan
+
+-- the query of this tree that is bound so, cut over these chunks
+abbrev pub IsCutOf : Query → Bound → List ℕ → Plan → Type 0
+IsCutOf tree bound chunks plan = plan ≡ Planned tree (rewritten bound) chunks
+
+-- a plan for each of the queries with these lines, in their order
+abbrev pub ArePlans : Partition → Catalogue → List Bytes → List Plan → Type 0
+ArePlans g c [] [] = Unit {0}
+ArePlans g c [] (plan ∷ plans) = ⊥
+ArePlans g c (text ∷ texts) [] = ⊥
+ArePlans g c (text ∷ texts) (plan ∷ plans) = PlanFor g c text plan × ArePlans g c texts plans

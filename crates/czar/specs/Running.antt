@@ -1,0 +1,75 @@
+-- What the running of a query over its chunks rests on, and what it comes to.
+use Rattle.std.specs.Prelude.{◌≡◌, ◌+◌, ◌<◌, ℕ, ℤ, true, List, None, Ok, Err, length}
+use Rattle.table_rules.specs.Objects.{Catalogue}
+use Rattle.sky_rules.specs.Partition.{Partition, chunk_count}
+use Rattle.chunk_rules.specs.Filled.{is_filled}
+use Rattle.sql_rules.specs.PrintedExprs.{Bytes}
+use Rattle.sql_tree.specs.declared.query.Query.{Query}
+use Rattle.sql_bound.specs.declared.query.Bound.{Bound}
+use Rattle.sql_bound.specs.declared.query.Shape.{Shape}
+use Rattle.value_rules.specs.Sound.{IsSound}
+use Rattle.value_rules.specs.Tested.{IsTested}
+use Rattle.answer_rules.specs.Answers.{flat_answer}
+use Rattle.answer_rules.specs.Plans.{plan_of, radius_refusal, Reaches}
+use Rattle.answer_rules.specs.Rewriting.{rewritten}
+use Rattle.answer_rules.specs.declared.rewritten.Rewritten.{Rewritten}
+use Rattle.answer_rules.specs.declared.value.Value.{Value}
+use Rattle.sky_io.specs.declared.Stop.{Stop}
+use Rattle.sky_io.specs.declared.Stop.TheVariants as stop
+use Rattle.answer_rules.specs.declared.refusal.TotalOut.{TotalOut}
+use Rattle.transcript_rules.specs.declared.refusal.Refusal.TheVariants as refusal
+use Rattle.czar.specs.declared.end.End.{End}
+use Rattle.czar.specs.declared.end.End.TheVariants as end
+use Rattle.czar.specs.Told.{IsTold}
+use Rattle.czar.specs.Plans.{IsPlanned, PlanFor}
+use Rattle.czar.specs.declared.plan.Plan.{Plan}
+
+-- The chunk can be scanned for a chunk query of this shape: it holds a row, and a join reaches there.
+pub record IsOpen (g : Partition) (c : Catalogue) (shape : Shape) (chunk : ℕ) : Type 0 where
+  pub there : chunk < chunk_count g
+  pub filled : is_filled g c.objects chunk ≡ true
+  pub reach : Reaches g shape chunk
+
+-- A query that can be run: it is sound and tested, it is cut so, these are its chunks, and their overlap allows it.
+pub record CanRun (g : Partition) (c : Catalogue) (q : Bound) (query : Rewritten) (chunks : List ℕ) : Type 0 where
+  pub sound : IsSound (4 + length c.names) q
+  pub tested : IsTested q
+  pub cut : query ≡ rewritten q
+  pub plan : chunks ≡ plan_of g c.objects q
+  pub allowed : radius_refusal g c.objects q ≡ None
+
+-- Some query is cut so, needs these chunks, and can be run.
+pub record IsRunnable (g : Partition) (c : Catalogue) (query : Rewritten) (chunks : List ℕ) : Type 0 where
+  pub bound : Bound
+  pub can : CanRun g c bound query chunks
+
+-- each query that is cut so and needs these chunks has this answer over the flat table
+abbrev pub Answers : Partition → Catalogue → Rewritten → List ℕ → List (List Value) → Type 0
+Answers g c query chunks table = (q : Bound) → CanRun g c q query chunks → flat_answer c.objects q ≡ Ok table
+
+-- each query that is cut so and needs these chunks has this total out of range
+abbrev pub IsTotalOf : Partition → Catalogue → Rewritten → List ℕ → ℤ → Type 0
+IsTotalOf g c query chunks total = (q : Bound) → CanRun g c q query chunks → flat_answer c.objects q ≡ Err total
+
+-- The plan of some line.
+pub record IsSomePlan (g : Partition) (c : Catalogue) (head : Query) (query : Rewritten) (chunks : List ℕ) : Type 0 where
+  pub text : Bytes
+  pub is : IsPlanned g c text head query chunks
+
+-- what each query is told that is planned so
+abbrev pub IsEndOf : Partition → Catalogue → Query → Rewritten → List ℕ → End → Type 0
+IsEndOf g c head query chunks end = (text : Bytes) → IsPlanned g c text head query chunks → IsTold g c text end
+
+-- the plan is that of some line
+pub record IsPlanOfSome (g : Partition) (c : Catalogue) (plan : Plan) : Type 0 where
+  pub text : Bytes
+  pub is : PlanFor g c text plan
+
+-- what each query is told that has this plan
+abbrev pub IsEndBy : Partition → Catalogue → Plan → End → Type 0
+IsEndBy g c plan e = (text : Bytes) → PlanFor g c text plan → IsTold g c text e
+
+-- what a query ends with whose running stops so: its total is the refusal
+abbrev pub IsOutOfRange : Stop TotalOut → End → Type 0
+IsOutOfRange (stop.Bad out) e = e ≡ end.Refused (refusal.Total out)
+IsOutOfRange stop.Memory e = ⊥

@@ -1,0 +1,40 @@
+//! What a query ends with.
+
+ghost use Rattle.std.specs.Prelude.{◌≡◌};
+ghost use Rattle.czar.specs.Ends.{kind_of};
+
+use partial_merge::Table;
+use session_rules::EndKind;
+use sql_tree::Query;
+use transcript_rules::Refusal;
+
+/// What a query ends with.
+#[derive(Drop)]
+pub enum End {
+    /// The query's tree, its answer, and how many chunks its plan has.
+    Answered {
+        head: Query,
+        table: Table,
+        chunks: u32,
+    },
+    /// Why it is refused.
+    Refused(Refusal),
+    /// The script cancelled it in time.
+    Cancelled,
+    /// Memory was wanting in its own work.
+    Spent,
+}
+
+impl End {
+    /// How the query ended. Takes no memory.
+    pub fn kind(&self) -> EndKind
+        ensures { result ≡ kind_of self.now }
+    {
+        match self {
+            End::Answered { .. } => EndKind::Answered,
+            End::Refused(_) => EndKind::Refused,
+            End::Cancelled => EndKind::Cancelled,
+            End::Spent => EndKind::Spent,
+        }
+    }
+}

@@ -1,0 +1,161 @@
+//! What is planned for a query before it is run.
+
+ghost use Rattle.std.specs.Prelude.{◌≡◌, ◌+◌, ◌<◌, ◌≤◌, All, IfOk, None, OnOk, length, take};
+ghost use Rattle.text_rules.specs.declared.limits.TheConstants.{QUERIES_MOST, QUERY_TEXT_MOST};
+ghost use Rattle.sky_rules.specs.Partition.{chunk_count};
+ghost use Rattle.answer_rules.specs.Plans.{plan_of, radius_refusal};
+ghost use Rattle.session_script.specs.Scripts.{query_count};
+ghost use Rattle.session_script.specs.Views.{query_lines};
+ghost use Rattle.czar.specs.Plans.{ArePlans, IsCutOf, IsPlanBy, IsPlanOf, PlanFor};
+
+use crate::lookup::Lookup;
+use crate::understanding::{Understanding, understand};
+use answer_rules::Rewritten;
+use area_analyser::radius_ok;
+use chunk_rewriter::rewrite;
+use chunk_store::Store;
+use scan_rules::ChunkSet;
+use session_script::Script;
+use session_script::laws::query_lines_are_query_texts;
+use sky_io::Memory;
+use sql_bound::Bound;
+use sql_tree::Query;
+use std::alloc::Global;
+use transcript_rules::Refusal;
+
+/// What is planned for a query, or why it is refused before it is run.
+#[derive(Drop)]
+pub enum Plan {
+    /// The query's tree, how it is cut in two, and the chunks that it needs.
+    Planned {
+        head: Query,
+        query: Rewritten,
+        chunks: ChunkSet,
+    },
+    /// For its grammar, for the schema, or for its radius.
+    Refused(Refusal),
+}
+
+/// The plans of a script's queries, in their order; lines that wait or cancel are passed over. Takes memory for them, and
+/// for an index of the rows by their ids where a query asks for some. Nothing is run.
+pub fn explain(alloc: Global, world: &Store, script: &Script<'_>) -> Result<Vec<Plan>, Memory>
+    ensures { IfOk result (λ plans.
+        ArePlans world.now.plan world.now.rows (query_lines script.now) plans.items) }
+{
+    let mut lookup = Lookup::new(world);
+    let mut plans = Vec::new(alloc);
+    for before in 0..script.queries() {
+        push_plan(alloc, world, script, before, &mut lookup, &mut plans)?;
+    }
+    Ok(plans)
+}
+
+/// Puts the plan of the query behind so many others behind theirs.
+fn push_plan(
+    alloc: Global,
+    world: &Store,
+    script: &Script<'_>,
+    before: u32,
+    lookup: &mut Lookup<'_>,
+    plans: &mut Vec<Plan>,
+) -> Result<(), Memory>
+    requires there { before < query_count script.now.steps }
+    requires few { before < QUERIES_MOST }
+    requires same { lookup.old ≡ world.now }
+    requires plans { ArePlans world.now.plan world.now.rows
+        (take before (query_lines script.now)) plans.old.items }
+    ensures same { lookup.new ≡ lookup.old }
+    ensures plans { OnOk result (ArePlans world.now.plan world.now.rows
+        (take (before + 1) (query_lines script.now)) plans.new.items) }
+{
+    query_lines_are_query_texts();
+    match plan_line(alloc, world, lookup, script.text_of(before + 1)) {
+        Ok(plan) => Ok(plans.push(plan)?),
+        Err(Memory) => Err(Memory),
+    }
+}
+
+/// The plan of the query with this line.
+pub(crate) fn plan_line(
+    alloc: Global,
+    world: &Store,
+    lookup: &mut Lookup<'_>,
+    text: &[u8],
+) -> Result<Plan, Memory>
+    requires same { lookup.old ≡ world.now }
+    requires short { length text.now ≤ QUERY_TEXT_MOST }
+    ensures plan { IfOk result (PlanFor world.now.plan world.now.rows text.now) }
+    ensures same { lookup.new ≡ lookup.old }
+{
+    match understand(alloc, world.rows().schema(), text) {
+        Ok(understanding) => plan_understood(alloc, world, lookup, understanding),
+        Err(Memory) => Err(Memory),
+    }
+}
+
+/// The plan of the queries of which this is understood.
+fn plan_understood(
+    alloc: Global,
+    world: &Store,
+    lookup: &mut Lookup<'_>,
+    understanding: Understanding,
+) -> Result<Plan, Memory>
+    requires same { lookup.old ≡ world.now }
+    ensures plan { IfOk result (IsPlanBy world.now.plan world.now.rows understanding) }
+    ensures same { lookup.new ≡ lookup.old }
+{
+    match understanding {
+        Understanding::Unknown(why) => Ok(Plan::Refused(why)),
+        Understanding::Known { tree, bound } => plan_known(alloc, world, lookup, tree, &bound),
+    }
+}
+
+/// The plan of the queries that are understood as this tree, bound so.
+fn plan_known(
+    alloc: Global,
+    world: &Store,
+    lookup: &mut Lookup<'_>,
+    tree: Query,
+    bound: &Bound,
+) -> Result<Plan, Memory>
+    requires same { lookup.old ≡ world.now }
+    ensures plan { IfOk result (IsPlanOf world.now.plan world.now.rows tree bound.now) }
+    ensures same { lookup.new ≡ lookup.old }
+{
+    match lookup.chunks(alloc, bound) {
+        Ok(chunks) => plan_over(alloc, world, tree, bound, chunks),
+        Err(Memory) => Err(Memory),
+    }
+}
+
+/// The plan of those that need these chunks: they are refused where the overlap of these does not allow them.
+fn plan_over(
+    alloc: Global,
+    world: &Store,
+    tree: Query,
+    bound: &Bound,
+    chunks: ChunkSet,
+) -> Result<Plan, Memory>
+    requires plan { chunks ≡ plan_of world.now.plan world.now.rows.objects bound.now }
+    requires there { All (λ c. c < chunk_count world.now.plan) chunks }
+    ensures { IfOk result (IsPlanOf world.now.plan world.now.rows tree bound.now) }
+{
+    match radius_ok(bound, world.plan(), &chunks) {
+        Ok(()) => cut_over(alloc, tree, bound, chunks),
+        Err(far) => Ok(Plan::Refused(Refusal::Radius(far))),
+    }
+}
+
+/// The plan of those that can be run over these chunks.
+fn cut_over(alloc: Global, tree: Query, bound: &Bound, chunks: ChunkSet) -> Result<Plan, Memory>
+    ensures { IfOk result (IsCutOf tree bound.now chunks) }
+{
+    match rewrite(alloc, bound) {
+        Ok(query) => Ok(Plan::Planned {
+            head: tree,
+            query,
+            chunks,
+        }),
+        Err(Memory) => Err(Memory),
+    }
+}

@@ -1,0 +1,10 @@
+use Rattle.std.proofs.Common.{map}
+use Rattle.czar.specs.Ends.{kind_of}
+use Rattle.qserv_cli.specs.Jobs.{Runs}
+use Rattle.qserv_cli.proofs.Writing.{written_as}
+use Rattle.qserv_cli.proofs.work.write_transcript.Goals as goal
+
+pub returns-in-Done : goal.returns-in-Done
+returns-in-Done g c =
+    written_as (Runs c.args.store.now c.args.script.now) (map kind_of c.args.ends.now) c.in-Ok.kinds _ _ _ _
+    c.in-Ok.ensures c.requires.fit c.in-Done.ensures c.send.ensures

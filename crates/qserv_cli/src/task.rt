@@ -1,0 +1,10 @@
+//! What is asked of a script.
+
+/// What is asked of the queries of a script.
+#[derive(Clone, Copy, Debug, PartialEq, Eq)]
+pub enum Task {
+    /// Their answers.
+    Answer,
+    /// Their plans.
+    Explain,
+}

@@ -1,0 +1,102 @@
+//! Worked texts, and the top call over them.
+use crate::outcome::{Outcome, status};
+use crate::told::put_outcome;
+use crate::top::qserv;
+use sky_io::{MemSink, OpenGate, PlainShelf};
+use std::alloc::Global;
+use std::sync::Wait;
+use std::test::Fail;
+use std::thread::Threads;
+
+pub const SKY: &str = "overlap 5\nstripe -268435472 4 2 2\nstripe 0 4 2 2\n";
+
+/// The same sky in stripes that have an overlap each.
+pub const OWN_OVERLAPS: &str = "version 2\nstripe -268435472 4 2 2 5\nstripe 0 4 2 2 2\n";
+
+pub const CATALOGUE: &str =
+    "objectId,x,y,z,flux\n1,268435456,0,0,10\n2,268435456,3,0,20\n3,268435456,0,4,30\n4,268435456,-3,0,40\n5,268435456,0,-1,50\n6,0,0,268435456,60\n";
+
+/// A catalogue of values at the ends of their range.
+pub const LARGE_VALUES: &str =
+    "objectId,x,y,z,a,b,g\n1,268435456,0,0,1125899906842624,1125899906842624,5\n2,268435456,-3,0,0,0,7\n3,268435456,0,-1,-1125899906842624,1125899906842624,5\n4,268435456,0,4,1125899906842624,1125899906842624,7\n";
+
+/// The worked catalogue's positions, with values that are missing.
+pub const WITH_NULL: &str =
+    "objectId,x,y,z,flux\n1,268435456,0,0,10\n2,268435456,3,0,\n3,268435456,0,4,30\n4,268435456,-3,0,\n5,268435456,0,-1,-5\n6,0,0,268435456,60\n";
+
+pub const QUERY: [&str; 5] = ["query", "sky", "csv", "script", "0"];
+
+pub const EXPLAIN: [&str; 4] = ["explain", "sky", "csv", "script"];
+
+/// What a call wrote, its status, and what is told of it.
+#[derive(Drop)]
+pub struct Output {
+    pub sink: MemSink,
+    pub status: u8,
+    pub told: MemSink,
+}
+
+/// A sky plan, a catalogue and a script by their names.
+pub fn texts_of(
+    alloc: Global,
+    sky: &str,
+    csv: &str,
+    script: &[u8],
+) -> Result<Vec<(String, Vec<u8>)>, Fail> {
+    let mut texts = Vec::new(alloc);
+    for (name, text) in [
+        ("sky", sky.as_bytes()),
+        ("csv", csv.as_bytes()),
+        ("script", script),
+    ] {
+        texts.push((String::from_str(alloc, name)?, text.to_vec(alloc)?))?;
+    }
+    Ok(texts)
+}
+
+pub fn words_of(alloc: Global, words: &[&str]) -> Result<Vec<String>, Fail> {
+    let mut all = Vec::new(alloc);
+    for word in words {
+        all.push(String::from_str(alloc, word)?)?;
+    }
+    Ok(all)
+}
+
+pub fn sink_of(alloc: Global, room: usize) -> Result<MemSink, Fail> {
+    Ok(MemSink::new(alloc, room, Vec::new(alloc))?)
+}
+
+/// What is told of an outcome on standard error.
+pub fn line_of(alloc: Global, outcome: &Outcome, words: &[String]) -> Result<MemSink, Fail> {
+    let mut sink = sink_of(alloc, 1000)?;
+    put_outcome(&mut sink, outcome, words);
+    Ok(sink)
+}
+
+/// The top call over a sky plan, a catalogue and a script, with room for its output.
+pub fn run<R: Threads + Wait + Sync>(
+    rt: &R,
+    alloc: Global,
+    words: &[&str],
+    sky: &str,
+    csv: &str,
+    script: &[u8],
+) -> Result<Output, Fail> {
+    let words = words_of(alloc, words)?;
+    let mut shelf = PlainShelf::new(texts_of(alloc, sky, csv, script)?);
+    let mut sink = sink_of(alloc, 10000)?;
+    let outcome = qserv(
+        rt,
+        alloc,
+        words.as_slice(),
+        &mut shelf,
+        &mut sink,
+        &OpenGate,
+    );
+    let told = line_of(alloc, &outcome, words.as_slice())?;
+    Ok(Output {
+        sink,
+        status: status(&outcome),
+        told,
+    })
+}
