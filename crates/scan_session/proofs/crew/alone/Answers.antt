@@ -1,0 +1,23 @@
+use Rattle.std.proofs.Common.{◌≡◌, [], drop, length, sym, subst, rules, List, Option}
+use Rattle.scan_session.specs.KnownEnds.{known_in, Marks, Ready}
+use Rattle.scan_session.specs.Driven.{Going}
+use Rattle.scan_session.specs.Crews.{Leaves}
+use Rattle.scan_session.specs.declared.end.End.{End}
+use Rattle.scan_session.specs.declared.end.Planned.{Planned}
+use Rattle.scan_session.proofs.Manning.{take_seam, manned_alone}
+use Rattle.scan_session.proofs.crew.alone.Goals as goal
+
+pub returns-clause-leaves : goal.returns-clause-leaves
+returns-clause-leaves g c plan marks ready d =
+    let new = c.czar-outcome.new.ends in
+    let len : length new ≡ c.args.ends.len = search rules in
+    let e : c.as_mut_slice-2.result.now ≡ c.args.ends.items = search rules in
+    let p : c.as_mut_slice.result.now ≡ c.args.plans.items = search rules in
+    subst (λ (l : List (Option (End g.row.P.Denot))). Leaves plan c.args.steps.now c.czar-outcome.result.1.seen (known_in l) c.czar-outcome.result.0) (sym (take_seam new (drop (length new) c.args.ends.items) c.args.ends.len len))
+    (c.czar-outcome.ensures.leaves plan
+    (subst (λ (l : List (Option (End g.row.P.Denot))). Marks plan l) (sym e) marks)
+    (subst (λ (l : List (Option (Planned g.row.P.Denot))). Ready plan [] l) (sym p) ready)
+    (subst (λ (l : List (Option (End g.row.P.Denot))). Going plan [] c.args.seat.seen (known_in l)) (sym e) d))
+
+pub returns-clause-manned : goal.returns-clause-manned
+returns-clause-manned g c = manned_alone g.P.Work.asks c.args.seat c.czar-outcome.result.1 c.czar-outcome.ensures.stays c.czar-outcome.ensures.closed

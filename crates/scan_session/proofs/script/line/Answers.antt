@@ -1,0 +1,29 @@
+use Rattle.std.proofs.Common.{[], ◌∷◌, ◌++◌, sym, subst}
+use Rattle.session_script.specs.declared.step.Step.{Step}
+use Rattle.scan_session.specs.KnownEnds.{known_in, Ready}
+use Rattle.scan_session.specs.Driven.{Going}
+use Rattle.scan_session.specs.Goes.{Goes, IsNext}
+use Rattle.scan_session.proofs.Listing.{whole_on, goes_wait, marks_on}
+use Rattle.scan_session.proofs.script.line.Goals as goal
+
+pub returns-in-Query-clause-goes : goal.returns-in-Query-clause-goes
+returns-in-Query-clause-goes g c plan done next marks ready d =
+    subst (λ (s : Step). Goes (Going plan (done ++ s ∷ []) c.query_line.result.1.seen (known_in c.args.ends.now)) c.query_line.result.1.seen c.query_line.result.0) (sym c.in-Query.is)
+    (c.query_line.ensures.goes plan done (known_in c.args.ends.now) _ ready (subst (IsNext done) c.in-Query.is next) d)
+
+pub returns-in-Query-clause-ready : goal.returns-in-Query-clause-ready
+returns-in-Query-clause-ready g c plan done ready =
+    subst (λ (s : Step). Ready plan (done ++ s ∷ []) c.query_line.new.plans) (sym c.in-Query.is) (c.query_line.ensures.ready plan done _ ready)
+
+pub returns-in-Query-clause-whole : goal.returns-in-Query-clause-whole
+returns-in-Query-clause-whole g c w = whole_on g.P.Work.asks (g.P.Work.stands c.args.seat.root.root) c.args.seat c.query_line.result.1 c.args.ends.now c.query_line.ensures.stays w
+
+pub returns-in-Wait-clause-goes : goal.returns-in-Wait-clause-goes
+returns-in-Wait-clause-goes g c plan done next marks ready d =
+    let started = subst (IsNext done) c.in-Wait.is next in
+    subst (λ (s : Step). Goes (Going plan (done ++ s ∷ []) c.await_end.result.1.seen (known_in c.await_end.new.ends)) c.await_end.result.1.seen c.await_end.result.0) (sym c.in-Wait.is)
+    (goes_wait plan done c.await_end.result.1.seen c.await_end.new.ends c.in-Wait.number c.await_end.result.0 started c.await_end.ensures.known
+    (marks_on plan c.args.ends.now c.await_end.new.ends c.await_end.ensures.more marks) (c.await_end.ensures.goes plan done marks started d.drives))
+
+pub returns-in-Cancel-clause-whole : goal.returns-in-Cancel-clause-whole
+returns-in-Cancel-clause-whole g c w = whole_on g.P.Work.asks (g.P.Work.stands c.args.seat.root.root) c.args.seat c.cancel_line.result c.args.ends.now c.cancel_line.ensures.stays w

@@ -1,0 +1,30 @@
+use Rattle.std.proofs.Common.{◌≡◌, ◌-◌, Some, None, rules, ◌∙◌, sym, subst, slice_set, Option}
+use Rattle.scan_session.specs.KnownEnds.{at_query, PlansFit}
+use Rattle.scan_session.specs.declared.end.Planned.{Planned}
+use Rattle.scan_session.proofs.Listing.{at_read, ready_none, ready_some, ready_set, fit_set}
+use Rattle.scan_session.proofs.Keeping.{going_refused}
+use Rattle.scan_session.proofs.script.query_line.Goals as goal
+
+pub start-requires-clause-may : goal.start-requires-clause-may
+start-requires-clause-may g c =
+    let here : at_query c.args.plans.now c.args.q ≡ Some c.in-Some.planned = at_read c.args.plans.now c.args.q c.index-plans-place.result c.requires.from_1 c.requires.low c.index-plans-place.is ∙ search rules in
+    c.requires.fit.each c.args.q c.in-Some.planned here
+
+pub returns-in-None-clause-goes : goal.returns-in-None-clause-goes
+returns-in-None-clause-goes g c plan done ends span ready free d =
+    let here : at_query c.args.plans.now c.args.q ≡ None = at_read c.args.plans.now c.args.q c.index-plans-place.result c.requires.from_1 c.requires.low c.index-plans-place.is ∙ search rules in
+    going_refused plan done c.args.seat.seen ends c.args.q span (ready_none plan done c.args.plans.now c.args.q ready free here) d
+
+pub returns-in-Some-clause-goes : goal.returns-in-Some-clause-goes
+returns-in-Some-clause-goes g c plan done ends span ready free d =
+    let here : at_query c.args.plans.now c.args.q ≡ Some c.in-Some.planned = at_read c.args.plans.now c.args.q c.index-plans-place.result c.requires.from_1 c.requires.low c.index-plans-place.is ∙ search rules in
+    c.start.ensures.goes plan done ends span free (ready_some plan done c.args.plans.now c.args.q c.in-Some.planned ready free here) d
+
+pub returns-in-Some-clause-ready : goal.returns-in-Some-clause-ready
+returns-in-Some-clause-ready g c plan done span ready = ready_set plan done c.args.plans.now c.args.q span c.take.new.self c.requires.from_1 ready
+
+pub returns-in-Some-clause-fit : goal.returns-in-Some-clause-fit
+returns-in-Some-clause-fit g c =
+    let gone : c.take.new.self ≡ None = search rules in
+    subst (λ (o : Option (Planned g.row.P.Denot)). PlansFit g.P.Work.stands g.P.Work.asks c.args.seat.root.ring c.args.seat.root.root (slice_set c.args.plans.now (c.args.q - 1) o)) (sym gone)
+    (fit_set g.P.Work.stands g.P.Work.asks c.args.seat.root.ring c.args.seat.root.root c.args.plans.now c.args.q c.requires.from_1 c.requires.low c.requires.fit)

@@ -1,0 +1,62 @@
+-- What the czar leaves when he has closed the board, and what is known once the workers' seats are joined.
+use Rattle.std.specs.Prelude.{◌≡◌, ℕ, ◌<◌, ◌≤◌, List, [], ◌∷◌, ◌++◌, true, Contains, Option, Some, ◌⊎◌}
+use Rattle.std.specs.List.{list_all}
+use mathlib.Core.List.{IsPrefix}
+use Rattle.scan_rules.specs.declared.journal_line.JournalLine.TheVariants.{Close}
+use Rattle.scan_rules.specs.Lines.{seat_of}
+use Rattle.scan_rules.specs.Queries.{Journal, QueryState, state_of, is_attached, is_closed}
+use Rattle.scan_core.specs.Boards.{IsLawful}
+use Rattle.turn_lock.specs.Seats.{Knows}
+use Rattle.scan_board.specs.Calls.{BoardSeat, board_at}
+use Rattle.scan_worker.specs.Working.{is_work, AllDelivered}
+use Rattle.session_script.specs.declared.step.Step.{Step}
+use Rattle.scan_session.specs.Plans.{Plans}
+use Rattle.scan_session.specs.Driven.{Driving, has_foreign}
+use Rattle.scan_session.specs.Drove.{Drove}
+use Rattle.scan_session.specs.Seats.{of_seat}
+use Rattle.scan_session.specs.declared.end.Outcome.{Outcome}
+use Rattle.scan_session.specs.declared.end.Outcome.TheVariants.{Went, Memory, Odd}
+
+-- the czar went through these steps and closed the board; what came then is not his
+pub record Closed (plan : Plans) (steps : List Step) (seen : Journal) (ends : ℕ → Option QueryState) : Type 0 where
+  pub before : Journal
+  pub rest : Journal
+  pub is : seen ≡ (before ++ Close 0 ∷ []) ++ rest
+  pub own : of_seat 0 seen ≡ of_seat 0 (before ++ Close 0 ∷ [])
+  pub drives : Driving plan steps before ends
+
+-- what the czar's part leaves on the lines that were seen
+abbrev pub Leaves : Plans → List Step → Journal → (ℕ → Option QueryState) → Outcome → Type 0
+Leaves plan steps seen ends Went = Closed plan steps seen ends ⊎ (has_foreign seen ≡ true)
+Leaves plan steps seen ends Memory = Unit {0}
+Leaves plan steps seen ends Odd = has_foreign seen ≡ true
+
+-- a seat that was joined: its number, and its lines, which are work, all delivered
+pub record KeepsWork (ended : List (ℕ × Journal)) (number : ℕ) : Type 0 where
+  pub lines : Journal
+  pub kept : Contains ended (number, lines)
+  pub work : list_all is_work lines ≡ true
+  pub delivered : AllDelivered lines
+
+-- The czar's seat, once the board is closed and the seats that were split off are joined again.
+pub record Manned {R : Type 0} (asks : R → ℕ → ℕ → Type 0) (old new : BoardSeat R) : Type 0 where
+  pub first : new.number ≡ 0
+  pub turn : new.turn ≡ old.turn
+  pub root : new.root ≡ old.root
+  pub made : old.made ≤ new.made
+  pub later : IsPrefix old.seen new.seen
+  pub known : Knows seat_of new
+  pub lawful : IsLawful asks (board_at new new.seen)
+  pub delivered : AllDelivered new.mine
+  pub closed : is_closed new.seen ≡ true
+  pub crew : (n : ℕ) → old.made ≤ n → n < new.made → KeepsWork new.ended n
+
+-- each attached query's end is known, as its state in the end
+abbrev pub TellsStates : Journal → (ℕ → Option QueryState) → Type 0
+TellsStates seen ends = (q : ℕ) → is_attached seen q ≡ true → ends q ≡ Some (state_of seen q)
+
+-- what the session promises in the end
+abbrev pub Promises : ℕ → Plans → List Step → Journal → (ℕ → Option QueryState) → Outcome → Type 0
+Promises workers plan steps seen ends Went = Drove workers plan steps seen × TellsStates seen ends
+Promises workers plan steps seen ends Memory = Unit {0}
+Promises workers plan steps seen ends Odd = ⊥

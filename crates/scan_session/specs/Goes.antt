@@ -1,0 +1,63 @@
+-- What a part of a session leaves, by how it ends.
+use Rattle.std.specs.Prelude.{◌≡◌, ℕ, ◌≤◌, List, [], ◌∷◌, ◌++◌, true, false, Option, Some, None}
+use Rattle.std.specs.List.{list_any}
+use Rattle.scan_rules.specs.Queries.{Journal, QueryState}
+use Rattle.session_script.specs.declared.step.Step.{Step}
+use Rattle.session_script.specs.declared.step.Step.TheVariants.{Query, Wait, Cancel as CancelStep}
+use Rattle.session_rules.specs.Ends.{asks}
+use Rattle.scan_session.specs.Plans.{Plans}
+use Rattle.scan_session.specs.Driven.{Driving, Going, has_foreign}
+use Rattle.scan_session.specs.KnownEnds.{state_by, with_end}
+use Rattle.scan_session.specs.declared.end.End.{End}
+use Rattle.scan_session.specs.declared.end.Outcome.{Outcome}
+use Rattle.scan_session.specs.declared.end.Outcome.TheVariants.{Went, Memory, Odd}
+use Rattle.scan_session.specs.declared.end.Tried.{Tried}
+use Rattle.scan_session.specs.declared.end.Tried.TheVariants as tried
+use Rattle.scan_session.specs.declared.end.Told.{Told}
+use Rattle.scan_session.specs.declared.end.Told.TheVariants as told
+
+-- this holds where the part went to its end; Odd comes only where another seat did what the czar alone does
+abbrev pub Goes : Type 0 → Journal → Outcome → Type 0
+Goes holds seen Went = holds
+Goes holds seen Memory = Unit {0}
+Goes holds seen Odd = has_foreign seen ≡ true
+
+-- what an attempt to attach leaves: all is as before where the board is full
+abbrev pub GoesTried : {P : Type 0}
+    → Plans → List Step → Step → Journal → (ℕ → Option QueryState) → Tried P → Type 0
+GoesTried plan done step seen ends tried.Attached = Going plan (done ++ step ∷ []) seen ends
+GoesTried plan done step seen ends (tried.Full planned) = Going plan done seen ends
+GoesTried plan done step seen ends tried.Memory = Unit {0}
+GoesTried plan done step seen ends tried.Odd = has_foreign seen ≡ true
+
+-- what is told of a query's end leaves it known, or all as before
+abbrev pub GoesTold : {P : Type 0}
+    → Plans → List Step → Journal → (ℕ → Option QueryState) → ℕ → Told P → Type 0
+GoesTold plan done seen ends q (told.Ended end) = Driving plan done seen (with_end ends q (state_by (Some end)))
+GoesTold plan done seen ends q told.NotYet = Driving plan done seen ends
+GoesTold plan done seen ends q told.Odd = has_foreign seen ≡ true
+
+-- the same of an end, or of an answer that cannot come
+abbrev pub GoesEnded : {P : Type 0}
+    → Plans → List Step → Journal → (ℕ → Option QueryState) → ℕ → Option (End P) → Type 0
+GoesEnded plan done seen ends q (Some end) = Driving plan done seen (with_end ends q (state_by (Some end)))
+GoesEnded plan done seen ends q None = has_foreign seen ≡ true
+
+-- the number that a step names
+abbrev pub number_of : Step → ℕ
+number_of (Query q span) = q
+number_of (Wait q) = q
+number_of (CancelStep q) = q
+
+-- a step about a query that none of these asks, or that one of them asks
+abbrev pub IsNext : List Step → Step → Type 0
+IsNext done (Query q span) = list_any (asks q) done ≡ false
+IsNext done (Wait q) = list_any (asks q) done ≡ true
+IsNext done (CancelStep q) = list_any (asks q) done ≡ true
+
+-- a script of so many queries: each step is about a query that is asked before it, or is the next one's
+pub record IsScript (count : ℕ) (steps : List Step) : Type 0 where
+  pub next : (a : List Step) (step : Step) (b : List Step) → steps ≡ a ++ step ∷ b → IsNext a step
+  pub from_1 : (a : List Step) (step : Step) (b : List Step) → steps ≡ a ++ step ∷ b → 1 ≤ number_of step
+  pub low : (a : List Step) (step : Step) (b : List Step) → steps ≡ a ++ step ∷ b → number_of step ≤ count
+  pub all : (q : ℕ) → 1 ≤ q → q ≤ count → list_any (asks q) steps ≡ true

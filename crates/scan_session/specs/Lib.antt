@@ -1,0 +1,9 @@
+pub mod Plans
+pub mod Quiet
+pub mod Driven
+pub mod Drove
+pub mod Seats
+pub mod KnownEnds
+pub mod Goes
+pub mod Crews
+pub mod Laws
