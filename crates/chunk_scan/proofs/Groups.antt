@@ -1,24 +1,21 @@
 -- Groups that are put into a piece one by one.
-use Rattle.std.proofs.Common.{◌≡◌, ◌∙◌, refl, sym, ap, subst, ℕ, ◌+◌, ◌≤◌, arith, Bool, true, false, cond, List, [], ◌∷◌, ◌++◌, length, filter, map, get_or, take, ◌<◌}
+use Rattle.std.proofs.Common.{◌≡◌, ◌∙◌, refl, sym, ap, subst, ℕ, ◌+◌, ◌≤◌, arith, Bool, true, false, cond, List, [], ◌∷◌, ◌++◌, length, filter, map}
 use Rattle.std.specs.Prelude.{All}
 use Rattle.std.specs.List.{AllByRecursion}
-use Rattle.std.proofs.lemmas.List.{map-append, length-map, length-take-le}
 use Rattle.std.proofs.lemmas.List.Sums.{sum_by-cons}
-use Rattle.table_rules.specs.Objects.{Obj}
-use Rattle.table_rules.specs.declared.limits.TheConstants.{ROWS_MOST}
-use Rattle.sky_row.specs.Columns.{no_row, objects_at}
 use Rattle.std.specs.declared.cmp.Ordering.{Ordering}
 use Rattle.std.specs.declared.cmp.Ordering.TheVariants.{Less, Equal, Greater}
 use Rattle.std.specs.Ordering.{is_eq, ordering_reverse}
-use Rattle.std.proofs.lemmas.List.Elements.{All-cons, All-head, All-nil, All-tail}
+use Rattle.std.proofs.lemmas.List.Elements.{All-head, All-tail}
 use Rattle.sql_bound.specs.declared.expr.BoundCol.{BoundCol}
-use Rattle.value_rules.specs.Values.{Pick, row}
+use Rattle.value_rules.specs.Values.{Pick}
 use Rattle.answer_rules.specs.declared.rewritten.ChunkItem.{ChunkItem}
+use Rattle.answer_rules.specs.declared.rewritten.ChunkItem.TheVariants as item
 use Rattle.answer_rules.specs.Gather.{Partial, gather, single}
 use Rattle.answer_rules.specs.Small.{IsSmallPart, rows_in}
 use Rattle.answer_rules.specs.Keys.{Key, key_by, key_of, key_order, keys_in, of_key, put_key}
 use Rattle.answer_rules.specs.Parts.{Part, Sums, add_own_sums, way_of, add_sums, part_over, partials_of, sums_over}
-use Rattle.answer_rules.specs.Pieces.{PieceView, OfRows, OfGroups}
+use Rattle.answer_rules.specs.Pieces.{PieceView, OfGroups}
 use Rattle.answer_rules.proofs.Gathering.{sum-gather}
 use Rattle.answer_rules.proofs.Grouping.{parted_joined, parts_add_up}
 use Rattle.answer_rules.proofs.JoinedAlone.{AreOf, are_of, both_of, gathers}
@@ -26,8 +23,6 @@ use Rattle.answer_rules.proofs.PartsAdd.{sums_add, sums_add_up}
 use Rattle.answer_rules.proofs.Totals.{key_total, same_keys}
 use Rattle.partial_merge.specs.Groups.{Gathered, HaveWays, group_by, most_rows}
 use Rattle.partial_merge.specs.Joining.{MayTakeGroup, with_group}
-use Rattle.chunk_scan.specs.Grouped.{HasRoom}
-use Rattle.chunk_scan.proofs.Rows.{objects_more}
 
 -- what all pass is kept whole
 all_step : {X : Type 0} (x : X) (kept xs : List X) (b : Bool) → b ≡ true → kept ≡ xs → cond b (x ∷ kept) kept ≡ x ∷ xs
@@ -80,7 +75,13 @@ group_put keys items xs k r rs all =
     (both_of items (partials_of keys items xs) (partials_of keys items ys) (are_of keys items xs) (are_of keys items ys))).same
     ∙ sym (parted_joined key_order (add_sums items) key_total same_keys (sums_add items) (key_of keys) (sums_over items) (sums_add_up items) xs ys))
 
--- ---- whether a piece can take in a row
+-- the same of rows that stand between two places
+pub run_put : (keys : List BoundCol) (items : List ChunkItem) (xs ys : List Pick) (k : Key) → 1 ≤ length ys → All (λ p. key_of keys p ≡ k) ys
+    → with_group (OfGroups (partials_of keys items xs)) (group_by k (length ys) (map (part_over ys) items)) ≡ OfGroups (partials_of keys items (xs ++ ys))
+run_put keys items xs [] k some all = absurd (omega (arith, some))
+run_put keys items xs (r ∷ rs) k some all = group_put keys items xs k r rs all
+
+-- ---- whether a piece can take in a group
 
 -- the groups of some rows are for the aggregates
 pub have_ways : (items : List ChunkItem) (gs : Gathered) → AreOf items gs → HaveWays (map way_of items) gs
@@ -99,48 +100,29 @@ rows_of_parts keys items rows =
     ∙ sum-gather key_order (add_sums items) (λ s. s.rows) (λ a b. refl) (map (single (key_of keys) (sums_over items)) rows)
     ∙ rows_of_singles keys items rows
 
--- so there is room for one more while there are few
-pub room_for_one : (keys : List BoundCol) (items : List ChunkItem) (rows : List Pick) (view : PieceView) → view ≡ OfGroups (partials_of keys items rows) → length rows + 1 ≤ most_rows
-    → HasRoom items view
-room_for_one keys items rows view is few =
-    subst (HasRoom items) (sym is) (have_ways items (partials_of keys items rows) (are_of keys items rows), omega (arith, rows_of_parts keys items rows, few))
+own_way : (ys : List Pick) (i : ChunkItem) → (part_over ys i).way ≡ way_of i
+own_way ys (item.Plain e) = refl
+own_way ys item.Count = refl
+own_way ys (item.CountOf e) = refl
+own_way ys (item.Sum e) = refl
+own_way ys (item.Min e) = refl
+own_way ys (item.Max e) = refl
 
--- a row as a group of its own is for the aggregates
-one_of : (items : List ChunkItem) (p : Pick) (k : Key) → HaveWays (map way_of items) (group_by k 1 (map (part_over (p ∷ [])) items) ∷ [])
-one_of items p k =
-    ((subst (HaveWays (map way_of items)) (one_key [] items [] p [] (λ i d low. refl)) (have_ways items (partials_of [] items (p ∷ [])) (are_of [] items (p ∷ [])))).0, tt)
+-- some rows as a group of their own are for the aggregates
+own_ways : (ys : List Pick) (items : List ChunkItem) → map (λ (p : Part). p.way) (map (part_over ys) items) ≡ map way_of items
+own_ways ys [] = refl
+own_ways ys (i ∷ items) = cc (own_way ys i, own_ways ys items)
 
-pub may_take : (items : List ChunkItem) (p : Pick) (view : PieceView) (k : Key) (parts : List Part) → HasRoom items view → parts ≡ map (part_over (p ∷ [])) items
-    → AllByRecursion (IsSmallPart 1) parts → MayTakeGroup view (group_by k 1 parts)
-may_take items p (OfRows pushed rows) k parts room is small = absurd room
-may_take items p (OfGroups gs) k parts room is small = (
-  record {
-    own = map way_of items;
-    this = room.0;
-    that = subst (λ ps. HaveWays (map way_of items) (group_by k 1 ps ∷ [])) (sym is) (one_of items p k);
-    few = room.1;
-  },
-  small,
-)
-
--- ---- the rows at the first places, and one more
-
-pub room_at : (keys : List BoundCol) (items : List ChunkItem) (objects : List Obj) (places : List ℕ) (j : ℕ) (view : PieceView)
-    → view ≡ OfGroups (partials_of keys items (map row (objects_at objects (take j places)))) → j < length places → length places ≤ ROWS_MOST → HasRoom items view
-room_at keys items objects places j view is low few =
-    room_for_one keys items (map row (objects_at objects (take j places))) view is
-    (omega (arith, low, few, length-map (objects_at objects (take j places)) row, length-map (take j places) (λ place. get_or objects place no_row), length-take-le j places (omega (arith, low))))
-
-pub group_more : (keys : List BoundCol) (items : List ChunkItem) (objects : List Obj) (places : List ℕ) (j : ℕ) (o : Obj) (old new : PieceView) → j < length places
-    → o ≡ get_or objects (get_or places j 0) no_row → new ≡ with_group old (group_by (key_of keys (row o)) 1 (map (part_over (row o ∷ [])) items))
-    → old ≡ OfGroups (partials_of keys items (map row (objects_at objects (take j places))))
-    → new ≡ OfGroups (partials_of keys items (map row (objects_at objects (take (j + 1) places))))
-group_more keys items objects places j o old new low is put before =
-    let xs = map row (objects_at objects (take j places)) in
-    let one = group_by (key_of keys (row o)) 1 (map (part_over (row o ∷ [])) items) in
-    let longer : map row (objects_at objects (take (j + 1) places)) ≡ xs ++ row o ∷ [] =
-    ap (map row) (objects_more objects places j low)
-    ∙ (map-append row (objects_at objects (take j places)) (get_or objects (get_or places j 0) no_row ∷ []) ∙ ap (λ x. xs ++ row x ∷ []) (sym is)) in
-    put ∙ (ap (λ v. with_group v one) before
-    ∙ (group_put keys items xs (key_of keys (row o)) (row o) [] (All-cons (λ p. key_of keys p ≡ key_of keys (row o)) (row o) [] refl (All-nil (λ p. key_of keys p ≡ key_of keys (row o))))
-    ∙ ap (λ l. OfGroups (partials_of keys items l)) (sym longer)))
+-- so the piece of some rows can take in others, where all are few
+pub may_take : (keys : List BoundCol) (items : List ChunkItem) (xs ys : List Pick) (k : Key) (n : ℕ) (view : PieceView) → view ≡ OfGroups (partials_of keys items xs)
+    → length xs + n ≤ most_rows → AllByRecursion (IsSmallPart n) (map (part_over ys) items) → MayTakeGroup view (group_by k n (map (part_over ys) items))
+may_take keys items xs ys k n view is few small =
+    subst (λ v. MayTakeGroup v (group_by k n (map (part_over ys) items))) (sym is) (
+      record {
+        own = map way_of items;
+        this = have_ways items (partials_of keys items xs) (are_of keys items xs);
+        that = (own_ways ys items, tt);
+        few = omega (arith, few, rows_of_parts keys items xs);
+      },
+      small,
+    )

@@ -2,7 +2,6 @@ pub mod Found
 pub mod Rows
 pub mod Groups
 pub mod Scanned
-pub mod Totalled
 pub mod Sounding
 pub mod Answering
 pub mod Places
@@ -11,3 +10,8 @@ pub mod Masks
 pub mod Kernels
 pub mod KnownConds
 pub mod Beyond
+pub mod Joining
+pub mod Marking
+pub mod Sizing
+pub mod Parting
+pub mod Running

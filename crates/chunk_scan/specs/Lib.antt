@@ -2,3 +2,5 @@ pub mod Asking
 pub mod Standing
 pub mod Lines
 pub mod Grouped
+pub mod Parted
+pub mod Runs

@@ -17,6 +17,7 @@ use crate::row_piece::row_piece;
 use crate::standing::standing;
 use answer_rules::ChunkQuery;
 use chunk_store::Store;
+use column_block::Block;
 use column_eval::Scratch;
 use partial_merge::Piece;
 use sky_io::Memory;
@@ -44,7 +45,15 @@ pub fn scan<'w>(
     let rows = store.rows();
     let mut scratch = Scratch::new(alloc);
     let places = standing(alloc, block, query.conds.as_slice(), &mut scratch)?;
-    piece_at(alloc, rows, own, query, places.as_slice())
+    piece_at(
+        alloc,
+        block,
+        rows,
+        own,
+        query,
+        places.as_slice(),
+        &mut scratch,
+    )
 }
 
 /// What a store tells of itself: its plan is within the limits, and its rows lie in the sky and are not too many. Takes no
@@ -61,11 +70,15 @@ fn know(store: &Store)
 /// The piece of the rows at these places among those of the chunk.
 fn piece_at<'w>(
     alloc: Global,
+    block: &Block,
     rows: &Rows,
     own: &[u32],
     query: &ChunkQuery,
     places: &[u32],
+    scratch: &mut Scratch,
 ) -> Result<Piece<'w>, Memory>
+    requires objects { block.now.objects ≡ objects_at rows.now.objects own.now }
+    requires width { block.now.width ≡ length rows.now.names }
     requires rows { is_paired query.now.shape ≡ false }
     requires sound { IsSoundChunk (4 + length rows.now.names) query.now }
     requires few { length places.now ≤ ROWS_MOST }
@@ -75,7 +88,9 @@ fn piece_at<'w>(
         (objects_at (objects_at rows.now.objects own.now) places.now)) }
 {
     match &query.shape {
-        Shape::Groups { keys } => { group_piece(alloc, rows, own, query, keys.as_slice(), places) },
+        Shape::Groups { keys } => {
+            group_piece(alloc, block, query, keys.as_slice(), places, scratch)
+        },
         _ => row_piece(alloc, rows, own, query, places),
     }
 }

@@ -1,99 +1,117 @@
 //! The piece of a chunk query of groups.
+//!
+//! Rows of one key that stand one after the other are a run, and a run is put into the piece as one group. Without keys all
+//! rows are one run. The values of the aggregates' expressions are computed a column at a time before.
 
-ghost use Rattle.std.specs.Prelude.{◌≡◌, ◌+◌, ◌++◌, ◌<◌, ◌≤◌, ◌∷◌, [], All, IfOk, IsTrue, OnOk, false, length, map};
+ghost use Rattle.std.specs.Prelude.{◌≡◌, ◌+◌, ◌++◌, ◌<◌, ◌≤◌, ◌∷◌, [], All, IfOk, IsTrue, OnOk, false, get_or, length, map};
 ghost use Rattle.std.specs.List.{list_all};
 ghost use Rattle.table_rules.specs.declared.limits.TheConstants.{ROWS_MOST};
-ghost use Rattle.sky_row.specs.Columns.{objects_at};
+ghost use Rattle.sky_row.specs.Columns.{no_row, objects_at};
 ghost use Rattle.sql_bound.specs.declared.query.Shape.TheVariants.{Groups};
 ghost use Rattle.value_rules.specs.Sound.{has_col};
 ghost use Rattle.value_rules.specs.Values.{cell_of, row};
 ghost use Rattle.answer_rules.specs.Keys.{key_of};
-ghost use Rattle.answer_rules.specs.Parts.{part_over, partials_of};
+ghost use Rattle.answer_rules.specs.Parts.{partials_of};
 ghost use Rattle.answer_rules.specs.Pieces.{OfGroups};
 ghost use Rattle.answer_rules.specs.SoundChunks.{IsSoundChunk};
 ghost use Rattle.partial_merge.specs.Groups.{group_by};
-ghost use Rattle.partial_merge.specs.Joining.{with_group};
-ghost use Rattle.chunk_scan.specs.Grouped.{HasRoom, is_sound_total};
+ghost use Rattle.partial_merge.specs.Joining.{MayTakeGroup, with_group};
 
-use crate::place::row_at;
-use crate::total::totals;
-use answer_rules::{ChunkItem, ChunkQuery};
-use partial_merge::{Key, Piece};
+use crate::part::fill;
+use crate::runs::{run_end, starts};
+use crate::worth::worths;
+use answer_rules::ChunkQuery;
+use column_block::Block;
+use column_eval::Scratch;
+use partial_merge::{Key, Piece, Tally};
 use sky_io::Memory;
-use sky_row::{Row, Rows};
 use sql_bound::BoundCol;
 use std::alloc::Global;
 
-/// The piece of the groups of the rows at these places among those of the chunk. Takes memory for a key and the parts of a
-/// row, and for what the piece keeps.
+/// The piece of the groups of the rows at these places. Takes memory for a truth a row, for the values of each aggregate's
+/// expression, and for what the piece keeps.
 pub(crate) fn group_piece<'w>(
     alloc: Global,
-    rows: &Rows,
-    own: &[u32],
+    block: &Block,
     query: &ChunkQuery,
     keys: &[BoundCol],
     places: &[u32],
+    scratch: &mut Scratch,
 ) -> Result<Piece<'w>, Memory>
     requires shape { query.now.shape ≡ Groups keys.now }
-    requires sound { IsSoundChunk (4 + length rows.now.names) query.now }
+    requires sound { IsSoundChunk (4 + block.now.width) query.now }
     requires few { length places.now ≤ ROWS_MOST }
-    requires own { All (λ place. place < length rows.now.objects) own.now }
-    requires there { All (λ place. place < length own.now) places.now }
+    requires there { All (λ place. place < length block.now.objects) places.now }
     ensures { IfOk result (λ piece. piece ≡ OfGroups (partials_of keys.now query.now.items
-        (map row (objects_at (objects_at rows.now.objects own.now) places.now)))) }
+        (map row (objects_at block.now.objects places.now)))) }
 {
+    let _count = block.len();
+    let starts = starts(alloc, block, keys, places)?;
+    let worths = worths(alloc, block, query.items.as_slice(), places, scratch)?;
     let mut piece = Piece::empty(alloc, query);
     let mut cells = Vec::new(alloc);
-    for place in places {
-        let first = row_at(rows, own, *place);
-        push_one(
+    let mut parts = Vec::new(alloc);
+    let mut from = 0usize;
+    while from < places.len() {
+        let to = run_end(starts.as_slice(), from);
+        fill_key(&mut cells, block, keys, places[from])?;
+        fill(
+            &mut parts,
+            query.items.as_slice(),
+            worths.as_slice(),
+            from,
+            to,
+        )?;
+        push(
             alloc,
             &mut piece,
-            &mut cells,
-            keys,
-            query.items.as_slice(),
-            &first,
+            cells.as_slice(),
+            to - from,
+            parts.as_slice(),
         )?;
+        from = to;
     }
     Ok(piece)
 }
 
-/// Puts the row into the piece, as a group of one row. `cells` is room that is used again for each row.
-fn push_one(
+/// Puts a group of this key and so many rows into the piece.
+fn push(
     alloc: Global,
     piece: &mut Piece<'_>,
-    cells: &mut Vec<Option<i64>>,
-    keys: &[BoundCol],
-    items: &[ChunkItem],
-    first: &Row,
+    cells: &[Option<i64>],
+    rows: usize,
+    parts: &[Tally],
 ) -> Result<(), Memory>
-    requires room { HasRoom items.now piece.old }
-    requires keys { IsTrue (list_all (has_col (4 + length first.now.further) false) keys.now) }
-    requires items { IsTrue (list_all (is_sound_total (4 + length first.now.further)) items.now) }
-    ensures { OnOk result (piece.new ≡ with_group piece.old
-        (group_by (key_of keys.now (row first.now)) 1
-        (map (part_over (row first.now ∷ [])) items.now))) }
+    requires few { rows ≤ ROWS_MOST }
+    requires may { MayTakeGroup piece.old (group_by cells.now rows parts.now) }
+    ensures { OnOk result (piece.new
+        ≡ with_group piece.old (group_by cells.now rows parts.now)) }
 {
-    fill(cells, keys, first)?;
-    let key = Key::from_slice(alloc, cells.as_slice())?;
-    let parts = totals(alloc, items, first)?;
-    piece.push_group(key, 1, parts.as_slice())
+    let key = Key::from_slice(alloc, cells)?;
+    piece.push_group(key, rows as u32, parts)
 }
 
-/// Puts the row's values in the key columns in place of what the list held; `None` is NULL.
-fn fill(cells: &mut Vec<Option<i64>>, keys: &[BoundCol], first: &Row) -> Result<(), Memory>
-    requires { IsTrue (list_all (has_col (4 + length first.now.further) false) keys.now) }
-    ensures { OnOk result (cells.new.items ≡ key_of keys.now (row first.now)) }
+/// Puts the values in the key columns of the row at the place in place of what the list held; `None` is NULL.
+fn fill_key(
+    cells: &mut Vec<Option<i64>>,
+    block: &Block,
+    keys: &[BoundCol],
+    place: u32,
+) -> Result<(), Memory>
+    requires there { place < length block.now.objects }
+    requires sound { IsTrue (list_all (has_col (4 + block.now.width) false) keys.now) }
+    ensures { OnOk result (cells.new.items
+        ≡ key_of keys.now (row (get_or block.now.objects place no_row))) }
 {
     cells.clear();
     for key in keys {
-        push(cells, cell(key, first))?;
+        push_cell(cells, cell(block, key, place as usize))?;
     }
     Ok(())
 }
 
 /// Puts the value behind the others.
-fn push(cells: &mut Vec<Option<i64>>, value: Option<i64>) -> Result<(), Memory>
+fn push_cell(cells: &mut Vec<Option<i64>>, value: Option<i64>) -> Result<(), Memory>
     ensures { OnOk result (cells.new.items ≡ cells.old.items ++ value ∷ []) }
 {
     match cells.push(value) {
@@ -102,14 +120,17 @@ fn push(cells: &mut Vec<Option<i64>>, value: Option<i64>) -> Result<(), Memory>
     }
 }
 
-/// The row's value in a key column; a second row's column has none.
-fn cell(col: &BoundCol, first: &Row) -> Option<i64>
-    requires { IsTrue (has_col (4 + length first.now.further) false col.now) }
-    ensures { result ≡ cell_of (row first.now) col.now }
+/// The value of the row at the place in a key column.
+fn cell(block: &Block, key: &BoundCol, place: usize) -> Option<i64>
+    requires there { place < length block.now.objects }
+    requires col { IsTrue (has_col (4 + block.now.width) false key.now) }
+    ensures { result ≡ cell_of (row (get_or block.now.objects place no_row)) key.now }
 {
-    if col.second {
-        None
-    } else {
-        first.value(col.col)
+    match key.col {
+        0 => Some(block.ids()[place]),
+        1 => Some(i64::from(block.xs()[place])),
+        2 => Some(i64::from(block.ys()[place])),
+        3 => Some(i64::from(block.zs()[place])),
+        col => block.further(col).get(place),
     }
 }

@@ -2,8 +2,9 @@
 //!
 //! Callers see `mask` as a truth a row, and `scan` as a piece that stands for the chunk alone (`PieceFor`).
 //! Inside, conditions that a kernel of `lane_filter` knows clear a mask first; then the places that are left are listed, and
-//! the other conditions are judged by `column_eval` at these places alone. Each row that stands is put into the piece, as a
-//! row or as a group of one row.
+//! the other conditions are judged by `column_eval` at these places alone. Of a grouping the values of its aggregates are
+//! computed a column at a time, and rows of one key that stand one after the other are put into the piece as one group; other
+//! rows are put there one by one.
 //! Below: `chunk_store` for the rows of a chunk and their columns, `expr_eval` for values, `partial_merge` for the piece.
 //! Above: the sessions.
 //! No pairs of rows, no threads and no other chunk.
@@ -13,15 +14,18 @@ mod chunk;
 mod early;
 mod early_area;
 mod group_piece;
+mod join;
 mod kernel;
 mod known;
 mod line;
 mod narrow;
+mod part;
 mod place;
 mod row_mask;
 mod row_piece;
+mod runs;
 mod standing;
-mod total;
+mod worth;
 
 pub use chunk::scan;
 pub use row_mask::mask;

@@ -2,6 +2,7 @@ use Rattle.std.proofs.Common.{◌≡◌, ◌∙◌, ◌<◌, ℕ, List, arith, a
 use Rattle.std.specs.Prelude.{All}
 use Rattle.table_rules.specs.Objects.{Obj, Catalogue}
 use Rattle.sky_row.specs.Columns.{objects_at}
+use Rattle.column_block.specs.Blocks.{Stored}
 use Rattle.chunk_store.proofs.ChunkBlocks.{chunk_taken}
 use Rattle.chunk_scan.specs.Lines.{IsPieceOver}
 use Rattle.chunk_scan.specs.Standing.{standing}
@@ -48,3 +49,11 @@ returns c =
     (c.block-block.ensures.places ∙ chunk_taken g objects c.args.chunk)
     (c.as_slice-2.ensures.value ∙ (c.in_ok-places.ensures.value ∙ ap (λ conds. standing conds block) c.as_slice.ensures))
     (subst (λ (l : List Obj). IsPieceOver cq (objects_at l places) view) same h)) c.piece_at.ensures
+
+pub piece_at-requires-clause-objects : goal.piece_at-requires-clause-objects
+piece_at-requires-clause-objects c =
+    block_is c.args.store.now.plan c.args.store.now.rows c.rows-rows.result.now c.args.chunk c.block-block.result.now.objects c.chunk-own.result.now c.block-block.ensures.places c.chunk-own.ensures.value c.rows-rows.ensures
+
+pub piece_at-requires-clause-width : goal.piece_at-requires-clause-width
+piece_at-requires-clause-width c =
+    ap (λ (s : Stored). s.width) c.block-block.ensures.value ∙ ap (λ (r : Catalogue). length r.names) (sym c.rows-rows.ensures)

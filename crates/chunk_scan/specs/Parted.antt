@@ -1,0 +1,61 @@
+-- What the rows of a group come to for an aggregate, by the values of its expression.
+use Rattle.std.specs.Prelude.{◌≡◌, ℕ, ◌≤◌, ℤ, pos, neg_ℤ, List, [], ◌∷◌, length, map, Option, None, Some, option_to_list, slice_range, All}
+use Rattle.std.specs.List.{flat_map}
+use Rattle.table_rules.specs.Objects.{Obj}
+use Rattle.sql_bound.specs.declared.expr.BoundExpr.{BoundExpr}
+use Rattle.value_rules.specs.Values.{row, value_of}
+use Rattle.value_rules.specs.Widths.{IsOfSize, most}
+use Rattle.answer_rules.specs.declared.rewritten.ChunkItem.{ChunkItem}
+use Rattle.answer_rules.specs.declared.rewritten.ChunkItem.TheVariants.{Plain, Count, CountOf, Sum, Min, Max}
+use Rattle.answer_rules.specs.declared.way.Way.{Way}
+use Rattle.answer_rules.specs.declared.way.Way.TheVariants.{Added, Least, Greatest}
+use Rattle.answer_rules.specs.Parts.{Part, count_part, join_by, part_by}
+use Rattle.chunk_scan.specs.declared.join.SoFar.{SoFar}
+
+-- the values of an expression on some rows
+abbrev pub values_on : BoundExpr → List Obj → List (Option ℤ)
+values_on e objects = map (λ o. value_of e (row o)) objects
+
+-- the values that an aggregate goes over on some rows; COUNT(*) goes over none
+abbrev pub worth_of : List Obj → ChunkItem → Option (List (Option ℤ))
+worth_of objects (Plain e) = None
+worth_of objects Count = None
+worth_of objects (CountOf e) = Some (values_on e objects)
+worth_of objects (Sum e) = Some (values_on e objects)
+worth_of objects (Min e) = Some (values_on e objects)
+worth_of objects (Max e) = Some (values_on e objects)
+
+-- the numbers among the values from one place up to another: NULL is none
+abbrev pub numbers_between : Option (List (Option ℤ)) → ℕ → ℕ → List ℤ
+numbers_between None from to = []
+numbers_between (Some values) from to = flat_map option_to_list (slice_range values from to)
+
+-- the part of an aggregate over so many rows that have these numbers
+abbrev pub part_of : ChunkItem → ℕ → List ℤ → Part
+part_of (Plain e) rows numbers = count_part 0
+part_of Count rows numbers = count_part rows
+part_of (CountOf e) rows numbers = count_part (length numbers)
+part_of (Sum e) rows numbers = part_by Added numbers
+part_of (Min e) rows numbers = part_by Least numbers
+part_of (Max e) rows numbers = part_by Greatest numbers
+
+-- there are as many values, and none is too large
+abbrev pub IsReady : ℕ → Option (List (Option ℤ)) → Type 0
+IsReady to None = Unit {0}
+IsReady to (Some values) = (to ≤ length values) × All (IsOfSize most) values
+
+-- the number that leaves a total of numbers that are not too large as it is
+abbrev pub unit_of : Way → ℤ
+unit_of Added = pos 0
+unit_of Least = pos most
+unit_of Greatest = neg_ℤ (pos most)
+
+-- these numbers joined, and that one behind them
+abbrev pub joined_from : Way → List ℤ → ℤ
+joined_from way [] = unit_of way
+joined_from way (z ∷ zs) = join_by way z (joined_from way zs)
+
+-- So many numbers were seen, and they come to this.
+pub record IsSoFar (way : Way) (numbers : List ℤ) (s : SoFar) : Type 0 where
+  pub count : s.seen ≡ length numbers
+  pub joined : s.total ≡ joined_from way numbers

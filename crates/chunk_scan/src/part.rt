@@ -1,0 +1,91 @@
+//! What a group keeps for an aggregate: the part that its rows make, which stand together in the lists of values.
+
+ghost use Rattle.std.specs.Prelude.{◌≡◌, ◌-◌, ◌++◌, ◌∷◌, [], ◌≤◌, All, List, OnOk, length, map, slice_range};
+ghost use Rattle.table_rules.specs.Objects.{Obj};
+ghost use Rattle.table_rules.specs.declared.limits.TheConstants.{ROWS_MOST};
+ghost use Rattle.value_rules.specs.Values.{row};
+ghost use Rattle.answer_rules.specs.Parts.{count_part, part_by, part_over};
+ghost use Rattle.chunk_scan.specs.Parted.{IsReady, numbers_between, part_of, worth_of};
+
+use crate::join::{Greater, Join, Lesser, Sum, joined, tally};
+use answer_rules::{ChunkItem, Way};
+use column_eval::ValueList;
+use partial_merge::Tally;
+use sky_io::Memory;
+
+/// The parts of the rows from one place up to another, for these aggregates, in place of what the list held. `worths` has
+/// for each aggregate the values of its expression on all rows. Takes memory only where the list held fewer.
+pub(crate) fn fill(
+    parts: &mut Vec<Tally>,
+    items: &[ChunkItem],
+    worths: &[Option<ValueList>],
+    from: usize,
+    to: usize,
+) -> Result<(), Memory>
+    requires count { length worths.now ≡ length items.now }
+    requires order { from ≤ to }
+    requires few { to ≤ ROWS_MOST }
+    requires ready { All (IsReady to) worths.now }
+    ensures { OnOk result ((objects : List Obj) → to ≤ length objects
+        → worths.now ≡ map (worth_of objects) items.now → parts.new.items
+        ≡ map (part_over (map row (slice_range objects from to))) items.now) }
+{
+    parts.clear();
+    for i in 0..items.len() {
+        push(parts, part(&items[i], &worths[i], from, to))?;
+    }
+    Ok(())
+}
+
+/// Puts the part behind the others.
+fn push(parts: &mut Vec<Tally>, part: Tally) -> Result<(), Memory>
+    ensures { OnOk result (parts.new.items ≡ parts.old.items ++ part ∷ []) }
+{
+    match parts.push(part) {
+        Ok(()) => Ok(()),
+        Err(_) => Err(Memory),
+    }
+}
+
+/// The part of the rows from one place up to another; NULL is not counted, and COUNT(*) counts the rows.
+fn part(item: &ChunkItem, worth: &Option<ValueList>, from: usize, to: usize) -> Tally
+    requires order { from ≤ to }
+    requires few { to ≤ ROWS_MOST }
+    requires ready { IsReady to worth.now }
+    ensures { result ≡ part_of item.now (to - from) (numbers_between worth.now from to) }
+{
+    match item {
+        ChunkItem::Plain(_) => Tally::new(Way::Added, 0, None),
+        ChunkItem::Count => Tally::new(Way::Added, (to - from) as u32, None),
+        ChunkItem::CountOf(_) => counted(worth, from, to),
+        ChunkItem::Sum(_) => of_values(&Sum, worth, from, to),
+        ChunkItem::Min(_) => of_values(&Lesser, worth, from, to),
+        ChunkItem::Max(_) => of_values(&Greater, worth, from, to),
+    }
+}
+
+/// The count of the values.
+fn counted(worth: &Option<ValueList>, from: usize, to: usize) -> Tally
+    requires order { from ≤ to }
+    requires few { to ≤ ROWS_MOST }
+    requires ready { IsReady to worth.now }
+    ensures { result ≡ count_part (length (numbers_between worth.now from to)) }
+{
+    match worth {
+        None => Tally::new(Way::Added, 0, None),
+        Some(found) => Tally::new(Way::Added, joined(&Sum, found, from, to).seen, None),
+    }
+}
+
+/// The part of the values by a way of joining two.
+fn of_values<J: Join>(join: &J, worth: &Option<ValueList>, from: usize, to: usize) -> Tally
+    requires order { from ≤ to }
+    requires few { to ≤ ROWS_MOST }
+    requires ready { IsReady to worth.now }
+    ensures { result ≡ part_by J.way (numbers_between worth.now from to) }
+{
+    match worth {
+        None => Tally::new(join.name(), 0, None),
+        Some(found) => tally(join, joined(join, found, from, to)),
+    }
+}

@@ -1,0 +1,118 @@
+//! Where groups begin among rows that stand one after the other.
+
+ghost use Rattle.std.specs.Prelude.{◌≡◌, ◌+◌, ◌<◌, ◌≤◌, ℕ, All, IfOk, IsTrue, false, get_or, length, map, pos};
+ghost use Rattle.std.specs.List.{list_all};
+ghost use Rattle.sky_row.specs.Columns.{column_in, objects_at};
+ghost use Rattle.value_rules.specs.Sound.{has_col};
+ghost use Rattle.chunk_scan.specs.Runs.{AreStarts, IsMarked, IsMarkedBy};
+
+use crate::standing::filled;
+use column_block::Block;
+use sky_io::Memory;
+use sky_row::Column;
+use sql_bound::BoundCol;
+use std::alloc::Global;
+
+/// For each row a truth: false only where its key is that of the row before it. Takes memory for a truth a row.
+pub(crate) fn starts(
+    alloc: Global,
+    block: &Block,
+    keys: &[BoundCol],
+    places: &[u32],
+) -> Result<Vec<bool>, Memory>
+    requires there { All (λ place. place < length block.now.objects) places.now }
+    requires sound { IsTrue (list_all (has_col (4 + block.now.width) false) keys.now) }
+    ensures len { IfOk result (λ starts. length starts.items ≡ length places.now) }
+    ensures are { IfOk result (λ starts.
+        AreStarts keys.now (objects_at block.now.objects places.now) starts.items) }
+{
+    let mut starts = filled(alloc, false, places.len())?;
+    for key in keys {
+        mark(starts.as_mut_slice(), block, key.col, places);
+    }
+    Ok(starts)
+}
+
+/// Marks the rows whose value in a column is another than that of the row before.
+fn mark(starts: &mut [bool], block: &Block, col: u32, places: &[u32])
+    requires len { length starts.old ≡ length places.now }
+    requires there { All (λ place. place < length block.now.objects) places.now }
+    requires col { col < 4 + block.now.width }
+    ensures len { length starts.new ≡ length starts.old }
+    ensures marked { IsMarked (column_in block.now.objects col) places.now starts.old starts.new }
+{
+    match col {
+        0 => mark_wide(starts, block.ids(), places),
+        1 => mark_narrow(starts, block.xs(), places),
+        2 => mark_narrow(starts, block.ys(), places),
+        3 => mark_narrow(starts, block.zs(), places),
+        _ => mark_further(starts, block.further(col), places),
+    }
+}
+
+/// The same of a further column: its numbers and its presence, of which NULL and 0 share the number alone.
+fn mark_further(starts: &mut [bool], column: &Column, places: &[u32])
+    requires len { length starts.old ≡ length places.now }
+    requires there { All (λ place. place < length column.now) places.now }
+    ensures len { length starts.new ≡ length starts.old }
+    ensures marked { IsMarked column.now places.now starts.old starts.new }
+{
+    mark_wide(starts, column.values(), places);
+    if let Some(present) = column.present() {
+        mark_presence(starts, present, places);
+    }
+}
+
+/// The same of numbers.
+fn mark_wide(starts: &mut [bool], values: &[i64], places: &[u32])
+    requires len { length starts.old ≡ length places.now }
+    requires there { All (λ place. place < length values.now) places.now }
+    ensures len { length starts.new ≡ length starts.old }
+    ensures marked { IsMarkedBy (λ place. get_or values.now place (pos 0)) places.now starts.old
+        starts.new }
+{
+    for j in 1..places.len() {
+        starts[j] = starts[j] | (values[places[j] as usize] != values[places[j - 1] as usize]);
+    }
+}
+
+/// The same of numbers of 32 bits.
+fn mark_narrow(starts: &mut [bool], values: &[i32], places: &[u32])
+    requires len { length starts.old ≡ length places.now }
+    requires there { All (λ place. place < length values.now) places.now }
+    ensures len { length starts.new ≡ length starts.old }
+    ensures marked { IsMarkedBy (λ place. get_or values.now place (pos 0)) places.now starts.old
+        starts.new }
+{
+    for j in 1..places.len() {
+        starts[j] = starts[j] | (values[places[j] as usize] != values[places[j - 1] as usize]);
+    }
+}
+
+/// The same of truths.
+fn mark_presence(starts: &mut [bool], values: &[bool], places: &[u32])
+    requires len { length starts.old ≡ length places.now }
+    requires there { All (λ place. place < length values.now) places.now }
+    ensures len { length starts.new ≡ length starts.old }
+    ensures marked { IsMarkedBy (λ place. get_or values.now place false) places.now starts.old
+        starts.new }
+{
+    for j in 1..places.len() {
+        starts[j] = starts[j] | (values[places[j] as usize] != values[places[j - 1] as usize]);
+    }
+}
+
+/// The number behind that of the last row of the run that begins with this one.
+pub(crate) fn run_end(starts: &[bool], from: usize) -> usize
+    requires { from < length starts.now }
+    ensures more { from < result }
+    ensures most { result ≤ length starts.now }
+    ensures none { (j : ℕ) → from < j → j < result → get_or starts.now j false ≡ false }
+{
+    for j in from + 1..starts.len() {
+        if starts[j] {
+            return j;
+        }
+    }
+    starts.len()
+}

@@ -1,0 +1,83 @@
+//! The values that the aggregates of a grouping go over, a column at a time.
+
+ghost use Rattle.std.specs.Prelude.{◌≡◌, ◌+◌, ◌++◌, ◌∷◌, [], ◌<◌, All, IfOk, IsTrue, OnOk, Some, false, length, map};
+ghost use Rattle.std.specs.List.{list_all};
+ghost use Rattle.sky_row.specs.Columns.{objects_at};
+ghost use Rattle.value_rules.specs.Sound.{has_col, is_sound_expr};
+ghost use Rattle.chunk_scan.specs.Grouped.{is_sound_total};
+ghost use Rattle.chunk_scan.specs.Parted.{values_on, worth_of};
+
+use answer_rules::ChunkItem;
+use column_block::Block;
+use column_eval::{Scratch, ValueList, values};
+use sky_io::Memory;
+use sql_bound::BoundExpr;
+use std::alloc::Global;
+
+/// For each of these aggregates the values of its expression on the rows at these places; COUNT(*) has none. Takes memory
+/// for a value a row and aggregate, and for the evaluator.
+pub(crate) fn worths(
+    alloc: Global,
+    block: &Block,
+    items: &[ChunkItem],
+    places: &[u32],
+    scratch: &mut Scratch,
+) -> Result<Vec<Option<ValueList>>, Memory>
+    requires there { All (λ place. place < length block.now.objects) places.now }
+    requires sound { IsTrue (list_all (is_sound_total (4 + block.now.width)) items.now) }
+    ensures { IfOk result (λ worths. worths.items
+        ≡ map (worth_of (objects_at block.now.objects places.now)) items.now) }
+{
+    let mut worths = Vec::new(alloc);
+    for item in items {
+        push(&mut worths, worth(block, item, places, scratch)?)?;
+    }
+    Ok(worths)
+}
+
+/// Puts the values behind the others.
+fn push(worths: &mut Vec<Option<ValueList>>, worth: Option<ValueList>) -> Result<(), Memory>
+    ensures { OnOk result (worths.new.items ≡ worths.old.items ++ worth ∷ []) }
+{
+    match worths.push(worth) {
+        Ok(()) => Ok(()),
+        Err(_) => Err(Memory),
+    }
+}
+
+/// The values of the aggregate's expression, if it has one.
+fn worth(
+    block: &Block,
+    item: &ChunkItem,
+    places: &[u32],
+    scratch: &mut Scratch,
+) -> Result<Option<ValueList>, Memory>
+    requires there { All (λ place. place < length block.now.objects) places.now }
+    requires sound { IsTrue (is_sound_total (4 + block.now.width) item.now) }
+    ensures { IfOk result (λ worth. worth
+        ≡ worth_of (objects_at block.now.objects places.now) item.now) }
+{
+    match item {
+        ChunkItem::Plain(_) => Ok(None),
+        ChunkItem::Count => Ok(None),
+        ChunkItem::CountOf(e) => of_expr(block, e, places, scratch),
+        ChunkItem::Sum(e) => of_expr(block, e, places, scratch),
+        ChunkItem::Min(e) => of_expr(block, e, places, scratch),
+        ChunkItem::Max(e) => of_expr(block, e, places, scratch),
+    }
+}
+
+/// The values of an expression.
+fn of_expr(
+    block: &Block,
+    e: &BoundExpr,
+    places: &[u32],
+    scratch: &mut Scratch,
+) -> Result<Option<ValueList>, Memory>
+    requires there { All (λ place. place < length block.now.objects) places.now }
+    requires sound { IsTrue (is_sound_expr (has_col (4 + block.now.width) false) e.now) }
+    ensures { IfOk result (λ worth. worth
+        ≡ Some (values_on e.now (objects_at block.now.objects places.now))) }
+{
+    Ok(Some(values(block, e, places, scratch)?))
+}
