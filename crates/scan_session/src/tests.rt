@@ -240,15 +240,36 @@ fn queries_over_the_same_chunks_share_a_lap(rt: HostRuntime) -> Result<(), Fail>
     Ok(())
 }
 
+/// A gate in front of chunks 0 to 3 and another in front of those behind: of three who stand in one at one time, one at
+/// most is the czar.
+#[derive(Drop)]
+struct TwoGates {
+    low: StepGate,
+    high: StepGate,
+}
+
+impl Gate for TwoGates {
+    fn pass<R: Wait>(&self, rt: &R, worker: u32, chunk: u32) {
+        if chunk < 4 {
+            self.low.pass(rt, worker, chunk)
+        } else {
+            self.high.pass(rt, worker, chunk)
+        }
+    }
+}
+
 #[test]
-fn two_workers_work_at_one_time_beside_the_czar(rt: HostRuntime) -> Result<(), Fail> {
+fn two_workers_work_at_one_time_on_each_of_two_queries(rt: HostRuntime) -> Result<(), Fail> {
     let alloc = rt.alloc();
     let marker = marker_of(alloc, 0);
-    // of three who stand in the gate at one time, one at most is the czar
-    let gate = StepGate::new(3, 1_000_000);
-    let ends = session(alloc, &rt, &marker, &gate, b"q\n", &[Some((0, 8))], 4)?;
-    assert_eq!(rt; ends.as_slice(), b"A".as_slice());
-    assert_eq!(rt; (gate.met(), gate.given_up()), (true, false));
+    let gate = TwoGates {
+        low: StepGate::new(3, 1_000_000),
+        high: StepGate::new(3, 1_000_000),
+    };
+    let wants = [Some((0, 4)), Some((4, 8))];
+    let ends = session(alloc, &rt, &marker, &gate, b"q\nwait 1\nq\n", &wants, 4)?;
+    assert_eq!(rt; ends.as_slice(), b"AA".as_slice());
+    assert_eq!(rt; (gate.low.met(), gate.high.met()), (true, true));
     Ok(())
 }
 
