@@ -14,7 +14,6 @@ FILE is the built program, by default .qserv/qserv, where ./qserv leaves it. The
 script, and of the first one that differs, stay in FOLDER, which is made where it isn't there. The status is 0 where none
 differs, and 1 else.
 """
-import argparse
 import collections
 import os
 import random
@@ -28,7 +27,8 @@ from random_queries import Writer
 
 HERE = os.path.dirname(os.path.abspath(__file__))
 sys.path.append(os.path.join(HERE, "..", "bench"))
-import demo_files  # noqa: E402  (it stands in the other folder)
+import demo_files  # noqa: E402  (they stand in the other folder)
+import program_words  # noqa: E402
 
 LONGEST = 16384
 DEMO_NAMES = ["objectId", "x", "y", "z", "flux", "kind"]
@@ -114,16 +114,10 @@ def compare_example(program, workers):
 
 
 def main():
-    parser = argparse.ArgumentParser(description=__doc__, formatter_class=argparse.RawDescriptionHelpFormatter)
-    parser.add_argument("folder")
-    parser.add_argument("--program", default=os.path.join(HERE, "..", ".qserv", "qserv"))
-    parser.add_argument("--scripts", type=int, default=100)
-    parser.add_argument("--large", type=int, default=10)
-    parser.add_argument("--demos", type=int, default=20)
-    parser.add_argument("--seed", type=int, default=1)
+    parser = program_words.parser(__doc__, scripts=100, large=10, demos=20, seed=1)
     parser.add_argument("--workers", type=int, nargs="+", default=[0])
     words = parser.parse_args()
-    program = os.path.abspath(words.program)
+    program = words.program
     os.makedirs(words.folder, exist_ok=True)
     if compare_example(program, words.workers):
         return 1

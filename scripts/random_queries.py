@@ -22,14 +22,11 @@ import re
 import subprocess
 import sys
 
-KEYWORDS = ("SELECT FROM WHERE GROUP BY ORDER ASC DESC LIMIT AS AND OR NOT BETWEEN IN IS NULL COUNT SUM MIN MAX AVG "
-            "CHORD2 AREA_BAND AREA_CAP AREA_BOX").split()
+from sql_tokens import KEYWORDS, LARGEST, TOKEN, Fault, tokens_of
+
 SIGNS = ["<=", ">=", "<>", "!=", "<", ">", "=", ",", "(", ")", "*", "+", "-", ".", ";"]
 COMPARISONS = ["=", "<>", "!=", "<", "<=", ">", ">="]
 AREAS = ["AREA_BAND", "AREA_CAP", "AREA_BOX"]
-LARGEST = 2**63 - 1
-MOST_TOKENS = 2048
-MOST_OPEN = 32
 
 
 # ---- the generator: a list of words for each rule
@@ -175,42 +172,6 @@ class Writer:
 
 # ---- the reader
 
-class Fault(Exception):
-    """What is wrong with a text."""
-
-
-TOKEN = re.compile(r"([A-Za-z_][A-Za-z0-9_]*)|([0-9]+)|(<=|>=|<>|!=|[<>=,()*+.;-])")
-
-
-def tokens_of(text):
-    """The tokens of a text as pairs of a kind (a keyword or sign itself, 'name' or 'int') and a place."""
-    found, at = [], 0
-    while at < len(text):
-        if text[at] in " \t\r\n":
-            at += 1
-            continue
-        match = TOKEN.match(text, at)
-        if not match:
-            raise Fault(f"bad byte {at}")
-        word, digits, sign = match.groups()
-        if digits and int(digits) > LARGEST:
-            raise Fault(f"number too large {at}")
-        kind = sign or (digits and "int") or (word.upper() if word.upper() in KEYWORDS else "name")
-        found.append((kind, at))
-        at = match.end()
-    if len(found) > MOST_TOKENS:
-        raise Fault("too many tokens")
-    opened = 0
-    for kind, at in found:
-        if kind == "(":
-            opened += 1
-            if opened > MOST_OPEN:
-                raise Fault(f"brackets too deep {at}")
-        elif kind == ")":
-            opened = max(0, opened - 1)
-    return [kind for kind, at in found]
-
-
 class Reader:
     """Reads kinds of tokens by the grammar; each rule answers the places where it may end, from a place on.
 
@@ -294,9 +255,9 @@ GRAMMAR = {
 def judged(text):
     """What is to be told of a text."""
     try:
-        kinds = tokens_of(text)
+        kinds = [token.kind for token in tokens_of(text)]
     except Fault as fault:
-        return str(fault)
+        return "too many tokens" if fault.at is None else f"{fault.what} {fault.at}"
     return "query" if len(kinds) in Reader(kinds).rule("query", 0) else "not a query"
 
 

@@ -1,10 +1,8 @@
-"""Reads a query's text: its tokens, and by recursive descent over them its tree, or why it is no query."""
-import re
-
+"""Reads a query's text: by recursive descent over its tokens its tree, or why it is no query."""
+from sql_tokens import Fault, tokens_of
 from sql_trees import (
     ARGUMENTS,
     COMPARISONS,
-    IDS,
     Among,
     Area,
     Between,
@@ -22,58 +20,7 @@ from sql_trees import (
     Refused,
 )
 
-KEYWORDS = set(
-    "SELECT FROM WHERE GROUP BY ORDER ASC DESC LIMIT AS AND OR NOT BETWEEN IN IS NULL COUNT SUM MIN MAX AVG"
-    " CHORD2 AREA_BAND AREA_CAP AREA_BOX".split()
-)
 AGGREGATES = {"COUNT", "SUM", "MIN", "MAX", "AVG"}
-TOKEN = re.compile(r"[A-Za-z_][A-Za-z0-9_]*|[0-9]+|<=|>=|<>|!=|[<>=,()*+.;-]")
-MOST_TOKENS, MOST_OPEN = 2048, 32
-
-
-# ---- tokens
-
-
-class Token:
-    """A token: its kind (a keyword or a sign itself, 'name' or 'int'), its text and its place."""
-
-    def __init__(self, text, at):
-        upper = text.upper()
-        self.text, self.at, self.end = text, at, at + len(text)
-        if text[0].isdigit():
-            self.kind = "int"
-        elif text[0].isalpha() or text[0] == "_":
-            self.kind = upper if upper in KEYWORDS else "name"
-        else:
-            self.kind = "<>" if text == "!=" else text
-
-
-def tokens_of(line):
-    """The tokens of a line, of which each character is a byte."""
-    found, at = [], 0
-    while at < len(line):
-        if line[at] in " \t\r\n":
-            at += 1
-            continue
-        match = TOKEN.match(line, at)
-        if not match:
-            raise Refused(f"bad byte at {at}")
-        token = Token(match[0], at)
-        if token.kind == "int" and int(token.text) > IDS:
-            raise Refused(f"number too large at {at}")
-        found.append(token)
-        at = token.end
-    if len(found) > MOST_TOKENS:
-        raise Refused("more than 2048 tokens")
-    opened = 0
-    for token in found:
-        if token.kind == "(":
-            opened += 1
-            if opened > MOST_OPEN:
-                raise Refused(f"brackets too deep at {token.at}")
-        elif token.kind == ")":
-            opened = max(0, opened - 1)
-    return found
 
 
 # ---- the grammar
@@ -232,5 +179,7 @@ class NotThis(Exception):
 def read(line):
     try:
         return Reader(tokens_of(line)).query()
+    except Fault as fault:
+        raise Refused(str(fault)) from None
     except NotThis:
         raise Refused("not a query") from None

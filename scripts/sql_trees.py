@@ -3,6 +3,8 @@
 Written from the rules in docs/FORMATS.md alone. A pick is a pair of rows, each a mapping of the names of columns to values;
 of one table the second is None. `sql_texts.py` reads a tree, `flat_answers.py` says what it means over a table.
 """
+import math
+
 import compare_places as places
 
 COMPARISONS = {
@@ -106,16 +108,10 @@ class Expr:
         return out
 
     def worth(self, pick):
-        total = 0
-        for sign, factors in self.prods:
-            product = 1
-            for minus, atom in factors:
-                value = atom.worth(pick)
-                if value is None:
-                    return None
-                product *= -value if minus else value
-            total += -product if sign == "-" else product
-        return total
+        values = [product_of(factors, pick) for _, factors in self.prods]
+        if None in values:
+            return None
+        return sum(-value if sign == "-" else value for (sign, _), value in zip(self.prods, values))
 
     def bound(self, schema):
         """The bound of the whole; raises where that of some beginning of a sum or product is too large."""
@@ -129,6 +125,11 @@ class Expr:
 
     def columns(self):
         return [col for _, factors in self.prods for _, atom in factors for col in atom.columns()]
+
+
+def product_of(factors, pick):
+    values = [atom.worth(pick) for _, atom in factors]
+    return None if None in values else math.prod(-value if minus else value for (minus, _), value in zip(factors, values))
 
 
 def fit(bound):
