@@ -1,0 +1,195 @@
+#!/usr/bin/env python3
+"""Compares what the built program writes for random sessions, with each number of workers, with what it may write.
+
+    scripts/random_sessions.py FOLDER [--program FILE] [--sessions N] [--seed SEED] [--workers N ..] [--processes N]
+
+A session is a script of queries with lines that wait and lines that cancel among them, over a small sky and catalogue: some
+name a query that is refused, or has ended, or was cancelled before. One in 200 has more queries than run at once. Each of N
+sessions (1,000) is run with each number of workers (0 1 2 4 16). What may be written is computed from the flat table and the
+script's lines alone (`session_ends.py`): one text for each query, or, where a line cancels it in time, two; with no workers a
+cancel in time leaves `cancelled` alone. So with more workers the bytes are those of no workers wherever no cancel races. The
+same seed draws the same sessions, whatever the number of processes (as many as there are processors). Before them stands a
+session whose ends are written here by hand.
+
+FILE is the built program, by default .qserv/qserv, where ./qserv leaves it. FOLDER is made where it isn't there; each
+process writes into a folder of its own there, and a session that differs stays, as sky, csv and script, in FOLDER itself.
+Runs of more than 60 seconds count as differing. The status is 0 where none differs, and 1 else.
+"""
+import collections
+import functools
+import multiprocessing
+import os
+import random
+import subprocess
+import sys
+
+import compare_answers
+import random_worlds
+import session_ends
+from sql_trees import IDS
+
+# bench/ stands on the path since compare_answers was imported
+import program_words
+
+# how many sessions a world serves, which is drawn for them alone
+OF_A_WORLD = 10
+SECONDS = 60
+TEXTS = ["sky", "csv", "script"]
+
+
+# ---- drawing
+
+
+def world_of(draw):
+    """A small sky and at most twelve rows, mostly near each other and beside borders."""
+    ids = {draw.choice([draw.randrange(20), draw.randrange(20), IDS]) for _ in range(draw.randrange(13))}
+    return random_worlds.made(draw, draw.choice(random_worlds.SKIES), draw.randrange(3), sorted(ids))
+
+
+def query_line(draw, asker):
+    """A query's line: mostly one that binds, and at times a misspelt step, which is refused as a query."""
+    pick = draw.random()
+    if pick < 0.03:
+        return draw.choice(["cancel two", "wait  1", "Cancel 1", "wait 1 ", "cancel 1234567890"])
+    words = ["SELECT", "COUNT", "(", "*", ")", "FROM", "Object"] if pick < 0.2 else asker.query()
+    return asker.text(asker.changed(words) if pick > 0.93 else words)
+
+
+def step_lines(draw, asker, count):
+    """So many queries, with steps among them that name one before."""
+    queries = 0
+    while queries < count:
+        line = query_line(draw, asker)
+        # blanks of a query may make a line a note
+        if len(line) <= compare_answers.LONGEST and line.strip(" \t\r"):
+            queries += 1
+            yield line
+        while draw.random() < 0.45:
+            named = queries if draw.random() < 0.6 else draw.randrange(queries + 1)
+            if named:
+                zeros = "0" * draw.randrange(3) if draw.random() < 0.1 else ""
+                yield f"{draw.choice(['cancel', 'cancel', 'wait'])} {zeros}{named}"
+
+
+def script_of(draw, world):
+    """The text of a session."""
+    asker = random_worlds.Asker(draw, world)
+    count = draw.randrange(60, 90) if draw.random() < 0.005 else draw.randrange(1, 8)
+    text = ""
+    for line in step_lines(draw, asker, count):
+        text += draw.choice(["# a note\n", "\n", " \t\n"]) if draw.random() < 0.05 else ""
+        text += line + ("\r\n" if draw.random() < 0.05 else "\n")
+    return text
+
+
+# ---- running
+
+
+def told(program, folder, workers):
+    """What the program writes for the texts in a folder, or why that is of no use."""
+    words = [program, "query", *TEXTS, str(workers)]
+    try:
+        ended = subprocess.run(words, cwd=folder, capture_output=True, timeout=SECONDS)
+    except subprocess.TimeoutExpired:
+        return None, f"did not end within {SECONDS} seconds"
+    if ended.returncode or ended.stderr:
+        return None, f"status {ended.returncode}, {ended.stderr.decode('latin-1').strip()}"
+    return ended.stdout.decode("latin-1"), None
+
+
+def judged(program, folder, workers, found):
+    """How the queries end with so many workers, and what is wrong with that, if anything is."""
+    text, why = told(program, folder, workers)
+    if why:
+        return [], f"{workers} workers: {why}"
+    ended = session_ends.ends_told(text, found)
+    if isinstance(ended, list):
+        return ended, None
+    if ended == 0:
+        return [], f"{workers} workers: something stands behind the last query"
+    wanted = "\n  or\n".join(found[ended - 1].values())
+    return [], f"{workers} workers: query {ended} is not\n{wanted}in\n{text}"
+
+
+def counted(counts, workers, found, ended):
+    """Counts how queries ended that may end in more than one way, or that some line cancels in time."""
+    for own, end in zip(found, ended):
+        kind = "fixed" if list(own) == ["told"] else "cancelled alone" if len(own) == 1 else f"either, {end}"
+        counts[workers, kind] += 1
+
+
+def run_session(program, folder, world, script, workers, counts):
+    """Runs a session with each number of workers; says what differs, if anything does."""
+    compare_answers.write(folder, {"script": script})
+    steps = session_ends.steps_of(compare_answers.queries_of(script))
+    blocks = [session_ends.asked(text, world) for word, text in steps if word == "query"]
+    for number in workers:
+        found = session_ends.chosen(steps, blocks, number)
+        ended, why = judged(program, folder, number, found)
+        if why:
+            return why
+        counted(counts, number, found, ended)
+    return None
+
+
+def run_world(number, words):
+    """Runs the sessions of a world, of which each is drawn from the seed and its own number."""
+    folder = os.path.join(words.folder, multiprocessing.current_process().name)
+    os.makedirs(folder, exist_ok=True)
+    draw, counts = random.Random(f"{words.seed} {number}"), collections.Counter()
+    world = world_of(draw)
+    texts = {"sky": world.sky.text, "csv": world.catalogue(draw)}
+    compare_answers.write(folder, texts)
+    for at in range(number * OF_A_WORLD, min((number + 1) * OF_A_WORLD, words.sessions)):
+        script = script_of(draw, world)
+        why = run_session(words.program, folder, world, script, words.workers, counts)
+        if why:
+            return counts, {**texts, "script": script}, f"session {at + 1}, {why}"
+    return counts, None, None
+
+
+def by_hand(words):
+    """A session whose ends are known without any of this: the second of three queries is cancelled at once."""
+    folder = os.path.join(compare_answers.HERE, "..", "crates", "qserv_cli", "data")
+    count, most = "query 2\nCOUNT(*)\n6\n1 rows, 3 chunks\n", "query 3\nMAX(flux)\n60\n1 rows, 3 chunks\n"
+    first = "query 1\nobjectId\n1\n2\n3\n4\n5\n6\n6 rows, 3 chunks\n"
+    script = "SELECT objectId FROM Object\nSELECT COUNT(*) FROM Object\nSELECT MAX(flux) FROM Object\ncancel 2\nwait 1\n"
+    os.makedirs(words.folder, exist_ok=True)
+    for name in ("sky", "csv"):
+        with open(os.path.join(folder, name), encoding="ascii") as file:
+            compare_answers.write(words.folder, {name: file.read()})
+    compare_answers.write(words.folder, {"script": script})
+    for workers in words.workers:
+        text, why = told(words.program, words.folder, workers)
+        allowed = [first + "query 2\ncancelled\n" + most] + [first + count + most] * (workers > 0)
+        if text not in allowed:
+            return f"the session by hand, {workers} workers: {why or text}"
+    return None
+
+
+def main():
+    parser = program_words.parser(__doc__, sessions=1000, seed=1, processes=os.cpu_count())
+    parser.add_argument("--workers", type=int, nargs="+", default=[0, 1, 2, 4, 16])
+    words = parser.parse_args()
+    words.folder = os.path.abspath(words.folder)
+    wrong, counts = by_hand(words), collections.Counter()
+    worlds = range(0 if wrong else -(-words.sessions // OF_A_WORLD))
+    with multiprocessing.Pool(words.processes) as pool:
+        for more, texts, why in pool.imap_unordered(functools.partial(run_world, words=words), worlds):
+            counts += more
+            if why:
+                compare_answers.write(words.folder, texts)
+                wrong = why
+                break
+    if wrong:
+        print(f"{wrong}\nits texts are in {words.folder}")
+        return 1
+    print(f"{words.sessions} sessions, each with {' '.join(map(str, words.workers))} workers: none differs")
+    for workers in words.workers:
+        kinds = sorted((kind, count) for (number, kind), count in counts.items() if number == workers)
+        print(f"{workers} workers: " + ", ".join(f"{count} {kind}" for kind, count in kinds))
+    return 0
+
+
+if __name__ == "__main__":
+    sys.exit(main())
