@@ -5,8 +5,8 @@
 
 For each of N scripts (100) it draws a sky, a small catalogue (NULLs, values at the ends of their range, positions on and
 beside sides and borders) and 60 lines: queries of every kind, some with one token changed, some of the grammar alone. Of N
-scripts (10) the catalogue has up to 1,000 rows. The program answers and explains each script, and also N demos (20) of up to
-400 objects. `flat_answers.py` says what is wanted: answers over the list of all rows, or of all pairs of rows, the line of
+scripts (10) the catalogue has up to 1,000 rows. The program answers and explains each script and reports its chunks, and
+answers N demos (20) of up to 400 objects. `flat_answers.py` says what is wanted: answers over the list of all rows, or of all pairs of rows, the line of
 each refusal, and explanations. The bytes are compared. Before these the script in examples/ is answered, and compared with
 the transcript there, which was written by hand.
 
@@ -93,7 +93,8 @@ def compare_script(program, folder, draw, world, lines, workers, counts):
     wanted = flat_answers.transcript(world, queries)
     counts.update(outcomes(wanted))
     found = [differs(program, folder, ["query", "sky", "csv", "script", str(number)], wanted) for number in workers]
-    return any([*found, differs(program, folder, ["explain", "sky", "csv", "script"], flat_answers.explanation(world, queries))])
+    found.append(differs(program, folder, ["explain", "sky", "csv", "script"], flat_answers.explanation(world, queries)))
+    return any([*found, differs(program, folder, ["load", "sky", "csv"], flat_answers.report(world))])
 
 
 def compare_demo(program, folder, draw, workers):

@@ -5,6 +5,8 @@ Written from the rules in docs/FORMATS.md alone: names are looked up one by one,
 each pair of rows, of one list. There is no column, piece or overlap in it; a chunk is a region that is tested, and only plans
 and explanations speak of chunks. `compare_answers.py` compares the program with it.
 """
+import collections
+
 from sql_texts import read
 from sql_trees import MOST, Among, Area, Chord, Col, Compare, Int, Item, Refused
 
@@ -334,3 +336,12 @@ def transcript(world, lines):
 def explanation(world, lines):
     """What explains the queries with these lines."""
     return text_of(block(lambda: Explained(line, world).lines()) for line in lines)
+
+
+def report(world):
+    """How the rows lie in the chunks."""
+    own = collections.Counter(world.chunk_of.values())
+    near = collections.Counter(chunk for row in world.rows for chunk in world.sky.near(tuple(row[1:4])))
+    lines = [f"{len(world.rows)} rows, {len(own)} of {world.sky.count} chunks\n"]
+    # a chunk is near its own rows too
+    return "".join(lines + [f"chunk {chunk}: {own[chunk]} rows, {near[chunk] - own[chunk]} overlap\n" for chunk in sorted(own)])

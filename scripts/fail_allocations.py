@@ -1,0 +1,222 @@
+#!/usr/bin/env python3
+"""Runs the built program again and again, each time with another of its requests for memory refused.
+
+    scripts/fail_allocations.py FOLDER [--program FILE] [--workers N ..] [--session] [--processes N]
+
+The run is small: six rows, and a script with a query of every kind and one of every refusal. Each form of the command line
+is run: load, explain, query and demo, the last two with each number of workers (0). First the Nth request of the run is
+refused, for N from 1 until a run makes fewer, and then the Nth and all behind it. A run has to end so:
+- with the whole right text and status 0;
+- with the right text but for `out of memory` in the place of an answer that wants chunks to be scanned, and status 0;
+- or with nothing written, `out of memory` on standard error, and status 9.
+
+It prints how many runs of each form ended how, and each run that ended otherwise; the status is 0 where none did, and 1 else.
+The right texts are computed here from the flat table. With --session the script also waits and cancels. Between the program
+and the C library stands a small library in C that refuses the requests; it is compiled with cc into a folder that goes again.
+
+FILE is the built program, by default .qserv/qserv, where ./qserv leaves it. FOLDER is made where it isn't there, and gets the
+texts sky, csv and script.
+"""
+import collections
+import concurrent.futures
+import os
+import subprocess
+import sys
+import tempfile
+
+import compare_answers
+import flat_answers
+import random_worlds
+import session_ends
+
+# bench/ stands on the path since compare_answers was imported
+import demo_files
+import program_words
+
+# Counts the requests for memory, refuses those that it is told to, and tells at the end how many there were.
+REFUSER = r"""
+#include <errno.h>
+#include <stdatomic.h>
+#include <stdio.h>
+#include <stdlib.h>
+#include <unistd.h>
+
+extern void *__libc_malloc(size_t), *__libc_calloc(size_t, size_t), *__libc_realloc(void *, size_t);
+
+static atomic_ulong requests;
+static unsigned long first, last;
+
+static unsigned long number(const char *name) {
+    const char *text = getenv(name);
+    return text ? strtoul(text, NULL, 10) : 0;
+}
+
+__attribute__((constructor)) static void begin(void) {
+    first = number("REFUSED_FROM");
+    last = number("REFUSED_TO");
+    requests = 0;
+}
+
+__attribute__((destructor)) static void end(void) {
+    char text[32];
+    int length = snprintf(text, sizeof text, "%lu", (unsigned long)requests);
+    if (write((int)number("TOLD"), text, (size_t)length) < 0) abort();
+}
+
+static int is_refused(void) {
+    unsigned long request = ++requests;
+    if (request < first || request > last) return 0;
+    errno = ENOMEM;
+    return 1;
+}
+
+void *malloc(size_t size) { return is_refused() ? NULL : __libc_malloc(size); }
+void *calloc(size_t count, size_t size) { return is_refused() ? NULL : __libc_calloc(count, size); }
+void *realloc(void *old, size_t size) { return is_refused() ? NULL : __libc_realloc(old, size); }
+"""
+NAMES = ["objectId", "x", "y", "z", "flux", "g"]
+EDGE = 268435456
+ROWS = [
+    [1, EDGE, 0, 0, 10, 1 << 50],
+    [2, EDGE, 3, 0, None, 1],
+    [3, EDGE, 0, 4, 30, -(1 << 50)],
+    [4, EDGE, -3, 0, None, 1],
+    [5, EDGE, 0, -1, -5, None],
+    [6, 0, 0, EDGE, 60, 1 << 50],
+]
+SCRIPT = [
+    "SELECT * FROM Object",
+    "SELECT objectId,2*flux AS twice FROM Object WHERE area_cap(268435456,0,0,16) AND flux BETWEEN -9 AND 30 ORDER BY twice DESC LIMIT 2",
+    "SELECT objectId FROM Object WHERE area_box(-10,10,1,-1,1,1) AND (NOT flux IS NULL OR g<>1)",
+    "SELECT objectId,flux FROM Object WHERE objectId IN (2,4,99) OR flux*flux>g ORDER BY flux",
+    "SELECT z FROM Object WHERE objectId IN (2,4,99) AND objectId=4",
+    "SELECT COUNT(*),COUNT(flux),SUM(flux),AVG(flux),MIN(z),MAX(z) FROM Object WHERE area_band(-10,10)",
+    "SELECT SUM(flux) FROM Object WHERE flux>1000",
+    "SELECT g+1,flux,COUNT(*) AS n,AVG(z) FROM Object GROUP BY g,flux ORDER BY n DESC LIMIT 4",
+    "SELECT a.objectId,b.objectId,a.z-b.z FROM Object a,Object b WHERE chord2(a,b)<=25 AND a.objectId<b.objectId ORDER BY b.objectId DESC",
+    "SELECT * FROM Object a,Object b WHERE chord2(b,a)<10 LIMIT 3",
+    "SELECT x FROM Object WHERE area_band(1,0)",
+    "SELECT x FROM Object WHERE flux#3",
+    "SELECT x FROM Object WHERE flux=9223372036854775808",
+    "SELECT x" + ",x" * 1022 + " FROM Object LIMIT 0",
+    "SELECT " + "(" * 33 + "x" + ")" * 33 + " FROM Object",
+    "SELECT x FROM Object WHERE (flux IS 3 OR g=1)",
+    "SELECT magnitude FROM Object",
+    "SELECT flux,COUNT(*) FROM Object",
+    "SELECT a.x FROM Object a,Object b",
+    "SELECT x FROM Object WHERE NOT area_band(0,4)",
+    "SELECT objectId*flux FROM Object",
+    "SELECT x FROM Object ORDER BY n",
+    "SELECT a.x FROM Object a,Object b WHERE chord2(a,b)<=26",
+    "SELECT SUM(g*g) FROM Object",
+]
+# behind the script where it is a session: a late cancel, one of a refused query, and one in time behind a wait for another
+SESSION = ["wait 2", "cancel 2", "cancel 12", "cancel 8", "SELECT MAX(flux) FROM Object GROUP BY g", "cancel 25", "wait 9"]
+KINDS = ["right text", "right but for queries out of memory", "out of memory, nothing written"]
+
+
+class Form:
+    """The words of a command line, and for each part of what it writes the texts that may stand there."""
+
+    def __init__(self, words, parts):
+        self.words, self.parts = words, parts
+
+    def kind(self, status, output, told):
+        """How a run ended, or None where none may end so."""
+        if (status, output, told) == (9, b"", b"out of memory\n"):
+            return KINDS[2]
+        ends = session_ends.ends_told(output.decode("latin-1"), self.parts)
+        if status or told or not isinstance(ends, list):
+            return None
+        return KINDS[1] if session_ends.SPENT in ends else KINDS[0]
+
+
+def forms(world, script, workers):
+    """The forms that are run over the texts."""
+    whole = {
+        ("load", "sky", "csv"): flat_answers.report(world),
+        ("explain", "sky", "csv", "script"): flat_answers.explanation(world, [line for line in script if line.startswith("S")]),
+    }
+    found = [Form(list(words), [{"told": text}]) for words, text in whole.items()]
+    demo = random_worlds.World(demo_files.SKY, compare_answers.DEMO_NAMES, [list(row) for row in demo_files.rows(5, 7)])
+    lines = compare_answers.queries_of(demo_files.SCRIPT)
+    for number in workers:
+        found.append(Form(["query", "sky", "csv", "script", str(number)], session_ends.choices(world, script, number, True)))
+        found.append(Form(["demo", "5", "7", str(number)], session_ends.choices(demo, lines, number, True)))
+    return found
+
+
+def compiled(folder):
+    """The library that refuses requests."""
+    source, made = os.path.join(folder, "refuser.c"), os.path.join(folder, "refuser.so")
+    with open(source, "w", encoding="ascii") as file:
+        file.write(REFUSER)
+    subprocess.run(["cc", "-O1", "-shared", "-fPIC", "-o", made, source], check=True)
+    return made
+
+
+def run(words, folder, refuser, first, last):
+    """Runs the program with the requests from one to another refused: its status, what it writes, and its requests."""
+    reading, writing = os.pipe()
+    refused = {"LD_PRELOAD": refuser, "REFUSED_FROM": str(first), "REFUSED_TO": str(last), "TOLD": str(writing)}
+    try:
+        ended = subprocess.run(words, cwd=folder, env={**os.environ, **refused}, capture_output=True, timeout=60, pass_fds=[writing])
+        os.close(writing)
+        writing = None
+        requests = int(os.read(reading, 32) or b"0")
+        return ended.returncode, ended.stdout, ended.stderr, requests
+    finally:
+        os.close(reading)
+        if writing is not None:
+            os.close(writing)
+
+
+def tried(words, form, folder, refuser, first, is_one):
+    """How a run ended whose request of this number is refused, and those behind it too unless it is one; and whether it made
+    that many requests. The end is the exit status and the output where none may end so."""
+    status, output, told, requests = run([words.program, *form.words], folder, refuser, first, first if is_one else 1 << 62)
+    kind = form.kind(status, output, told) if requests else None
+    if requests < first and kind != KINDS[0]:
+        kind = None
+    return kind or f"request {first}{'' if is_one else ' and on'}: status {status}, {told!r}, {output[:300]!r}", requests >= first
+
+
+def numbered(pool, words, form, folder, refuser, is_one):
+    """The ends of the runs with request 1, 2 and on refused, until runs make fewer."""
+    first, many = 1, 64
+    while True:
+        batch = [pool.submit(tried, words, form, folder, refuser, at, is_one) for at in range(first, first + many)]
+        ends = [each.result() for each in batch]
+        for end, was_made in ends:
+            yield end
+            if not was_made:
+                return
+        first += many
+
+
+def main():
+    parser = program_words.parser(__doc__, processes=os.cpu_count())
+    parser.add_argument("--workers", type=int, nargs="+", default=[0])
+    parser.add_argument("--session", action="store_true")
+    words = parser.parse_args()
+    folder = os.path.abspath(words.folder)
+    os.makedirs(folder, exist_ok=True)
+    world, script = random_worlds.World(random_worlds.SKIES[0], NAMES, ROWS), SCRIPT + SESSION * words.session
+    catalogue = [",".join("" if value is None else str(value) for value in row) for row in ROWS]
+    texts = {"sky": [random_worlds.SKIES[0].rstrip()], "csv": [",".join(NAMES), *catalogue], "script": script}
+    compare_answers.write(folder, {name: "\n".join(lines) + "\n" for name, lines in texts.items()})
+    wrong = 0
+    with tempfile.TemporaryDirectory() as made, concurrent.futures.ThreadPoolExecutor(words.processes) as pool:
+        refuser = compiled(made)
+        for form in forms(world, script, words.workers):
+            ends = [end for is_one in (True, False) for end in numbered(pool, words, form, folder, refuser, is_one)]
+            counts = collections.Counter(ends)
+            others = [end for end in counts if end not in KINDS]
+            told = ", ".join(f"{counts[kind]} {kind}" for kind in KINDS if counts[kind])
+            print(f"{' '.join(form.words)}: {len(ends)} runs: {told}", *others[:5], sep="\n  ", flush=True)
+            wrong += len(others)
+    return 1 if wrong else 0
+
+
+if __name__ == "__main__":
+    sys.exit(main())
