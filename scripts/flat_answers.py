@@ -2,8 +2,8 @@
 is explained.
 
 Written from the rules in docs/FORMATS.md alone: names are looked up one by one, and conditions are worked out on each row, or
-each pair of rows, of one list. There is no column, piece or overlap in it; a chunk is a region that is tested, and only plans
-and explanations speak of chunks. `compare_answers.py` compares the program with it.
+each pair of rows, of one list. There is no column, piece or table of overlaps in it; a chunk is a region that is tested, and
+only plans, explanations and reports speak of chunks. `compare_answers.py` compares the program with it.
 """
 import collections
 
