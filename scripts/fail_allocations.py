@@ -33,17 +33,17 @@ import session_ends
 import demo_files
 import program_words
 
-# Counts the requests for memory, refuses those that it is told to, and tells at the end how many there were.
+# Counts the requests for memory in a file that it is given, and refuses those that it is told to. It asks nothing of how the
+# program ends.
 REFUSER = r"""
 #include <errno.h>
 #include <stdatomic.h>
-#include <stdio.h>
 #include <stdlib.h>
-#include <unistd.h>
+#include <sys/mman.h>
 
 extern void *__libc_malloc(size_t), *__libc_calloc(size_t, size_t), *__libc_realloc(void *, size_t);
 
-static atomic_ulong requests;
+static atomic_ulong *requests;
 static unsigned long first, last;
 
 static unsigned long number(const char *name) {
@@ -52,19 +52,17 @@ static unsigned long number(const char *name) {
 }
 
 __attribute__((constructor)) static void begin(void) {
+    void *counted = mmap(NULL, sizeof *requests, PROT_READ | PROT_WRITE, MAP_SHARED, (int)number("COUNTED"), 0);
+    if (counted == MAP_FAILED) abort();
     first = number("REFUSED_FROM");
     last = number("REFUSED_TO");
-    requests = 0;
-}
-
-__attribute__((destructor)) static void end(void) {
-    char text[32];
-    int length = snprintf(text, sizeof text, "%lu", (unsigned long)requests);
-    if (write((int)number("TOLD"), text, (size_t)length) < 0) abort();
+    requests = counted;
 }
 
 static int is_refused(void) {
-    unsigned long request = ++requests;
+    /* what is asked for before the program begins is not its own */
+    if (requests == NULL) return 0;
+    unsigned long request = ++*requests;
     if (request < first || request > last) return 0;
     errno = ENOMEM;
     return 1;
@@ -157,18 +155,15 @@ def compiled(folder):
 
 def run(words, folder, refuser, first, last):
     """Runs the program with the requests from one to another refused: its status, what it writes, and its requests."""
-    reading, writing = os.pipe()
-    refused = {"LD_PRELOAD": refuser, "REFUSED_FROM": str(first), "REFUSED_TO": str(last), "TOLD": str(writing)}
-    try:
-        ended = subprocess.run(words, cwd=folder, env={**os.environ, **refused}, capture_output=True, timeout=60, pass_fds=[writing])
-        os.close(writing)
-        writing = None
-        requests = int(os.read(reading, 32) or b"0")
-        return ended.returncode, ended.stdout, ended.stderr, requests
-    finally:
-        os.close(reading)
-        if writing is not None:
-            os.close(writing)
+    with tempfile.TemporaryFile(buffering=0) as counted:
+        counted.write(bytes(8))
+        file = counted.fileno()
+        refused = {"LD_PRELOAD": refuser, "REFUSED_FROM": str(first), "REFUSED_TO": str(last), "COUNTED": str(file)}
+        ended = subprocess.run(
+            words, cwd=folder, env={**os.environ, **refused}, capture_output=True, timeout=60, pass_fds=[file]
+        )
+        requests = int.from_bytes(os.pread(file, 8, 0), sys.byteorder)
+    return ended.returncode, ended.stdout, ended.stderr, requests
 
 
 def tried(words, form, folder, refuser, first, is_one):
