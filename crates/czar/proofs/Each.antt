@@ -9,8 +9,6 @@ use Rattle.session_script.specs.Scripts.{part_of, query_count, query_spans, quer
 use Rattle.session_script.specs.Views.{ScriptView, query_lines}
 use Rattle.session_script.specs.Laws.{LinesAreTexts}
 use Rattle.czar.specs.Plans.{ArePlans, PlanFor}
-use Rattle.czar.specs.Told.{AreTold, IsTold}
-use Rattle.czar.specs.declared.end.End.{End}
 use Rattle.czar.specs.declared.plan.Plan.{Plan}
 
 -- one plan more
@@ -20,14 +18,6 @@ plans_more g c [] [] text plan are is = (is, tt)
 plans_more g c [] (p ∷ ps) text plan are is = absurd are
 plans_more g c (t ∷ ts) [] text plan are is = absurd are
 plans_more g c (t ∷ ts) (p ∷ ps) text plan are is = (are.0, plans_more g c ts ps text plan are.1 is)
-
--- one end more
-told_more : (g : Partition) (c : Catalogue) (texts : List Bytes) (ends : List End) (text : Bytes) (end : End)
-    → AreTold g c texts ends → IsTold g c text end → AreTold g c (texts ++ text ∷ []) (ends ++ end ∷ [])
-told_more g c [] [] text end are is = (is, tt)
-told_more g c [] (p ∷ ps) text end are is = absurd are
-told_more g c (t ∷ ts) [] text end are is = absurd are
-told_more g c (t ∷ ts) (p ∷ ps) text end are is = (are.0, told_more g c ts ps text end are.1 is)
 
 -- there are as many lines as queries
 pub mapped_length : {A B : Type 0} (f : A → B) (xs : List A) → length (map f xs) ≡ length xs
@@ -54,14 +44,6 @@ one_planned law g c s k plans plan within are is =
     subst (λ texts. ArePlans g c texts (plans ++ plan ∷ [])) (sym (lines_more law s k within))
     (plans_more g c (take k (query_lines s)) plans (query_text s.steps s.text (k + 1)) plan are is)
 
-pub one_told : LinesAreTexts → (g : Partition) (c : Catalogue) (s : ScriptView) (k : ℕ) (ends : List End) (end : End)
-    → k < query_count s.steps → AreTold g c (take k (query_lines s)) ends
-    → IsTold g c (query_text s.steps s.text (k + 1)) end
-    → AreTold g c (take (k + 1) (query_lines s)) (ends ++ end ∷ [])
-one_told law g c s k ends end within are is =
-    subst (λ texts. AreTold g c texts (ends ++ end ∷ [])) (sym (lines_more law s k within))
-    (told_more g c (take k (query_lines s)) ends (query_text s.steps s.text (k + 1)) end are is)
-
 -- as many lines as there are queries are all of them
 whole : {A : Type 0} (xs : List A) (n : ℕ) → length xs ≡ n → take n xs ≡ xs
 whole [] zero same = refl
@@ -72,7 +54,3 @@ whole (x ∷ xs) (suc n) same = ap (λ ys. x ∷ ys) (whole xs n (omega (arith, 
 pub all_planned : (g : Partition) (c : Catalogue) (s : ScriptView) (plans : List Plan)
     → ArePlans g c (take (query_count s.steps) (query_lines s)) plans → ArePlans g c (query_lines s) plans
 all_planned g c s plans are = subst (λ texts. ArePlans g c texts plans) (whole (query_lines s) (query_count s.steps) (lines_count s)) are
-
-pub all_told : (g : Partition) (c : Catalogue) (s : ScriptView) (ends : List End)
-    → AreTold g c (take (query_count s.steps) (query_lines s)) ends → AreTold g c (query_lines s) ends
-all_told g c s ends are = subst (λ texts. AreTold g c texts ends) (whole (query_lines s) (query_count s.steps) (lines_count s)) are

@@ -22,10 +22,9 @@ use Rattle.bind_rules.proofs.Soundness.{bound_is_sound}
 use Rattle.bind_rules.proofs.Tested.{bound_is_tested}
 use Rattle.partial_merge.specs.Joining.{MayFinish}
 use Rattle.transcript_rules.specs.Refusals.{Understood, early_refusal}
-use Rattle.czar.specs.Plans.{IsPlanned, PlanFor}
-use Rattle.czar.specs.declared.plan.Plan.{Plan}
-use Rattle.czar.specs.declared.plan.Plan.TheVariants as plan
-use Rattle.czar.specs.Running.{Answers, CanRun, IsOpen, IsOutOfRange, IsRunnable, IsSomePlan, IsTotalOf}
+use Rattle.czar.specs.Plans.{IsPlanned}
+use Rattle.czar.specs.Ends.{IsAnswered}
+use Rattle.czar.specs.Running.{Answers, CanRun, IsOpen, IsRunnable, IsSomePlan, IsTotalOf}
 use Rattle.czar.proofs.Inverting.{IsBound, is_bound}
 use Rattle.table_rules.specs.Names.{column_names, first_names}
 use Rattle.std.proofs.lemmas.List.{length-append}
@@ -42,18 +41,8 @@ use Rattle.answer_rules.specs.declared.refusal.Radius.{Radius}
 use Rattle.transcript_rules.specs.declared.refusal.Refusal.TheVariants as refusal
 use Rattle.transcript_rules.specs.Refusals.{understood, or_else, refusal_of, total_by, total_refusal, total_refusal_by}
 use Rattle.transcript_rules.proofs.Steps.{early_known}
-use Rattle.czar.specs.declared.end.End.TheVariants as end
-use Rattle.czar.specs.Running.{IsEndBy, IsEndOf}
 use Rattle.sql_bound.specs.declared.query.Shape.{Shape}
 use Rattle.chunk_rules.specs.Filled.{is_filled}
-use Rattle.std.proofs.Common.{Result, IfOk, IfErr}
-use Rattle.sky_io.specs.Stops.{IfBad}
-use Rattle.sky_io.specs.declared.Stop.{Stop}
-use Rattle.sky_io.specs.declared.Stop.TheVariants as stop
-use Rattle.sky_io.specs.declared.Memory.{Memory}
-use Rattle.answer_rules.specs.declared.refusal.TotalOut.{TotalOut}
-use Rattle.czar.specs.declared.end.End.{End}
-use Rattle.czar.specs.Told.{IsTold}
 use Rattle.transcript_rules.specs.declared.refusal.Refusal.{Refusal}
 
 -- the rows of a catalogue lie in the sky
@@ -74,7 +63,7 @@ far_is g c text u known accepted = none_of (radius_refusal g c.objects u.bound) 
     none_of (Some r) e = absurd (cc e)
 
 -- the query of a planned line can be run
-can_run : (g : Partition) (c : Catalogue) (text : Bytes) (head : Query) (query : Rewritten) (chunks : List ℕ)
+pub can_run : (g : Partition) (c : Catalogue) (text : Bytes) (head : Query) (query : Rewritten) (chunks : List ℕ)
     (p : IsPlanned g c text head query chunks) → CanRun g c p.understanding.bound query chunks
 can_run g c text head query chunks p =
     let b : IsBound c.names text p.understanding = is_bound c.names text p.understanding p.known in
@@ -104,36 +93,27 @@ few g c head query chunks sky s =
     omega (arith, ap length s.is.plan, length-filter needed all, count_by-le-length needed all, length-range_with_len 0 (chunk_count g), sky.few_chunks)
 
 -- the answer of the queries that are cut so is what a line that is planned so is told
-pub answered : (g : Partition) (c : Catalogue) (head : Query) (query : Rewritten) (chunks : List ℕ)
-    (table : List (List Value)) (count : ℕ) → count ≡ length chunks → Answers g c query chunks table
-    → IsEndOf g c head query chunks (end.Answered head table count)
-answered g c head query chunks table count is answers text p = record {
+pub answered : (g : Partition) (c : Catalogue) (text : Bytes) (head : Query) (query : Rewritten) (chunks : List ℕ)
+    (table : List (List Value)) → Answers g c query chunks table → IsPlanned g c text head query chunks
+    → IsAnswered g c text head table (length chunks)
+answered g c text head query chunks table answers p = record {
   understanding = p.understanding;
   known = p.known;
   tree = p.tree;
   answer = answers p.understanding.bound (can_run g c text head query chunks p);
-  count = is ∙ ap length p.plan;
+  count = ap length p.plan;
   accepted = p.accepted;
 }
 
 -- and so is the total that they have out of range
-pub out : (g : Partition) (c : Catalogue) (head : Query) (query : Rewritten) (chunks : List ℕ) (total : ℤ)
-    → IsTotalOf g c query chunks total
-    → IsEndOf g c head query chunks (end.Refused (refusal.Total (record { total = total })))
+pub out : (g : Partition) (c : Catalogue) (text : Bytes) (head : Query) (query : Rewritten) (chunks : List ℕ) (total : ℤ)
+    → IsTotalOf g c query chunks total → IsPlanned g c text head query chunks
+    → refusal_of g c text ≡ Some (refusal.Total (record { total = total }))
 unfolding refusal_of total_refusal
-out g c head query chunks total is text p =
+out g c text head query chunks total is p =
     let answer : flat_answer c.objects p.understanding.bound ≡ Err total = is p.understanding.bound (can_run g c text head query chunks p) in
     ap (λ r. or_else r (total_refusal_by c.objects (understood c.names text))) p.accepted
     ∙ ap (total_refusal_by c.objects) p.known ∙ ap total_by answer
-
--- so of what the running stops for
-pub stopped : (g : Partition) (c : Catalogue) (head : Query) (query : Rewritten) (chunks : List ℕ) (s : Stop TotalOut)
-    (r : Result End Memory) → IfBad s (λ (o : TotalOut). IsTotalOf g c query chunks o.total) → IfOk r (IsOutOfRange s)
-    → IfOk r (IsEndOf g c head query chunks)
-stopped g c head query chunks s (Err m) bad is = tt
-stopped g c head query chunks (stop.Bad o) (Ok e) bad is =
-    subst (λ (it : End). IsEndOf g c head query chunks it) (sym is) (out g c head query chunks o.total bad)
-stopped g c head query chunks stop.Memory (Ok e) bad is = absurd is
 
 -- chunks that hold a row and where the query reaches can be scanned
 all_open : (g : Partition) (c : Catalogue) (shape : Shape) (chunks : List ℕ)
@@ -188,7 +168,7 @@ may_finish g c query chunks view sky rows r piece = record {
 }
 
 -- what a piece over the chunks of a plan is finished as is the answer of each query that is cut so
-finished_is : (g : Partition) (c : Catalogue) (q : Bound) (query : Rewritten) (chunks : List ℕ) (view : PieceView) → IsSky g
+pub finished_is : (g : Partition) (c : Catalogue) (q : Bound) (query : Rewritten) (chunks : List ℕ) (view : PieceView) → IsSky g
     → IsCatalogue c → CanRun g c q query chunks → PieceFor g c.objects query.chunk chunks view
     → finished query.merge view ≡ flat_answer c.objects q
 finished_is g c q query chunks view sky rows can piece =
@@ -210,36 +190,6 @@ pub is_total : (g : Partition) (c : Catalogue) (query : Rewritten) (chunks : Lis
     → IsTotalOf g c query chunks total
 is_total g c query chunks view total sky rows piece is q can =
     sym (finished_is g c q query chunks view sky rows can piece) ∙ is
-
--- so of the answer that a piece is finished as
-pub ok_by : (g : Partition) (c : Catalogue) (query : Rewritten) (chunks : List ℕ) (view : PieceView)
-    (r : Result (List (List Value)) (Stop TotalOut)) → IsSky g → IsCatalogue c → PieceFor g c.objects query.chunk chunks view
-    → IfOk r (λ table. finished query.merge view ≡ Ok table) → IfOk r (Answers g c query chunks)
-ok_by g c query chunks view (Ok table) sky rows piece is = is_answer g c query chunks view table sky rows piece is
-ok_by g c query chunks view (Err stop) sky rows piece is = tt
-
--- and of the total
-pub out_by : (g : Partition) (c : Catalogue) (query : Rewritten) (chunks : List ℕ) (view : PieceView)
-    (r : Result (List (List Value)) (Stop TotalOut)) → IsSky g → IsCatalogue c → PieceFor g c.objects query.chunk chunks view
-    → IfErr r (λ stop. IfBad stop (λ out. finished query.merge view ≡ Err out.total))
-    → IfErr r (λ stop. IfBad stop (λ out. IsTotalOf g c query chunks out.total))
-out_by g c query chunks view (Ok table) sky rows piece is = tt
-out_by g c query chunks view (Err stop.Memory) sky rows piece is = tt
-out_by g c query chunks view (Err (stop.Bad out)) sky rows piece is = is_total g c query chunks view out.total sky rows piece is
-
--- what the lines with a plan that can be run are told
-pub by_plan : (g : Partition) (c : Catalogue) (p : Plan) (head : Query) (query : Rewritten) (chunks : List ℕ)
-    (r : Result End Memory) → p ≡ plan.Planned head query chunks → IfOk r (IsEndOf g c head query chunks)
-    → IfOk r (IsEndBy g c p)
-by_plan g c p head query chunks (Err m) same is = tt
-by_plan g c p head query chunks (Ok e) same is =
-    λ text planned. is text (subst (λ (it : Plan). PlanFor g c text it) same planned)
-
--- what a line that has this plan is told
-pub told_by_plan : (g : Partition) (c : Catalogue) (text : Bytes) (p : Plan) (r : Result End Memory) → PlanFor g c text p
-    → IfOk r (IsEndBy g c p) → IfOk r (IsTold g c text)
-told_by_plan g c text p (Ok e) planned is = is text planned
-told_by_plan g c text p (Err m) planned is = tt
 
 -- what a line that is refused before it is run is told
 pub refused_early : (g : Partition) (c : Catalogue) (text : Bytes) (why : Refusal) → early_refusal g c text ≡ Some why

@@ -1,7 +1,8 @@
-pub mod Built
 pub mod Understandings
 pub mod Indexed
 pub mod Plans
 pub mod Ends
-pub mod Told
+pub mod Attached
+pub mod Ended
+pub mod Driven
 pub mod Running

@@ -20,9 +20,7 @@ use Rattle.answer_rules.specs.declared.refusal.TotalOut.{TotalOut}
 use Rattle.transcript_rules.specs.declared.refusal.Refusal.TheVariants as refusal
 use Rattle.czar.specs.declared.end.End.{End}
 use Rattle.czar.specs.declared.end.End.TheVariants as end
-use Rattle.czar.specs.Told.{IsTold}
-use Rattle.czar.specs.Plans.{IsPlanned, PlanFor}
-use Rattle.czar.specs.declared.plan.Plan.{Plan}
+use Rattle.czar.specs.Plans.{IsPlanned}
 
 -- The chunk can be scanned for a chunk query of this shape: it holds a row, and a join reaches there.
 pub record IsOpen (g : Partition) (c : Catalogue) (shape : Shape) (chunk : ℕ) : Type 0 where
@@ -56,20 +54,7 @@ pub record IsSomePlan (g : Partition) (c : Catalogue) (head : Query) (query : Re
   pub text : Bytes
   pub is : IsPlanned g c text head query chunks
 
--- what each query is told that is planned so
-abbrev pub IsEndOf : Partition → Catalogue → Query → Rewritten → List ℕ → End → Type 0
-IsEndOf g c head query chunks end = (text : Bytes) → IsPlanned g c text head query chunks → IsTold g c text end
-
--- the plan is that of some line
-pub record IsPlanOfSome (g : Partition) (c : Catalogue) (plan : Plan) : Type 0 where
-  pub text : Bytes
-  pub is : PlanFor g c text plan
-
--- what each query is told that has this plan
-abbrev pub IsEndBy : Partition → Catalogue → Plan → End → Type 0
-IsEndBy g c plan e = (text : Bytes) → PlanFor g c text plan → IsTold g c text e
-
--- what a query ends with whose running stops so: its total is the refusal
+-- what a query ends with whose finish stops so: its total is the refusal
 abbrev pub IsOutOfRange : Stop TotalOut → End → Type 0
 IsOutOfRange (stop.Bad out) e = e ≡ end.Refused (refusal.Total out)
 IsOutOfRange stop.Memory e = ⊥

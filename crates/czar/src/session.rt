@@ -1,114 +1,239 @@
-//! The session of a script: each query is planned, run and ended, in the caller's own thread.
+//! The session of a script: its queries are planned, driven over a shared board with workers beside the czar, and told.
 
-ghost use Rattle.std.specs.Prelude.{◌≡◌, ◌+◌, ◌<◌, ◌≤◌, IfOk, OnOk, length, map, take, true};
-ghost use Rattle.text_rules.specs.declared.limits.TheConstants.{QUERIES_MOST, QUERY_TEXT_MOST};
+ghost use Rattle.std.specs.Prelude.{◌≡◌, ◌≤◌, IfOk, length, map};
+ghost use Rattle.table_rules.specs.Objects.{IsCatalogue};
+ghost use Rattle.sky_rules.specs.Limits.{IsSky};
+ghost use Rattle.sky_rules.specs.Partition.{chunk_count};
+ghost use Rattle.answer_rules.specs.Bases.{Asks, IsBase, StandsFor};
+ghost use Rattle.turn_lock.specs.Seats.{first_seat};
+ghost use Rattle.scan_session.specs.KnownEnds.{PlansFit};
 ghost use Rattle.session_script.specs.Scripts.{query_count};
 ghost use Rattle.session_script.specs.Views.{query_lines};
 ghost use Rattle.transcript_rules.specs.Transcripts.{FitEnds};
-ghost use Rattle.czar.specs.Built.{are_queries};
+ghost use Rattle.czar.specs.Attached.{attached, base_of, chunk_query};
+ghost use Rattle.czar.specs.Driven.{IsDriven};
 ghost use Rattle.czar.specs.Ends.{EndsShow, kind_of};
-ghost use Rattle.czar.specs.Running.{IsEndBy, IsPlanOfSome};
-ghost use Rattle.czar.specs.Told.{AreTold, IsTold};
+ghost use Rattle.czar.specs.Plans.{ArePlans};
 
+use crate::attach::{all_attached, all_queries, seated};
 use crate::end::End;
-use crate::lookup::Lookup;
-use crate::plan::{Plan, plan_line};
-use crate::running::end_of;
+use crate::plan::{Plan, explain};
+use crate::scans::Scans;
+use crate::told::all_told;
+use answer_rules::ChunkQuery;
 use chunk_store::Store;
-use session_script::laws::query_lines_are_query_texts;
-use session_script::{Script, Step};
-use sky_io::Memory;
+use partial_merge::Piece;
+use scan_board::{Board, Seat, SharedBoard};
+use scan_session::{End as BoardEnd, Planned, drive};
+use session_script::Script;
+use sky_io::{Gate, Memory};
 use std::alloc::Global;
+use std::sync::Wait;
+use std::thread::Threads;
 
-/// Whether the script's lines are queries alone, none that waits and none that cancels. Takes no memory.
-pub fn has_queries_alone(script: &Script<'_>) -> bool
-    ensures { result ≡ are_queries script.now.steps }
-{
-    script
-        .steps()
-        .iter()
-        .all(|step| matches!(step, Step::Query { .. }))
-}
-
-/// Runs the queries of a script, one after the other over the chunks that each needs, in the caller's own thread. Takes
-/// memory; each answer is made before any of it is written.
-pub fn run_session(alloc: Global, world: &Store, script: &Script<'_>) -> Result<Vec<End>, Memory>
-    requires queries { are_queries script.now.steps ≡ true }
+/// Runs the queries of a script over a shared board, with so many workers on threads beside the caller, who works too while
+/// he waits. Each worker passes the gate before each chunk. Takes memory, and waits; each answer is made before any of it
+/// is written. Wait lines and cancel lines are obeyed in the order of the script; a query whose own work wants for memory
+/// ends as spent, and the others go on.
+pub fn run_session<R: Threads + Wait + Sync, G: Gate + Sync>(
+    alloc: Global,
+    rt: &R,
+    world: &Store,
+    script: &Script<'_>,
+    workers: u32,
+    gate: &G,
+) -> Result<Vec<End>, Memory>
+    requires few { workers ≤ 16 }
     ensures fit { IfOk result (λ ends.
-        FitEnds 0 world.now.plan world.now.rows script.now (map kind_of ends.items)) }
+        FitEnds workers world.now.plan world.now.rows script.now (map kind_of ends.items)) }
     ensures shown { IfOk result (λ ends.
         EndsShow world.now.plan world.now.rows (query_lines script.now) ends.items) }
 {
-    ends_told(alloc, world, script)
-}
-
-/// What each query of a script comes to, in their order.
-fn ends_told(alloc: Global, world: &Store, script: &Script<'_>) -> Result<Vec<End>, Memory>
-    ensures { IfOk result (λ ends.
-        AreTold world.now.plan world.now.rows (query_lines script.now) ends.items) }
-{
-    let mut lookup = Lookup::new(world);
-    let mut ends = Vec::new(alloc);
-    for before in 0..script.queries() {
-        push_end(alloc, world, script, before, &mut lookup, &mut ends)?;
+    match explain(alloc, world, script) {
+        Ok(plans) => run_planned(alloc, rt, world, script, workers, gate, plans),
+        Err(Memory) => Err(Memory),
     }
-    Ok(ends)
 }
 
-/// Puts the end of the query behind so many others behind theirs.
-fn push_end(
+/// Runs the queries of a script that are planned so.
+fn run_planned<R: Threads + Wait + Sync, G: Gate + Sync>(
+    alloc: Global,
+    rt: &R,
+    world: &Store,
+    script: &Script<'_>,
+    workers: u32,
+    gate: &G,
+    plans: Vec<Plan>,
+) -> Result<Vec<End>, Memory>
+    requires few { workers ≤ 16 }
+    requires plans { ArePlans world.now.plan world.now.rows (query_lines script.now) plans.items }
+    ensures fit { IfOk result (λ ends.
+        FitEnds workers world.now.plan world.now.rows script.now (map kind_of ends.items)) }
+    ensures shown { IfOk result (λ ends.
+        EndsShow world.now.plan world.now.rows (query_lines script.now) ends.items) }
+{
+    match driven(alloc, rt, world, script, workers, gate, plans.as_slice()) {
+        Ok(ends) => told(alloc, world, script, workers, plans, ends),
+        Err(Memory) => Err(Memory),
+    }
+}
+
+/// What the queries of a script are told, whose session left these ends.
+fn told(
     alloc: Global,
     world: &Store,
     script: &Script<'_>,
-    before: u32,
-    lookup: &mut Lookup<'_>,
-    ends: &mut Vec<End>,
-) -> Result<(), Memory>
-    requires there { before < query_count script.now.steps }
-    requires few { before < QUERIES_MOST }
-    requires same { lookup.old ≡ world.now }
-    requires told { AreTold world.now.plan world.now.rows
-        (take before (query_lines script.now)) ends.old.items }
-    ensures same { lookup.new ≡ lookup.old }
-    ensures told { OnOk result (AreTold world.now.plan world.now.rows
-        (take (before + 1) (query_lines script.now)) ends.new.items) }
+    workers: u32,
+    plans: Vec<Plan>,
+    ends: Vec<BoardEnd<Piece<'_>>>,
+) -> Result<Vec<End>, Memory>
+    requires plans { ArePlans world.now.plan world.now.rows (query_lines script.now) plans.items }
+    requires driven { IsDriven workers world.now.plan world.now.rows script.now.steps plans.items
+        ends.items }
+    ensures fit { IfOk result (λ ends.
+        FitEnds workers world.now.plan world.now.rows script.now (map kind_of ends.items)) }
+    ensures shown { IfOk result (λ ends.
+        EndsShow world.now.plan world.now.rows (query_lines script.now) ends.items) }
 {
-    query_lines_are_query_texts();
-    match end_line(alloc, world, lookup, script.text_of(before + 1)) {
-        Ok(end) => Ok(ends.push(end)?),
-        Err(Memory) => Err(Memory),
-    }
+    know(world);
+    let _ = script.steps();
+    all_told(alloc, plans, ends)
 }
 
-/// The end of the query with this line.
-fn end_line(
+/// Drives the queries of a script that are planned so over a shared board of their own.
+fn driven<'w, R: Threads + Wait + Sync, G: Gate + Sync>(
     alloc: Global,
-    world: &Store,
-    lookup: &mut Lookup<'_>,
-    text: &[u8],
-) -> Result<End, Memory>
-    requires same { lookup.old ≡ world.now }
-    requires short { length text.now ≤ QUERY_TEXT_MOST }
-    ensures end { IfOk result (IsTold world.now.plan world.now.rows text.now) }
-    ensures same { lookup.new ≡ lookup.old }
+    rt: &R,
+    world: &'w Store,
+    script: &Script<'_>,
+    workers: u32,
+    gate: &G,
+    plans: &[Plan],
+) -> Result<Vec<BoardEnd<Piece<'w>>>, Memory>
+    requires few { workers ≤ 16 }
+    requires plans { ArePlans world.now.plan world.now.rows (query_lines script.now) plans.now }
+    ensures { IfOk result (λ ends.
+        IsDriven workers world.now.plan world.now.rows script.now.steps plans.now ends.items) }
 {
-    match plan_line(alloc, world, lookup, text) {
-        Ok(plan) => end_planned(alloc, world, plan),
+    match all_queries(alloc, plans) {
+        Ok(queries) => driven_by(
+            alloc,
+            rt,
+            world,
+            script,
+            workers,
+            gate,
+            plans,
+            queries.as_slice(),
+        ),
         Err(Memory) => Err(Memory),
     }
 }
 
-/// The end of the queries with this plan.
-fn end_planned(alloc: Global, world: &Store, plan: Plan) -> Result<End, Memory>
-    requires { IsPlanOfSome world.now.plan world.now.rows plan }
-    ensures { IfOk result (IsEndBy world.now.plan world.now.rows plan) }
+/// Drives them, by these chunk queries.
+fn driven_by<'w, R: Threads + Wait + Sync, G: Gate + Sync>(
+    alloc: Global,
+    rt: &R,
+    world: &'w Store,
+    script: &Script<'_>,
+    workers: u32,
+    gate: &G,
+    plans: &[Plan],
+    queries: &[Option<ChunkQuery>],
+) -> Result<Vec<BoardEnd<Piece<'w>>>, Memory>
+    requires few { workers ≤ 16 }
+    requires plans { ArePlans world.now.plan world.now.rows (query_lines script.now) plans.now }
+    requires queries { queries.now ≡ map chunk_query plans.now }
+    ensures { IfOk result (λ ends.
+        IsDriven workers world.now.plan world.now.rows script.now.steps plans.now ends.items) }
 {
-    match plan {
-        Plan::Refused(why) => Ok(End::Refused(why)),
-        Plan::Planned {
-            head,
-            query,
-            chunks,
-        } => end_of(alloc, world, head, &query, &chunks),
+    know(world);
+    let _ = script.queries();
+    match seated(alloc, world, queries) {
+        Ok((board, seat)) => driven_at(
+            alloc, rt, world, script, workers, gate, plans, queries, board, seat,
+        ),
+        Err(Memory) => Err(Memory),
     }
+}
+
+/// Drives them over this board, from the czar's first seat at it.
+fn driven_at<'w, R: Threads + Wait + Sync, G: Gate + Sync>(
+    alloc: Global,
+    rt: &R,
+    world: &'w Store,
+    script: &Script<'_>,
+    workers: u32,
+    gate: &G,
+    plans: &[Plan],
+    queries: &[Option<ChunkQuery>],
+    board: SharedBoard<Piece<'w>>,
+    seat: Seat<Board<Piece<'w>>>,
+) -> Result<Vec<BoardEnd<Piece<'w>>>, Memory>
+    requires few { workers ≤ 16 }
+    requires plans { ArePlans world.now.plan world.now.rows (query_lines script.now) plans.now }
+    requires queries { queries.now ≡ map chunk_query plans.now }
+    requires base { IsBase (base_of world.now.plan world.now.rows queries.now) }
+    requires seat { seat ≡ first_seat board (record {
+      root = base_of world.now.plan world.now.rows queries.now;
+      ring = chunk_count world.now.plan;
+    }) }
+    ensures { IfOk result (λ ends.
+        IsDriven workers world.now.plan world.now.rows script.now.steps plans.now ends.items) }
+{
+    match all_attached(alloc, plans) {
+        Ok(attached) => drive_all(
+            alloc, rt, world, script, workers, gate, plans, queries, &board, seat, attached,
+        ),
+        Err(Memory) => Err(Memory),
+    }
+}
+
+/// Drives what is attached for them.
+fn drive_all<'w, R: Threads + Wait + Sync, G: Gate + Sync>(
+    alloc: Global,
+    rt: &R,
+    world: &'w Store,
+    script: &Script<'_>,
+    workers: u32,
+    gate: &G,
+    plans: &[Plan],
+    queries: &[Option<ChunkQuery>],
+    board: &SharedBoard<Piece<'w>>,
+    seat: Seat<Board<Piece<'w>>>,
+    all: Vec<Option<Planned<Piece<'w>>>>,
+) -> Result<Vec<BoardEnd<Piece<'w>>>, Memory>
+    requires few { workers ≤ 16 }
+    requires each { length plans.now ≡ query_count script.now.steps }
+    requires fit { PlansFit StandsFor Asks (chunk_count world.now.plan)
+        (base_of world.now.plan world.now.rows queries.now) all.items }
+    requires queries { queries.now ≡ map chunk_query plans.now }
+    requires attached { all.items ≡ map attached plans.now }
+    requires seat { seat ≡ first_seat board.now (record {
+      root = base_of world.now.plan world.now.rows queries.now;
+      ring = chunk_count world.now.plan;
+    }) }
+    ensures { IfOk result (λ ends.
+        IsDriven workers world.now.plan world.now.rows script.now.steps plans.now ends.items) }
+{
+    know(world);
+    let _ = script.queries();
+    let scans = Scans {
+        alloc,
+        world,
+        queries,
+    };
+    let steps = script.steps();
+    let (ends, seat) = drive(alloc, rt, board, seat, &scans, gate, all, steps, workers);
+    drop(seat);
+    ends
+}
+
+/// What a store tells of itself: its plan and its rows are within the limits. Takes no memory.
+fn know(world: &Store)
+    ensures sky { IsSky world.now.plan }
+    ensures rows { IsCatalogue world.now.rows }
+{
+    let _ = world.plan().chunks();
+    let _ = world.rows().len();
 }

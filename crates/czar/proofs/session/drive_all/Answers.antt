@@ -1,0 +1,20 @@
+use Rattle.std.proofs.Common.{sym, ap, subst, ℕ, ◌≤◌}
+use Rattle.scan_rules.specs.declared.limits.TheConstants.{RING_MOST}
+use Rattle.czar.proofs.Crossing.{crossing}
+use Rattle.czar.proofs.Driving.{driven}
+use Rattle.czar.proofs.session.drive_all.Goals as goal
+
+pub drive-ends-requires-send-P-Root : goal.drive-ends-requires-send-P-Root
+drive-ends-requires-send-P-Root g c = λ κs lives. search crossing depth 60 fits 20000
+
+pub drive-ends-requires-clause-ring : goal.drive-ends-requires-clause-ring
+drive-ends-requires-clause-ring g c = λ κs lives.
+    subst (λ (n : ℕ). n ≤ RING_MOST) (sym (ap (λ s. s.root.ring) c.requires.seat)) c.know.ensures.sky.few_chunks
+
+pub drive-ends-requires-sync-E : goal.drive-ends-requires-sync-E
+drive-ends-requires-sync-E g c = λ κs lives. search crossing depth 60 fits 20000
+
+pub returns : goal.returns
+returns g c =
+    driven c.args.workers c.args.world.now.plan c.args.world.now.rows c.args.script.now.steps c.steps-steps.result.now c.args.plans.now c.args.queries.now c.args.all c.args.seat c.drive-ends.result.1 _
+    c.steps-steps.ensures.steps c.requires.queries c.requires.attached (ap (λ s. s.root) c.requires.seat) c.drive-ends.ensures.manned c.drive-ends.ensures.drove c.drive-ends.ensures.len c.drive-ends.ensures.ends

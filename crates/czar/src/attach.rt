@@ -1,0 +1,171 @@
+//! What a session attaches for the queries of a script, and the board that it is attached to.
+
+ghost use Rattle.std.specs.Prelude.{◌≡◌, ◌+◌, ◌<◌, ◌≤◌, All, AllPairs, IfOk, OnOk, length, map, take};
+ghost use Rattle.sky_rules.specs.Partition.{chunk_count};
+ghost use Rattle.scan_rules.specs.declared.limits.TheConstants.{QUERY_MOST};
+ghost use Rattle.answer_rules.specs.Bases.{IsBase, columns_in};
+ghost use Rattle.turn_lock.specs.Seats.{first_seat};
+ghost use Rattle.czar.specs.Attached.{IsSoundIfThere, attached, base_of, chunk_query, with_next};
+
+use crate::plan::Plan;
+use answer_rules::ChunkQuery;
+use chunk_rewriter::copy_of;
+use chunk_store::Store;
+use partial_merge::{Piece, PieceRoot};
+use scan_board::{Board, ChunkSet, Seat, SharedBoard};
+use scan_session::Planned;
+use sky_io::Memory;
+use std::alloc::Global;
+
+/// A list of the same chunks.
+fn copied(alloc: Global, chunks: &[u32]) -> Result<ChunkSet, Memory>
+    requires { AllPairs (λ a b. a < b) chunks.now }
+    ensures { IfOk result (λ copy. copy ≡ chunks.now) }
+{
+    let mut copy = ChunkSet::new(alloc);
+    for chunk in chunks {
+        copy.push(*chunk)?;
+    }
+    Ok(copy)
+}
+
+/// What is attached for a query: nothing where it is refused.
+fn attached_by<'w>(alloc: Global, plan: &Plan) -> Result<Option<Planned<Piece<'w>>>, Memory>
+    ensures { IfOk result (λ it. it ≡ attached plan.now) }
+{
+    match plan {
+        Plan::Planned {
+            head: _,
+            query,
+            chunks,
+        } => match copied(alloc, chunks.as_slice()) {
+            Ok(chunks) => Ok(Some(Planned {
+                chunks,
+                empty: Piece::empty(alloc, &query.chunk),
+            })),
+            Err(Memory) => Err(Memory),
+        },
+        Plan::Refused(_) => Ok(None),
+    }
+}
+
+/// What is attached for each query of a script, in their order.
+pub(crate) fn all_attached<'w>(
+    alloc: Global,
+    plans: &[Plan],
+) -> Result<Vec<Option<Planned<Piece<'w>>>>, Memory>
+    ensures { IfOk result (λ all. all.items ≡ map attached plans.now) }
+{
+    let mut all = Vec::new(alloc);
+    for plan in plans {
+        let one = attached_by(alloc, plan)?;
+        all.push(one)?;
+    }
+    Ok(all)
+}
+
+/// The chunk query of a query that is planned, once more.
+fn query_by(alloc: Global, plan: &Plan) -> Result<Option<ChunkQuery>, Memory>
+    ensures { IfOk result (λ it. it ≡ chunk_query plan.now) }
+{
+    match plan {
+        Plan::Planned { query, .. } => match copy_of(alloc, &query.chunk) {
+            Ok(chunk) => Ok(Some(chunk)),
+            Err(Memory) => Err(Memory),
+        },
+        Plan::Refused(_) => Ok(None),
+    }
+}
+
+/// The chunk query of each query of a script, in their order.
+pub(crate) fn all_queries(alloc: Global, plans: &[Plan]) -> Result<Vec<Option<ChunkQuery>>, Memory>
+    ensures { IfOk result (λ all. all.items ≡ map chunk_query plans.now) }
+{
+    let mut all = Vec::new(alloc);
+    for plan in plans {
+        let one = query_by(alloc, plan)?;
+        all.push(one)?;
+    }
+    Ok(all)
+}
+
+/// Gives the root the chunk query of the query with this number, where there is one.
+fn give(
+    alloc: Global,
+    query: &Option<ChunkQuery>,
+    q: u32,
+    root: &mut PieceRoot<'_>,
+) -> Result<(), Memory>
+    requires above { All (λ e. e.0 < q) root.old.queries }
+    requires from_1 { 1 ≤ q }
+    requires to_255 { q ≤ QUERY_MOST }
+    requires sound { IsSoundIfThere (columns_in root.old) query.now }
+    ensures { OnOk result (root.new ≡ with_next root.old q query.now) }
+{
+    match query {
+        Some(query) => match copy_of(alloc, query) {
+            Ok(copy) => root.push(q, copy),
+            Err(Memory) => Err(Memory),
+        },
+        None => Ok(()),
+    }
+}
+
+/// Gives the root of the chunk queries before a place the one at it.
+fn give_next(
+    alloc: Global,
+    world: &Store,
+    queries: &[Option<ChunkQuery>],
+    place: usize,
+    root: &mut PieceRoot<'_>,
+) -> Result<(), Memory>
+    requires few { length queries.now ≤ QUERY_MOST }
+    requires there { place < length queries.now }
+    requires sound { All (IsSoundIfThere (4 + length world.now.rows.names)) queries.now }
+    requires given { root.old
+        ≡ base_of world.now.plan world.now.rows (take place queries.now) }
+    ensures { OnOk result (root.new
+        ≡ base_of world.now.plan world.now.rows (take (place + 1) queries.now)) }
+{
+    give(alloc, &queries[place], place as u32 + 1, root)
+}
+
+/// What the pieces of a session rest on: the world, and the chunk queries with their numbers.
+fn root_of<'w>(
+    alloc: Global,
+    world: &'w Store,
+    queries: &[Option<ChunkQuery>],
+) -> Result<PieceRoot<'w>, Memory>
+    requires few { length queries.now ≤ QUERY_MOST }
+    requires sound { All (IsSoundIfThere (4 + length world.now.rows.names)) queries.now }
+    ensures root { IfOk result (λ root.
+        root ≡ base_of world.now.plan world.now.rows queries.now) }
+    ensures base { IfOk result IsBase }
+{
+    let mut root = PieceRoot::new(alloc, world.plan(), world.rows());
+    for place in 0..queries.len() {
+        give_next(alloc, world, queries, place, &mut root)?;
+    }
+    let _ = root.len();
+    Ok(root)
+}
+
+/// A board over the chunks of the world for these chunk queries, and the czar's seat at it.
+pub(crate) fn seated<'w>(
+    alloc: Global,
+    world: &'w Store,
+    queries: &[Option<ChunkQuery>],
+) -> Result<(SharedBoard<Piece<'w>>, Seat<Board<Piece<'w>>>), Memory>
+    requires few { length queries.now ≤ QUERY_MOST }
+    requires sound { All (IsSoundIfThere (4 + length world.now.rows.names)) queries.now }
+    ensures seat { IfOk result (λ r. r.1 ≡ first_seat r.0 (record {
+      root = base_of world.now.plan world.now.rows queries.now;
+      ring = chunk_count world.now.plan;
+    })) }
+    ensures base { IfOk result (λ _.
+        IsBase (base_of world.now.plan world.now.rows queries.now)) }
+{
+    let root = root_of(alloc, world, queries)?;
+    let board = Board::new(alloc, world.plan().chunks(), root)?;
+    SharedBoard::new(alloc, board)
+}

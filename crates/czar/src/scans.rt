@@ -1,0 +1,56 @@
+//! The engine of a session: the piece of a query on a chunk.
+
+ghost use Rattle.std.specs.Prelude.{◌≡◌, ◌+◌, ◌∷◌, [], IfOk, length};
+ghost use Rattle.sky_rules.specs.Limits.{IsSky};
+ghost use Rattle.table_rules.specs.Objects.{IsCatalogue};
+ghost use Rattle.answer_rules.specs.Pieces.{PieceFor};
+ghost use Rattle.answer_rules.specs.SoundChunks.{IsSoundChunk};
+ghost use Rattle.czar.specs.Running.{IsOpen};
+
+use answer_rules::ChunkQuery;
+use chunk_scan::scan;
+use chunk_store::Store;
+use near_join::join;
+use partial_merge::Piece;
+use scan_worker::Engine;
+use sky_io::Memory;
+use sql_bound::Shape;
+use std::alloc::Global;
+
+/// The world of a session, and the chunk queries of its queries by their numbers, from 1.
+#[derive(Drop)]
+pub(crate) struct Scans<'w, 's> {
+    pub(crate) alloc: Global,
+    pub(crate) world: &'w Store,
+    pub(crate) queries: &'s [Option<ChunkQuery>],
+}
+
+/// The piece of one chunk: by a scan of its rows, or for pairs by a join.
+fn piece_of<'w>(
+    alloc: Global,
+    world: &'w Store,
+    query: &ChunkQuery,
+    chunk: u32,
+) -> Result<Piece<'w>, Memory>
+    requires open { IsOpen world.now.plan world.now.rows query.now.shape chunk }
+    requires sound { IsSoundChunk (4 + length world.now.rows.names) query.now }
+    ensures { IfOk result (PieceFor world.now.plan world.now.rows.objects query.now (chunk ∷ [])) }
+{
+    match &query.shape {
+        Shape::Pairs { .. } => join(alloc, world, chunk, query),
+        _ => scan(alloc, world, chunk, query),
+    }
+}
+
+impl<'w, 's> Engine<Piece<'w>> for Scans<'w, 's> {
+    ghost use Rattle.czar.specs.Attached.{base_of};
+
+    ghost root = { λ s. base_of s.world.now.plan s.world.now.rows s.queries.now };
+
+    fn piece(&self, q: u32, chunk: u32) -> Result<Piece<'w>, Memory> {
+        match &self.queries[(q - 1) as usize] {
+            Some(query) => piece_of(self.alloc, self.world, query, chunk),
+            None => unreachable!(),
+        }
+    }
+}

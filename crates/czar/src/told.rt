@@ -1,0 +1,153 @@
+//! What a query is told, by its plan and by how it ended at the board.
+
+ghost use Rattle.std.specs.Prelude.{◌≡◌, ◌≤◌, ◌++◌, ◌∷◌, [], IfErr, IfOk, OnOk, length};
+ghost use Rattle.std.specs.Vec.Iter.{into_iter_items, into_iter_len};
+ghost use Rattle.sky_rules.specs.declared.limits.TheConstants.{CHUNKS_MOST};
+ghost use Rattle.answer_rules.specs.Finish.{finished};
+ghost use Rattle.partial_merge.specs.Joining.{MayFinish};
+ghost use Rattle.czar.specs.Ended.{AllMayEnd, IsRefusal, IsNextEnd, MayAnswer, MayEnd, TellsNext};
+ghost use Rattle.czar.specs.Ended.{all_ended, answer_end, ended, finished_end, refused_end};
+ghost use Rattle.czar.specs.Running.{IsOutOfRange};
+
+use crate::end::End;
+use crate::plan::Plan;
+use answer_rules::{MergePlan, TotalOut};
+use partial_merge::Piece;
+use scan_rules::ChunkSet;
+use scan_session::End as BoardEnd;
+use sky_io::{Memory, Stop};
+use sql_tree::Query;
+use std::alloc::Global;
+use std::vec::IntoIter;
+use transcript_rules::Refusal;
+
+/// The answer of a query whose piece over these chunks this is, or its refusal for a total out of range.
+fn answer_of(
+    head: Query,
+    merge: &MergePlan,
+    chunks: &ChunkSet,
+    piece: Piece<'_>,
+) -> Result<End, Memory>
+    requires may { MayFinish merge.now piece }
+    requires few { length chunks.now ≤ CHUNKS_MOST }
+    ensures { IfOk result (λ end.
+        end ≡ answer_end head (length chunks.now) (finished merge.now piece.entry)) }
+{
+    match piece.finish(merge) {
+        Ok(table) => Ok(End::Answered {
+            head,
+            table,
+            chunks: chunks.as_slice().len() as u32,
+        }),
+        Err(stop) => out_of_range(stop),
+    }
+}
+
+/// What a query ends with whose finish stops so.
+fn out_of_range(stop: Stop<TotalOut>) -> Result<End, Memory>
+    ensures { IfOk result (IsOutOfRange stop) }
+{
+    match stop {
+        Stop::Bad(out) => Ok(End::Refused(Refusal::Total(out))),
+        Stop::Memory => Err(Memory),
+    }
+}
+
+/// What a query with this plan is told, whose piece over all its chunks this is.
+fn finished_by(plan: Plan, piece: Piece<'_>) -> Result<End, Memory>
+    requires { MayAnswer plan piece }
+    ensures { IfOk result (λ end. end ≡ finished_end plan piece.entry) }
+{
+    match plan {
+        Plan::Planned {
+            head,
+            query,
+            chunks,
+        } => answer_of(head, &query.merge, &chunks, piece),
+        Plan::Refused(_) => unreachable!(),
+    }
+}
+
+/// What a query is told that was not attached.
+fn refused_by(plan: Plan) -> End
+    requires { IsRefusal plan }
+    ensures { result ≡ refused_end plan }
+{
+    match plan {
+        Plan::Refused(why) => End::Refused(why),
+        Plan::Planned { .. } => unreachable!(),
+    }
+}
+
+/// What a query is told that was cancelled.
+fn cancelled_by(_plan: Plan) -> End
+    ensures { result ≡ End.Cancelled }
+{
+    End::Cancelled
+}
+
+/// What a query is told whose work wanted for memory.
+fn spent_by(_plan: Plan) -> End
+    ensures { result ≡ End.Spent }
+{
+    End::Spent
+}
+
+/// What a query with this plan is told that ended so.
+fn end_by(plan: Plan, end: BoardEnd<Piece<'_>>) -> Result<End, Memory>
+    requires { MayEnd plan end }
+    ensures { IfOk result (λ told. told ≡ ended plan end.entry) }
+{
+    match end {
+        BoardEnd::Answered(piece) => finished_by(plan, piece),
+        BoardEnd::Refused => Ok(refused_by(plan)),
+        BoardEnd::Cancelled => Ok(cancelled_by(plan)),
+        BoardEnd::Spent => Ok(spent_by(plan)),
+    }
+}
+
+/// Puts what a query with this plan is told that ended so behind what the others are.
+fn push_told(plan: Plan, end: BoardEnd<Piece<'_>>, told: &mut Vec<End>) -> Result<(), Memory>
+    requires { MayEnd plan end }
+    ensures { OnOk result (told.new.items ≡ told.old.items ++ ended plan end.entry ∷ []) }
+{
+    match end_by(plan, end) {
+        Ok(one) => Ok(told.push(one)?),
+        Err(Memory) => Err(Memory),
+    }
+}
+
+/// Tells the query with this plan the next of these ends.
+fn tell_next(
+    plan: Plan,
+    ends: &mut IntoIter<BoardEnd<Piece<'_>>, Global>,
+    told: &mut Vec<End>,
+) -> Result<(), Memory>
+    requires may { IsNextEnd plan (into_iter_items ends.old) }
+    requires len { into_iter_len ends.old ≡ length (into_iter_items ends.old) }
+    ensures len { into_iter_len ends.new ≡ length (into_iter_items ends.new) }
+    ensures told { OnOk result (TellsNext plan (into_iter_items ends.old) (into_iter_items ends.new)
+        told.old.items told.new.items) }
+{
+    match ends.next() {
+        Some(end) => push_told(plan, end, told),
+        None => unreachable!(),
+    }
+}
+
+/// What each query of a script is told, in their order.
+pub(crate) fn all_told(
+    alloc: Global,
+    plans: Vec<Plan>,
+    ends: Vec<BoardEnd<Piece<'_>>>,
+) -> Result<Vec<End>, Memory>
+    requires may { AllMayEnd plans.items ends.items }
+    ensures { IfOk result (λ told. told.items ≡ all_ended plans.items ends.entry.items) }
+{
+    let mut told = Vec::new(alloc);
+    let mut rest = ends.into_iter();
+    for plan in plans {
+        tell_next(plan, &mut rest, &mut told)?;
+    }
+    Ok(told)
+}
