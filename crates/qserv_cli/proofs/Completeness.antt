@@ -1,104 +1,64 @@
 -- What an outcome says leaves no other outcome where the texts are as they are.
-use Rattle.std.proofs.Common.{◌≡◌, ℕ, ◌<◌, List, Option, None, Some, Ok, Err, true, false, refl, sym, subst, arith}
+use Rattle.std.proofs.Common.{◌≡◌, ℕ, ◌<◌, List, Option, None, Some, refl, sym, subst, arith}
 use Rattle.sky_io.specs.Shelves.{times}
 use Rattle.sky_io.specs.Sinks.{Rose}
 use Rattle.sky_rules.specs.declared.fault.SkyFault.{SkyFault}
 use Rattle.table_rules.specs.declared.fault.LoadFault.{LoadFault}
-use Rattle.session_script.specs.Scripts.{script_of}
 use Rattle.session_script.specs.declared.fault.ScriptFault.{ScriptFault}
-use Rattle.session_script.specs.declared.step.Step.{Step}
-use Rattle.czar.specs.Built.{are_queries}
 use Rattle.qserv_cli.specs.Words.{Form, Load, Asks, Demo, names_of}
 use Rattle.qserv_cli.specs.Outcomes.{name_of}
 use Rattle.qserv_cli.specs.Reached.{Texts, IfTold, text_at, IsAccepted, IsSkyFault, IsCatalogueFault, IsScriptFault, IsLong, HasText}
-use Rattle.qserv_cli.specs.Reached.{AreAccepted, AreEarlierAccepted, AreStill, AreAllStill, IsNotBuiltFor}
+use Rattle.qserv_cli.specs.Reached.{AreAccepted, AreEarlierAccepted, AreStill, AreAllStill}
 use Rattle.qserv_cli.specs.Jobs.{Job, IsJobOf}
 use Rattle.qserv_cli.specs.Explained.{Shown, IsRefused, ExplainedOf, Explained}
-use Rattle.qserv_cli.specs.Completes.{IsRefusalOrMemory, IsDoneOrMemory, IsNotBuiltOrMemory, Completes, Complete}
-use Rattle.qserv_cli.specs.declared.task.Task.TheVariants.{Answer, Explain}
+use Rattle.qserv_cli.specs.Completes.{IsRefusalOrMemory, IsDoneOrMemory, Completes, Complete}
 use Rattle.qserv_cli.specs.declared.outcome.Which.{Which}
 use Rattle.qserv_cli.specs.declared.outcome.Which.TheVariants.{Sky, Catalogue, Script}
 use Rattle.qserv_cli.specs.declared.outcome.Outcome.{Outcome}
-use Rattle.qserv_cli.specs.declared.outcome.Outcome.TheVariants.{Done, Usage, BadSky, BadCatalogue, BadScript, NotBuilt}
+use Rattle.qserv_cli.specs.declared.outcome.Outcome.TheVariants.{Done, Usage, BadSky, BadCatalogue, BadScript}
 use Rattle.qserv_cli.specs.declared.outcome.Outcome.TheVariants.{TooLong, ShelfFault, SinkFault, Memory}
 
 -- a text with a fault isn't accepted: a sky plan
-sky_fault : (form : Form) (text : List ℕ) (fault : SkyFault) → IsSkyFault text fault → IsAccepted form Sky text → ⊥
-sky_fault form text fault is (plan, ok) = absurd (cc (is.1, ok.1))
+sky_fault : (text : List ℕ) (fault : SkyFault) → IsSkyFault text fault → IsAccepted Sky text → ⊥
+sky_fault text fault is (plan, ok) = absurd (cc (is.1, ok.1))
 
 -- a catalogue
-catalogue_fault : (form : Form) (text : List ℕ) (fault : LoadFault) → IsCatalogueFault text fault → IsAccepted form Catalogue text → ⊥
-catalogue_fault form text fault is (table, ok) = absurd (cc (is.1, ok.1))
-
--- a text with a fault is no script
-no_script : (text : List ℕ) (fault : ScriptFault) (steps : List Step) → script_of text ≡ Err fault → script_of text ≡ Ok steps → ⊥
-no_script text fault steps is read = absurd (cc (is, read))
+catalogue_fault : (text : List ℕ) (fault : LoadFault) → IsCatalogueFault text fault → IsAccepted Catalogue text → ⊥
+catalogue_fault text fault is (table, ok) = absurd (cc (is.1, ok.1))
 
 -- a script
-script_fault : (form : Form) (text : List ℕ) (fault : ScriptFault) → IsScriptFault text fault → IsAccepted form Script text → ⊥
-script_fault (Load sky catalogue) text fault is ok = absurd ok
-script_fault (Demo count seed) text fault is ok = absurd ok
-script_fault (Asks task sky catalogue script) text fault is ok = no_script text fault ok.0.steps is.1 ok.1.read
-
--- the steps of a text are one list
-one_list : (text : List ℕ) (ss others : List Step) → script_of text ≡ Ok ss → script_of text ≡ Ok others
-    → are_queries ss ≡ false → are_queries others ≡ true → ⊥
-one_list text ss others one two isnt is =
-    let same : ss ≡ others = cc (one, two) in
-    let isnt' : are_queries others ≡ false = subst (λ s. are_queries s ≡ false) same isnt in
-    absurd (cc (isnt', is))
-
--- a script that is not built isn't accepted
-not_built : (form : Form) (text : List ℕ) → IsNotBuiltFor form text → IsAccepted form Script text → ⊥
-not_built (Load sky catalogue) text isnt ok = absurd ok
-not_built (Demo count seed) text isnt ok = absurd ok
-not_built (Asks Answer sky catalogue script) text isnt ok =
-    one_list text isnt.0.steps ok.0.steps isnt.1.read ok.1.read isnt.2 ok.2
-not_built (Asks Explain sky catalogue script) text isnt ok = absurd isnt.2
+script_fault : (text : List ℕ) (fault : ScriptFault) → IsScriptFault text fault → IsAccepted Script text → ⊥
+script_fault text fault is (view, ok) = let read = ok.read in absurd (cc (is.1, read))
 
 -- nor is a text that is too long
-long_text : (form : Form) (which : Which) (text : List ℕ) → IsLong which text → IsAccepted form which text → ⊥
-long_text form Sky text long (plan, ok) = let short = ok.0 in absurd (omega arith)
-long_text form Catalogue text long (table, ok) = let short = ok.0 in absurd (omega arith)
-long_text (Load sky catalogue) Script text long ok = absurd ok
-long_text (Demo count seed) Script text long ok = absurd ok
-long_text (Asks task sky catalogue script) Script text long ok = let short = ok.1.short in absurd (omega arith)
-
--- a text that is too long is no script that is not built
-long_unbuilt : (form : Form) (text : List ℕ) → IsLong Script text → IsNotBuiltFor form text → ⊥
-long_unbuilt (Load sky catalogue) text long isnt = absurd isnt
-long_unbuilt (Demo count seed) text long isnt = absurd isnt
-long_unbuilt (Asks task sky catalogue script) text long isnt = let short = isnt.1.short in absurd (omega arith)
-
--- nor is a text with a fault
-faulty_unbuilt : (form : Form) (text : List ℕ) (fault : ScriptFault) → IsScriptFault text fault → IsNotBuiltFor form text → ⊥
-faulty_unbuilt (Load sky catalogue) text fault is isnt = absurd isnt
-faulty_unbuilt (Demo count seed) text fault is isnt = absurd isnt
-faulty_unbuilt (Asks task sky catalogue script) text fault is isnt = no_script text fault isnt.0.steps is.1 isnt.1.read
+long_text : (which : Which) (text : List ℕ) → IsLong which text → IsAccepted which text → ⊥
+long_text Sky text long (plan, ok) = let short = ok.0 in absurd (omega arith)
+long_text Catalogue text long (table, ok) = let short = ok.0 in absurd (omega arith)
+long_text Script text long (view, ok) = let short = ok.short in absurd (omega arith)
 
 -- each text of a job is accepted
-job_accepted : (form : Form) (texts : Texts) (job : Job) → IsJobOf form (Some texts) job → AreAccepted form texts
+job_accepted : (form : Form) (texts : Texts) (job : Job) → IsJobOf form (Some texts) job → AreAccepted (names_of form) texts
 job_accepted (Load sky catalogue) texts job is Sky has = (is.0.plan, is.2.0)
 job_accepted (Load sky catalogue) texts job is Catalogue has = (is.0.rows, is.2.1)
 job_accepted (Load sky catalogue) texts job is Script has = absurd (cc has)
-job_accepted (Asks task sky catalogue script) texts job is Sky has = (is.0.plan, is.4.0.0)
-job_accepted (Asks task sky catalogue script) texts job is Catalogue has = (is.0.rows, is.4.0.1)
-job_accepted (Asks task sky catalogue script) texts job is Script has = (is.1, is.4.1, is.3)
-job_accepted (Demo count seed) texts job is Sky has = absurd (cc has)
-job_accepted (Demo count seed) texts job is Catalogue has = absurd (cc has)
-job_accepted (Demo count seed) texts job is Script has = absurd (cc has)
+job_accepted (Asks task sky catalogue script) texts job is Sky has = (is.0.plan, is.3.0.0)
+job_accepted (Asks task sky catalogue script) texts job is Catalogue has = (is.0.rows, is.3.0.1)
+job_accepted (Asks task sky catalogue script) texts job is Script has = (is.1, is.3.1)
+job_accepted (Demo count seed workers) texts job is Sky has = absurd (cc has)
+job_accepted (Demo count seed workers) texts job is Catalogue has = absurd (cc has)
+job_accepted (Demo count seed workers) texts job is Script has = absurd (cc has)
 
 -- the same, where the texts are told
 told_accepted :
     (form : Form) (told : Option Texts) (texts : Texts) (job : Job) → told ≡ Some texts → IsJobOf form told job →
-    AreAccepted form texts
+    AreAccepted (names_of form) texts
 told_accepted form told texts job is asked = job_accepted form texts job (subst (λ t. IsJobOf form t job) is asked)
 
 -- the text at which texts are no longer accepted is one
 one_first :
     (form : Form) (texts : Texts) (which other : Which) → AreEarlierAccepted (names_of form) texts which →
-    (IsAccepted form which (text_at (names_of form) texts which) → ⊥) → AreEarlierAccepted (names_of form) texts other →
-    (IsAccepted form other (text_at (names_of form) texts other) → ⊥) → other ≡ which
+    (IsAccepted which (text_at (names_of form) texts which) → ⊥) → AreEarlierAccepted (names_of form) texts other →
+    (IsAccepted other (text_at (names_of form) texts other) → ⊥) → other ≡ which
 one_first form texts Sky Sky earlier isnt earlier' isnt' = refl
 one_first form texts Sky Catalogue earlier isnt earlier' isnt' = absurd (isnt earlier')
 one_first form texts Sky Script earlier isnt earlier' isnt' = absurd (isnt earlier'.0)
@@ -115,7 +75,7 @@ still_not_risen before now same rose = absurd (omega arith)
 -- no fault can be at a text where this one is refused and it and the earlier ones are still
 no_fault :
     (form : Form) (texts : Texts) (which other : Which) (old new : List (List ℕ)) →
-    (IsAccepted form which (text_at (names_of form) texts which) → ⊥) → AreStill (names_of form) old new which →
+    (IsAccepted which (text_at (names_of form) texts which) → ⊥) → AreStill (names_of form) old new which →
     AreEarlierAccepted (names_of form) texts other →
     times (name_of (names_of form) other) old < times (name_of (names_of form) other) new → ⊥
 no_fault form texts Sky Sky old new isnt still earlier rose = still_not_risen _ _ still rose
@@ -138,7 +98,7 @@ at_texts told texts P is h = subst (λ t. IfTold t P) is h
 record StopsAt (form : Form) (texts : Texts) (other : Which) : Type 0 where
   has : HasText (names_of form) other
   earlier : AreEarlierAccepted (names_of form) texts other
-  isnt : IsAccepted form other (text_at (names_of form) texts other) → ⊥
+  isnt : IsAccepted other (text_at (names_of form) texts other) → ⊥
 
 -- what holds of a refused text
 why_at :
@@ -151,7 +111,7 @@ why_at form s texts other Why told h =
 -- a refused text was reached and isn't accepted
 stops :
     (form : Form) (s : Shown) (texts : Texts) (other : Which) (Why : List ℕ → Type 0) →
-    s.shelf_old.texts ≡ Some texts → ((text : List ℕ) → Why text → IsAccepted form other text → ⊥) →
+    s.shelf_old.texts ≡ Some texts → ((text : List ℕ) → Why text → IsAccepted other text → ⊥) →
     IsRefused (names_of form) s other Why → StopsAt form texts other
 stops form s texts other Why told refuses h = record {
   has = h.has;
@@ -163,34 +123,29 @@ stops form s texts other Why told refuses h = record {
 sky_stops : (form : Form) (s : Shown) (texts : Texts) (fault : SkyFault) → s.shelf_old.texts ≡ Some texts
     → IsRefused (names_of form) s Sky (λ text. IsSkyFault text fault) → StopsAt form texts Sky
 sky_stops form s texts fault told h =
-    stops form s texts Sky (λ text. IsSkyFault text fault) told (λ text is. sky_fault form text fault is) h
+    stops form s texts Sky (λ text. IsSkyFault text fault) told (λ text is. sky_fault text fault is) h
 
 -- a refused catalogue
 catalogue_stops : (form : Form) (s : Shown) (texts : Texts) (fault : LoadFault) → s.shelf_old.texts ≡ Some texts
     → IsRefused (names_of form) s Catalogue (λ text. IsCatalogueFault text fault) → StopsAt form texts Catalogue
 catalogue_stops form s texts fault told h =
-    stops form s texts Catalogue (λ text. IsCatalogueFault text fault) told (λ text is. catalogue_fault form text fault is) h
+    stops form s texts Catalogue (λ text. IsCatalogueFault text fault) told (λ text is. catalogue_fault text fault is) h
 
 -- a refused script
 script_stops : (form : Form) (s : Shown) (texts : Texts) (fault : ScriptFault) → s.shelf_old.texts ≡ Some texts
     → IsRefused (names_of form) s Script (λ text. IsScriptFault text fault) → StopsAt form texts Script
 script_stops form s texts fault told h =
-    stops form s texts Script (λ text. IsScriptFault text fault) told (λ text is. script_fault form text fault is) h
-
--- a script that is not built
-unbuilt_stops : (form : Form) (s : Shown) (texts : Texts) → s.shelf_old.texts ≡ Some texts
-    → IsRefused (names_of form) s Script (IsNotBuiltFor form) → StopsAt form texts Script
-unbuilt_stops form s texts told h = stops form s texts Script (IsNotBuiltFor form) told (not_built form) h
+    stops form s texts Script (λ text. IsScriptFault text fault) told (λ text is. script_fault text fault is) h
 
 -- a text that is too long
 long_stops : (form : Form) (s : Shown) (texts : Texts) (which : Which) → s.shelf_old.texts ≡ Some texts
     → IsRefused (names_of form) s which (IsLong which) → StopsAt form texts which
-long_stops form s texts which told h = stops form s texts which (IsLong which) told (long_text form which) h
+long_stops form s texts which told h = stops form s texts which (IsLong which) told (long_text which) h
 
 -- the text at which it stops is the one that is reached and isn't accepted
 same_stop :
     (form : Form) (texts : Texts) (which other : Which) → AreEarlierAccepted (names_of form) texts which →
-    (IsAccepted form which (text_at (names_of form) texts which) → ⊥) → StopsAt form texts other → other ≡ which
+    (IsAccepted which (text_at (names_of form) texts which) → ⊥) → StopsAt form texts other → other ≡ which
 same_stop form texts which other earlier isnt at = one_first form texts which other earlier isnt at.earlier at.isnt
 
 -- what makes an outcome a refusal: the text at which it stops, where it does
@@ -198,7 +153,7 @@ stops_by :
     (form : Form) (s : Shown) (texts : Texts) (outcome : Outcome) (which : Which) →
     s.shelf_old.texts ≡ Some texts → ExplainedOf form s outcome → HasText (names_of form) which →
     AreEarlierAccepted (names_of form) texts which →
-    (IsAccepted form which (text_at (names_of form) texts which) → ⊥) →
+    (IsAccepted which (text_at (names_of form) texts which) → ⊥) →
     AreStill (names_of form) s.shelf_old.failed s.shelf_new.failed which → IsRefusalOrMemory which outcome
 stops_by form s texts (Done ends) which told h has earlier isnt still =
     absurd (isnt (told_accepted form s.shelf_old.texts texts h.job told h.asked which has))
@@ -209,10 +164,6 @@ stops_by form s texts (BadCatalogue fault) which told h has earlier isnt still =
     sym (same_stop form texts which Catalogue earlier isnt (catalogue_stops form s texts fault told h))
 stops_by form s texts (BadScript fault) which told h has earlier isnt still =
     sym (same_stop form texts which Script earlier isnt (script_stops form s texts fault told h))
-stops_by form s texts (NotBuilt Sky) which told h has earlier isnt still = absurd h
-stops_by form s texts (NotBuilt Catalogue) which told h has earlier isnt still = absurd h
-stops_by form s texts (NotBuilt Script) which told h has earlier isnt still =
-    same_stop form texts which Script earlier isnt (unbuilt_stops form s texts told h)
 stops_by form s texts (TooLong other) which told h has earlier isnt still =
     same_stop form texts which other earlier isnt (long_stops form s texts other told h)
 stops_by form s texts (ShelfFault other) which told h has earlier isnt still =
@@ -222,35 +173,14 @@ stops_by form s texts (SinkFault ends) which told h has earlier isnt still =
     absurd (isnt (told_accepted form s.shelf_old.texts texts h.job told h.asked which has))
 stops_by form s texts Memory which told h has earlier isnt still = tt
 
--- a refusal of a script that is not built says so
-unbuilt_by :
-    (form : Form) (s : Shown) (texts : Texts) (outcome : Outcome) → s.shelf_old.texts ≡ Some texts →
-    ExplainedOf form s outcome → IsNotBuiltFor form (text_at (names_of form) texts Script) →
-    IsRefusalOrMemory Script outcome → IsNotBuiltOrMemory outcome
-unbuilt_by form s texts (Done ends) told h isnt is = is
-unbuilt_by form s texts Usage told h isnt is = is
-unbuilt_by form s texts (BadSky fault) told h isnt is = absurd (cc is)
-unbuilt_by form s texts (BadCatalogue fault) told h isnt is = absurd (cc is)
-unbuilt_by form s texts (BadScript fault) told h isnt is =
-    absurd (faulty_unbuilt form (text_at (names_of form) texts Script) fault
-    (why_at form s texts Script (λ text. IsScriptFault text fault) told h) isnt)
-unbuilt_by form s texts (NotBuilt which) told h isnt is = is
-unbuilt_by form s texts (TooLong Sky) told h isnt is = absurd (cc is)
-unbuilt_by form s texts (TooLong Catalogue) told h isnt is = absurd (cc is)
-unbuilt_by form s texts (TooLong Script) told h isnt is =
-    absurd (long_unbuilt form (text_at (names_of form) texts Script) (why_at form s texts Script (IsLong Script) told h) isnt)
-unbuilt_by form s texts (ShelfFault which) told h isnt is = is
-unbuilt_by form s texts (SinkFault ends) told h isnt is = is
-unbuilt_by form s texts Memory told h isnt is = tt
-
 -- all being accepted, no text is refused
-none_stops : (form : Form) (texts : Texts) (other : Which) → StopsAt form texts other → AreAccepted form texts → ⊥
+none_stops : (form : Form) (texts : Texts) (other : Which) → StopsAt form texts other → AreAccepted (names_of form) texts → ⊥
 none_stops form texts other at all = at.isnt (all other at.has)
 
 -- all being accepted, and nothing having failed, the work is done
 done_by :
     (form : Form) (s : Shown) (texts : Texts) (outcome : Outcome) →
-    s.shelf_old.texts ≡ Some texts → ExplainedOf form s outcome → AreAccepted form texts →
+    s.shelf_old.texts ≡ Some texts → ExplainedOf form s outcome → AreAccepted (names_of form) texts →
     AreAllStill (names_of form) s.shelf_old.failed s.shelf_new.failed →
     (Rose s.sink_old.faults s.sink_new.faults → ⊥) → IsDoneOrMemory outcome
 done_by form s texts (Done ends) told h all still calm = tt
@@ -261,10 +191,6 @@ done_by form s texts (BadCatalogue fault) told h all still calm =
     none_stops form texts Catalogue (catalogue_stops form s texts fault told h) all
 done_by form s texts (BadScript fault) told h all still calm =
     none_stops form texts Script (script_stops form s texts fault told h) all
-done_by form s texts (NotBuilt Sky) told h all still calm = h
-done_by form s texts (NotBuilt Catalogue) told h all still calm = h
-done_by form s texts (NotBuilt Script) told h all still calm =
-    none_stops form texts Script (unbuilt_stops form s texts told h) all
 done_by form s texts (TooLong which) told h all still calm =
     none_stops form texts which (long_stops form s texts which told h) all
 done_by form s texts (ShelfFault other) told h all still calm = still_not_risen _ _ (still other h.has) h.cause
@@ -279,42 +205,36 @@ if_told (Some texts) P h = h texts refl
 
 -- a form that names its texts has them where they are told
 told_completes : (form : Form) (s : Shown) (outcome : Outcome) → ExplainedOf form s outcome
-    → IfTold s.shelf_old.texts (Completes form s outcome)
-told_completes form s outcome h = if_told s.shelf_old.texts (Completes form s outcome) (λ texts told. record {
+    → IfTold s.shelf_old.texts (Completes (names_of form) s outcome)
+told_completes form s outcome h = if_told s.shelf_old.texts (Completes (names_of form) s outcome) (λ texts told. record {
   refused = λ which has earlier isnt still. stops_by form s texts outcome which told h has earlier isnt still;
-  unbuilt = λ has earlier isnt still. unbuilt_by form s texts outcome told h isnt
-      (stops_by form s texts outcome Script told h has earlier (not_built form (text_at (names_of form) texts Script) isnt) still);
   done = λ all still calm. done_by form s texts outcome told h all still calm;
 })
 
 -- a demo names no text
-none_named : (count seed : ℕ) (which : Which) → HasText (names_of (Demo count seed)) which → ⊥
-none_named count seed Sky has = absurd (cc has)
-none_named count seed Catalogue has = absurd (cc has)
-none_named count seed Script has = absurd (cc has)
+none_named : (count seed workers : ℕ) (which : Which) → HasText (names_of (Demo count seed workers)) which → ⊥
+none_named count seed workers Sky has = absurd (cc has)
+none_named count seed workers Catalogue has = absurd (cc has)
+none_named count seed workers Script has = absurd (cc has)
 
 -- so its work is done where nothing has failed
-demo_done : (count seed : ℕ) (s : Shown) (outcome : Outcome) → ExplainedOf (Demo count seed) s outcome
+demo_done : (count seed workers : ℕ) (s : Shown) (outcome : Outcome) → ExplainedOf (Demo count seed workers) s outcome
     → (Rose s.sink_old.faults s.sink_new.faults → ⊥) → IsDoneOrMemory outcome
-demo_done count seed s (Done ends) h calm = tt
-demo_done count seed s Usage h calm = h
-demo_done count seed s (BadSky fault) h calm = none_named count seed Sky h.has
-demo_done count seed s (BadCatalogue fault) h calm = none_named count seed Catalogue h.has
-demo_done count seed s (BadScript fault) h calm = none_named count seed Script h.has
-demo_done count seed s (NotBuilt Sky) h calm = h
-demo_done count seed s (NotBuilt Catalogue) h calm = h
-demo_done count seed s (NotBuilt Script) h calm = none_named count seed Script h.has
-demo_done count seed s (TooLong which) h calm = none_named count seed which h.has
-demo_done count seed s (ShelfFault which) h calm = none_named count seed which h.has
-demo_done count seed s (SinkFault ends) h calm = calm h.cause
-demo_done count seed s Memory h calm = tt
+demo_done count seed workers s (Done ends) h calm = tt
+demo_done count seed workers s Usage h calm = h
+demo_done count seed workers s (BadSky fault) h calm = none_named count seed workers Sky h.has
+demo_done count seed workers s (BadCatalogue fault) h calm = none_named count seed workers Catalogue h.has
+demo_done count seed workers s (BadScript fault) h calm = none_named count seed workers Script h.has
+demo_done count seed workers s (TooLong which) h calm = none_named count seed workers which h.has
+demo_done count seed workers s (ShelfFault which) h calm = none_named count seed workers which h.has
+demo_done count seed workers s (SinkFault ends) h calm = calm h.cause
+demo_done count seed workers s Memory h calm = tt
 
-demo_completes : (count seed : ℕ) (s : Shown) (outcome : Outcome) (texts : Texts) → ExplainedOf (Demo count seed) s outcome
-    → Completes (Demo count seed) s outcome texts
-demo_completes count seed s outcome texts h = record {
-  refused = λ which has earlier isnt still. absurd (none_named count seed which has);
-  unbuilt = λ has earlier isnt still. absurd (none_named count seed Script has);
-  done = λ all still calm. demo_done count seed s outcome h calm;
+demo_completes : (count seed workers : ℕ) (s : Shown) (outcome : Outcome) (texts : Texts) → ExplainedOf (Demo count seed workers) s outcome
+    → Completes (names_of (Demo count seed workers)) s outcome texts
+demo_completes count seed workers s outcome texts h = record {
+  refused = λ which has earlier isnt still. absurd (none_named count seed workers which has);
+  done = λ all still calm. demo_done count seed workers s outcome h calm;
 }
 
 -- what an outcome says makes it the one that must come
@@ -324,4 +244,4 @@ pub completes :
 completes None s outcome h = tt
 completes (Some (Load sky catalogue)) s outcome h = told_completes (Load sky catalogue) s outcome h
 completes (Some (Asks task sky catalogue script)) s outcome h = told_completes (Asks task sky catalogue script) s outcome h
-completes (Some (Demo count seed)) s outcome h = λ texts. demo_completes count seed s outcome texts h
+completes (Some (Demo count seed workers)) s outcome h = λ texts. demo_completes count seed workers s outcome texts h

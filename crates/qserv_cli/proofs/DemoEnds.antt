@@ -1,6 +1,6 @@
 -- How the queries of the demo's script end: none of them is refused, and none is cancelled.
 use Rattle.std.proofs.Common.{◌≡◌, refl, ap, ◌∙◌, subst, ℕ, zero, suc, ◌+◌, ◌≤◌, arith, Bool, true, false, not, ◌&&◌, ◌||◌, cond, List, [], ◌∷◌, All, length, map, take, nat_eq, Option, None, Some, Ok}
-use Rattle.std.specs.List.{list_any}
+use Rattle.std.specs.List.{list_all, list_any}
 use Rattle.std.specs.Option.{is_some}
 use Rattle.table_rules.specs.Objects.{Catalogue}
 use Rattle.table_rules.specs.declared.limits.TheConstants.{ROWS_MOST}
@@ -20,7 +20,6 @@ use Rattle.session_rules.specs.declared.end.EndKind.TheVariants.{Answered, Refus
 use Rattle.transcript_rules.specs.declared.refusal.Refusal.{Refusal}
 use Rattle.transcript_rules.specs.Refusals.{early_refusal, total_refusal, refusal_of, or_else}
 use Rattle.transcript_rules.specs.Transcripts.{FitEnds, judged_of}
-use Rattle.czar.specs.Built.{are_queries}
 use Rattle.qserv_cli.specs.Reached.{IsScriptOf}
 use Rattle.qserv_cli.specs.Jobs.{IsAnsweredOrSpent, IsDemoSurvey}
 
@@ -30,6 +29,16 @@ both true b h = (refl, h)
 both false b h = absurd (cc h)
 
 -- ---- a script of queries alone cancels none of them
+
+-- the step is that of a query
+is_query : Step → Bool
+is_query (step.Query n span) = true
+is_query (step.Wait n) = false
+is_query (step.Cancel n) = false
+
+-- the steps are those of queries: none waits and none cancels
+are_queries : List Step → Bool
+are_queries steps = list_all is_query steps
 
 none_cancels : (k : ℕ) (ss : List Step) → are_queries ss ≡ true → (n : ℕ) → list_any (cancels k) (take n ss) ≡ false
 none_cancels k ss all zero = refl
@@ -92,10 +101,10 @@ ends_told workers k ss g c (text ∷ texts) (end ∷ ends) all none may =
     (one_end workers k ss (judged_of g c text) end all (accepted g c text (none 0 [] (omega arith))) one.0)
     (ends_told workers (k + 1) ss g c texts ends all (λ i d low. none (suc i) d (omega (arith, low))) one.1)
 
-script_told : (g : Partition) (c : Catalogue) (s : ScriptView) (ends : List EndKind) → are_queries s.steps ≡ true
-    → All (λ text. refusal_of g c text ≡ None) (query_lines s) → FitEnds 0 g c s ends → All IsAnsweredOrSpent ends
-script_told g c s ends all none fits =
-    ends_told 0 1 s.steps g c (query_lines s) ends all none
+script_told : (workers : ℕ) (g : Partition) (c : Catalogue) (s : ScriptView) (ends : List EndKind) → are_queries s.steps ≡ true
+    → All (λ text. refusal_of g c text ≡ None) (query_lines s) → FitEnds workers g c s ends → All IsAnsweredOrSpent ends
+script_told workers g c s ends all none fits =
+    ends_told workers 1 s.steps g c (query_lines s) ends all none
     (both (nat_eq (length (map (judged_of g c) (query_lines s))) (query_count s.steps)) _ fits).1
 
 -- ---- the demo
@@ -113,12 +122,12 @@ one_steps ss one other = cc (one, other)
 
 -- Of the demo's queries over its survey none is refused, and none is cancelled.
 pub demo_told : DemoIsAnswered → sky_of demo_sky ≡ Ok demo_plan → script_of demo_script ≡ Ok demo_steps
-    → (count seed : ℕ) → count ≤ ROWS_MOST → (survey : Survey) (view : ScriptView) (ends : List EndKind)
-    → IsDemoSurvey count seed survey → IsScriptOf demo_script view → FitEnds 0 survey.plan survey.rows view ends
+    → (count seed workers : ℕ) → count ≤ ROWS_MOST → (survey : Survey) (view : ScriptView) (ends : List EndKind)
+    → IsDemoSurvey count seed survey → IsScriptOf demo_script view → FitEnds workers survey.plan survey.rows view ends
     → All IsAnsweredOrSpent ends
-demo_told law sky steps count seed few survey view ends is read fits =
+demo_told law sky steps count seed workers few survey view ends is read fits =
     let plan : survey.plan ≡ demo_plan = one_plan survey.plan sky is.0 in
     let same : view ≡ demo_read = read_as view read.same (one_steps view.steps steps read.read) in
-    let fits' : FitEnds 0 demo_plan survey.rows demo_read ends =
-    subst (λ v. FitEnds 0 demo_plan survey.rows v ends) same (subst (λ g. FitEnds 0 g survey.rows view ends) plan fits) in
-    script_told demo_plan survey.rows demo_read ends refl (law count seed survey.rows few is.1) fits'
+    let fits' : FitEnds workers demo_plan survey.rows demo_read ends =
+    subst (λ v. FitEnds workers demo_plan survey.rows v ends) same (subst (λ g. FitEnds workers g survey.rows view ends) plan fits) in
+    script_told workers demo_plan survey.rows demo_read ends refl (law count seed survey.rows few is.1) fits'

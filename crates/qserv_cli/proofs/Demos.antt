@@ -17,7 +17,7 @@ use Rattle.qserv_cli.specs.Jobs.{Runs, IsDemoSurvey}
 use Rattle.qserv_cli.specs.Explained.{ExplainedOf, shown}
 use Rattle.qserv_cli.specs.Steps.{IsDemoOver, IsWritten}
 use Rattle.qserv_cli.specs.declared.outcome.Outcome.{Outcome}
-use Rattle.qserv_cli.specs.declared.outcome.Outcome.TheVariants.{Done, Usage, BadSky, BadCatalogue, BadScript, NotBuilt}
+use Rattle.qserv_cli.specs.declared.outcome.Outcome.TheVariants.{Done, Usage, BadSky, BadCatalogue, BadScript}
 use Rattle.qserv_cli.specs.declared.outcome.Outcome.TheVariants.{TooLong, ShelfFault, SinkFault, Memory}
 use Rattle.qserv_cli.proofs.DemoEnds.{demo_told}
 use Rattle.qserv_cli.proofs.Writing.{job_explained}
@@ -32,37 +32,36 @@ same_script text named view is short same steps = record {
 }
 
 -- What the writing of its transcript comes to is what the work on the demo's script comes to.
-pub demo_over : (survey : Survey) (view : ScriptView) (old new : SinkState) (outcome : Outcome)
-    → IsScriptOf demo_script view → IsWritten (Runs survey view) old new outcome → IsDemoOver survey old new outcome
-demo_over survey view old new (Done ends) read h = record { view = view; read = read; work = h }
-demo_over survey view old new (SinkFault ends) read h = record { view = view; read = read; work = h }
-demo_over survey view old new Usage read h = absurd h
-demo_over survey view old new (BadSky fault) read h = absurd h
-demo_over survey view old new (BadCatalogue fault) read h = absurd h
-demo_over survey view old new (BadScript fault) read h = absurd h
-demo_over survey view old new (NotBuilt which) read h = absurd h
-demo_over survey view old new (TooLong which) read h = absurd h
-demo_over survey view old new (ShelfFault which) read h = absurd h
-demo_over survey view old new Memory read h = h
+pub demo_over : (workers : ℕ) (survey : Survey) (view : ScriptView) (old new : SinkState) (outcome : Outcome)
+    → IsScriptOf demo_script view → IsWritten (Runs workers survey view) old new outcome
+    → IsDemoOver workers survey old new outcome
+demo_over workers survey view old new (Done ends) read h = record { view = view; read = read; work = h }
+demo_over workers survey view old new (SinkFault ends) read h = record { view = view; read = read; work = h }
+demo_over workers survey view old new Usage read h = absurd h
+demo_over workers survey view old new (BadSky fault) read h = absurd h
+demo_over workers survey view old new (BadCatalogue fault) read h = absurd h
+demo_over workers survey view old new (BadScript fault) read h = absurd h
+demo_over workers survey view old new (TooLong which) read h = absurd h
+demo_over workers survey view old new (ShelfFault which) read h = absurd h
+demo_over workers survey view old new Memory read h = h
 
 -- What the work on the demo's script comes to explains the outcome, whatever the shelf.
 pub demo_explained : DemoIsAnswered → sky_of demo_sky ≡ Ok demo_plan → script_of demo_script ≡ Ok demo_steps
-    → (count seed : ℕ) → count ≤ ROWS_MOST → (survey : Survey) (old new : SinkState) (outcome : Outcome) (shelf : ShelfState)
-    → IsDemoSurvey count seed survey → IsDemoOver survey old new outcome
-    → ExplainedOf (Demo count seed) (shown shelf shelf old new) outcome
-demo_explained law sky steps count seed few survey old new (Done ends) shelf is h =
-    job_explained (Demo count seed) (Runs survey h.view) shelf shelf old new (Done ends)
+    → (count seed workers : ℕ) → count ≤ ROWS_MOST → (survey : Survey) (old new : SinkState) (outcome : Outcome) (shelf : ShelfState)
+    → IsDemoSurvey count seed survey → IsDemoOver workers survey old new outcome
+    → ExplainedOf (Demo count seed workers) (shown shelf shelf old new) outcome
+demo_explained law sky steps count seed workers few survey old new (Done ends) shelf is h =
+    job_explained (Demo count seed workers) (Runs workers survey h.view) shelf shelf old new (Done ends)
     (survey, h.view, refl, is, h.read)
-    (λ ended fits. demo_told law sky steps count seed few survey h.view ended is h.read fits) refl h.work
-demo_explained law sky steps count seed few survey old new (SinkFault ends) shelf is h =
-    job_explained (Demo count seed) (Runs survey h.view) shelf shelf old new (SinkFault ends)
+    (λ ended fits. demo_told law sky steps count seed workers few survey h.view ended is h.read fits) refl h.work
+demo_explained law sky steps count seed workers few survey old new (SinkFault ends) shelf is h =
+    job_explained (Demo count seed workers) (Runs workers survey h.view) shelf shelf old new (SinkFault ends)
     (survey, h.view, refl, is, h.read)
-    (λ ended fits. demo_told law sky steps count seed few survey h.view ended is h.read fits) refl h.work
-demo_explained law sky steps count seed few survey old new Usage shelf is h = absurd h.work
-demo_explained law sky steps count seed few survey old new (BadSky fault) shelf is h = absurd h.work
-demo_explained law sky steps count seed few survey old new (BadCatalogue fault) shelf is h = absurd h.work
-demo_explained law sky steps count seed few survey old new (BadScript fault) shelf is h = absurd h.work
-demo_explained law sky steps count seed few survey old new (NotBuilt which) shelf is h = absurd h.work
-demo_explained law sky steps count seed few survey old new (TooLong which) shelf is h = absurd h.work
-demo_explained law sky steps count seed few survey old new (ShelfFault which) shelf is h = absurd h.work
-demo_explained law sky steps count seed few survey old new Memory shelf is h = (refl, h)
+    (λ ended fits. demo_told law sky steps count seed workers few survey h.view ended is h.read fits) refl h.work
+demo_explained law sky steps count seed workers few survey old new Usage shelf is h = absurd h.work
+demo_explained law sky steps count seed workers few survey old new (BadSky fault) shelf is h = absurd h.work
+demo_explained law sky steps count seed workers few survey old new (BadCatalogue fault) shelf is h = absurd h.work
+demo_explained law sky steps count seed workers few survey old new (BadScript fault) shelf is h = absurd h.work
+demo_explained law sky steps count seed workers few survey old new (TooLong which) shelf is h = absurd h.work
+demo_explained law sky steps count seed workers few survey old new (ShelfFault which) shelf is h = absurd h.work
+demo_explained law sky steps count seed workers few survey old new Memory shelf is h = (refl, h)

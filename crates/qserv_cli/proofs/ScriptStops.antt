@@ -8,7 +8,7 @@ use Rattle.qserv_cli.specs.Jobs.{IsSurveyOf}
 use Rattle.qserv_cli.specs.Steps.{IsRead, IsShelfStop, IsWholeStop}
 use Rattle.qserv_cli.specs.declared.outcome.Which.TheVariants.{Sky, Catalogue, Script}
 use Rattle.qserv_cli.specs.declared.outcome.Outcome.{Outcome}
-use Rattle.qserv_cli.specs.declared.outcome.Outcome.TheVariants.{Done, Usage, BadSky, BadCatalogue, BadScript, NotBuilt}
+use Rattle.qserv_cli.specs.declared.outcome.Outcome.TheVariants.{Done, Usage, BadSky, BadCatalogue, BadScript}
 use Rattle.qserv_cli.specs.declared.outcome.Outcome.TheVariants.{TooLong, ShelfFault, SinkFault, Memory}
 
 -- both texts before the script are accepted, where they are told
@@ -27,7 +27,6 @@ by_shelf sky catalogue script old new Usage earlier h = λ sink. absurd h
 by_shelf sky catalogue script old new (BadSky fault) earlier h = λ sink. absurd h
 by_shelf sky catalogue script old new (BadCatalogue fault) earlier h = λ sink. absurd h
 by_shelf sky catalogue script old new (BadScript fault) earlier h = λ sink. absurd h
-by_shelf sky catalogue script old new (NotBuilt which) earlier h = λ sink. absurd h
 by_shelf sky catalogue script old new (TooLong Sky) earlier h = λ sink. absurd (cc h.0)
 by_shelf sky catalogue script old new (TooLong Catalogue) earlier h = λ sink. absurd (cc h.0)
 by_shelf sky catalogue script old new (TooLong Script) earlier h = λ sink. record {

@@ -8,15 +8,14 @@ use Rattle.session_script.specs.Scripts.{script_of}
 use Rattle.session_script.specs.Views.{ScriptView}
 use Rattle.session_script.specs.declared.fault.ScriptFault.{ScriptFault}
 use Rattle.qserv_cli.specs.Words.{Form, Asks, names_from, names_of}
-use Rattle.qserv_cli.specs.Reached.{Texts, IfTold, AreEarlierAccepted, IsNotBuilt, IsNotBuiltFor, IsScriptFault, IsScriptOf, text_at}
-use Rattle.qserv_cli.specs.Jobs.{Explains, AreSurveyAndScript, IsSurveyOf, job_on}
+use Rattle.qserv_cli.specs.Reached.{Texts, IfTold, AreEarlierAccepted, IsScriptFault, IsScriptOf, text_at}
+use Rattle.qserv_cli.specs.Jobs.{AreSurveyAndScript, IsSurveyOf, job_on}
 use Rattle.qserv_cli.specs.Explained.{ExplainedOf, IsStop, Shown, shown}
-use Rattle.qserv_cli.specs.Steps.{AreGiven, IsTaskOn, IsTaskOver, IsWritten}
+use Rattle.qserv_cli.specs.Steps.{AreGiven, IsTaskOver}
 use Rattle.qserv_cli.specs.declared.task.Task.{Task}
-use Rattle.qserv_cli.specs.declared.task.Task.TheVariants.{Explain}
 use Rattle.qserv_cli.specs.declared.outcome.Which.TheVariants.{Sky, Catalogue, Script}
 use Rattle.qserv_cli.specs.declared.outcome.Outcome.{Outcome}
-use Rattle.qserv_cli.specs.declared.outcome.Outcome.TheVariants.{Done, Usage, BadSky, BadCatalogue, BadScript, NotBuilt}
+use Rattle.qserv_cli.specs.declared.outcome.Outcome.TheVariants.{Done, Usage, BadSky, BadCatalogue, BadScript}
 use Rattle.qserv_cli.specs.declared.outcome.Outcome.TheVariants.{TooLong, ShelfFault, SinkFault, Memory}
 use Rattle.qserv_cli.proofs.Writing.{job_explained}
 
@@ -27,25 +26,10 @@ stop_explained form s Usage h = h
 stop_explained form s (BadSky fault) h = h
 stop_explained form s (BadCatalogue fault) h = h
 stop_explained form s (BadScript fault) h = h
-stop_explained form s (NotBuilt which) h = absurd h
 stop_explained form s (TooLong which) h = h
 stop_explained form s (ShelfFault which) h = h
 stop_explained form s (SinkFault ends) h = absurd h
 stop_explained form s Memory h = h
-
--- What explains a script can always be written.
-pub explained_on : (survey : Survey) (view : ScriptView) (old new : SinkState) (outcome : Outcome)
-    → IsWritten (Explains survey view) old new outcome → IsTaskOn Explain survey view old new outcome
-explained_on survey view old new (Done ends) h = (tt, h)
-explained_on survey view old new Usage h = absurd h
-explained_on survey view old new (BadSky fault) h = absurd h
-explained_on survey view old new (BadCatalogue fault) h = absurd h
-explained_on survey view old new (BadScript fault) h = absurd h
-explained_on survey view old new (NotBuilt which) h = absurd h
-explained_on survey view old new (TooLong which) h = absurd h
-explained_on survey view old new (ShelfFault which) h = absurd h
-explained_on survey view old new (SinkFault ends) h = (tt, h)
-explained_on survey view old new Memory h = h
 
 -- what the shelf gave, in short
 abbrev AreTold : (sky catalogue script : List ℕ) → Survey → List ℕ → Option Texts → Type 0
@@ -81,15 +65,6 @@ fault_told sky catalogue script survey text fault None h short is = tt
 fault_told sky catalogue script survey text fault (Some texts) h short is =
     subst (λ t. IsScriptFault t fault) (sym h.1) (short, is)
 
-unbuilt_told : (task : Task) (sky catalogue script : List ℕ) (survey : Survey) (text : List ℕ) (view : ScriptView)
-    (told : Option Texts) → AreTold sky catalogue script survey text told → length text ≤ SCRIPT_TEXT_MOST
-    → view.text ≡ text → script_of text ≡ Ok view.steps → IsNotBuilt task view
-    → IfTold told (λ texts. IsNotBuiltFor (Asks task sky catalogue script)
-    (text_at (names_from sky catalogue (Some script)) texts Script))
-unbuilt_told task sky catalogue script survey text view None h short same steps isnt = tt
-unbuilt_told task sky catalogue script survey text view (Some texts) h short same steps isnt =
-    (view, named_script text (named_text script texts) view h.1 short same steps, isnt)
-
 -- What the work on the given script comes to explains the outcome.
 pub task_explained : (task : Task) (sky catalogue script : List ℕ) (survey : Survey) (text : List ℕ) (old new : ShelfState)
     (before now : SinkState) (outcome : Outcome) → AreGiven sky catalogue script survey text old new
@@ -100,22 +75,20 @@ task_explained task sky catalogue script survey text old new before now (Done en
       survey,
       h.view,
       refl,
-      h.work.0,
       both_told sky catalogue script survey text h.view old.texts given.read.holds given.short h.same h.steps,
     )
-    (λ ends fits. tt) given.read.same h.work.1
+    (λ ends fits. tt) given.read.same h.work
 task_explained task sky catalogue script survey text old new before now (SinkFault ends) given h =
     job_explained (Asks task sky catalogue script) (job_on task survey h.view) old new before now (SinkFault ends) (
       survey,
       h.view,
       refl,
-      h.work.0,
       both_told sky catalogue script survey text h.view old.texts given.read.holds given.short h.same h.steps,
     )
-    (λ ends fits. tt) given.read.same h.work.1
-task_explained task sky catalogue script survey text old new before now Usage given h = absurd h.work.1
-task_explained task sky catalogue script survey text old new before now (BadSky fault) given h = absurd h.work.1
-task_explained task sky catalogue script survey text old new before now (BadCatalogue fault) given h = absurd h.work.1
+    (λ ends fits. tt) given.read.same h.work
+task_explained task sky catalogue script survey text old new before now Usage given h = absurd h.work
+task_explained task sky catalogue script survey text old new before now (BadSky fault) given h = absurd h.work
+task_explained task sky catalogue script survey text old new before now (BadCatalogue fault) given h = absurd h.work
 task_explained task sky catalogue script survey text old new before now (BadScript fault) given h = record {
   has = refl;
   earlier = earlier_told sky catalogue script survey text old.texts given.read.holds;
@@ -123,16 +96,7 @@ task_explained task sky catalogue script survey text old new before now (BadScri
   fetched = given.read.same;
   untouched = h.1;
 }
-task_explained task sky catalogue script survey text old new before now (NotBuilt Sky) given h = absurd (cc h.work.0)
-task_explained task sky catalogue script survey text old new before now (NotBuilt Catalogue) given h = absurd (cc h.work.0)
-task_explained task sky catalogue script survey text old new before now (NotBuilt Script) given h = record {
-  has = refl;
-  earlier = earlier_told sky catalogue script survey text old.texts given.read.holds;
-  why = unbuilt_told task sky catalogue script survey text h.view old.texts given.read.holds given.short h.same h.steps h.work.1;
-  fetched = given.read.same;
-  untouched = h.work.2;
-}
-task_explained task sky catalogue script survey text old new before now (TooLong which) given h = absurd h.work.1
-task_explained task sky catalogue script survey text old new before now (ShelfFault which) given h = absurd h.work.1
+task_explained task sky catalogue script survey text old new before now (TooLong which) given h = absurd h.work
+task_explained task sky catalogue script survey text old new before now (ShelfFault which) given h = absurd h.work
 task_explained task sky catalogue script survey text old new before now Memory given h =
     (given.read.same, h)

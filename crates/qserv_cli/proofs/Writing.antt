@@ -10,7 +10,7 @@ use Rattle.qserv_cli.specs.Jobs.{Job, DemoIsTold, EndsFit, IsJobOf, text_of_job}
 use Rattle.qserv_cli.specs.Explained.{ExplainedOf, shown}
 use Rattle.qserv_cli.specs.Steps.{IsSent, IsTorn, IsWritten, IsFlushed}
 use Rattle.qserv_cli.specs.declared.outcome.Outcome.{Outcome}
-use Rattle.qserv_cli.specs.declared.outcome.Outcome.TheVariants.{Done, Usage, BadSky, BadCatalogue, BadScript, NotBuilt}
+use Rattle.qserv_cli.specs.declared.outcome.Outcome.TheVariants.{Done, Usage, BadSky, BadCatalogue, BadScript}
 use Rattle.qserv_cli.specs.declared.outcome.Outcome.TheVariants.{TooLong, ShelfFault, SinkFault, Memory}
 
 -- all of a text is a front of it
@@ -58,7 +58,6 @@ written job ends old mid new Usage fits wrote h = absurd h
 written job ends old mid new (BadSky fault) fits wrote h = absurd h
 written job ends old mid new (BadCatalogue fault) fits wrote h = absurd h
 written job ends old mid new (BadScript fault) fits wrote h = absurd h
-written job ends old mid new (NotBuilt which) fits wrote h = absurd h
 written job ends old mid new (TooLong which) fits wrote h = absurd h
 written job ends old mid new (ShelfFault which) fits wrote h = absurd h
 written job ends old mid new Memory fits wrote h = absurd h
@@ -99,6 +98,5 @@ job_explained form job old new before now Usage asked told same h = absurd h
 job_explained form job old new before now (BadSky fault) asked told same h = absurd h
 job_explained form job old new before now (BadCatalogue fault) asked told same h = absurd h
 job_explained form job old new before now (BadScript fault) asked told same h = absurd h
-job_explained form job old new before now (NotBuilt which) asked told same h = absurd h
 job_explained form job old new before now (TooLong which) asked told same h = absurd h
 job_explained form job old new before now (ShelfFault which) asked told same h = absurd h

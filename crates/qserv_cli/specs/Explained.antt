@@ -6,12 +6,12 @@ use Rattle.session_rules.specs.declared.end.EndKind.{EndKind}
 use Rattle.qserv_cli.specs.Words.{Form, Names, names_of}
 use Rattle.qserv_cli.specs.Outcomes.{name_of}
 use Rattle.qserv_cli.specs.Reached.{IfTold, text_at, HasText, AreEarlierAccepted}
-use Rattle.qserv_cli.specs.Reached.{IsSkyFault, IsCatalogueFault, IsScriptFault, IsLong, IsNotBuiltFor}
+use Rattle.qserv_cli.specs.Reached.{IsSkyFault, IsCatalogueFault, IsScriptFault, IsLong}
 use Rattle.qserv_cli.specs.Jobs.{Job, DemoIsTold, EndsFit, IsJobOf, text_of_job}
 use Rattle.qserv_cli.specs.declared.outcome.Which.{Which}
 use Rattle.qserv_cli.specs.declared.outcome.Which.TheVariants.{Sky, Catalogue, Script}
 use Rattle.qserv_cli.specs.declared.outcome.Outcome.{Outcome}
-use Rattle.qserv_cli.specs.declared.outcome.Outcome.TheVariants.{Done, Usage, BadSky, BadCatalogue, BadScript, NotBuilt}
+use Rattle.qserv_cli.specs.declared.outcome.Outcome.TheVariants.{Done, Usage, BadSky, BadCatalogue, BadScript}
 use Rattle.qserv_cli.specs.declared.outcome.Outcome.TheVariants.{TooLong, ShelfFault, SinkFault, Memory}
 
 -- What shelf and sink show before and after the call.
@@ -64,12 +64,6 @@ pub record IsRefused (names : Names) (shown : Shown) (which : Which) (Why : List
   pub fetched : AllFetched shown
   pub untouched : IsUntouched shown
 
--- the text is a script, and what is asked of it is not built
-abbrev pub IsUnbuilt : Form → Shown → Which → Type 0
-IsUnbuilt form shown Sky = ⊥
-IsUnbuilt form shown Catalogue = ⊥
-IsUnbuilt form shown Script = IsRefused (names_of form) shown Script (IsNotBuiltFor form)
-
 -- The shelf failed at a text: the count of that very name rose and no other's, each earlier text being accepted.
 pub record IsShelfFault (names : Names) (shown : Shown) (which : Which) : Type 0 where
   pub has : HasText names which
@@ -86,7 +80,6 @@ IsStop names shown Usage = ⊥
 IsStop names shown (BadSky fault) = IsRefused names shown Sky (λ text. IsSkyFault text fault)
 IsStop names shown (BadCatalogue fault) = IsRefused names shown Catalogue (λ text. IsCatalogueFault text fault)
 IsStop names shown (BadScript fault) = IsRefused names shown Script (λ text. IsScriptFault text fault)
-IsStop names shown (NotBuilt which) = ⊥
 IsStop names shown (TooLong which) = IsRefused names shown which (IsLong which)
 IsStop names shown (ShelfFault which) = IsShelfFault names shown which
 IsStop names shown (SinkFault ends) = ⊥
@@ -96,7 +89,6 @@ IsStop names shown Memory = AllFetched shown × IsUntouched shown
 abbrev pub ExplainedOf : Form → Shown → Outcome → Type 0
 ExplainedOf form shown (Done ends) = IsDone form shown ends
 ExplainedOf form shown (SinkFault ends) = IsSinkFault form shown ends
-ExplainedOf form shown (NotBuilt which) = IsUnbuilt form shown which
 ExplainedOf form shown outcome = IsStop (names_of form) shown outcome
 
 -- what an outcome says: where the words are no form it is Usage, and neither shelf nor sink was touched

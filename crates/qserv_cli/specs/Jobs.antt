@@ -12,7 +12,7 @@ use Rattle.session_rules.specs.declared.end.EndKind.TheVariants.{Answered, Refus
 use Rattle.transcript_rules.specs.Transcripts.{FitEnds, transcript}
 use Rattle.transcript_rules.specs.Explained.{explained}
 use Rattle.qserv_cli.specs.Words.{Form, Load, Asks, Demo}
-use Rattle.qserv_cli.specs.Reached.{Texts, IfTold, IsBuilt, IsCatalogueOf, IsScriptOf, IsSkyOf}
+use Rattle.qserv_cli.specs.Reached.{Texts, IfTold, IsCatalogueOf, IsScriptOf, IsSkyOf}
 use Rattle.qserv_cli.specs.declared.task.Task.{Task}
 use Rattle.qserv_cli.specs.declared.task.Task.TheVariants.{Answer, Explain}
 
@@ -20,21 +20,21 @@ use Rattle.qserv_cli.specs.declared.task.Task.TheVariants.{Answer, Explain}
 pub data Job : Type 0 where
   -- to report how the rows of a survey lie in its chunks
   Reports : Survey → Job
-  -- to answer the queries of a script over a survey
-  Runs : Survey → ScriptView → Job
+  -- to answer the queries of a script over a survey, with so many workers
+  Runs : (workers : ℕ) → Survey → ScriptView → Job
   -- to explain them
   Explains : Survey → ScriptView → Job
 
 -- the text of a job whose queries end so
 abbrev pub text_of_job : Job → List EndKind → List ℕ
 text_of_job (Reports survey) ends = report survey.plan survey.rows.objects
-text_of_job (Runs survey view) ends = transcript survey.plan survey.rows view ends
+text_of_job (Runs workers survey view) ends = transcript survey.plan survey.rows view ends
 text_of_job (Explains survey view) ends = explained survey.plan survey.rows view
 
--- the queries of the job may end so, with no workers; where none is answered there are no ends
+-- the queries of the job may end so, with its workers; where none is answered there are no ends
 abbrev pub EndsFit : Job → List EndKind → Type 0
 EndsFit (Reports survey) ends = ends ≡ []
-EndsFit (Runs survey view) ends = FitEnds 0 survey.plan survey.rows view ends
+EndsFit (Runs workers survey view) ends = FitEnds workers survey.plan survey.rows view ends
 EndsFit (Explains survey view) ends = ends ≡ []
 
 -- the query was answered, or memory was wanting in its own work
@@ -48,7 +48,7 @@ IsAnsweredOrSpent Spent = Unit {0}
 abbrev pub DemoIsTold : Form → List EndKind → Type 0
 DemoIsTold (Load sky catalogue) ends = Unit {0}
 DemoIsTold (Asks task sky catalogue script) ends = Unit {0}
-DemoIsTold (Demo count seed) ends = All IsAnsweredOrSpent ends
+DemoIsTold (Demo count seed workers) ends = All IsAnsweredOrSpent ends
 
 -- the named sky plan and catalogue are accepted as this survey
 abbrev pub IsSurveyOf : (sky catalogue : List ℕ) → Survey → Texts → Type 0
@@ -62,7 +62,7 @@ AreSurveyAndScript sky catalogue script survey view texts =
 
 -- what is asked of a script over a survey
 abbrev pub job_on : Task → Survey → ScriptView → Job
-job_on Answer survey view = Runs survey view
+job_on (Answer workers) survey view = Runs workers survey view
 job_on Explain survey view = Explains survey view
 
 -- the survey is the demo's: its sky plan, and so many objects that are drawn from a seed
@@ -74,8 +74,8 @@ abbrev pub IsJobOf : Form → Option Texts → Job → Type 0
 IsJobOf (Load sky catalogue) told job =
     (survey : Survey) × (job ≡ Reports survey) × IfTold told (IsSurveyOf sky catalogue survey)
 IsJobOf (Asks task sky catalogue script) told job =
-    (survey : Survey) × (view : ScriptView) × (job ≡ job_on task survey view) × IsBuilt task view
+    (survey : Survey) × (view : ScriptView) × (job ≡ job_on task survey view)
     × IfTold told (AreSurveyAndScript sky catalogue script survey view)
-IsJobOf (Demo count seed) told job =
-    (survey : Survey) × (view : ScriptView) × (job ≡ Runs survey view) × IsDemoSurvey count seed survey
+IsJobOf (Demo count seed workers) told job =
+    (survey : Survey) × (view : ScriptView) × (job ≡ Runs workers survey view) × IsDemoSurvey count seed survey
     × IsScriptOf demo_script view

@@ -5,7 +5,7 @@ use Rattle.qserv_cli.specs.FaultLines.{sky_line, catalogue_line, script_line}
 use Rattle.qserv_cli.specs.declared.outcome.Which.{Which}
 use Rattle.qserv_cli.specs.declared.outcome.Which.TheVariants.{Sky, Catalogue, Script}
 use Rattle.qserv_cli.specs.declared.outcome.Outcome.{Outcome}
-use Rattle.qserv_cli.specs.declared.outcome.Outcome.TheVariants.{Done, Usage, BadSky, BadCatalogue, BadScript, NotBuilt}
+use Rattle.qserv_cli.specs.declared.outcome.Outcome.TheVariants.{Done, Usage, BadSky, BadCatalogue, BadScript}
 use Rattle.qserv_cli.specs.declared.outcome.Outcome.TheVariants.{TooLong, ShelfFault, SinkFault, Memory}
 
 -- the exit status
@@ -19,7 +19,6 @@ status_of (TooLong which) = 6
 status_of (ShelfFault which) = 7
 status_of (SinkFault ends) = 8
 status_of Memory = 9
-status_of (NotBuilt which) = 10
 
 -- the name of a text, where there is such a text
 abbrev pub name_at : Names → Which → Option (List ℕ)
@@ -44,7 +43,6 @@ outcome_line Usage form =
 outcome_line (BadSky fault) form = sky_line fault
 outcome_line (BadCatalogue fault) form = catalogue_line fault
 outcome_line (BadScript fault) form = script_line fault
-outcome_line (NotBuilt which) form = name_in form which ++ codes ": not built\n"
 outcome_line (TooLong which) form = name_in form which ++ codes ": too long\n"
 outcome_line (ShelfFault which) form = name_in form which ++ codes ": cannot be read\n"
 outcome_line (SinkFault ends) form = codes "output failed\n"

@@ -1,5 +1,5 @@
 -- Which of the named texts is reached: they are fetched and judged one by one, sky, catalogue, script.
-use Rattle.std.specs.Prelude.{◌≡◌, ℕ, ◌≤◌, ◌<◌, true, false, List, length, Option, None, Some, IsSome, Ok, Err}
+use Rattle.std.specs.Prelude.{◌≡◌, ℕ, ◌≤◌, ◌<◌, List, length, Option, None, Some, IsSome, Ok, Err}
 use Rattle.text_rules.specs.declared.limits.TheConstants.{SCRIPT_TEXT_MOST, SKY_TEXT_MOST, TEXT_MOST}
 use Rattle.sky_io.specs.Shelves.{named_text, times}
 use Rattle.sky_rules.specs.Partition.{Partition}
@@ -11,11 +11,8 @@ use Rattle.catalogue_load.specs.Catalogue.{catalogue_of}
 use Rattle.session_script.specs.Scripts.{script_of}
 use Rattle.session_script.specs.Views.{ScriptView}
 use Rattle.session_script.specs.declared.fault.ScriptFault.{ScriptFault}
-use Rattle.czar.specs.Built.{are_queries}
-use Rattle.qserv_cli.specs.Words.{Form, Load, Asks, Demo, Names, names_of}
+use Rattle.qserv_cli.specs.Words.{Names}
 use Rattle.qserv_cli.specs.Outcomes.{name_at, name_of}
-use Rattle.qserv_cli.specs.declared.task.Task.{Task}
-use Rattle.qserv_cli.specs.declared.task.Task.TheVariants.{Answer, Explain}
 use Rattle.qserv_cli.specs.declared.outcome.Which.{Which}
 use Rattle.qserv_cli.specs.declared.outcome.Which.TheVariants.{Sky, Catalogue, Script}
 
@@ -68,33 +65,11 @@ pub record IsScriptOf (text : List ℕ) (view : ScriptView) : Type 0 where
 abbrev pub IsScriptFault : List ℕ → ScriptFault → Type 0
 IsScriptFault text fault = (length text ≤ SCRIPT_TEXT_MOST) × (script_of text ≡ Err fault)
 
--- what is asked of the script is built: it is explained, or it is answered and its lines are queries alone
-abbrev pub IsBuilt : Task → ScriptView → Type 0
-IsBuilt Answer view = are_queries view.steps ≡ true
-IsBuilt Explain view = Unit {0}
-
--- it is not: the script is to be answered, and has a cancel or a wait line
-abbrev pub IsNotBuilt : Task → ScriptView → Type 0
-IsNotBuilt Answer view = are_queries view.steps ≡ false
-IsNotBuilt Explain view = ⊥
-
--- the text is a script of which the form asks what is built
-abbrev pub IsBuiltFor : Form → List ℕ → Type 0
-IsBuiltFor (Load sky catalogue) text = ⊥
-IsBuiltFor (Asks task sky catalogue script) text = (view : ScriptView) × IsScriptOf text view × IsBuilt task view
-IsBuiltFor (Demo count seed) text = ⊥
-
--- the text is a script of which the form asks what is not built
-abbrev pub IsNotBuiltFor : Form → List ℕ → Type 0
-IsNotBuiltFor (Load sky catalogue) text = ⊥
-IsNotBuiltFor (Asks task sky catalogue script) text = (view : ScriptView) × IsScriptOf text view × IsNotBuilt task view
-IsNotBuiltFor (Demo count seed) text = ⊥
-
 -- the text is accepted
-abbrev pub IsAccepted : Form → Which → List ℕ → Type 0
-IsAccepted form Sky text = (plan : Partition) × IsSkyOf text plan
-IsAccepted form Catalogue text = (table : Table) × IsCatalogueOf text table
-IsAccepted form Script text = IsBuiltFor form text
+abbrev pub IsAccepted : Which → List ℕ → Type 0
+IsAccepted Sky text = (plan : Partition) × IsSkyOf text plan
+IsAccepted Catalogue text = (table : Table) × IsCatalogueOf text table
+IsAccepted Script text = (view : ScriptView) × IsScriptOf text view
 
 -- the sky plan is accepted
 abbrev pub IsSkyAccepted : Names → Texts → Type 0
@@ -115,9 +90,8 @@ abbrev pub HasText : Names → Which → Type 0
 HasText names which = IsSome (name_at names which)
 
 -- each text of the form is accepted
-abbrev pub AreAccepted : Form → Texts → Type 0
-AreAccepted form texts =
-    (which : Which) → HasText (names_of form) which → IsAccepted form which (text_at (names_of form) texts which)
+abbrev pub AreAccepted : Names → Texts → Type 0
+AreAccepted names texts = (which : Which) → HasText names which → IsAccepted which (text_at names texts which)
 
 -- the count of a text's failures is what it was
 abbrev pub IsStill : Names → List (List ℕ) → List (List ℕ) → Which → Type 0

@@ -9,14 +9,14 @@ use Rattle.session_script.specs.Scripts.{script_of}
 use Rattle.session_script.specs.Views.{ScriptView}
 use Rattle.session_rules.specs.declared.end.EndKind.{EndKind}
 use Rattle.qserv_cli.specs.Words.{Demo, names_from}
-use Rattle.qserv_cli.specs.Reached.{Texts, IfTold, IsBuilt, IsNotBuilt, IsScriptOf, IsSkyFault, IsCatalogueFault, IsLong, limit_of}
+use Rattle.qserv_cli.specs.Reached.{Texts, IfTold, IsScriptOf, IsSkyFault, IsCatalogueFault, IsLong, limit_of}
 use Rattle.qserv_cli.specs.Jobs.{Job, Runs, EndsFit, IsSurveyOf, job_on, text_of_job}
 use Rattle.qserv_cli.specs.Explained.{ExplainedOf, IsStop, shown}
 use Rattle.qserv_cli.specs.declared.task.Task.{Task}
 use Rattle.qserv_cli.specs.declared.outcome.Which.{Which}
 use Rattle.qserv_cli.specs.declared.outcome.Which.TheVariants.{Sky, Catalogue, Script}
 use Rattle.qserv_cli.specs.declared.outcome.Outcome.{Outcome}
-use Rattle.qserv_cli.specs.declared.outcome.Outcome.TheVariants.{Done, BadSky, BadCatalogue, BadScript, NotBuilt, TooLong}
+use Rattle.qserv_cli.specs.declared.outcome.Outcome.TheVariants.{Done, BadSky, BadCatalogue, BadScript, TooLong}
 use Rattle.qserv_cli.specs.declared.outcome.Outcome.TheVariants.{ShelfFault, SinkFault, Memory}
 
 -- The text was given, and the shelf is as it was.
@@ -107,18 +107,12 @@ IsFlushed ends old new (Done told) = (told ≡ ends) × Flushed old new Put.Done
 IsFlushed ends old new (SinkFault told) = (told ≡ ends) × Flushed old new Put.Failed
 IsFlushed ends old new _ = ⊥
 
--- what the work on a script comes to: it is not built, or its job is written
-abbrev pub IsTaskOn : Task → Survey → ScriptView → SinkState → SinkState → Outcome → Type 0
-IsTaskOn task survey view old new (NotBuilt which) = (which ≡ Script) × IsNotBuilt task view × (new ≡ old)
-IsTaskOn task survey view old new Memory = new ≡ old
-IsTaskOn task survey view old new outcome = IsBuilt task view × IsWritten (job_on task survey view) old new outcome
-
--- The text is read as the script on which the work comes to this.
+-- The text is read as the script of which the job is written so.
 pub record IsTaskAsRead (task : Task) (survey : Survey) (text : List ℕ) (old new : SinkState) (outcome : Outcome) : Type 0 where
   pub view : ScriptView
   pub same : view.text ≡ text
   pub steps : script_of text ≡ Ok view.steps
-  pub work : IsTaskOn task survey view old new outcome
+  pub work : IsWritten (job_on task survey view) old new outcome
 
 -- what the work on the text of a script comes to: the text has a fault, or it is read and worked on
 abbrev pub IsTaskOver : Task → Survey → List ℕ → SinkState → SinkState → Outcome → Type 0
@@ -127,17 +121,17 @@ IsTaskOver task survey text old new Memory = new ≡ old
 IsTaskOver task survey text old new outcome = IsTaskAsRead task survey text old new outcome
 
 -- The job on the demo's script over a survey is written so.
-pub record IsDemoWritten (survey : Survey) (old new : SinkState) (outcome : Outcome) : Type 0 where
+pub record IsDemoWritten (workers : ℕ) (survey : Survey) (old new : SinkState) (outcome : Outcome) : Type 0 where
   pub view : ScriptView
   pub read : IsScriptOf demo_script view
-  pub work : IsWritten (Runs survey view) old new outcome
+  pub work : IsWritten (Runs workers survey view) old new outcome
 
 -- what the work on the demo's script over a survey comes to
-abbrev pub IsDemoOver : Survey → SinkState → SinkState → Outcome → Type 0
-IsDemoOver survey old new Memory = new ≡ old
-IsDemoOver survey old new outcome = IsDemoWritten survey old new outcome
+abbrev pub IsDemoOver : (workers : ℕ) → Survey → SinkState → SinkState → Outcome → Type 0
+IsDemoOver workers survey old new Memory = new ≡ old
+IsDemoOver workers survey old new outcome = IsDemoWritten workers survey old new outcome
 
 -- whatever the shelf, the outcome is that of the demo, and the shelf is as it was
-abbrev pub IsDemo : ℕ → ℕ → SinkState → SinkState → Outcome → Type 0
-IsDemo count seed old new outcome =
-    (shelf : ShelfState) → ExplainedOf (Demo count seed) (shown shelf shelf old new) outcome
+abbrev pub IsDemo : (count seed workers : ℕ) → SinkState → SinkState → Outcome → Type 0
+IsDemo count seed workers old new outcome =
+    (shelf : ShelfState) → ExplainedOf (Demo count seed workers) (shown shelf shelf old new) outcome

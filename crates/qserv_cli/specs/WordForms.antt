@@ -2,7 +2,8 @@
 use Rattle.std.specs.Prelude.{◌≤◌}
 use Rattle.table_rules.specs.declared.limits.TheConstants.{ROWS_MOST}
 use Rattle.demo_rules.specs.declared.limits.TheConstants.{SEED_MOST}
-use Rattle.qserv_cli.specs.Words.{Form as Asked, Load, Asks, Demo}
+use Rattle.qserv_cli.specs.Words.{Form as Asked, Load, Asks, Demo, IsManned}
+use Rattle.qserv_cli.specs.declared.task.TheConstants.{WORKERS_MOST}
 use Rattle.qserv_cli.specs.declared.words.Form.{Form}
 use Rattle.qserv_cli.specs.declared.words.Form.TheVariants as held
 
@@ -10,10 +11,11 @@ use Rattle.qserv_cli.specs.declared.words.Form.TheVariants as held
 abbrev pub asked_by : Form → Asked
 asked_by (held.Load sky catalogue) = Load sky.now catalogue.now
 asked_by (held.Asks task sky catalogue script) = Asks task sky.now catalogue.now script.now
-asked_by (held.Demo count seed) = Demo count seed
+asked_by (held.Demo count seed workers) = Demo count seed workers
 
--- the numbers of a demo are those that its rows can be drawn with
+-- the numbers of the form are those that its rows can be drawn with, and its workers are no more than there may be
 abbrev pub IsWithin : Form → Type 0
 IsWithin (held.Load sky catalogue) = Unit {0}
-IsWithin (held.Asks task sky catalogue script) = Unit {0}
-IsWithin (held.Demo count seed) = (count ≤ ROWS_MOST) × (1 ≤ seed) × (seed ≤ SEED_MOST)
+IsWithin (held.Asks task sky catalogue script) = IsManned task
+IsWithin (held.Demo count seed workers) =
+    (count ≤ ROWS_MOST) × (1 ≤ seed) × (seed ≤ SEED_MOST) × (workers ≤ WORKERS_MOST)

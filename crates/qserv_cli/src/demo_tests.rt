@@ -10,10 +10,19 @@ const OF_NO_OBJECT: &str =
 
 #[test]
 fn the_demo_has_the_answers_of_its_objects(rt: HostRuntime) -> Result<(), Fail> {
-    for (count, want) in [("1", OF_ONE_OBJECT), ("0", OF_NO_OBJECT)] {
-        let run = run(&rt, rt.alloc(), &["demo", count, "1", "0"], "", "", b"")?;
-        assert_eq!(rt; run.sink.bytes(), want.as_bytes(), "of {count}");
-        assert_eq!(rt; run.status, 0, "of {count}");
+    for (count, workers, want) in [
+        ("1", "0", OF_ONE_OBJECT),
+        ("1", "4", OF_ONE_OBJECT),
+        ("0", "0", OF_NO_OBJECT),
+        ("0", "4", OF_NO_OBJECT),
+    ] {
+        let run = run(&rt, rt.alloc(), &["demo", count, "1", workers], "", "", b"")?;
+        assert_eq!(rt;
+            run.sink.bytes(),
+            want.as_bytes(),
+            "of {count} with {workers}"
+        );
+        assert_eq!(rt; run.status, 0, "of {count} with {workers}");
     }
     Ok(())
 }
@@ -24,7 +33,7 @@ fn the_numbers_of_a_demo_are_within_their_limits(rt: HostRuntime) -> Result<(), 
         ["demo", "4194305", "1", "0"],
         ["demo", "1", "0", "0"],
         ["demo", "1", "2147483647", "0"],
-        ["demo", "1", "1", "1"],
+        ["demo", "1", "1", "17"],
         ["demo", "", "1", "0"],
         ["demo", "1", "x", "0"],
         ["demo", "00000000001", "1", "0"],

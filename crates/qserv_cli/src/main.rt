@@ -4,7 +4,7 @@
 //! (`specs/Explained.antt`) says what each outcome means and which outcome must come.
 //! Below: `sky_plan`, `catalogue_load` and `session_script` read the texts, `sky_generate` makes those of the demo, `czar`
 //! runs and writes the queries, `sky_io` is the outside. Above: nothing, this is the program.
-//! No reading of a text, no SQL and no sky here: the order of the work, the outcomes, and what is told of them.
+//! No reading of a text, no SQL, no sky and no thread here: the order of the work, the outcomes, and what is told of them.
 #![tactic(auto)]
 
 #[cfg(test)]
@@ -30,6 +30,8 @@ mod words;
 mod work;
 #[cfg(test)]
 mod worked;
+#[cfg(test)]
+mod worker_tests;
 
 use outcome::{Outcome, status};
 use sky_io::{ErrSink, FolderShelf, OpenGate, OutSink, Sink};

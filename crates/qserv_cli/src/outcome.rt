@@ -28,8 +28,6 @@ pub enum Outcome {
     BadCatalogue { fault: LoadFault },
     /// The script isn't accepted; its first fault.
     BadScript { fault: ScriptFault },
-    /// The script is to be answered and has a line that the program can't answer so far: a cancel or a wait.
-    NotBuilt { which: Which },
     /// A text is longer than its limit.
     TooLong { which: Which },
     /// A text could not be fetched.
@@ -54,6 +52,5 @@ pub fn status(outcome: &Outcome) -> u8
         Outcome::ShelfFault { .. } => 7,
         Outcome::SinkFault { .. } => 8,
         Outcome::Memory => 9,
-        Outcome::NotBuilt { .. } => 10,
     }
 }

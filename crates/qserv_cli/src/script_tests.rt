@@ -1,19 +1,7 @@
 //! What no clause says: that scripts are answered and explained with memory left, over worked rows, and how their faults
 //! are told.
-use crate::worked::{CATALOGUE, EXPLAIN, LARGE_VALUES, QUERY, SKY, run, sink_of};
-use sky_io::{MemSink, Put, Sink};
-use sky_text::put_count;
-use std::alloc::Global;
+use crate::worked::{CATALOGUE, EXPLAIN, LARGE_VALUES, QUERY, SKY, lines, run};
 use std::test::Fail;
-
-// So many equal lines.
-fn lines(alloc: Global, line: &str, count: usize) -> Result<String, Fail> {
-    let mut text = String::new(alloc);
-    for _ in 0..count {
-        text.push_str(line)?;
-    }
-    Ok(text)
-}
 
 #[test]
 fn each_query_of_a_script_has_its_block(rt: HostRuntime) -> Result<(), Fail> {
@@ -30,31 +18,6 @@ fn each_query_of_a_script_has_its_block(rt: HostRuntime) -> Result<(), Fail> {
         assert_eq!(rt; run.sink.bytes(), want.as_bytes(), "of {script}");
         assert_eq!(rt; run.status, 0, "of {script}");
     }
-    Ok(())
-}
-
-// The block of a query that counts six rows in three chunks.
-fn put_six(sink: &mut MemSink, number: u64) -> Put {
-    match sink.put(b"query ") {
-        Put::Failed => Put::Failed,
-        Put::Done => match put_count(sink, number) {
-            Put::Failed => Put::Failed,
-            Put::Done => sink.put(b"\nCOUNT(*)\n6\n1 rows, 3 chunks\n"),
-        },
-    }
-}
-
-#[test]
-fn more_queries_than_run_at_once_have_a_block_each(rt: HostRuntime) -> Result<(), Fail> {
-    let alloc = rt.alloc();
-    let script = lines(alloc, "SELECT COUNT(*) FROM Object\n", 65)?;
-    let mut want = sink_of(alloc, 10000)?;
-    for number in 1..66 {
-        assert_eq!(rt; put_six(&mut want, number), Put::Done);
-    }
-    let run = run(&rt, alloc, &QUERY, SKY, CATALOGUE, script.as_bytes())?;
-    assert_eq!(rt; run.sink.bytes(), want.bytes());
-    assert_eq!(rt; run.status, 0);
     Ok(())
 }
 
@@ -116,36 +79,6 @@ fn the_first_fault_of_a_script_is_told_with_its_line(rt: HostRuntime) -> Result<
             assert_eq!(rt; run.told.bytes(), line.as_bytes());
             assert!(rt; run.sink.bytes().is_empty(), "for {line}");
         }
-    }
-    Ok(())
-}
-
-#[test]
-fn a_script_that_waits_or_cancels_is_not_answered_yet(rt: HostRuntime) -> Result<(), Fail> {
-    let alloc = rt.alloc();
-    for script in [
-        "SELECT objectId FROM Object\nwait 1\n",
-        "SELECT objectId FROM Object\ncancel 1\n",
-    ] {
-        let run = run(&rt, alloc, &QUERY, SKY, CATALOGUE, script.as_bytes())?;
-        assert_eq!(rt; run.status, 10, "of {script}");
-        assert_eq!(rt; run.told.bytes(), b"script: not built\n".as_slice());
-        assert!(rt; run.sink.bytes().is_empty(), "of {script}");
-    }
-    Ok(())
-}
-
-#[test]
-fn a_script_of_one_byte_more_than_8388608_is_too_long(rt: HostRuntime) -> Result<(), Fail> {
-    let alloc = rt.alloc();
-    for (bytes, status, line) in [
-        (8388608, 5, "script line 1: too long\n"),
-        (8388609, 6, "script: too long\n"),
-    ] {
-        let script = vec![in alloc; b' '; bytes]?;
-        let run = run(&rt, alloc, &EXPLAIN, SKY, CATALOGUE, script.as_slice())?;
-        assert_eq!(rt; run.status, status, "of {bytes} bytes");
-        assert_eq!(rt; run.told.bytes(), line.as_bytes(), "of {bytes} bytes");
     }
     Ok(())
 }

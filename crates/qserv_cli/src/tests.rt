@@ -27,7 +27,8 @@ fn words_of_no_form_are_told_the_forms(rt: HostRuntime) -> Result<(), Fail> {
         (["query", "sky"].as_slice(), 2),
         (["load", "sky", "csv", "script"].as_slice(), 2),
         (["query", "sky", "csv", "script"].as_slice(), 2),
-        (["query", "sky", "csv", "script", "1"].as_slice(), 2),
+        (["query", "sky", "csv", "script", "17"].as_slice(), 2),
+        (["query", "sky", "csv", "script", "-1"].as_slice(), 2),
         (["query", "sky", "csv", "script", ""].as_slice(), 2),
         (
             ["query", "sky", "csv", "script", "00000000000"].as_slice(),
@@ -37,6 +38,7 @@ fn words_of_no_form_are_told_the_forms(rt: HostRuntime) -> Result<(), Fail> {
             ["query", "sky", "csv", "script", "0000000000"].as_slice(),
             0,
         ),
+        (["query", "sky", "csv", "script", "16"].as_slice(), 0),
         (["explain", "sky", "csv", "script", "0"].as_slice(), 2),
         (["explain", "sky", "csv", "script"].as_slice(), 0),
     ] {
@@ -143,7 +145,6 @@ fn each_outcome_has_its_line(rt: HostRuntime) -> Result<(), Fail> {
         (done, ""),
         (Outcome::Usage, USAGE),
         (unknown, "script line 6: unknown query 9\n"),
-        (not_built(Which::Script), "two ranges: not built\n"),
         (too_long(Which::Catalogue), "stars: too long\n"),
         (unread(Which::Sky), "north: cannot be read\n"),
         (unread(Which::Script), "two ranges: cannot be read\n"),
@@ -154,10 +155,6 @@ fn each_outcome_has_its_line(rt: HostRuntime) -> Result<(), Fail> {
         assert_eq!(rt; told.bytes(), line.as_bytes());
     }
     Ok(())
-}
-
-fn not_built(which: Which) -> Outcome {
-    Outcome::NotBuilt { which }
 }
 
 fn too_long(which: Which) -> Outcome {

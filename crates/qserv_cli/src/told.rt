@@ -25,7 +25,6 @@ pub fn put_outcome<K: Sink>(sink: &mut K, outcome: &Outcome, words: &[String]) -
         Outcome::BadSky { fault } => put_sky_fault(sink, fault),
         Outcome::BadCatalogue { fault } => put_catalogue_fault(sink, fault),
         Outcome::BadScript { fault } => put_script_fault(sink, fault),
-        Outcome::NotBuilt { which } => put_named(sink, name_in(words, *which), b": not built\n"),
         Outcome::TooLong { which } => put_named(sink, name_in(words, *which), b": too long\n"),
         Outcome::ShelfFault { which } => put_named(
             sink,

@@ -1,6 +1,6 @@
 //! The top call: words, then the texts, then the work, then the writing.
 ghost use Rattle.std.specs.Prelude.{◌≡◌, ◌↔◌, None};
-ghost use Rattle.qserv_cli.specs.Words.{Load, Asks, form_of, bytes_of};
+ghost use Rattle.qserv_cli.specs.Words.{Load, Asks, IsManned, form_of, bytes_of};
 ghost use Rattle.qserv_cli.specs.WordForms.{IsWithin, asked_by};
 ghost use Rattle.qserv_cli.specs.Explained.{Explained, ExplainedOf, shown};
 ghost use Rattle.qserv_cli.specs.Completes.{Complete};
@@ -18,15 +18,16 @@ use std::thread::Threads;
 
 /// Does what the words ask: fetches the texts from the shelf, reports how the rows lie in the chunks, or answers or explains
 /// the queries of the script, and writes to the sink. All texts are accepted and all answers made before the first byte is
-/// written, and writing takes no memory. Takes memory for the texts, the rows and their chunks, and the answers. With no
-/// workers, as the forms have it so far, it starts no thread and passes no gate.
-pub fn qserv<R: Threads + Wait + Sync, S: Shelf, K: Sink, G: Gate>(
-    _rt: &R,
+/// written, and writing takes no memory. Takes memory for the texts, the rows and their chunks, and the answers. Queries are
+/// answered by so many threads beside this one as the words ask for, each of which passes the gate before the work on a
+/// chunk, and it waits for them; a thread that can't be started costs no answer.
+pub fn qserv<R: Threads + Wait + Sync, S: Shelf, K: Sink, G: Gate + Sync>(
+    rt: &R,
     alloc: Global,
     words: &[String],
     shelf: &mut S,
     sink: &mut K,
-    _gate: &G,
+    gate: &G,
 ) -> Outcome
     ensures usage { (result ≡ Outcome.Usage) ↔ (form_of (bytes_of words.now) ≡ None) }
     ensures explained { Explained (form_of (bytes_of words.now))
@@ -38,16 +39,18 @@ pub fn qserv<R: Threads + Wait + Sync, S: Shelf, K: Sink, G: Gate>(
 {
     match read_words(words) {
         None => Outcome::Usage,
-        Some(form) => run_form(alloc, &form, shelf, sink),
+        Some(form) => run_form(alloc, rt, &form, shelf, sink, gate),
     }
 }
 
 // Does what a form asks.
-fn run_form<S: Shelf, K: Sink>(
+fn run_form<R: Threads + Wait + Sync, S: Shelf, K: Sink, G: Gate + Sync>(
     alloc: Global,
+    rt: &R,
     form: &Form<'_>,
     shelf: &mut S,
     sink: &mut K,
+    gate: &G,
 ) -> Outcome
     requires { IsWithin form.now }
     ensures { ExplainedOf (asked_by form.now)
@@ -61,8 +64,12 @@ fn run_form<S: Shelf, K: Sink>(
             sky,
             catalogue,
             script,
-        } => run_task(alloc, *task, sky, catalogue, script, shelf, sink),
-        Form::Demo { count, seed } => run_demo(alloc, *count, *seed, sink),
+        } => run_task(alloc, rt, *task, sky, catalogue, script, shelf, sink, gate),
+        Form::Demo {
+            count,
+            seed,
+            workers,
+        } => run_demo(alloc, rt, *count, *seed, *workers, sink, gate),
     }
 }
 
@@ -85,21 +92,24 @@ fn run_load<S: Shelf, K: Sink>(
 }
 
 // Does what is asked of the named script over the named sky plan and catalogue.
-fn run_task<S: Shelf, K: Sink>(
+fn run_task<R: Threads + Wait + Sync, S: Shelf, K: Sink, G: Gate + Sync>(
     alloc: Global,
+    rt: &R,
     task: Task,
     sky: &str,
     catalogue: &str,
     script: &str,
     shelf: &mut S,
     sink: &mut K,
+    gate: &G,
 ) -> Outcome
+    requires { IsManned task }
     ensures { ExplainedOf (Asks task sky.now catalogue.now script.now)
         (shown (S.state shelf.old) (S.state shelf.new) (K.state sink.old) (K.state sink.new))
         result }
 {
     match fetch_all(alloc, shelf, sky, catalogue, script) {
-        Ok((inputs, text)) => do_task(alloc, task, inputs, text.as_slice(), sink),
+        Ok((inputs, text)) => do_task(alloc, rt, task, inputs, text.as_slice(), sink, gate),
         Err(outcome) => outcome,
     }
 }

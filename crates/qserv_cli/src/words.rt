@@ -1,10 +1,10 @@
 //! The forms of the command line.
 ghost use Rattle.std.specs.Prelude.{◌≡◌, ◌≤◌, ◌^◌, [], ◌∷◌, None, Some, IfNone, IfSome};
 ghost use Rattle.text_rules.specs.Numbers.{natural};
-ghost use Rattle.qserv_cli.specs.Words.{bytes_of, demo_by, form_of, form_of_four, is_zero, number_between};
+ghost use Rattle.qserv_cli.specs.Words.{bytes_of, demo_by, form_of, form_of_four, number_between};
 ghost use Rattle.qserv_cli.specs.WordForms.{IsWithin, asked_by};
 
-use crate::task::Task;
+use crate::task::{Task, WORKERS_MOST};
 use demo_rules::limits::SEED_MOST;
 use sky_text::read_natural;
 use table_rules::limits::ROWS_MOST;
@@ -24,10 +24,12 @@ pub enum Form<'a> {
         catalogue: &'a str,
         script: &'a str,
     },
-    /// To answer the queries of the demo's script over its sky plan and so many objects, drawn from a seed.
+    /// To answer the queries of the demo's script over its sky plan and so many objects, drawn from a seed, with so many
+    /// workers.
     Demo {
         count: u32,
         seed: u32,
+        workers: u32,
     },
 }
 
@@ -92,8 +94,12 @@ fn read_demo<'a>(count: &[u8], seed: &[u8], workers: &[u8]) -> Option<Form<'a>>
 {
     let count = read_between(count, 0, ROWS_MOST as u32)?;
     let seed = read_between(seed, 1, SEED_MOST)?;
-    read_between(workers, 0, 0)?;
-    Some(Form::Demo { count, seed })
+    let workers = read_between(workers, 0, WORKERS_MOST)?;
+    Some(Form::Demo {
+        count,
+        seed,
+        workers,
+    })
 }
 
 // The word is a number of 1 to 10 digits that lies between two others.
@@ -124,20 +130,14 @@ fn read_query<'a>(
         ≡ Some (asked_by form)) }
     ensures within { IfSome result IsWithin }
 {
-    if word != "query" || !is_zero(workers.as_bytes()) {
+    if word != "query" {
         return None;
     }
+    let workers = read_between(workers.as_bytes(), 0, WORKERS_MOST)?;
     Some(Form::Asks {
-        task: Task::Answer,
+        task: Task::Answer { workers },
         sky,
         catalogue,
         script,
     })
-}
-
-// The word is 1 to 10 digits of value 0.
-fn is_zero(workers: &[u8]) -> bool
-    ensures { result ≡ is_zero (natural 10 workers.now) }
-{
-    read_natural(workers, 10) == Some(0)
 }

@@ -2,28 +2,31 @@
 //!
 //! Whatever takes memory is done before the first byte is written: the store, the answers, and the list of how the queries
 //! ended. A script is judged before the store is built.
-ghost use Rattle.std.specs.Prelude.{◌≡◌, ◌≤◌, ◌^◌, [], length, map, true};
+ghost use Rattle.std.specs.Prelude.{◌≡◌, ◌≤◌, ◌^◌, ℕ, [], length, map};
 ghost use Rattle.text_rules.specs.declared.limits.TheConstants.{SCRIPT_TEXT_MOST};
 ghost use Rattle.session_script.specs.Views.{query_lines};
 ghost use Rattle.transcript_rules.specs.Transcripts.{FitEnds};
-ghost use Rattle.czar.specs.Built.{are_queries};
 ghost use Rattle.czar.specs.Ends.{EndsShow, kind_of};
 ghost use Rattle.czar.specs.Plans.{ArePlans};
 ghost use Rattle.qserv_cli.specs.Inputs.{survey_of};
-ghost use Rattle.qserv_cli.specs.Jobs.{Explains, Reports, Runs};
-ghost use Rattle.qserv_cli.specs.Steps.{IsFlushed, IsTaskOn, IsTaskOver, IsWritten};
+ghost use Rattle.qserv_cli.specs.Jobs.{Explains, Reports, Runs, job_on};
+ghost use Rattle.qserv_cli.specs.Steps.{IsFlushed, IsTaskOver, IsWritten};
+ghost use Rattle.qserv_cli.specs.Words.{IsManned};
+ghost use Rattle.qserv_cli.specs.declared.task.TheConstants.{WORKERS_MOST};
 
 use crate::ends::{kinds_of, no_ends};
 use crate::inputs::Inputs;
-use crate::outcome::{Outcome, Which};
+use crate::outcome::Outcome;
 use crate::task::Task;
 use answer_text::put_report;
 use chunk_store::Store;
-use czar::{End, Plan, explain, has_queries_alone, put_explained, put_transcript, run_session};
+use czar::{End, Plan, explain, put_explained, put_transcript, run_session};
 use session_rules::Ends;
 use session_script::Script;
-use sky_io::{Put, Sink, Stop};
+use sky_io::{Gate, Put, Sink, Stop};
 use std::alloc::Global;
+use std::sync::Wait;
+use std::thread::Threads;
 
 /// Writes the report of the rows in their chunks. Takes memory.
 pub fn report<K: Sink>(alloc: Global, inputs: Inputs, sink: &mut K) -> Outcome
@@ -36,84 +39,86 @@ pub fn report<K: Sink>(alloc: Global, inputs: Inputs, sink: &mut K) -> Outcome
     }
 }
 
-/// Reads a script and does what is asked of it. Takes memory.
-pub fn do_task<K: Sink>(
+/// Reads a script and does what is asked of it. Takes memory, and waits.
+pub fn do_task<R: Threads + Wait + Sync, K: Sink, G: Gate + Sync>(
     alloc: Global,
+    rt: &R,
     task: Task,
     inputs: Inputs,
     text: &[u8],
     sink: &mut K,
+    gate: &G,
 ) -> Outcome
-    requires { length text.now ≤ SCRIPT_TEXT_MOST }
+    requires short { length text.now ≤ SCRIPT_TEXT_MOST }
+    requires manned { IsManned task }
     ensures { IsTaskOver task (survey_of inputs) text.now
         (K.state sink.old) (K.state sink.new) result }
 {
     match Script::read(alloc, text) {
-        Ok(script) => do_script(alloc, task, inputs, &script, sink),
+        Ok(script) => do_script(alloc, rt, task, inputs, &script, sink, gate),
         Err(Stop::Bad(fault)) => Outcome::BadScript { fault },
         Err(Stop::Memory) => Outcome::Memory,
     }
 }
 
 // Does what is asked of a script.
-fn do_script<K: Sink>(
+fn do_script<R: Threads + Wait + Sync, K: Sink, G: Gate + Sync>(
     alloc: Global,
+    rt: &R,
     task: Task,
     inputs: Inputs,
     script: &Script<'_>,
     sink: &mut K,
+    gate: &G,
 ) -> Outcome
-    ensures { IsTaskOn task (survey_of inputs) script.now
+    requires { IsManned task }
+    ensures { IsWritten (job_on task (survey_of inputs) script.now)
         (K.state sink.old) (K.state sink.new) result }
 {
     match task {
-        Task::Answer => answer_built(alloc, inputs, script, sink),
+        Task::Answer { workers } => {
+            answer_queries(alloc, rt, inputs, script, workers, sink, gate)
+        }
         Task::Explain => explain_queries(alloc, inputs, script, sink),
     }
 }
 
-// Answers the queries of a script whose lines are queries alone.
-fn answer_built<K: Sink>(
+/// Answers the queries of a script with so many workers, and writes their transcript. Takes memory, and waits.
+pub fn answer_queries<R: Threads + Wait + Sync, K: Sink, G: Gate + Sync>(
     alloc: Global,
+    rt: &R,
     inputs: Inputs,
     script: &Script<'_>,
+    workers: u32,
     sink: &mut K,
+    gate: &G,
 ) -> Outcome
-    ensures { IsTaskOn Task.Answer (survey_of inputs) script.now
-        (K.state sink.old) (K.state sink.new) result }
-{
-    if !has_queries_alone(script) {
-        return Outcome::NotBuilt {
-            which: Which::Script,
-        };
-    }
-    answer_queries(alloc, inputs, script, sink)
-}
-
-/// Answers the queries of a script, and writes their transcript. Takes memory.
-pub fn answer_queries<K: Sink>(
-    alloc: Global,
-    inputs: Inputs,
-    script: &Script<'_>,
-    sink: &mut K,
-) -> Outcome
-    requires { are_queries script.now.steps ≡ true }
-    ensures { IsWritten (Runs (survey_of inputs) script.now)
+    requires { workers ≤ WORKERS_MOST }
+    ensures { IsWritten (Runs workers (survey_of inputs) script.now)
         (K.state sink.old) (K.state sink.new) result }
 {
     let Inputs { plan, rows } = inputs;
     match Store::build(alloc, plan, rows) {
-        Ok(store) => answer_over(alloc, &store, script, sink),
+        Ok(store) => answer_over(alloc, rt, &store, script, workers, sink, gate),
         Err(_) => Outcome::Memory,
     }
 }
 
 // Answers the queries of a script over a store, and writes their transcript.
-fn answer_over<K: Sink>(alloc: Global, store: &Store, script: &Script<'_>, sink: &mut K) -> Outcome
-    requires { are_queries script.now.steps ≡ true }
-    ensures { IsWritten (Runs store.now script.now) (K.state sink.old) (K.state sink.new) result }
+fn answer_over<R: Threads + Wait + Sync, K: Sink, G: Gate + Sync>(
+    alloc: Global,
+    rt: &R,
+    store: &Store,
+    script: &Script<'_>,
+    workers: u32,
+    sink: &mut K,
+    gate: &G,
+) -> Outcome
+    requires { workers ≤ WORKERS_MOST }
+    ensures { IsWritten (Runs workers store.now script.now)
+        (K.state sink.old) (K.state sink.new) result }
 {
-    match run_session(alloc, store, script) {
+    match run_session(alloc, rt, store, script, workers, gate) {
         Ok(ends) => write_transcript(alloc, store, script, ends.as_slice(), sink),
         Err(_) => Outcome::Memory,
     }
@@ -126,7 +131,7 @@ fn explain_queries<K: Sink>(
     script: &Script<'_>,
     sink: &mut K,
 ) -> Outcome
-    ensures { IsTaskOn Task.Explain (survey_of inputs) script.now
+    ensures { IsWritten (Explains (survey_of inputs) script.now)
         (K.state sink.old) (K.state sink.new) result }
 {
     let Inputs { plan, rows } = inputs;
@@ -138,7 +143,7 @@ fn explain_queries<K: Sink>(
 
 // Explains the queries of a script over a store, and writes what explains them.
 fn explain_over<K: Sink>(alloc: Global, store: &Store, script: &Script<'_>, sink: &mut K) -> Outcome
-    ensures { IsTaskOn Task.Explain store.now script.now
+    ensures { IsWritten (Explains store.now script.now)
         (K.state sink.old) (K.state sink.new) result }
 {
     match explain(alloc, store, script) {
@@ -158,8 +163,8 @@ fn write_report<K: Sink>(alloc: Global, store: &Store, sink: &mut K) -> Outcome
     }
 }
 
-// Writes the transcript of a script whose queries ended so, and sends it. The list of how they ended is made before the
-// first byte is written.
+// Writes the transcript of a script whose queries ended so, and sends it: what is written is that of any number of workers
+// with which they may end so. The list of how they ended is made before the first byte is written.
 fn write_transcript<K: Sink>(
     alloc: Global,
     store: &Store,
@@ -167,9 +172,10 @@ fn write_transcript<K: Sink>(
     ends: &[End],
     sink: &mut K,
 ) -> Outcome
-    requires fit { FitEnds 0 store.now.plan store.now.rows script.now (map kind_of ends.now) }
-    requires shown { EndsShow store.now.plan store.now.rows (query_lines script.now) ends.now }
-    ensures { IsWritten (Runs store.now script.now) (K.state sink.old) (K.state sink.new) result }
+    requires { EndsShow store.now.plan store.now.rows (query_lines script.now) ends.now }
+    ensures { (workers : ℕ)
+        → FitEnds workers store.now.plan store.now.rows script.now (map kind_of ends.now)
+        → IsWritten (Runs workers store.now script.now) (K.state sink.old) (K.state sink.new) result }
 {
     let Ok(kinds) = kinds_of(alloc, ends) else {
         return Outcome::Memory;
@@ -189,7 +195,7 @@ fn write_explained<K: Sink>(
     sink: &mut K,
 ) -> Outcome
     requires { ArePlans store.now.plan store.now.rows (query_lines script.now) plans.now }
-    ensures { IsTaskOn Task.Explain store.now script.now
+    ensures { IsWritten (Explains store.now script.now)
         (K.state sink.old) (K.state sink.new) result }
 {
     let ends = no_ends(alloc);

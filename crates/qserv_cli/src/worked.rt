@@ -2,7 +2,7 @@
 use crate::outcome::{Outcome, status};
 use crate::told::put_outcome;
 use crate::top::qserv;
-use sky_io::{MemSink, OpenGate, PlainShelf};
+use sky_io::{Gate, MemSink, OpenGate, PlainShelf};
 use std::alloc::Global;
 use std::sync::Wait;
 use std::test::Fail;
@@ -25,6 +25,11 @@ pub const WITH_NULL: &str =
     "objectId,x,y,z,flux\n1,268435456,0,0,10\n2,268435456,3,0,\n3,268435456,0,4,30\n4,268435456,-3,0,\n5,268435456,0,-1,-5\n6,0,0,268435456,60\n";
 
 pub const QUERY: [&str; 5] = ["query", "sky", "csv", "script", "0"];
+
+/// The same with so many workers.
+pub fn query_with(workers: &str) -> [&str; 5] {
+    ["query", "sky", "csv", "script", workers]
+}
 
 pub const EXPLAIN: [&str; 4] = ["explain", "sky", "csv", "script"];
 
@@ -66,6 +71,15 @@ pub fn sink_of(alloc: Global, room: usize) -> Result<MemSink, Fail> {
     Ok(MemSink::new(alloc, room, Vec::new(alloc))?)
 }
 
+/// So many equal lines.
+pub fn lines(alloc: Global, line: &str, count: usize) -> Result<String, Fail> {
+    let mut text = String::new(alloc);
+    for _ in 0..count {
+        text.push_str(line)?;
+    }
+    Ok(text)
+}
+
 /// What is told of an outcome on standard error.
 pub fn line_of(alloc: Global, outcome: &Outcome, words: &[String]) -> Result<MemSink, Fail> {
     let mut sink = sink_of(alloc, 1000)?;
@@ -82,17 +96,23 @@ pub fn run<R: Threads + Wait + Sync>(
     csv: &str,
     script: &[u8],
 ) -> Result<Output, Fail> {
+    run_past(rt, alloc, words, sky, csv, script, &OpenGate)
+}
+
+/// The same, past a gate.
+pub fn run_past<R: Threads + Wait + Sync, G: Gate + Sync>(
+    rt: &R,
+    alloc: Global,
+    words: &[&str],
+    sky: &str,
+    csv: &str,
+    script: &[u8],
+    gate: &G,
+) -> Result<Output, Fail> {
     let words = words_of(alloc, words)?;
     let mut shelf = PlainShelf::new(texts_of(alloc, sky, csv, script)?);
     let mut sink = sink_of(alloc, 10000)?;
-    let outcome = qserv(
-        rt,
-        alloc,
-        words.as_slice(),
-        &mut shelf,
-        &mut sink,
-        &OpenGate,
-    );
+    let outcome = qserv(rt, alloc, words.as_slice(), &mut shelf, &mut sink, gate);
     let told = line_of(alloc, &outcome, words.as_slice())?;
     Ok(Output {
         sink,

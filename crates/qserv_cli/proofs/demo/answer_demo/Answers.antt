@@ -5,7 +5,7 @@ use Rattle.qserv_cli.proofs.demo.answer_demo.Goals as goal
 
 pub returns-in-Ok : goal.returns-in-Ok
 returns-in-Ok g c =
-    demo_over (survey_of c.args.inputs) c.in-Ok.script _ _ _
+    demo_over c.args.workers (survey_of c.args.inputs) c.in-Ok.script _ _ _
     (same_script c.demo_script.result.now demo_script c.in-Ok.script c.demo_script.ensures
     c.demo_script_is_accepted.ensures.short c.in-Ok.ensures.text c.in-Ok.ensures.steps)
     c.answer_queries.ensures

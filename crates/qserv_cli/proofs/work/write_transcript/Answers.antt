@@ -6,5 +6,5 @@ use Rattle.qserv_cli.proofs.work.write_transcript.Goals as goal
 
 pub returns-in-Done : goal.returns-in-Done
 returns-in-Done g c =
-    written_as (Runs c.args.store.now c.args.script.now) (map kind_of c.args.ends.now) c.in-Ok.kinds _ _ _ _
-    c.in-Ok.ensures c.requires.fit c.in-Done.ensures c.send.ensures
+    λ workers fit. written_as (Runs workers c.args.store.now c.args.script.now) (map kind_of c.args.ends.now) c.in-Ok.kinds _ _ _ _
+    c.in-Ok.ensures fit c.in-Done.ensures c.send.ensures
