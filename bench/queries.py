@@ -9,6 +9,7 @@ milliseconds, of one query, beside what is aimed at for a million rows. A query 
 script. Each answer is compared with one computed here from the flat list, the dull way. The status is 1 where an answer is
 another, or where a line costs more than is aimed at. Only an idle machine tells anything.
 """
+import argparse
 import collections
 import functools
 import os
@@ -17,8 +18,8 @@ import subprocess
 import sys
 
 import demo_files
-import program_words
 
+HERE = os.path.dirname(os.path.abspath(__file__))
 REACH = 65536
 
 
@@ -30,6 +31,7 @@ def ask(program, folder, script):
     words = [program, "query", "sky.txt", "catalogue.csv", "measured.sql", "0"]
     ended = subprocess.run(words, cwd=folder, capture_output=True, text=True, check=True)
     return ended.stdout, resource.getrusage(resource.RUSAGE_CHILDREN).ru_utime - before
+
 
 
 # ---- answers from the flat list
@@ -124,8 +126,13 @@ def is_right(told, lines, times, pairs):
 
 
 def main():
-    words = program_words.parser(__doc__, rows=1_000_000, times=3).parse_args()
-    program = words.program
+    parser = argparse.ArgumentParser(description=__doc__, formatter_class=argparse.RawDescriptionHelpFormatter)
+    parser.add_argument("folder")
+    parser.add_argument("--program", default=os.path.join(HERE, "..", ".qserv", "qserv"))
+    parser.add_argument("--rows", type=int, default=1_000_000)
+    parser.add_argument("--times", type=int, default=3)
+    words = parser.parse_args()
+    program = os.path.abspath(words.program)
     rows = list(demo_files.rows(words.rows, 1))
     if not os.path.isfile(os.path.join(words.folder, "catalogue.csv")):
         demo_files.write_all(words.rows, 1, words.folder)

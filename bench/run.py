@@ -17,14 +17,13 @@ With --targets it measures what is aimed at: reading 1,000,000 rows of six field
 store with its blocks over 256 chunks; each line has user seconds and the most that is wanted. It ends with 1 where a line has
 more. Only an idle machine tells anything.
 """
+import argparse
 import bisect
 import math
 import os
 import subprocess
 import sys
 import time
-
-import program_words
 
 HERE = os.path.dirname(os.path.abspath(__file__))
 LOW, HIGH = -1_000_000, 1_000_000
@@ -189,16 +188,18 @@ def target_lines(program, folder):
 
 
 def main():
-    parser = program_words.parser(__doc__)
+    parser = argparse.ArgumentParser(description=__doc__, formatter_class=argparse.RawDescriptionHelpFormatter)
+    parser.add_argument("folder")
     parser.add_argument("--growth", action="store_true")
     parser.add_argument("--targets", action="store_true")
+    parser.add_argument("--program", default=os.path.join(HERE, "..", ".qserv", "qserv"))
     parser.add_argument("--rows", type=int, nargs="+", default=[100_000, 1_000_000, 4_000_000])
     parser.add_argument("--chunks", type=int, nargs="+", choices=SKIES, default=list(SKIES))
     parser.add_argument("--order", choices=["ascending", "random"], default="ascending")
     parser.add_argument("--further", type=int, default=0, help="how many columns each row has behind z")
     words = parser.parse_args()
     os.makedirs(words.folder, exist_ok=True)
-    program = words.program
+    program = os.path.abspath(words.program)
     for chunks in words.chunks:
         write(os.path.join(words.folder, f"sky_{chunks}.txt"), sky_text(chunks))
     write(
