@@ -31,13 +31,13 @@ both false b h = absurd (cc h)
 -- ---- a script of queries alone cancels none of them
 
 -- the step is that of a query
-is_query : Step → Bool
+abbrev is_query : Step → Bool
 is_query (step.Query n span) = true
 is_query (step.Wait n) = false
 is_query (step.Cancel n) = false
 
 -- the steps are those of queries: none waits and none cancels
-are_queries : List Step → Bool
+abbrev are_queries : List Step → Bool
 are_queries steps = list_all is_query steps
 
 none_cancels : (k : ℕ) (ss : List Step) → are_queries ss ≡ true → (n : ℕ) → list_any (cancels k) (take n ss) ≡ false
