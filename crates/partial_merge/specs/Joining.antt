@@ -1,5 +1,5 @@
 -- What a piece that takes in another one stands for, and when it may be finished.
-use Rattle.std.specs.Prelude.{◌≡◌, ℕ, List, ◌++◌, [], ◌∷◌}
+use Rattle.std.specs.Prelude.{◌≡◌, ℕ, ℤ, List, ◌++◌, [], ◌∷◌, Option}
 use Rattle.table_rules.specs.Objects.{Obj}
 use Rattle.sky_rules.specs.Partition.{Partition}
 use Rattle.sql_bound.specs.declared.query.Bound.{Bound}
@@ -17,6 +17,8 @@ use Rattle.answer_rules.specs.Pieces.{PieceView, OfRows, OfGroups, PieceFor}
 use Rattle.answer_rules.specs.Ranks.{row_order}
 use Rattle.answer_rules.specs.Rewriting.{chunk_query_of, merge_plan_of}
 use Rattle.answer_rules.specs.Small.{IsSmallGroup}
+use Rattle.partial_merge.specs.declared.rank.Rank.{Rank}
+use Rattle.partial_merge.specs.Bags.{out_row}
 use Rattle.partial_merge.specs.Groups.{MayGather}
 
 -- Both stand for one chunk query of one base, over disjoint sets of chunks.
@@ -40,6 +42,10 @@ abbrev pub TakesRow : PieceView → OutRow → PieceView → Type 0
 TakesRow (OfRows pushed rows) row (OfRows limit kept) =
     (limit ≡ pushed) × KeepsFirst row_order pushed (rows ++ row ∷ []) kept
 TakesRow old row new = ⊥
+
+-- a row of this rank is none of the first n, whatever its values: a piece that takes it in may stay as it is
+abbrev pub IsNoneOfFirst : PieceView → Rank → Type 0
+IsNoneOfFirst view rank = (values : List (Option ℤ)) → TakesRow view (out_row rank values) view
 
 -- the piece is of rows
 abbrev pub IsOfRows : PieceView → Type 0

@@ -5,7 +5,8 @@
 //! first n, and a row that comes behind n others is looked at and forgotten. The values of rows that had to go stay until
 //! the list of values has doubled; then those of the others are copied into a new one (`packing`).
 
-ghost use Rattle.std.specs.Prelude.{◌≡◌, ◌≤◌, ◌+◌, ◌-◌, ◌++◌, ◌∷◌, [], length, IfOk, IfSome, OnErr, OnOk, vec_len, vec_capacity};
+ghost use Rattle.std.specs.Prelude.{◌≡◌, ◌≤◌, ◌+◌, ◌-◌, ◌++◌, ◌∷◌, [], ℤ, length, IfOk, IfSome, List, OnErr, OnOk, Option, vec_len, vec_capacity};
+ghost use Rattle.std.specs.Bool.{OnTrue};
 ghost use Rattle.answer_rules.specs.Finish.{merged_rows};
 ghost use Rattle.answer_rules.specs.Keeps.{AreApart, KeepsFirst};
 ghost use Rattle.answer_rules.specs.Ranks.{row_order};
@@ -141,6 +142,14 @@ impl Bag {
             cells: Vec::new(alloc),
             packed: SHORT,
         }
+    }
+
+    /// Whether so many rows are kept that one of this rank is none of the first, whatever its values. Takes no memory.
+    pub(crate) fn is_too_late(&self, rank: &Rank) -> bool
+        ensures { OnTrue result ((values : List (Option ℤ)) → KeepsFirst row_order self.now.pushed
+            (self.now.rows ++ out_row rank.now values ∷ []) self.now.rows) }
+    {
+        is_too_late(&self.kept, &rank.at(0, 0))
     }
 
     /// Takes in a row of this rank with these values. After `Err` nothing has changed.

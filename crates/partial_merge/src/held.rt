@@ -1,11 +1,12 @@
 //! What a piece holds: rows, or groups.
 
 ghost use Rattle.std.specs.Prelude.{◌≡◌, ◌≤◌, Err, IfErr, IfOk, Ok, OnErr, OnOk};
+ghost use Rattle.std.specs.Bool.{OnTrue};
 ghost use Rattle.answer_rules.specs.PieceLaws.{empty_view};
 ghost use Rattle.answer_rules.specs.Rows.{limit_of};
 ghost use Rattle.partial_merge.specs.Held.{MayTake, Took, view_in};
 ghost use Rattle.partial_merge.specs.Bags.{out_row};
-ghost use Rattle.partial_merge.specs.Joining.{IsOfRows, MayTakeGroup, TakesRow, with_group};
+ghost use Rattle.partial_merge.specs.Joining.{IsNoneOfFirst, IsOfRows, MayTakeGroup, TakesRow, with_group};
 ghost use Rattle.partial_merge.specs.Groups.{group_by};
 ghost use Rattle.partial_merge.specs.Sizes.{IsWithin, size_of};
 ghost use Rattle.answer_rules.specs.Finish.{finished};
@@ -60,6 +61,16 @@ pub(crate) fn take_in(held: &mut Held, other: Held) -> Result<(), Memory>
         (Held::Rows(mine), Held::Rows(theirs)) => mine.absorb(theirs),
         (Held::Groups(mine), Held::Groups(theirs)) => mine.absorb(theirs),
         _ => unreachable!(),
+    }
+}
+
+/// Whether a row of this rank is none of the first that are kept, whatever its values.
+pub(crate) fn is_too_late(held: &Held, rank: &Rank) -> bool
+    ensures { OnTrue result (IsNoneOfFirst (view_in held.now) rank.now) }
+{
+    match held {
+        Held::Rows(bag) => bag.is_too_late(rank),
+        Held::Groups(_) => false,
     }
 }
 

@@ -7,17 +7,18 @@
 //! is told by `PieceFor`; `absorb` keeps that, whatever the two pieces stood for.
 
 ghost use Rattle.std.specs.Prelude.{◌≡◌, ◌≤◌, Err, IfErr, IfOk, Ok, OnErr, OnOk};
+ghost use Rattle.std.specs.Bool.{OnTrue};
 ghost use Rattle.answer_rules.specs.Finish.{finished};
 ghost use Rattle.answer_rules.specs.PieceLaws.{empty_view};
 ghost use Rattle.answer_rules.specs.Rows.{limit_of};
 ghost use Rattle.partial_merge.specs.Bags.{out_row};
-ghost use Rattle.partial_merge.specs.Joining.{IsOfRows, Joins, MayFinish, MayJoin};
+ghost use Rattle.partial_merge.specs.Joining.{IsNoneOfFirst, IsOfRows, Joins, MayFinish, MayJoin};
 ghost use Rattle.partial_merge.specs.Joining.{MayTakeGroup, TakesRow, with_group};
 ghost use Rattle.partial_merge.specs.Groups.{group_by};
 ghost use Rattle.partial_merge.specs.Sizes.{IsWithin, size_of};
 ghost use Rattle.sky_io.specs.Stops.{IfBad};
 
-use crate::held::{Held, count, finish, nothing, push_group, push_row, take_in};
+use crate::held::{Held, count, finish, is_too_late, nothing, push_group, push_row, take_in};
 use crate::key::Key;
 use crate::rank::Rank;
 use crate::table::Table;
@@ -56,6 +57,14 @@ impl<'w> Piece<'w> {
             held: nothing(alloc, query),
             of: PhantomData,
         }
+    }
+
+    /// Whether a row of this rank is none of the first n of a chunk query with LIMIT n, whatever its values: n rows are held
+    /// that do not come after it. Such a row need not be pushed, nor its values be computed. Takes no memory.
+    pub fn is_too_late(&self, rank: &Rank) -> bool
+        ensures { OnTrue result (IsNoneOfFirst self.now rank.now) }
+    {
+        is_too_late(&self.held, rank)
     }
 
     /// Takes in a row of this rank with these values, as a scan finds it. After `Err` nothing has changed.

@@ -46,3 +46,28 @@ fn a_bag_without_a_limit_holds_all(rt: HostRuntime) -> Result<(), Fail> {
     assert_eq!(rt; bag.held(), 9);
     Ok(())
 }
+
+#[test]
+fn a_row_is_too_late_only_behind_as_many_as_the_limit(rt: HostRuntime) -> Result<(), Fail> {
+    let mut bag = Bag::empty(rt.alloc(), Some(2));
+    assert!(rt; !bag.is_too_late(&rank(9, 0)));
+    assert!(rt; bag.push(&rank(2, 7), &[]).is_ok());
+    assert!(rt; !bag.is_too_late(&rank(9, 0)));
+    assert!(rt; bag.push(&rank(1, 8), &[]).is_ok());
+    assert!(rt; !bag.is_too_late(&rank(2, 6)));
+    assert!(rt; bag.is_too_late(&rank(2, 7)));
+    assert!(rt; bag.is_too_late(&rank(2, 8)));
+    assert!(rt; bag.is_too_late(&rank(3, 0)));
+    assert!(rt; !bag.is_too_late(&rank(-3, 9)));
+    Ok(())
+}
+
+#[test]
+fn no_row_is_too_late_without_a_limit_and_each_with_0(rt: HostRuntime) -> Result<(), Fail> {
+    let mut all = Bag::empty(rt.alloc(), None);
+    assert!(rt; all.push(&rank(1, 1), &[]).is_ok());
+    assert!(rt; !all.is_too_late(&rank(9, 9)));
+    let none = Bag::empty(rt.alloc(), Some(0));
+    assert!(rt; none.is_too_late(&rank(-9, 0)));
+    Ok(())
+}
