@@ -15,3 +15,4 @@ pub mod Marking
 pub mod Sizing
 pub mod Parting
 pub mod Running
+pub mod Computing

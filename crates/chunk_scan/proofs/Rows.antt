@@ -1,5 +1,5 @@
 -- Rows that are put into a piece one by one.
-use Rattle.std.proofs.Common.{◌≡◌, ◌∙◌, refl, sym, ap, subst, ℕ, ◌+◌, ◌<◌, ℤ, List, [], ◌∷◌, ◌++◌, length, get_or, take, map, Option}
+use Rattle.std.proofs.Common.{◌≡◌, ◌∙◌, refl, sym, ap, subst, ℕ, ◌+◌, ◌<◌, List, [], ◌∷◌, ◌++◌, length, get_or, take, map}
 use Rattle.std.proofs.lemmas.List.{map-append, take_more}
 use Rattle.std.proofs.lemmas.List.Sorted.{IsPermutation-refl}
 use Rattle.table_rules.specs.Objects.{Obj}
@@ -8,19 +8,16 @@ use Rattle.value_rules.specs.Values.{row}
 use Rattle.answer_rules.specs.declared.row.OutRow.{OutRow}
 use Rattle.answer_rules.specs.declared.rewritten.ChunkQuery.{ChunkQuery}
 use Rattle.answer_rules.specs.Keeps.{KeepsFirst}
-use Rattle.answer_rules.specs.Pieces.{PieceView, OfRows, OfGroups, chunk_lines, chunk_value}
+use Rattle.answer_rules.specs.Pieces.{PieceView, OfRows, OfGroups, chunk_lines}
 use Rattle.answer_rules.specs.Ranks.{row_order}
 use Rattle.answer_rules.specs.Rows.{limit_of, out_row}
 use Rattle.answer_rules.proofs.Keeping.{keeps_all, keeps_joined}
 use Rattle.answer_rules.proofs.KeptTwice.{keeps_again}
 use Rattle.answer_rules.proofs.Totals.{row_total}
-use Rattle.partial_merge.specs.declared.rank.Rank.{Rank}
-use Rattle.partial_merge.specs.Bags.{out_row as ranked}
 use Rattle.partial_merge.specs.Joining.{IsOfRows, TakesRow}
 use Rattle.answer_rules.specs.PieceLaws.{empty_view}
 use Rattle.sql_bound.specs.declared.query.Shape.TheVariants.{Rows}
-use Rattle.value_rules.specs.Values.{Pick}
-use Rattle.chunk_scan.specs.Lines.{IsOfRowsOver, with_cells}
+use Rattle.chunk_scan.specs.Lines.{IsOfRowsOver}
 
 -- one row more behind
 pub objects_more : (objects : List Obj) (places : List ℕ) (j : ℕ) → j < length places
@@ -48,11 +45,6 @@ rows_more cq objects places j r (OfRows pushed rows) (OfRows limit kept) low is 
     )
 rows_more cq objects places j r (OfRows pushed rows) (OfGroups parts) low is takes h = absurd takes
 rows_more cq objects places j r (OfGroups parts) new low is takes h = absurd h
-
--- the rank of a row with the values of the items is the row as the chunk query has it
-pub row_is_line : (cq : ChunkQuery) (p : Pick) (rank : Rank) (values : List (Option ℤ)) → ranked rank [] ≡ with_cells [] (out_row (chunk_lines cq) p) → values ≡ map (chunk_value p) cq.items
-    → ranked rank values ≡ out_row (chunk_lines cq) p
-row_is_line cq p rank values e f = ap (with_cells values) e ∙ ap (λ cells. with_cells cells (out_row (chunk_lines cq) p)) f
 
 -- an empty piece is of no rows
 pub of_none : (cq : ChunkQuery) (view : PieceView) → cq.shape ≡ Rows → view ≡ empty_view cq.shape (limit_of cq.limit) → IsOfRowsOver cq [] view

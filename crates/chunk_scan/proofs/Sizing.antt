@@ -104,7 +104,8 @@ count_values : (e : BoundExpr) (objects : List Obj) → length (values_on e obje
 count_values e [] = refl
 count_values e (o ∷ objects) = ap suc (count_values e objects)
 
-ready_values : (columns n : ℕ) (e : BoundExpr) (objects : List Obj) → is_sound_expr (has_col columns false) e ≡ true → Each IsRow objects → n ≤ length objects
+-- the values of an expression are there up to any place among the rows
+pub ready_values : (columns n : ℕ) (e : BoundExpr) (objects : List Obj) → is_sound_expr (has_col columns false) e ≡ true → Each IsRow objects → n ≤ length objects
     → IsReady n (Some (values_on e objects))
 ready_values columns n e objects sound rows few =
     (omega (arith, few, count_values e objects), All-from_recursion (IsOfSize most) (values_on e objects) (values_sized columns e objects sound rows))

@@ -4,3 +4,4 @@ pub mod Lines
 pub mod Grouped
 pub mod Parted
 pub mod Runs
+pub mod Computed

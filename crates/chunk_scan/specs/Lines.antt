@@ -1,9 +1,8 @@
 -- What a piece holds of some rows of the table.
-use Rattle.std.specs.Prelude.{◌≡◌, ℤ, List, map, Option}
+use Rattle.std.specs.Prelude.{◌≡◌, List, map}
 use Rattle.table_rules.specs.Objects.{Obj}
 use Rattle.value_rules.specs.Values.{row}
 use Rattle.answer_rules.specs.declared.rewritten.ChunkQuery.{ChunkQuery}
-use Rattle.answer_rules.specs.declared.row.OutRow.{OutRow}
 use Rattle.answer_rules.specs.Keeps.{KeepsFirst}
 use Rattle.answer_rules.specs.Pieces.{PieceView, OfRows, OfGroups, chunk_lines}
 use Rattle.answer_rules.specs.Parts.{partials_of}
@@ -11,10 +10,6 @@ use Rattle.answer_rules.specs.Ranks.{row_order}
 use Rattle.sql_bound.specs.declared.query.Shape.{Shape}
 use Rattle.sql_bound.specs.declared.query.Shape.TheVariants.{Rows, Pairs, Groups}
 use Rattle.answer_rules.specs.Rows.{limit_of, out_row}
-
--- a row with other values
-abbrev pub with_cells : List (Option ℤ) → OutRow → OutRow
-with_cells cells r = record { class = r.class; value = r.value; first = r.first; second = r.second; cells = cells }
 
 -- the piece is of these rows, in any order, but for some that are none of the first n where there is a LIMIT n
 abbrev pub IsOfRowsOver : ChunkQuery → List Obj → PieceView → Type 0

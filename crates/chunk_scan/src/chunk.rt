@@ -91,6 +91,6 @@ fn piece_at<'w>(
         Shape::Groups { keys } => {
             group_piece(alloc, block, query, keys.as_slice(), places, scratch)
         },
-        _ => row_piece(alloc, rows, own, query, places),
+        _ => row_piece(alloc, block, rows, own, query, places, scratch),
     }
 }

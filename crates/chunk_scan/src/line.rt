@@ -4,32 +4,26 @@ ghost use Rattle.std.specs.Prelude.{◌≡◌, ◌+◌, ◌++◌, ◌∷◌, [],
 ghost use Rattle.std.specs.List.{list_all};
 ghost use Rattle.sql_bound.specs.declared.query.Shape.TheVariants.{Rows};
 ghost use Rattle.value_rules.specs.Values.{row};
-ghost use Rattle.answer_rules.specs.Pieces.{chunk_down, chunk_key, chunk_lines, chunk_value};
+ghost use Rattle.answer_rules.specs.Pieces.{chunk_down, chunk_value};
 ghost use Rattle.answer_rules.specs.Ranks.{rank_class, rank_value};
-ghost use Rattle.answer_rules.specs.Rows.{out_row};
-ghost use Rattle.answer_rules.specs.SoundChunks.{is_sound_chunk_order, is_sound_part};
-ghost use Rattle.partial_merge.specs.Bags.{out_row as ranked};
-ghost use Rattle.chunk_scan.specs.Lines.{with_cells};
+ghost use Rattle.answer_rules.specs.SoundChunks.{is_sound_part};
+ghost use Rattle.chunk_scan.specs.Computed.{rank_by};
 
-use answer_rules::{ChunkItem, ChunkOrder, ChunkQuery};
+use answer_rules::{ChunkItem, ChunkOrder};
 use expr_eval::value;
 use partial_merge::Rank;
 use sky_io::Memory;
 use sky_row::Row;
 use sky_vector::Num;
 
-/// The place of the row in the order of the chunk query. Takes no memory.
-pub(crate) fn rank_of(query: &ChunkQuery, first: &Row) -> Rank
-    requires sound { IsTrue
-        (is_sound_chunk_order (4 + length first.now.further) Rows query.now.order) }
-    ensures { ranked result [] ≡ with_cells [] (out_row (chunk_lines query.now) (row first.now)) }
+/// The place in the order of a row with this key and this id. Takes no memory.
+pub(crate) fn rank_of(down: bool, key: &Option<Num>, id: i64) -> Rank
+    ensures { result ≡ rank_by down key.now id }
 {
-    let down = is_down(&query.order);
-    let key = key(&query.order, first);
     Rank {
-        class: class(down, &key),
-        value: number(down, &key),
-        first: first.id(),
+        class: class(down, key),
+        value: number(down, key),
+        first: id,
         second: 0,
     }
 }
@@ -52,7 +46,7 @@ pub(crate) fn fill(
 }
 
 /// Puts the value behind the others.
-fn push(values: &mut Vec<Option<Num>>, value: Option<Num>) -> Result<(), Memory>
+pub(crate) fn push(values: &mut Vec<Option<Num>>, value: Option<Num>) -> Result<(), Memory>
     ensures { OnOk result (values.new.items ≡ values.old.items ++ value ∷ []) }
 {
     match values.push(value) {
@@ -72,25 +66,13 @@ fn cell(item: &ChunkItem, first: &Row) -> Option<Num>
     }
 }
 
-/// Whether the order goes down.
-fn is_down(order: &Option<ChunkOrder>) -> bool
+/// Whether the order goes down. Takes no memory.
+pub(crate) fn is_down(order: &Option<ChunkOrder>) -> bool
     ensures { result ≡ chunk_down order.now }
 {
     match order {
         None => false,
         Some(order) => order.down,
-    }
-}
-
-/// The value that the order goes by.
-fn key(order: &Option<ChunkOrder>, first: &Row) -> Option<Num>
-    requires sound { IsTrue
-        (is_sound_chunk_order (4 + length first.now.further) Rows order.now) }
-    ensures { result ≡ chunk_key order.now (row first.now) }
-{
-    match order {
-        None => None,
-        Some(order) => value(&order.key, first, None),
     }
 }
 

@@ -1,0 +1,68 @@
+//! The piece of a chunk query of rows without a LIMIT: each row is kept.
+
+ghost use Rattle.std.specs.Prelude.{◌≡◌, ◌+◌, ◌<◌, All, IfOk, OnOk, length};
+ghost use Rattle.sky_row.specs.Columns.{objects_at};
+ghost use Rattle.sql_bound.specs.declared.query.Shape.TheVariants.{Rows as OfRows};
+ghost use Rattle.answer_rules.specs.SoundChunks.{IsSoundChunk};
+ghost use Rattle.partial_merge.specs.Bags.{out_row};
+ghost use Rattle.partial_merge.specs.Joining.{IsOfRows, TakesRow};
+ghost use Rattle.chunk_scan.specs.Computed.{AreReady, cells_in, keys_on};
+ghost use Rattle.chunk_scan.specs.Lines.{IsOfRowsOver};
+
+use crate::columns::{columns, fill_at, rank_at};
+use crate::line::is_down;
+use answer_rules::ChunkQuery;
+use column_block::Block;
+use column_eval::{Scratch, ValueList};
+use partial_merge::{Piece, Rank};
+use sky_io::Memory;
+use sky_vector::Num;
+use std::alloc::Global;
+
+/// The piece of the rows at these places, which have these keys. Takes memory for a value a row and item, for the evaluator,
+/// and for what the piece keeps.
+pub(crate) fn all_rows<'w>(
+    alloc: Global,
+    block: &Block,
+    query: &ChunkQuery,
+    keys: &Option<ValueList>,
+    places: &[u32],
+    scratch: &mut Scratch,
+) -> Result<Piece<'w>, Memory>
+    requires shape { query.now.shape ≡ OfRows }
+    requires sound { IsSoundChunk (4 + block.now.width) query.now }
+    requires there { All (λ place. place < length block.now.objects) places.now }
+    requires keys { keys.now
+        ≡ keys_on (objects_at block.now.objects places.now) query.now.order }
+    ensures { IfOk result (IsOfRowsOver query.now
+        (objects_at block.now.objects places.now)) }
+{
+    let _count = block.len();
+    let columns = columns(alloc, block, query.items.as_slice(), places, scratch)?;
+    let ids = block.ids();
+    let down = is_down(&query.order);
+    let mut piece = Piece::empty(alloc, query);
+    let mut values = Vec::new(alloc);
+    for i in 0..places.len() {
+        let rank = rank_at(down, keys, ids, places[i], i);
+        push_at(&mut piece, &mut values, columns.as_slice(), &rank, i)?;
+    }
+    Ok(piece)
+}
+
+/// Puts the row with this number and this rank into the piece. `values` is room that is used again for each row.
+fn push_at(
+    piece: &mut Piece<'_>,
+    values: &mut Vec<Option<Num>>,
+    columns: &[ValueList],
+    rank: &Rank,
+    i: usize,
+) -> Result<(), Memory>
+    requires rows { IsOfRows piece.old }
+    requires ready { AreReady i columns.now }
+    ensures { OnOk result (TakesRow piece.old (out_row rank.now (cells_in columns.now i))
+        piece.new) }
+{
+    fill_at(values, columns, i)?;
+    piece.push_row(rank, values.as_slice())
+}

@@ -1,0 +1,165 @@
+//! What a chunk query computes of rows, a column at a time: the values that they are ordered by, and those of its items.
+
+ghost use Rattle.std.specs.Prelude.{◌≡◌, ◌+◌, ◌++◌, ◌<◌, ◌≤◌, ◌∷◌, [], All, IfOk, IsTrue, None, OnOk, Some, false, get_or, length, map, nat_abs, pos};
+ghost use Rattle.std.specs.List.{list_all};
+ghost use Rattle.sky_row.specs.Columns.{objects_at};
+ghost use Rattle.sql_bound.specs.declared.query.Shape.TheVariants.{Rows};
+ghost use Rattle.value_rules.specs.Widths.{IsOfSize, most};
+ghost use Rattle.answer_rules.specs.SoundChunks.{is_sound_chunk_order, is_sound_part};
+ghost use Rattle.chunk_scan.specs.Computed.{AreReady, cells_in, item_on, key_in, keys_on, rank_by};
+ghost use Rattle.chunk_scan.specs.Parted.{IsReady};
+
+use crate::line::{push, rank_of};
+use answer_rules::{ChunkItem, ChunkOrder};
+use column_block::Block;
+use column_eval::{Scratch, ValueList, values};
+use partial_merge::Rank;
+use sky_io::Memory;
+use sky_vector::Num;
+use std::alloc::Global;
+
+/// The values that the rows at these places are ordered by, if there is an order. Takes memory for a value a row, and for
+/// the evaluator.
+pub(crate) fn keys(
+    block: &Block,
+    order: &Option<ChunkOrder>,
+    places: &[u32],
+    scratch: &mut Scratch,
+) -> Result<Option<ValueList>, Memory>
+    requires there { All (λ place. place < length block.now.objects) places.now }
+    requires sound { IsTrue (is_sound_chunk_order (4 + block.now.width) Rows order.now) }
+    ensures { IfOk result (λ keys. keys
+        ≡ keys_on (objects_at block.now.objects places.now) order.now) }
+{
+    match order {
+        None => Ok(None),
+        Some(order) => keys_by(block, order, places, scratch),
+    }
+}
+
+/// The same where there is an order.
+fn keys_by(
+    block: &Block,
+    order: &ChunkOrder,
+    places: &[u32],
+    scratch: &mut Scratch,
+) -> Result<Option<ValueList>, Memory>
+    requires there { All (λ place. place < length block.now.objects) places.now }
+    requires sound { IsTrue (is_sound_chunk_order (4 + block.now.width) Rows (Some order.now)) }
+    ensures { IfOk result (λ keys. keys
+        ≡ keys_on (objects_at block.now.objects places.now) (Some order.now)) }
+{
+    Ok(Some(values(block, &order.key, places, scratch)?))
+}
+
+/// For each of these items its values on the rows at these places. Takes memory for a value a row and item, and for the
+/// evaluator.
+pub(crate) fn columns(
+    alloc: Global,
+    block: &Block,
+    items: &[ChunkItem],
+    places: &[u32],
+    scratch: &mut Scratch,
+) -> Result<Vec<ValueList>, Memory>
+    requires there { All (λ place. place < length block.now.objects) places.now }
+    requires sound { IsTrue (list_all (is_sound_part (4 + block.now.width) Rows) items.now) }
+    ensures { IfOk result (λ columns. columns.items
+        ≡ map (item_on (objects_at block.now.objects places.now)) items.now) }
+{
+    let mut columns = Vec::new(alloc);
+    for item in items {
+        put(&mut columns, column(block, item, places, scratch)?)?;
+    }
+    Ok(columns)
+}
+
+/// Puts the column behind the others.
+fn put(columns: &mut Vec<ValueList>, column: ValueList) -> Result<(), Memory>
+    ensures { OnOk result (columns.new.items ≡ columns.old.items ++ column ∷ []) }
+{
+    match columns.push(column) {
+        Ok(()) => Ok(()),
+        Err(_) => Err(Memory),
+    }
+}
+
+/// The values of an item, which is an expression of the row.
+fn column(
+    block: &Block,
+    item: &ChunkItem,
+    places: &[u32],
+    scratch: &mut Scratch,
+) -> Result<ValueList, Memory>
+    requires there { All (λ place. place < length block.now.objects) places.now }
+    requires sound { IsTrue (is_sound_part (4 + block.now.width) Rows item.now) }
+    ensures { IfOk result (λ column. column
+        ≡ item_on (objects_at block.now.objects places.now) item.now) }
+{
+    match item {
+        ChunkItem::Plain(e) => values(block, e, places, scratch),
+        _ => unreachable!(),
+    }
+}
+
+/// The value that the row with this number is ordered by; without an order all rows stand alike.
+fn key_at(keys: &Option<ValueList>, i: usize) -> Option<Num>
+    requires { IsReady (i + 1) keys.now }
+    ensures { result ≡ key_in keys.now i }
+{
+    match keys {
+        None => None,
+        Some(keys) => value_at(keys, i),
+    }
+}
+
+/// The place in the order of the row with this number, which stands at this place among those of the block. Takes no memory.
+pub(crate) fn rank_at(
+    down: bool,
+    keys: &Option<ValueList>,
+    ids: &[i64],
+    place: u32,
+    i: usize,
+) -> Rank
+    requires there { place < length ids.now }
+    requires ready { IsReady (i + 1) keys.now }
+    ensures { result ≡ rank_by down (key_in keys.now i) (get_or ids.now place (pos 0)) }
+{
+    rank_of(down, &key_at(keys, i), ids[place as usize])
+}
+
+/// Puts the values of the items on the row with this number in place of what the list held. Takes memory only where it held
+/// fewer.
+pub(crate) fn fill_at(
+    values: &mut Vec<Option<Num>>,
+    columns: &[ValueList],
+    i: usize,
+) -> Result<(), Memory>
+    requires ready { AreReady i columns.now }
+    ensures { OnOk result (values.new.items ≡ cells_in columns.now i) }
+{
+    values.clear();
+    for column in columns {
+        push(values, value_at(column, i))?;
+    }
+    Ok(())
+}
+
+/// The value of the row with this number.
+fn value_at(column: &ValueList, i: usize) -> Option<Num>
+    requires there { i < length column.now }
+    requires sized { All (IsOfSize most) column.now }
+    ensures { result ≡ get_or column.now i None }
+{
+    match column.get(i) {
+        None => None,
+        Some(n) => number(n),
+    }
+}
+
+/// A number as one that a query computes.
+fn number(n: i128) -> Option<Num>
+    requires { nat_abs n ≤ most }
+    ensures { result ≡ Some n }
+{
+    Num::new(n)
+}

@@ -1,0 +1,103 @@
+//! The piece of a chunk query of rows with a LIMIT n: a row that comes behind n others is passed over.
+
+ghost use Rattle.std.specs.Prelude.{◌≡◌, ◌+◌, ◌<◌, All, IfOk, OnOk, get_or, length, map};
+ghost use Rattle.sky_row.specs.Columns.{no_row, objects_at};
+ghost use Rattle.sql_bound.specs.declared.query.Shape.TheVariants.{Rows as OfRows};
+ghost use Rattle.value_rules.specs.Values.{row};
+ghost use Rattle.answer_rules.specs.Pieces.{chunk_value};
+ghost use Rattle.answer_rules.specs.SoundChunks.{IsSoundChunk};
+ghost use Rattle.partial_merge.specs.Bags.{out_row};
+ghost use Rattle.partial_merge.specs.Joining.{IsOfRows, TakesRow};
+ghost use Rattle.chunk_scan.specs.Computed.{keys_on};
+ghost use Rattle.chunk_scan.specs.Lines.{IsOfRowsOver};
+
+use crate::columns::rank_at;
+use crate::line::{fill, is_down};
+use crate::place::row_at;
+use answer_rules::ChunkQuery;
+use column_block::Block;
+use column_eval::ValueList;
+use partial_merge::{Piece, Rank};
+use sky_io::Memory;
+use sky_row::{Row, Rows};
+use sky_vector::Num;
+use std::alloc::Global;
+
+/// The piece of the rows at these places among those of the chunk, which have these keys. Takes memory for the values of one
+/// row, and for what the piece keeps.
+pub(crate) fn first_rows<'w>(
+    alloc: Global,
+    block: &Block,
+    rows: &Rows,
+    own: &[u32],
+    query: &ChunkQuery,
+    keys: &Option<ValueList>,
+    places: &[u32],
+) -> Result<Piece<'w>, Memory>
+    requires shape { query.now.shape ≡ OfRows }
+    requires objects { block.now.objects ≡ objects_at rows.now.objects own.now }
+    requires width { block.now.width ≡ length rows.now.names }
+    requires sound { IsSoundChunk (4 + length rows.now.names) query.now }
+    requires own { All (λ place. place < length rows.now.objects) own.now }
+    requires there { All (λ place. place < length block.now.objects) places.now }
+    requires places { All (λ place. place < length own.now) places.now }
+    requires keys { keys.now
+        ≡ keys_on (objects_at block.now.objects places.now) query.now.order }
+    ensures { IfOk result (IsOfRowsOver query.now
+        (objects_at block.now.objects places.now)) }
+{
+    let _count = block.len();
+    let ids = block.ids();
+    let down = is_down(&query.order);
+    let mut piece = Piece::empty(alloc, query);
+    let mut values = Vec::new(alloc);
+    for i in 0..places.len() {
+        let rank = rank_at(down, keys, ids, places[i], i);
+        offer(&mut piece, &mut values, rows, own, query, &rank, places[i])?;
+    }
+    Ok(piece)
+}
+
+/// Puts the row at this place, which has this rank, into the piece, or passes over it. `values` is room that is used again
+/// for each row.
+fn offer(
+    piece: &mut Piece<'_>,
+    values: &mut Vec<Option<Num>>,
+    rows: &Rows,
+    own: &[u32],
+    query: &ChunkQuery,
+    rank: &Rank,
+    place: u32,
+) -> Result<(), Memory>
+    requires rows { IsOfRows piece.old }
+    requires shape { query.now.shape ≡ OfRows }
+    requires sound { IsSoundChunk (4 + length rows.now.names) query.now }
+    requires own { All (λ place. place < length rows.now.objects) own.now }
+    requires there { place < length own.now }
+    ensures { OnOk result (TakesRow piece.old (out_row rank.now (map (chunk_value
+        (row (get_or (objects_at rows.now.objects own.now) place no_row))) query.now.items))
+        piece.new) }
+{
+    if piece.is_too_late(rank) {
+        return Ok(());
+    }
+    push_one(piece, values, query, rank, &row_at(rows, own, place))
+}
+
+/// Puts the row, which has this rank, into the piece.
+fn push_one(
+    piece: &mut Piece<'_>,
+    values: &mut Vec<Option<Num>>,
+    query: &ChunkQuery,
+    rank: &Rank,
+    first: &Row,
+) -> Result<(), Memory>
+    requires rows { IsOfRows piece.old }
+    requires shape { query.now.shape ≡ OfRows }
+    requires sound { IsSoundChunk (4 + length first.now.further) query.now }
+    ensures { OnOk result (TakesRow piece.old (out_row rank.now
+        (map (chunk_value (row first.now)) query.now.items)) piece.new) }
+{
+    fill(values, query.items.as_slice(), first)?;
+    piece.push_row(rank, values.as_slice())
+}
