@@ -1,5 +1,5 @@
 -- Groups that are put into a piece one by one.
-use Rattle.std.proofs.Common.{◌≡◌, ◌∙◌, refl, sym, ap, subst, ℕ, ◌+◌, ◌≤◌, arith, Bool, true, false, cond, List, [], ◌∷◌, ◌++◌, length, filter, map}
+use Rattle.std.proofs.Common.{◌≡◌, ◌∙◌, refl, sym, ap, subst, ℕ, ◌+◌, ◌≤◌, arith, Bool, true, false, cond, List, [], ◌∷◌, ◌++◌, length, filter, get_or, map}
 use Rattle.std.specs.Prelude.{All}
 use Rattle.std.specs.List.{AllByRecursion}
 use Rattle.std.proofs.lemmas.List.Sums.{sum_by-cons}
@@ -7,8 +7,12 @@ use Rattle.std.specs.declared.cmp.Ordering.{Ordering}
 use Rattle.std.specs.declared.cmp.Ordering.TheVariants.{Less, Equal, Greater}
 use Rattle.std.specs.Ordering.{is_eq, ordering_reverse}
 use Rattle.std.proofs.lemmas.List.Elements.{All-head, All-tail}
+use Rattle.std.specs.List.Sorted.{IsPermutation}
+use Rattle.std.proofs.lemmas.List.Sorted.{IsPermutation-map}
+use Rattle.table_rules.specs.Objects.{Obj}
+use Rattle.sky_row.specs.Columns.{no_row, objects_at}
 use Rattle.sql_bound.specs.declared.expr.BoundCol.{BoundCol}
-use Rattle.value_rules.specs.Values.{Pick}
+use Rattle.value_rules.specs.Values.{Pick, row}
 use Rattle.answer_rules.specs.declared.rewritten.ChunkItem.{ChunkItem}
 use Rattle.answer_rules.specs.declared.rewritten.ChunkItem.TheVariants as item
 use Rattle.answer_rules.specs.Gather.{Partial, gather, single}
@@ -17,7 +21,7 @@ use Rattle.answer_rules.specs.Keys.{Key, key_by, key_of, key_order, keys_in, of_
 use Rattle.answer_rules.specs.Parts.{Part, Sums, add_own_sums, way_of, add_sums, part_over, partials_of, sums_over}
 use Rattle.answer_rules.specs.Pieces.{PieceView, OfGroups}
 use Rattle.answer_rules.proofs.Gathering.{sum-gather}
-use Rattle.answer_rules.proofs.Grouping.{parted_joined, parts_add_up}
+use Rattle.answer_rules.proofs.Grouping.{parted-permutation, parted_joined, parts_add_up}
 use Rattle.answer_rules.proofs.JoinedAlone.{AreOf, are_of, both_of, gathers}
 use Rattle.answer_rules.proofs.PartsAdd.{sums_add, sums_add_up}
 use Rattle.answer_rules.proofs.Totals.{key_total, same_keys}
@@ -126,3 +130,15 @@ may_take keys items xs ys k n view is few small =
       },
       small,
     )
+
+-- ---- rows in another order
+
+-- rows in another order have the same groups
+pub reordered : (keys : List BoundCol) (items : List ChunkItem) (objects : List Obj) (places order : List ℕ) (view : PieceView) → IsPermutation places order
+    → view ≡ OfGroups (partials_of keys items (map row (objects_at objects order))) → view ≡ OfGroups (partials_of keys items (map row (objects_at objects places)))
+reordered keys items objects places order view moved is =
+    let there = λ (place : ℕ). get_or objects place no_row in
+    is
+    ∙ ap OfGroups
+    (parted-permutation key_order (add_sums items) key_total same_keys (sums_add items) (key_of keys) (sums_over items) (sums_add_up items)
+    (map row (map there places)) (map row (map there order)) (IsPermutation-map row (map there places) (map there order) (IsPermutation-map there places order moved)))

@@ -16,3 +16,4 @@ pub mod Sizing
 pub mod Parting
 pub mod Running
 pub mod Computing
+pub mod Apart

@@ -5,3 +5,4 @@ pub mod Grouped
 pub mod Parted
 pub mod Runs
 pub mod Computed
+pub mod Words

@@ -12,7 +12,7 @@ ghost use Rattle.sky_row.specs.Columns.{objects_at};
 ghost use Rattle.value_rules.specs.Sound.{is_paired};
 ghost use Rattle.chunk_scan.specs.Lines.{IsPieceOver};
 
-use crate::group_piece::group_piece;
+use crate::group_piece::piece_of_groups;
 use crate::row_piece::row_piece;
 use crate::standing::standing;
 use answer_rules::ChunkQuery;
@@ -81,6 +81,7 @@ fn piece_at<'w>(
     requires width { block.now.width ≡ length rows.now.names }
     requires rows { is_paired query.now.shape ≡ false }
     requires sound { IsSoundChunk (4 + length rows.now.names) query.now }
+    requires small { length block.now.objects ≤ ROWS_MOST }
     requires few { length places.now ≤ ROWS_MOST }
     requires own { All (λ place. place < length rows.now.objects) own.now }
     requires there { All (λ place. place < length own.now) places.now }
@@ -89,7 +90,7 @@ fn piece_at<'w>(
 {
     match &query.shape {
         Shape::Groups { keys } => {
-            group_piece(alloc, block, query, keys.as_slice(), places, scratch)
+            piece_of_groups(alloc, block, query, keys.as_slice(), places, scratch)
         },
         _ => row_piece(alloc, block, rows, own, query, places, scratch),
     }

@@ -1,7 +1,8 @@
 //! The piece of a chunk query of groups.
 //!
-//! Rows of one key that stand one after the other are a run, and a run is put into the piece as one group. Without keys all
-//! rows are one run. The values of the aggregates' expressions are computed a column at a time before.
+//! The rows are put in an order in which those of one key stand together. Rows of one key that stand one after the other are a
+//! run, and a run is put into the piece as one group. Without keys all rows are one run, in any order. The values of the
+//! aggregates' expressions are computed a column at a time before.
 
 ghost use Rattle.std.specs.Prelude.{◌≡◌, ◌+◌, ◌++◌, ◌<◌, ◌≤◌, ◌∷◌, [], All, IfOk, IsTrue, OnOk, false, get_or, length, map};
 ghost use Rattle.std.specs.List.{list_all};
@@ -17,6 +18,7 @@ ghost use Rattle.answer_rules.specs.SoundChunks.{IsSoundChunk};
 ghost use Rattle.partial_merge.specs.Groups.{group_by};
 ghost use Rattle.partial_merge.specs.Joining.{MayTakeGroup, with_group};
 
+use crate::key_order::by_key;
 use crate::part::fill;
 use crate::runs::{run_end, starts};
 use crate::worth::worths;
@@ -28,9 +30,54 @@ use sky_io::Memory;
 use sql_bound::BoundCol;
 use std::alloc::Global;
 
-/// The piece of the groups of the rows at these places. Takes memory for a truth a row, for the values of each aggregate's
-/// expression, and for what the piece keeps.
-pub(crate) fn group_piece<'w>(
+/// The piece of the groups of the rows at these places. Takes memory for a truth, a place and two words a row, for the values
+/// of each aggregate's expression, and for what the piece keeps.
+pub(crate) fn piece_of_groups<'w>(
+    alloc: Global,
+    block: &Block,
+    query: &ChunkQuery,
+    keys: &[BoundCol],
+    places: &[u32],
+    scratch: &mut Scratch,
+) -> Result<Piece<'w>, Memory>
+    requires shape { query.now.shape ≡ Groups keys.now }
+    requires sound { IsSoundChunk (4 + block.now.width) query.now }
+    requires small { length block.now.objects ≤ ROWS_MOST }
+    requires few { length places.now ≤ ROWS_MOST }
+    requires there { All (λ place. place < length block.now.objects) places.now }
+    ensures { IfOk result (λ piece. piece ≡ OfGroups (partials_of keys.now query.now.items
+        (map row (objects_at block.now.objects places.now)))) }
+{
+    if keys.is_empty() {
+        group_piece(alloc, block, query, keys, places, scratch)
+    } else {
+        by_keys(alloc, block, query, keys, places, scratch)
+    }
+}
+
+/// The same, in an order in which rows of one key stand together.
+fn by_keys<'w>(
+    alloc: Global,
+    block: &Block,
+    query: &ChunkQuery,
+    keys: &[BoundCol],
+    places: &[u32],
+    scratch: &mut Scratch,
+) -> Result<Piece<'w>, Memory>
+    requires shape { query.now.shape ≡ Groups keys.now }
+    requires sound { IsSoundChunk (4 + block.now.width) query.now }
+    requires small { length block.now.objects ≤ ROWS_MOST }
+    requires few { length places.now ≤ ROWS_MOST }
+    requires there { All (λ place. place < length block.now.objects) places.now }
+    ensures { IfOk result (λ piece. piece ≡ OfGroups (partials_of keys.now query.now.items
+        (map row (objects_at block.now.objects places.now)))) }
+{
+    let order = by_key(alloc, block, keys, places)?;
+    group_piece(alloc, block, query, keys, order.as_slice(), scratch)
+}
+
+/// The same of places in any order. Of a key there is a group for each time that it stands anew; the piece joins them.
+fn group_piece<'w>(
     alloc: Global,
     block: &Block,
     query: &ChunkQuery,

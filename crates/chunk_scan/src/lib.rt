@@ -2,10 +2,10 @@
 //!
 //! Callers see `mask` as a truth a row, and `scan` as a piece that stands for the chunk alone (`PieceFor`).
 //! Inside, conditions that a kernel of `lane_filter` knows clear a mask first; then the places that are left are listed, and
-//! the other conditions are judged by `column_eval` at these places alone. Of a grouping the values of its aggregates are
-//! computed a column at a time, and rows of one key that stand one after the other are put into the piece as one group. Of
-//! rows the values that they are ordered by are computed so, and without a LIMIT those of the items too; with a LIMIT n a row
-//! that comes behind n others is passed over before its items are computed.
+//! the other conditions are judged by `column_eval` at these places alone. Of a grouping the places are put in an order in
+//! which rows of one key stand together, the values of its aggregates are computed a column at a time, and rows of one key that
+//! stand together are put into the piece as one group. Of rows the values that they are ordered by are computed so, and without
+//! a LIMIT those of the items too; with a LIMIT n a row that comes behind n others is passed over before its items are computed.
 //! Below: `chunk_store` for the rows of a chunk and their columns, `expr_eval` for values, `partial_merge` for the piece.
 //! Above: the sessions.
 //! No pairs of rows, no threads and no other chunk.
@@ -20,6 +20,7 @@ mod first_rows;
 mod group_piece;
 mod join;
 mod kernel;
+mod key_order;
 mod known;
 mod line;
 mod narrow;
@@ -29,6 +30,8 @@ mod row_mask;
 mod row_piece;
 mod runs;
 mod standing;
+mod together;
+mod word;
 mod worth;
 
 pub use chunk::scan;

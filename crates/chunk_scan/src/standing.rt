@@ -51,7 +51,7 @@ pub(crate) fn filled(alloc: Global, flag: bool, count: usize) -> Result<Vec<bool
 }
 
 /// So many places, all of them 0.
-fn zeros(alloc: Global, count: usize) -> Result<Vec<u32>, Memory>
+pub(crate) fn zeros(alloc: Global, count: usize) -> Result<Vec<u32>, Memory>
     ensures { IfOk result (λ list. list.items ≡ replicate count 0) }
 {
     match vec![in alloc; 0u32; count] {

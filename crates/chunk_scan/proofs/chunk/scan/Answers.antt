@@ -19,6 +19,14 @@ standing-requires-clause-few c =
     let few = block_few g objects c.args.chunk block (c.block-block.ensures.places ∙ chunk_taken g objects c.args.chunk) c.know.ensures.few in
     omega (arith, few)
 
+pub piece_at-requires-clause-small : goal.piece_at-requires-clause-small
+piece_at-requires-clause-small c =
+    let g = c.args.store.now.plan in
+    let objects = c.args.store.now.rows.objects in
+    let block = c.block-block.result.now.objects in
+    let few = block_few g objects c.args.chunk block (c.block-block.ensures.places ∙ chunk_taken g objects c.args.chunk) c.know.ensures.few in
+    omega (arith, few)
+
 pub piece_at-requires-clause-few : goal.piece_at-requires-clause-few
 piece_at-requires-clause-few c =
     let g = c.args.store.now.plan in

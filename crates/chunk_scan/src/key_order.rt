@@ -1,0 +1,118 @@
+//! The places of rows in an order in which rows of one key stand together.
+//!
+//! Each row becomes one word, a number made of its key with its place behind it, and words of one number are brought
+//! together. No memory is taken for a row or a key of its own.
+
+ghost use Rattle.std.specs.Prelude.{◌≡◌, ◌+◌, ◌<◌, ◌≤◌, All, IfOk, IsTrue, false, length, replicate};
+ghost use Rattle.std.specs.List.{list_all};
+ghost use Rattle.std.specs.List.Sorted.{IsPermutation};
+ghost use Rattle.table_rules.specs.declared.limits.TheConstants.{ROWS_MOST};
+ghost use Rattle.value_rules.specs.Sound.{has_col};
+
+use crate::standing::zeros;
+use crate::together::bring_together;
+use crate::word::{mix_narrow, mix_presence, mix_wide, put_places, take_places};
+use column_block::Block;
+use sky_io::Memory;
+use sky_row::Column;
+use sql_bound::BoundCol;
+use std::alloc::Global;
+
+/// The places with those of one key together. Takes memory for two words and a place a row, 20 bytes.
+pub(crate) fn by_key(
+    alloc: Global,
+    block: &Block,
+    keys: &[BoundCol],
+    places: &[u32],
+) -> Result<Vec<u32>, Memory>
+    requires few { length block.now.objects ≤ ROWS_MOST }
+    requires there { All (λ place. place < length block.now.objects) places.now }
+    requires sound { IsTrue (list_all (has_col (4 + block.now.width) false) keys.now) }
+    ensures { IfOk result (λ order. IsPermutation places.now order.items) }
+{
+    let mut words = room(alloc, places.len())?;
+    let mut spare = room(alloc, places.len())?;
+    let mut order = zeros(alloc, places.len())?;
+    put_numbers(words.as_mut_slice(), block, keys, places);
+    reorder(
+        words.as_mut_slice(),
+        spare.as_mut_slice(),
+        places,
+        order.as_mut_slice(),
+    );
+    Ok(order)
+}
+
+/// Room for so many words.
+fn room(alloc: Global, count: usize) -> Result<Vec<u64>, Memory>
+    ensures { IfOk result (λ list. list.items ≡ replicate count 0) }
+{
+    match vec![in alloc; 0u64; count] {
+        Ok(list) => Ok(list),
+        Err(_) => Err(Memory),
+    }
+}
+
+/// Puts the places into the order, those of one number together. `spare` is room for as many words.
+#[tactic(auto, using(crate::proofs::Apart::places_moved))]
+fn reorder(numbers: &mut [u64], spare: &mut [u64], places: &[u32], order: &mut [u32])
+    requires len { length numbers.old ≡ length places.now }
+    requires room { length spare.old ≡ length places.now }
+    requires long { length order.old ≡ length places.now }
+    requires few { All (λ place. place < ROWS_MOST) places.now }
+    ensures { IsPermutation places.now order.new }
+{
+    put_places(numbers, places);
+    bring_together(numbers, spare);
+    take_places(numbers, order);
+}
+
+/// Makes the numbers those of the keys of the rows at these places.
+fn put_numbers(numbers: &mut [u64], block: &Block, keys: &[BoundCol], places: &[u32])
+    requires len { length numbers.old ≡ length places.now }
+    requires there { All (λ place. place < length block.now.objects) places.now }
+    requires sound { IsTrue (list_all (has_col (4 + block.now.width) false) keys.now) }
+    ensures { length numbers.new ≡ length numbers.old }
+{
+    for key in keys {
+        mix(numbers, block, key.col, places);
+    }
+}
+
+/// Adds the values of a column of the block to the numbers.
+fn mix(numbers: &mut [u64], block: &Block, col: u32, places: &[u32])
+    requires len { length numbers.old ≡ length places.now }
+    requires there { All (λ place. place < length block.now.objects) places.now }
+    requires col { col < 4 + block.now.width }
+    ensures { length numbers.new ≡ length numbers.old }
+{
+    match col {
+        0 => mix_wide(numbers, block.ids(), places),
+        1 => mix_narrow(numbers, block.xs(), places),
+        2 => mix_narrow(numbers, block.ys(), places),
+        3 => mix_narrow(numbers, block.zs(), places),
+        _ => mix_further(numbers, block.further(col), places),
+    }
+}
+
+/// The same of a further column: its presence and its numbers.
+fn mix_further(numbers: &mut [u64], column: &Column, places: &[u32])
+    requires len { length numbers.old ≡ length places.now }
+    requires there { All (λ place. place < length column.now) places.now }
+    ensures { length numbers.new ≡ length numbers.old }
+{
+    mix_presence_of(numbers, column, places);
+    mix_wide(numbers, column.values(), places);
+}
+
+/// Adds the presence in a column to the numbers, where it has rows with NULL. It goes before the values, so that numbers
+/// ascend with these.
+fn mix_presence_of(numbers: &mut [u64], column: &Column, places: &[u32])
+    requires len { length numbers.old ≡ length places.now }
+    requires there { All (λ place. place < length column.now) places.now }
+    ensures { length numbers.new ≡ length numbers.old }
+{
+    if let Some(present) = column.present() {
+        mix_presence(numbers, present, places);
+    }
+}
