@@ -1,18 +1,19 @@
 -- What the steps of a join put into the piece.
-use Rattle.std.proofs.Common.{◌≡◌, ℕ, ◌+◌, ◌<◌, ◌≤◌, ℤ, ◌-ℤ◌, ◌≤ℤ◌, Bool, true, false, cond, ◌&&◌, List, [], ◌∷◌, ◌++◌, append_assoc, length, get_or, take, slice_range, slice_index_or, map, filter, int_le, Option, refl, sym, ap, subst, ◌∙◌, arith, IsPermutation}
-use Rattle.std.proofs.lemmas.Bool.{and_left, both_ways}
+use Rattle.std.proofs.Common.{◌≡◌, ℕ, zero, suc, ◌+◌, ◌-◌, ◌<◌, ◌≤◌, ℤ, ◌-ℤ◌, ◌≤ℤ◌, Bool, true, false, cond, ◌&&◌, List, [], ◌∷◌, ◌++◌, append_assoc, length, get_or, take, slice_range, slice_index_or, map, filter, int_le, Option, refl, sym, ap, subst, ◌∙◌, arith, IsPermutation, All, drop, nat_lt, ◌⊎◌, inl, inr}
+use Rattle.std.proofs.lemmas.Bool.{and_left, both_ways, cases_order}
 use Rattle.std.proofs.lemmas.Int.{ints}
-use Rattle.std.proofs.lemmas.List.{append-nil, map-append, get_or-map, length-map, take_more}
+use Rattle.std.proofs.lemmas.List.{append-nil, map-append, get_or-map, get_or-drop, get_or-take, length-drop, length-map, length-take-le, take_more}
 use Rattle.std.proofs.lemmas.List.Concat.{flat_map-append}
-use Rattle.std.proofs.lemmas.List.Elements.{filter-append}
+use Rattle.std.proofs.lemmas.List.Elements.{filter-append, recursion_from_All}
 use Rattle.std.proofs.lemmas.List.Sorted.{IsPermutation-refl, IsPermutation-append_right, IsPermutation-map}
 use Rattle.sky_vector.specs.Points.{Point, chord_squared, square}
 use Rattle.sky_vector.proofs.Signed.{square_up}
 use Rattle.sky_vector.proofs.Plane.{same_chord}
 use Rattle.wedge_rules.proofs.Tests.{le_from, le_to}
 use Rattle.sql_bound.specs.declared.cond.BoundCond.{BoundCond}
-use Rattle.table_rules.specs.Objects.{Obj}
-use Rattle.sky_row.specs.Columns.{objects_at}
+use Rattle.sky_rules.specs.Bounds.{Bounds, in_bounds}
+use Rattle.table_rules.specs.Objects.{IdsAscend, Obj}
+use Rattle.sky_row.specs.Columns.{no_row, objects_at}
 use Rattle.value_rules.specs.Truth.{meets}
 use Rattle.value_rules.specs.Values.{Pick, pair}
 use Rattle.answer_rules.specs.Keeps.{KeepsFirst}
@@ -25,11 +26,12 @@ use Rattle.answer_rules.proofs.Keeping.{keeps_all, keeps_joined, keeps_reordered
 use Rattle.answer_rules.proofs.KeptTwice.{keeps_again}
 use Rattle.answer_rules.proofs.Totals.{row_total}
 use Rattle.partial_merge.specs.Joining.{IsOfRows, TakesRow}
-use Rattle.near_join.specs.Gains.{Gains, lines_for, row_pairs, swept_pairs}
+use Rattle.near_join.specs.Gains.{Gains, held_rows, lines_for, met_pairs, row_pairs, swept_pairs}
+use Rattle.near_join.specs.Rising.{Rises, is_later, is_picked}
 use Rattle.near_join.specs.Strips.{heights_at, object_at}
 use Rattle.near_join.specs.Walk.{is_near, joins}
 use Rattle.near_join.specs.Windows.{is_within, IsWindow}
-use Rattle.near_join.proofs.Filters.{filter_part, part-map}
+use Rattle.near_join.proofs.Filters.{filter_of_map, filter_part, filter_same, filter_twice, part-map}
 use Rattle.near_join.proofs.Sweeping.{slice_more, slice_none}
 
 -- ---- pieces
@@ -79,53 +81,146 @@ gains_one cq p row (OfGroups a) new e t = absurd t
 
 -- ---- rows
 
--- the pairs of a row with one list and then with another
-row_pairs-append : (cq : ChunkQuery) (limit : ℤ) (os ps : List Obj) (u : Obj) → row_pairs cq limit (os ++ ps) u ≡ row_pairs cq limit os u ++ row_pairs cq limit ps u
-row_pairs-append cq limit os ps u =
-    ap (map (pair u)) (filter-append (joins limit cq.conds u) os ps) ∙ map-append (pair u) (filter (joins limit cq.conds u) os) (filter (joins limit cq.conds u) ps)
+-- the row at the next place
+objects_more : (objects : List Obj) (places : List ℕ) (i : ℕ) → i < length places → objects_at objects (take (i + 1) places) ≡ objects_at objects (take i places) ++ object_at objects (get_or places i 0) ∷ []
+objects_more objects places i l = ap (objects_at objects) (take_more places i 0 l) ∙ map-append (object_at objects) (take i places) (get_or places i 0 ∷ [])
 
--- one other row more
-pub one_other_more : (cq : ChunkQuery) (limit : ℤ) (objects : List Obj) (places : List ℕ) (u : Obj) (old mid new : PieceView) (from i : ℕ) → from ≤ i → i < length places
-    → Gains cq (row_pairs cq limit (objects_at objects (slice_range places from i)) u) old mid → Gains cq (row_pairs cq limit (object_at objects (get_or places i 0) ∷ []) u) mid new
-    → Gains cq (row_pairs cq limit (objects_at objects (slice_range places from (i + 1))) u) old new
-one_other_more cq limit objects places u old mid new from i l low g h =
-    let rows : objects_at objects (slice_range places from (i + 1)) ≡ objects_at objects (slice_range places from i) ++ object_at objects (get_or places i 0) ∷ [] =
-    ap (objects_at objects) (slice_more places from i 0 l low) ∙ map-append (object_at objects) (slice_range places from i) (get_or places i 0 ∷ []) in
-    subst (λ ps. Gains cq ps old new) (sym (ap (λ os. row_pairs cq limit os u) rows ∙ row_pairs-append cq limit (objects_at objects (slice_range places from i)) (object_at objects (get_or places i 0) ∷ []) u))
-    (gains_joined cq (row_pairs cq limit (objects_at objects (slice_range places from i)) u) (row_pairs cq limit (object_at objects (get_or places i 0) ∷ []) u) old mid new g h)
+-- one row of a strip more was looked at
+pub one_held_more : (cq : ChunkQuery) (limit : ℤ) (bounds : Bounds) (objects others : List Obj) (places : List ℕ) (old mid new : PieceView) (i : ℕ) → i < length places
+    → Gains cq (swept_pairs cq limit others (held_rows bounds (objects_at objects (take i places)))) old mid
+    → Gains cq (swept_pairs cq limit others (held_rows bounds (object_at objects (get_or places i 0) ∷ []))) mid new
+    → Gains cq (swept_pairs cq limit others (held_rows bounds (objects_at objects (take (i + 1) places)))) old new
+one_held_more cq limit bounds objects others places old mid new i l g h =
+    let u : List Obj = object_at objects (get_or places i 0) ∷ [] in
+    let before : List Obj = objects_at objects (take i places) in
+    let rows : held_rows bounds (objects_at objects (take (i + 1) places)) ≡ held_rows bounds before ++ held_rows bounds u =
+    ap (held_rows bounds) (objects_more objects places i l) ∙ filter-append (λ o. in_bounds bounds o.at) before u in
+    let pairs : swept_pairs cq limit others (held_rows bounds (objects_at objects (take (i + 1) places))) ≡ swept_pairs cq limit others (held_rows bounds before) ++ swept_pairs cq limit others (held_rows bounds u) =
+    ap (swept_pairs cq limit others) rows ∙ flat_map-append (row_pairs cq limit others) (held_rows bounds before) (held_rows bounds u) in
+    subst (λ ps. Gains cq ps old new) (sym pairs)
+    (gains_joined cq (swept_pairs cq limit others (held_rows bounds before)) (swept_pairs cq limit others (held_rows bounds u)) old mid new g h)
+
+-- the pairs of a row that the bounds hold, and of one that they don't
+pub one_held : (cq : ChunkQuery) (limit : ℤ) (bounds : Bounds) (others : List Obj) (u : Obj) → in_bounds bounds u.at ≡ true → swept_pairs cq limit others (held_rows bounds (u ∷ [])) ≡ row_pairs cq limit others u
+one_held cq limit bounds others u h = ap (λ b. swept_pairs cq limit others (cond b (u ∷ []) [])) h ∙ append-nil (row_pairs cq limit others u)
+
+pub none_held : (cq : ChunkQuery) (limit : ℤ) (bounds : Bounds) (others : List Obj) (u : Obj) → in_bounds bounds u.at ≡ false → swept_pairs cq limit others (held_rows bounds (u ∷ [])) ≡ []
+none_held cq limit bounds others u h = ap (λ b. swept_pairs cq limit others (cond b (u ∷ []) [])) h
+
+-- ---- the rows that are picked
+
+-- one place more was looked at
+pub one_picked : (objects : List Obj) (limit : ℤ) (rises : Bool) (place other : ℕ) (places old new : List ℕ) (from i : ℕ) (is : Bool) → from ≤ i → i < length places → other ≡ get_or places i 0
+    → is ≡ is_picked objects limit rises place other → new ≡ old ++ cond is (other ∷ []) []
+    → old ≡ filter (is_picked objects limit rises place) (slice_range places from i) → new ≡ filter (is_picked objects limit rises place) (slice_range places from (i + 1))
+one_picked objects limit rises place other places old new from i is l low here e step so_far =
+    let test : ℕ → Bool = is_picked objects limit rises place in
+    step ∙ ap (λ l. l ++ cond is (other ∷ []) []) so_far ∙ ap (λ b. filter test (slice_range places from i) ++ cond b (other ∷ []) []) e
+    ∙ ap (λ p. filter test (slice_range places from i) ++ cond (test p) (p ∷ []) []) here
+    ∙ sym (ap (filter test) (slice_more places from i 0 l low) ∙ filter-append test (slice_range places from i) (get_or places i 0 ∷ []))
+
+-- the test of two positions and two places
+pub picked_of : (objects : List Obj) (limit : ℤ) (rises : Bool) (place other : ℕ) (a b : Point) (is : Bool) → is ≡ (int_le (chord_squared a b) limit && is_later rises place other)
+    → a ≡ (object_at objects place).at → b ≡ (object_at objects other).at → is ≡ is_picked objects limit rises place other
+picked_of objects limit rises place other a b is same e f =
+    same ∙ ap (λ p. int_le (chord_squared p b) limit && is_later rises place other) e ∙ ap (λ p. int_le (chord_squared (object_at objects place).at p) limit && is_later rises place other) f
 
 -- before the first
-pub no_other : (cq : ChunkQuery) (limit : ℤ) (objects : List Obj) (places : List ℕ) (u : Obj) (old : PieceView) (from : ℕ) → IsOfRows old → Gains cq (row_pairs cq limit (objects_at objects (slice_range places from from)) u) old old
-no_other cq limit objects places u old from is =
-    subst (λ l. Gains cq (row_pairs cq limit (objects_at objects l) u) old old) (sym (slice_none places from)) (gains_nothing cq old is)
+pub none_picked : (test : ℕ → Bool) (places : List ℕ) (from : ℕ) → [] ≡ filter test (slice_range places from from)
+none_picked test places from = sym (ap (filter test) (slice_none places from))
 
--- one row more
-pub one_row_more : (cq : ChunkQuery) (limit : ℤ) (objects others : List Obj) (own : List ℕ) (old mid new : PieceView) (i p : ℕ) → i < length own → p ≡ get_or own i p
-    → Gains cq (swept_pairs cq limit others (objects_at objects (take i own))) old mid → Gains cq (row_pairs cq limit others (object_at objects p)) mid new
-    → Gains cq (swept_pairs cq limit others (objects_at objects (take (i + 1) own))) old new
-one_row_more cq limit objects others own old mid new i p l e g h =
-    let longer : take (i + 1) own ≡ take i own ++ p ∷ [] = take_more own i p l ∙ ap (λ m. take i own ++ m ∷ []) (sym e) in
-    let u : Obj = object_at objects p in
-    let rows : objects_at objects (take (i + 1) own) ≡ objects_at objects (take i own) ++ u ∷ [] =
-    ap (objects_at objects) longer ∙ map-append (object_at objects) (take i own) (p ∷ []) in
-    let pairs : swept_pairs cq limit others (objects_at objects (take (i + 1) own)) ≡ swept_pairs cq limit others (objects_at objects (take i own)) ++ row_pairs cq limit others u =
-    ap (swept_pairs cq limit others) rows ∙ flat_map-append (row_pairs cq limit others) (objects_at objects (take i own)) (u ∷ [])
-    ∙ ap (λ l. swept_pairs cq limit others (objects_at objects (take i own)) ++ l) (append-nil (row_pairs cq limit others u)) in
-    subst (λ ps. Gains cq ps old new) (sym pairs)
-    (gains_joined cq (swept_pairs cq limit others (objects_at objects (take i own))) (row_pairs cq limit others u) old mid new g h)
-
--- the pair of a row with one other, by the two tests
-pub one_pair : (cq : ChunkQuery) (limit : ℤ) (u o : Obj) (near met : Bool) → is_near limit u o ≡ near → meets cq.conds (pair u o) ≡ met → row_pairs cq limit (o ∷ []) u ≡ cond (near && met) (pair u o ∷ []) []
-one_pair cq limit u o near met e f =
-    ap (λ b. map (pair u) (cond (b && meets cq.conds (pair u o)) (o ∷ []) [])) e ∙ ap (λ b. map (pair u) (cond (near && b) (o ∷ []) [])) f ∙ under (near && met)
+-- what holds of a list holds of what passes a test
+pub kept_there : (P : ℕ → Type 0) (test : ℕ → Bool) (places : List ℕ) → All P places → All P (filter test places)
+kept_there P test [] all = all
+kept_there P test (p ∷ places) all = by (test p) (kept_there P test places (λ k d l. all (suc k) d (omega (arith, l))))
   where
-    under : (b : Bool) → map (pair u) (cond b (o ∷ []) []) ≡ cond b (pair u o ∷ []) []
-    under true = refl
-    under false = refl
+    by : (b : Bool) → All P (filter test places) → All P (cond b (p ∷ filter test places) (filter test places))
+    by false rest = rest
+    by true rest = first
+      where
+        first : All P (p ∷ filter test places)
+        first zero d l = all 0 d (omega arith)
+        first (suc k) d l = rest k d (omega (arith, l))
 
--- the test of two positions is that of their rows
-pub test_of : (limit : ℤ) (a b : Point) (u o : Obj) (near : Bool) → near ≡ int_le (chord_squared a b) limit → a ≡ u.at → b ≡ o.at → is_near limit u o ≡ near
-test_of limit a b u o near is e f = sym (is ∙ ap (λ p. int_le (chord_squared p b) limit) e ∙ ap (λ p. int_le (chord_squared u.at p) limit) f)
+-- the places of a part of a list are there where those of the list are
+pub part_there : (P : ℕ → Type 0) (places : List ℕ) (from to : ℕ) → from ≤ to → to ≤ length places → All P places → All P (slice_range places from to)
+part_there P places from to l h all =
+    λ k d m. let long = length-drop from places in
+    let short : k < to - from = omega (arith, m, length-take-le (to - from) (drop from places) (omega (arith, long, h))) in
+    subst P (sym (get_or-take (to - from) (drop from places) k d short ∙ get_or-drop from places k d)) (all (from + k) d (omega (arith, short, h)))
+
+lt_true : (p q : ℕ) → p < q → nat_lt p q ≡ true
+lt_true p q h = grind (arith)
+
+-- in a table the row at a place that is no higher has no higher id
+not_lower : (objects : List Obj) (p q : ℕ) → IdsAscend objects → p < length objects → q < length objects → nat_lt p q ≡ false → (object_at objects q).id ≤ℤ (object_at objects p).id
+not_lower objects p q up l h high = by (cases_order p q)
+  where
+    by : (p ≡ q) ⊎ ((p < q) ⊎ (q < p)) → (object_at objects q).id ≤ℤ (object_at objects p).id
+    by (inl e) = subst (λ k. (object_at objects k).id ≤ℤ (object_at objects p).id) e (omega (arith, ints))
+    by (inr (inl o)) = absurd (both_ways (nat_lt p q) high (lt_true p q o))
+    by (inr (inr o)) = let step = up q p no_row o l in omega (arith, ints, step)
+
+-- where the places of two rows speak against a pair of them, they don't meet the conditions
+not_met : (objects : List Obj) (conds : List BoundCond) (rises : Bool) (p q : ℕ) → IdsAscend objects → p < length objects → q < length objects → (rises ≡ true → Rises conds)
+    → is_later rises p q ≡ false → meets conds (pair (object_at objects p) (object_at objects q)) ≡ false
+not_met objects conds false p q up l h rising high = absurd (cc)
+not_met objects conds true p q up l h rising high = by (meets conds (pair (object_at objects p) (object_at objects q))) refl
+  where
+    by : (b : Bool) → meets conds (pair (object_at objects p) (object_at objects q)) ≡ b → b ≡ false
+    by false e = refl
+    by true e =
+        let under = rising refl (object_at objects p) (object_at objects q) e in
+        let over = not_lower objects p q up l h high in absurd (omega (arith, ints, under, over))
+
+three_tests : (near later met : Bool) → (later ≡ false → met ≡ false) → ((near && later) && met) ≡ (near && met)
+three_tests true true met f = refl
+three_tests true false met f = sym (f refl)
+three_tests false later met f = refl
+
+-- a row has its pairs with the rows that are picked for it
+pub picked_are_enough : (cq : ChunkQuery) (limit : ℤ) (rises : Bool) (objects : List Obj) (place : ℕ) (places found : List ℕ) → IdsAscend objects → place < length objects → All (λ p. p < length objects) places
+    → (rises ≡ true → Rises cq.conds) → found ≡ filter (is_picked objects limit rises place) places
+    → met_pairs cq (objects_at objects found) (object_at objects place) ≡ row_pairs cq limit (objects_at objects places) (object_at objects place)
+picked_are_enough cq limit rises objects place places found up low there rising is =
+    let u : Obj = object_at objects place in
+    let picked : ℕ → Bool = is_picked objects limit rises place in
+    let met : Obj → Bool = λ v. meets cq.conds (pair u v) in
+    let joined : Obj → Bool = joins limit cq.conds u in
+    let same : filter met (objects_at objects found) ≡ filter joined (objects_at objects places) =
+    ap (λ l. filter met (objects_at objects l)) is
+    ∙ filter_of_map met (object_at objects) (filter picked places)
+    ∙ ap (objects_at objects) (filter_twice picked (λ p. met (object_at objects p)) places
+    ∙ filter_same (λ p. picked p && met (object_at objects p)) (λ p. joined (object_at objects p)) places
+    (recursion_from_All (λ p. (picked p && met (object_at objects p)) ≡ joined (object_at objects p)) places
+    (λ k d l. three_tests (is_near limit u (object_at objects (slice_index_or places k d))) (is_later rises place (slice_index_or places k d)) (met (object_at objects (slice_index_or places k d)))
+    (not_met objects cq.conds rises place (slice_index_or places k d) up low (there k d l) rising))))
+    ∙ sym (filter_of_map joined (object_at objects) places) in
+    ap (map (pair u)) same
+
+-- ---- the pairs that meet the conditions
+
+-- one more
+pub one_met_more : (cq : ChunkQuery) (objects : List Obj) (u : Obj) (found : List ℕ) (old mid new : PieceView) (i p : ℕ) → i < length found → p ≡ get_or found i p
+    → Gains cq (met_pairs cq (objects_at objects (take i found)) u) old mid → Gains cq (met_pairs cq (object_at objects p ∷ []) u) mid new
+    → Gains cq (met_pairs cq (objects_at objects (take (i + 1) found)) u) old new
+one_met_more cq objects u found old mid new i p l e g h =
+    let met : Obj → Bool = λ v. meets cq.conds (pair u v) in
+    let v : List Obj = object_at objects p ∷ [] in
+    let before : List Obj = objects_at objects (take i found) in
+    let rows : objects_at objects (take (i + 1) found) ≡ before ++ v =
+    ap (objects_at objects) (take_more found i p l ∙ ap (λ m. take i found ++ m ∷ []) (sym e)) ∙ map-append (object_at objects) (take i found) (p ∷ []) in
+    let pairs : met_pairs cq (objects_at objects (take (i + 1) found)) u ≡ met_pairs cq before u ++ met_pairs cq v u =
+    ap (λ l. met_pairs cq l u) rows ∙ ap (map (pair u)) (filter-append met before v) ∙ map-append (pair u) (filter met before) (filter met v) in
+    subst (λ ps. Gains cq ps old new) (sym pairs) (gains_joined cq (met_pairs cq before u) (met_pairs cq v u) old mid new g h)
+
+-- the pair of a row with one other
+pub one_met : (cq : ChunkQuery) (u o : Obj) → met_pairs cq (o ∷ []) u ≡ cond (meets cq.conds (pair u o)) (pair u o ∷ []) []
+one_met cq u o = by (meets cq.conds (pair u o))
+  where
+    by : (b : Bool) → map (pair u) (cond b (o ∷ []) []) ≡ cond b (pair u o ∷ []) []
+    by true = refl
+    by false = refl
 
 -- ---- windows
 

@@ -1,12 +1,12 @@
 -- From the pairs of each subchunk to the piece of a chunk.
-use Rattle.std.proofs.Common.{◌≡◌, ℕ, ◌+◌, ◌<◌, ℤ, ◌≤ℤ◌, pos, Bool, true, List, [], ◌∷◌, ◌++◌, get_or, length, Option, refl, sym, ap, subst, ◌∙◌, arith, IsPermutation}
+use Rattle.std.proofs.Common.{◌≡◌, ℕ, ◌+◌, ◌<◌, ℤ, ◌≤ℤ◌, pos, Bool, true, false, ◌&&◌, ◌||◌, List, [], ◌∷◌, ◌++◌, filter, get_or, length, Option, refl, sym, ap, subst, ◌∙◌, arith, IsPermutation}
 use Rattle.std.specs.List.{flat_map, range_with_len}
 use Rattle.std.proofs.lemmas.List.{append-nil, get_or-map, length-map, map-id}
 use Rattle.std.proofs.lemmas.List.Concat.{flat_map-append}
 use Rattle.std.proofs.lemmas.List.FromFn.{get_or-range_with_len, length-range_with_len, map-range_with_len_more}
-use Rattle.std.proofs.lemmas.List.Sorted.{IsPermutation-refl, IsPermutation-sym, IsPermutation-map}
+use Rattle.std.proofs.lemmas.List.Sorted.{IsPermutation-refl, IsPermutation-sym, IsPermutation-trans, IsPermutation-map}
 use Rattle.sky_vector.specs.Points.{square}
-use Rattle.sky_rules.specs.Bounds.{in_sub}
+use Rattle.sky_rules.specs.Bounds.{Bounds, in_sub, sub_bounds_of}
 use Rattle.sky_rules.specs.Limits.{IsSky}
 use Rattle.sky_rules.specs.Partition.{Partition, chunk_count, overlap_at, sub_count}
 use Rattle.sql_bound.specs.declared.query.Shape.{Shape}
@@ -15,7 +15,7 @@ use Rattle.table_rules.specs.Objects.{Obj}
 use Rattle.sky_row.specs.Columns.{objects_at}
 use Rattle.value_rules.specs.Sound.{is_paired}
 use Rattle.value_rules.specs.Values.{Pick, pair}
-use Rattle.chunk_store.specs.Places.{sub_lists, sub_rows}
+use Rattle.chunk_store.specs.Places.{in_sub_overlap, sub_lists, sub_rows}
 use Rattle.answer_rules.specs.Coverage.{AreInTheSky}
 use Rattle.answer_rules.specs.Picks.{found}
 use Rattle.answer_rules.specs.PieceLaws.{empty_view}
@@ -25,34 +25,53 @@ use Rattle.answer_rules.specs.Rows.{limit_of, out_row}
 use Rattle.answer_rules.specs.declared.rewritten.ChunkQuery.{ChunkQuery}
 use Rattle.answer_rules.proofs.Keeping.{keeps_reordered}
 use Rattle.partial_merge.specs.Joining.{IsOfRows}
-use Rattle.near_join.specs.Gains.{Gains, lines_for, swept_pairs}
+use Rattle.near_join.specs.Gains.{Gains, held_rows, lines_for, swept_pairs}
 use Rattle.near_join.specs.Sound.{limit_in}
 use Rattle.near_join.specs.Strips.{StripView, IsSubStrip}
-use Rattle.near_join.specs.Walk.{joins, pairs_of, reach_objects, sub_objects, sub_pairs, walked_pairs}
+use Rattle.near_join.specs.Walk.{in_reach, joins, pairs_of, reach_objects, sub_objects, sub_pairs, walked_pairs}
 use Rattle.near_join.proofs.Gaining.{gains_joined, gains_moved, gains_nothing}
-use Rattle.near_join.proofs.Shuffles.{each_block, filter-permutation}
+use Rattle.near_join.proofs.Filters.{each_of_all, filter_same, filter_twice}
+use Rattle.near_join.proofs.Shuffles.{blocks-permutation, each_block, filter-permutation}
 use Rattle.near_join.proofs.Sounding.{paired, wrong}
 use Rattle.near_join.proofs.Sweeping.{places_are}
 use Rattle.near_join.proofs.Walking.{walk_finds_all}
 
+held_in_reach : (held beside : Bool) → ((held || beside) && held) ≡ held
+held_in_reach true beside = refl
+held_in_reach false true = refl
+held_in_reach false false = refl
+
+-- what a subchunk's bounds hold of its strip are its rows
+held_are : (g : Partition) (objects : List Obj) (c s : ℕ) (near : StripView) → IsSubStrip g objects c s near → IsPermutation (sub_objects g objects c s) (held_rows (sub_bounds_of g c s) (objects_at objects near.places))
+held_are g objects c s near strip =
+    let held : Obj → Bool = λ o. in_sub g c s o.at in
+    let reach : List Obj = reach_objects g objects c s in
+    let rows : filter held reach ≡ sub_objects g objects c s =
+    filter_twice (in_reach g c s) held objects
+    ∙ filter_same (λ o. in_reach g c s o && held o) held objects
+    (each_of_all (λ o. (in_reach g c s o && held o) ≡ held o) (λ o. held_in_reach (in_sub g c s o.at) (in_sub_overlap g c s o.at)) objects) in
+    subst (λ l. IsPermutation l (held_rows (sub_bounds_of g c s) (objects_at objects near.places))) rows
+    (filter-permutation held reach (objects_at objects near.places) strip.all)
+
 -- a subchunk's rows, with those of its strip that they join, give the subchunk's pairs
-pub gains_sub : (g : Partition) (objects : List Obj) (cq : ChunkQuery) (limit : ℤ) (c s : ℕ) (own : List ℕ) (near : StripView) (old new : PieceView) → own ≡ sub_rows g objects c s → IsSubStrip g objects c s near
-    → Gains cq (swept_pairs cq limit (objects_at objects near.places) (objects_at objects own)) old new → Gains cq (sub_pairs g objects (joins limit cq.conds) c s) old new
-gains_sub g objects cq limit c s own near old new is strip gain =
+pub gains_sub : (g : Partition) (objects : List Obj) (cq : ChunkQuery) (limit : ℤ) (c s : ℕ) (bounds : Bounds) (near : StripView) (old new : PieceView) → bounds ≡ sub_bounds_of g c s → IsSubStrip g objects c s near
+    → Gains cq (swept_pairs cq limit (objects_at objects near.places) (held_rows bounds (objects_at objects near.places))) old new → Gains cq (sub_pairs g objects (joins limit cq.conds) c s) old new
+gains_sub g objects cq limit c s bounds near old new is strip gain =
     let test : Obj → Obj → Bool = joins limit cq.conds in
     let reach : List Obj = reach_objects g objects c s in
-    let rows : objects_at objects own ≡ sub_objects g objects c s = ap (objects_at objects) is ∙ places_are (λ o. in_sub g c s o.at) objects in
-    let each : (u : Obj) → IsPermutation (pairs_of test reach u) (pairs_of test (objects_at objects near.places) u) =
-    λ u. IsPermutation-map (pair u) _ _ (filter-permutation (test u) reach (objects_at objects near.places) strip.all) in
-    let pairs = each_block (pairs_of test reach) (pairs_of test (objects_at objects near.places)) each (sub_objects g objects c s) in
-    gains_moved cq (swept_pairs cq limit (objects_at objects near.places) (sub_objects g objects c s)) (sub_pairs g objects test c s) old new (IsPermutation-sym _ _ pairs)
-    (subst (λ l. Gains cq (swept_pairs cq limit (objects_at objects near.places) l) old new) rows gain)
+    let others : List Obj = objects_at objects near.places in
+    let each : (u : Obj) → IsPermutation (pairs_of test reach u) (pairs_of test others u) =
+    λ u. IsPermutation-map (pair u) _ _ (filter-permutation (test u) reach others strip.all) in
+    let pairs = each_block (pairs_of test reach) (pairs_of test others) each (sub_objects g objects c s) in
+    let moved = blocks-permutation (pairs_of test others) (sub_objects g objects c s) (held_rows (sub_bounds_of g c s) others) (held_are g objects c s near strip) in
+    gains_moved cq (swept_pairs cq limit others (held_rows (sub_bounds_of g c s) others)) (sub_pairs g objects test c s) old new (IsPermutation-sym _ _ (IsPermutation-trans _ _ _ pairs moved))
+    (subst (λ b. Gains cq (swept_pairs cq limit others (held_rows b others)) old new) is gain)
 
 -- a subchunk without rows gives none
-pub gains_empty : (g : Partition) (objects : List Obj) (cq : ChunkQuery) (limit : ℤ) (c s : ℕ) (own : List ℕ) (old : PieceView) → own ≡ sub_rows g objects c s → own ≡ [] → IsOfRows old
+pub gains_empty : (g : Partition) (objects : List Obj) (cq : ChunkQuery) (limit : ℤ) (c s : ℕ) (old : PieceView) → sub_rows g objects c s ≡ [] → IsOfRows old
     → Gains cq (sub_pairs g objects (joins limit cq.conds) c s) old old
-gains_empty g objects cq limit c s own old is none rows =
-    let no : sub_objects g objects c s ≡ [] = sym (places_are (λ o. in_sub g c s o.at) objects) ∙ ap (objects_at objects) (sym is ∙ none) in
+gains_empty g objects cq limit c s old none rows =
+    let no : sub_objects g objects c s ≡ [] = sym (places_are (λ o. in_sub g c s o.at) objects) ∙ ap (objects_at objects) none in
     subst (λ l. Gains cq (flat_map (pairs_of (joins limit cq.conds) (reach_objects g objects c s)) l) old old) (sym no) (gains_nothing cq old rows)
 
 -- the pairs of the first n subchunks

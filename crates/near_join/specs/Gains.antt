@@ -1,8 +1,10 @@
 -- What a step of a join puts into the piece.
 use Rattle.std.specs.Prelude.{◌≡◌, ℤ, List, Option, ◌++◌, map}
-use Rattle.std.specs.List.{flat_map}
+use Rattle.std.specs.List.{filter, flat_map}
 use Rattle.table_rules.specs.Objects.{Obj}
-use Rattle.value_rules.specs.Values.{Pick}
+use Rattle.sky_rules.specs.Bounds.{Bounds, in_bounds}
+use Rattle.value_rules.specs.Truth.{meets}
+use Rattle.value_rules.specs.Values.{Pick, pair}
 use Rattle.answer_rules.specs.Keeps.{KeepsFirst}
 use Rattle.answer_rules.specs.Pieces.{PieceView, OfRows, OfGroups, chunk_lines}
 use Rattle.answer_rules.specs.Ranks.{row_order}
@@ -33,3 +35,11 @@ row_pairs cq limit others u = pairs_of (joins limit cq.conds) others u
 -- the pairs of some rows with those of the others that they join
 abbrev pub swept_pairs : ChunkQuery → ℤ → List Obj → List Obj → List Pick
 swept_pairs cq limit others rows = flat_map (row_pairs cq limit others) rows
+
+-- of some rows those that the bounds hold
+abbrev pub held_rows : Bounds → List Obj → List Obj
+held_rows bounds rows = filter (λ o. in_bounds bounds o.at) rows
+
+-- the pairs of one row with those of the others with which it meets the conditions
+abbrev pub met_pairs : ChunkQuery → List Obj → Obj → List Pick
+met_pairs cq others u = map (pair u) (filter (λ v. meets cq.conds (pair u v)) others)

@@ -4,3 +4,4 @@ pub mod Windows
 pub mod Sound
 pub mod Strips
 pub mod Gains
+pub mod Rising

@@ -1,6 +1,6 @@
 //! The join of a chunk, subchunk by subchunk.
 
-ghost use Rattle.std.specs.Prelude.{◌≡◌, ◌+◌, ◌<◌, ◌≤ℤ◌, ◌∷◌, [], All, IfOk, OnOk, get_or, length, negsuc, true};
+ghost use Rattle.std.specs.Prelude.{◌≡◌, ◌+◌, ◌<◌, ◌≤ℤ◌, ◌∷◌, [], All, IfOk, IfSome, IsTrue, OnOk, get_or, length, negsuc, true};
 ghost use Rattle.sky_rules.specs.Limits.{IsSky};
 ghost use Rattle.sky_rules.specs.Partition.{chunk_count, sub_count};
 ghost use Rattle.value_rules.specs.Sound.{has_col, is_paired};
@@ -8,9 +8,10 @@ ghost use Rattle.answer_rules.specs.Coverage.{AreInTheSky};
 ghost use Rattle.answer_rules.specs.Pieces.{PieceFor};
 ghost use Rattle.answer_rules.specs.Plans.{Reaches};
 ghost use Rattle.answer_rules.specs.SoundChunks.{IsSoundChunk};
-ghost use Rattle.chunk_store.specs.Places.{sub_rows};
+ghost use Rattle.chunk_store.specs.Places.{sub_lists, sub_rows};
 ghost use Rattle.partial_merge.specs.Joining.{IsOfRows};
 ghost use Rattle.near_join.specs.Gains.{Gains};
+ghost use Rattle.near_join.specs.Rising.{Rises};
 ghost use Rattle.near_join.specs.Sound.{IsSoundLine};
 ghost use Rattle.near_join.specs.Strips.{IsChunkStrip, IsWhole};
 ghost use Rattle.near_join.specs.Walk.{joins, sub_pairs};
@@ -20,7 +21,7 @@ use crate::reach::Reach;
 use crate::strip::{Strip, chunk_strip};
 use crate::sweep::sub_strip;
 use answer_rules::ChunkQuery;
-use chunk_store::Store;
+use chunk_store::{Lists, Store};
 use partial_merge::Piece;
 use sky_io::Memory;
 use sky_vector::Num;
@@ -42,23 +43,25 @@ pub fn join<'w>(
         (chunk ∷ []) piece) }
 {
     know(store);
-    let reach = Reach::of(&query.shape);
+    let reach = Reach::of(query);
     let strip = chunk_strip(alloc, store, chunk)?;
-    let subs = store.subs(alloc, chunk)?;
+    let listed = few_rows(alloc, store, chunk)?;
+    let subs = &listed;
     let mut piece = Piece::empty(alloc, query);
     let mut values = Vec::new(alloc);
-    for sub in 0..subs.len() {
-        let own = subs.of(sub);
+    let mut found = Vec::new(alloc);
+    for sub in 0..store.plan().subs(chunk) {
         push_sub(
             alloc,
             &mut piece,
             &mut values,
+            &mut found,
             store,
             chunk,
             sub,
             query,
             &reach,
-            own,
+            subs,
             &strip,
         )?;
     }
@@ -74,17 +77,56 @@ fn know(store: &Store)
     let _ = store.rows().len();
 }
 
+/// How many rows a subchunk has to have, one with another, for the rows of each not to be listed: then few are empty, and to
+/// know which costs more than to look.
+const MANY: usize = 8;
+
+/// The rows of each of the chunk's subchunks, where they are few. Takes memory for the lists.
+fn few_rows(alloc: Global, store: &Store, chunk: u32) -> Result<Option<Lists>, Memory>
+    requires { chunk < chunk_count store.now.plan }
+    ensures { IfOk result (λ subs. IfSome subs (λ lists.
+        lists ≡ sub_lists store.now.plan store.now.rows.objects chunk)) }
+{
+    let subs = store.plan().subs(chunk) as usize;
+    if store.chunk(chunk).len() < MANY * subs {
+        Ok(Some(store.subs(alloc, chunk)?))
+    } else {
+        Ok(None)
+    }
+}
+
+/// Whether the subchunk is known to hold no row.
+fn is_empty(store: &Store, chunk: u32, subs: &Option<Lists>, sub: u32) -> bool
+    requires sub { sub < sub_count store.now.plan chunk }
+    requires subs { IfSome subs.now (λ lists.
+        lists ≡ sub_lists store.now.plan store.now.rows.objects chunk) }
+    ensures { IsTrue result → sub_rows store.now.plan store.now.rows.objects chunk sub ≡ [] }
+{
+    match subs {
+        None => false,
+        Some(lists) => is_nothing(lists.of(sub)),
+    }
+}
+
+/// Whether the list has no place.
+fn is_nothing(places: &[u32]) -> bool
+    ensures { IsTrue result → places.now ≡ [] }
+{
+    places.is_empty()
+}
+
 /// Puts the pairs of a subchunk into the piece, of its rows and the strip of its chunk.
 fn push_sub(
     alloc: Global,
     piece: &mut Piece<'_>,
     values: &mut Vec<Option<Num>>,
+    found: &mut Vec<u32>,
     store: &Store,
     chunk: u32,
     sub: u32,
     query: &ChunkQuery,
     reach: &Reach,
-    own: &[u32],
+    subs: &Option<Lists>,
     strip: &Strip,
 ) -> Result<(), Memory>
     requires of_rows { IsOfRows piece.old }
@@ -92,15 +134,57 @@ fn push_sub(
     requires sub { sub < sub_count store.now.plan chunk }
     requires sky { IsSky store.now.plan }
     requires rows { AreInTheSky store.now.rows.objects }
-    requires own { own.now ≡ sub_rows store.now.plan store.now.rows.objects chunk sub }
+    requires subs { IfSome subs.now (λ lists.
+        lists ≡ sub_lists store.now.plan store.now.rows.objects chunk) }
     requires strip { IsChunkStrip store.now.plan store.now.rows.objects chunk strip.now }
+    requires rises { IsTrue reach.now.rises → Rises query.now.conds }
     requires sound { IsSoundLine (has_col (4 + length store.now.rows.names) true) query.now }
     ensures { OnOk result (Gains query.now (sub_pairs store.now.plan store.now.rows.objects
         (joins reach.now.limit query.now.conds) chunk sub) piece.old piece.new) }
 {
-    if own.is_empty() {
-        return Ok(());
+    if is_empty(store, chunk, subs, sub) {
+        Ok(())
+    } else {
+        push_near(
+            alloc, piece, values, found, store, chunk, sub, query, reach, strip,
+        )
     }
-    let near = sub_strip(alloc, store, chunk, sub, strip)?;
-    push_swept(piece, values, store.rows(), query, reach, own, &near)
+}
+
+/// Puts the pairs of a subchunk into the piece, of those rows of the strip of its chunk that are near it.
+fn push_near(
+    alloc: Global,
+    piece: &mut Piece<'_>,
+    values: &mut Vec<Option<Num>>,
+    found: &mut Vec<u32>,
+    store: &Store,
+    chunk: u32,
+    sub: u32,
+    query: &ChunkQuery,
+    reach: &Reach,
+    strip: &Strip,
+) -> Result<(), Memory>
+    requires of_rows { IsOfRows piece.old }
+    requires chunk { chunk < chunk_count store.now.plan }
+    requires sub { sub < sub_count store.now.plan chunk }
+    requires sky { IsSky store.now.plan }
+    requires rows { AreInTheSky store.now.rows.objects }
+    requires strip { IsChunkStrip store.now.plan store.now.rows.objects chunk strip.now }
+    requires rises { IsTrue reach.now.rises → Rises query.now.conds }
+    requires sound { IsSoundLine (has_col (4 + length store.now.rows.names) true) query.now }
+    ensures { OnOk result (Gains query.now (sub_pairs store.now.plan store.now.rows.objects
+        (joins reach.now.limit query.now.conds) chunk sub) piece.old piece.new) }
+{
+    let region = store.plan().sub_region(chunk, sub);
+    let near = sub_strip(alloc, store, chunk, sub, &region, strip)?;
+    push_swept(
+        piece,
+        values,
+        found,
+        store.rows(),
+        query,
+        reach,
+        &region,
+        &near,
+    )
 }

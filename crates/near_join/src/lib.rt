@@ -14,6 +14,7 @@ mod line;
 mod order;
 mod pairs;
 mod reach;
+mod rising;
 mod strip;
 mod sweep;
 

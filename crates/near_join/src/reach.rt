@@ -1,18 +1,23 @@
-//! How near two rows of a pair have to be: the limit of their squared chord, and its root, which is taken once.
+//! How near two rows of a pair have to be: the limit of their squared chord, and its root, which is taken once; and whether
+//! the lower id has to come first.
 
-ghost use Rattle.std.specs.Prelude.{◌≡◌, ◌≤ℤ◌, ◌^◌, negsuc, pos};
+ghost use Rattle.std.specs.Prelude.{◌≡◌, ◌≤ℤ◌, ◌^◌, IsTrue, negsuc, pos};
+ghost use Rattle.near_join.specs.Rising.{Rises};
 ghost use Rattle.near_join.specs.Sound.{limit_in};
 ghost use Rattle.near_join.specs.Windows.{IsRoot};
 
 use crate::heights::root;
+use crate::rising::rises;
+use answer_rules::ChunkQuery;
 use sql_bound::Shape;
 
-/// The largest squared chord, in squared grid units and -1 where no pair is asked for, and the largest difference in height
-/// whose square is at most that.
+/// The largest squared chord, in squared grid units and -1 where no pair is asked for; the largest difference in height whose
+/// square is at most that; and whether the conditions hold only of pairs whose first id is the lower one.
 #[derive(Clone, Copy)]
 pub(crate) struct Reach {
     pub limit: i64,
     pub root: i64,
+    pub rises: bool,
     pub ghost limit_least: { negsuc 0 ≤ℤ limit },
     pub ghost is_root: { IsRoot limit root },
     pub ghost root_least: { negsuc 0 ≤ℤ root },
@@ -21,14 +26,16 @@ pub(crate) struct Reach {
 
 impl Reach {
     /// The reach of a query over pairs; that of any other is nothing.
-    pub(crate) fn of(shape: &Shape) -> Reach
-        requires { negsuc 0 ≤ℤ limit_in shape.now }
-        ensures { result.limit ≡ limit_in shape.now }
+    pub(crate) fn of(query: &ChunkQuery) -> Reach
+        requires { negsuc 0 ≤ℤ limit_in query.now.shape }
+        ensures limit { result.limit ≡ limit_in query.now.shape }
+        ensures rises { IsTrue result.rises → Rises query.now.conds }
     {
-        let limit = limit_of(shape);
+        let limit = limit_of(&query.shape);
         Reach {
             limit,
             root: root(limit),
+            rises: rises(query.conds.as_slice()),
         }
     }
 }

@@ -45,11 +45,19 @@ impl Strip {
         }
     }
 
-    /// The places of the rows.
-    pub(crate) fn places(&self) -> &[u32]
-        ensures { result.now ≡ self.now.places }
+    /// How many rows there are.
+    pub(crate) fn len(&self) -> usize
+        ensures { result ≡ length self.now.places }
     {
-        self.places.as_slice()
+        self.places.len()
+    }
+
+    /// The place of the row with this number, from 0, in the strip.
+    pub(crate) fn place(&self, i: usize) -> u32
+        requires { i < length self.now.places }
+        ensures { result ≡ get_or self.now.places i 0 }
+    {
+        self.places[i]
     }
 
     /// The heights of the rows.

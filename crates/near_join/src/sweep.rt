@@ -1,6 +1,7 @@
 //! What a subchunk takes of the strip of its chunk: its rows and those of its overlap.
 
 ghost use Rattle.std.specs.Prelude.{◌≡◌, ◌++◌, ◌<◌, ◌≤◌, ◌+ℤ◌, ◌-ℤ◌, [], ◌∷◌, IfOk, OnOk, filter, get_or, if◌then◌else◌, length, pos, slice_range};
+ghost use Rattle.sky_rules.specs.Bounds.{sub_bounds_of};
 ghost use Rattle.sky_rules.specs.Limits.{IsSky};
 ghost use Rattle.sky_rules.specs.Partition.{chunk_count, sub_count};
 ghost use Rattle.sky_rules.specs.declared.limits.TheConstants.{OVERLAP_MOST};
@@ -23,20 +24,21 @@ pub(crate) fn sub_strip(
     store: &Store,
     chunk: u32,
     sub: u32,
+    region: &Region,
     strip: &Strip,
 ) -> Result<Strip, Memory>
     requires chunk { chunk < chunk_count store.now.plan }
     requires sub { sub < sub_count store.now.plan chunk }
     requires sky { IsSky store.now.plan }
+    requires region { bounds_shown region.now ≡ sub_bounds_of store.now.plan chunk sub }
     requires strip { IsChunkStrip store.now.plan store.now.rows.objects chunk strip.now }
     requires whole { IsWhole strip.now }
     ensures { IfOk result (λ near.
         IsSubStrip store.now.plan store.now.rows.objects chunk sub near) }
 {
-    let region = store.plan().sub_region(chunk, sub);
     let radius = store.plan().radius_of(chunk);
-    let (from, to) = near_heights(strip.zs(), &region, radius);
-    near_ones(alloc, store.rows(), strip, from, to, &region, radius)
+    let (from, to) = near_heights(strip.zs(), region, radius);
+    near_ones(alloc, store.rows(), strip, from, to, region, radius)
 }
 
 /// The places of the heights that are no farther than the radius from those of the region.
