@@ -3,12 +3,13 @@
 
     scripts/random_sessions.py FOLDER [--program FILE] [--sessions N] [--seed SEED] [--workers N ..] [--processes N]
 
-A session is a script of queries with lines that wait and lines that cancel among them, over a small sky and catalogue: some
-name a query that is refused, or has ended, or was cancelled before. One in 200 has more queries than run at once. Each of N
-sessions (1,000) is run with each number of workers (0 1 2 4 16). What may be written is computed from the flat table and the
-script's lines alone (`session_ends.py`): one text for each query, or, where a line cancels it with no wait for it between, two;
-with no workers a prompt cancel in a script of at most 64 queries leaves `cancelled` alone. So with more workers the bytes are those of no workers wherever no cancel races. The
-same seed draws the same sessions, whatever the number of processes (as many as there are processors). Before them stands a
+A session is a script of queries with lines that wait and lines that cancel among them, over a small sky and
+catalogue: some name a query that is refused, or has ended, or was cancelled before. One in 200 has more queries than
+run at once. Each of N sessions (1,000) is run with each number of workers (0 1 2 4 16). What may be written is
+computed from the flat table and the script's lines alone (`session_ends.py`): one text for each query, or, where a
+line cancels it with no wait for it between, two; with no workers a prompt cancel in a script of at most 64 queries
+leaves `cancelled` alone. So with more workers the bytes are those of no workers wherever no cancel races. The same
+seed draws the same sessions, whatever the number of processes (as many as there are processors). Before them stands a
 session whose ends are written here by hand.
 
 FILE is the built program, by default .qserv/qserv, where ./qserv leaves it. FOLDER is made where it isn't there; each
