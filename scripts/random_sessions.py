@@ -61,8 +61,8 @@ def step_lines(draw, asker, count):
     queries = 0
     while queries < count:
         line = query_line(draw, asker)
-        # blanks of a query may make a line a note
-        if len(line) <= compare_answers.LONGEST and line.strip(" \t\r"):
+        # blanks of a query, or a first byte that was put there, may make a line a note
+        if len(line) <= compare_answers.LONGEST and line.strip(" \t\r") and not line.startswith("#"):
             queries += 1
             yield line
         while draw.random() < 0.45:
