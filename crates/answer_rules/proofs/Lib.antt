@@ -29,6 +29,7 @@ pub mod KeptTwice
 pub mod SoundChunks
 pub mod KeptPieces
 pub mod OwnWays
+pub mod SmallRows
 pub mod Smallness
 pub mod Cuts
 pub mod Planned

@@ -88,8 +88,8 @@ pub fn chunk_is_sound()
     ensures cut { CutIsSound }
 {}
 
-/// The totals of a piece are as small as its rows allow, and pieces over disjoint sets of chunks have no more rows
-/// together than the table.
+/// The totals of a piece are as small as its rows allow, and the numbers of rows and pairs within ±2^100; pieces over
+/// disjoint sets of chunks have no more rows together than the table.
 pub fn pieces_are_small()
     ensures one { PieceIsSmall }
     ensures both { JoinIsSmall }
