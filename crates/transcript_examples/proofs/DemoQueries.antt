@@ -8,7 +8,8 @@ use Rattle.sql_bound.specs.declared.query.Bound.{Bound}
 use Rattle.sql_bound.specs.declared.query.BoundItem.TheVariants as item
 use Rattle.sql_bound.specs.declared.query.BoundKey.TheVariants.{Column as ByColumn}
 use Rattle.sql_bound.specs.declared.query.Shape.TheVariants.{Rows, Pairs}
-use Rattle.answer_rules.specs.Examples.{column, first_col, second_col, number, grouped}
+use Rattle.value_rules.specs.Examples.{number}
+use Rattle.answer_rules.specs.Examples.{column, first_col, second_col, grouped}
 use Rattle.answer_rules.specs.Queries.{once}
 use Rattle.transcript_examples.proofs.RowQueries.{id_and_flux}
 

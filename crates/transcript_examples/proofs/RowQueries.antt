@@ -14,8 +14,8 @@ use Rattle.sql_bound.specs.declared.query.BoundKey.{BoundKey}
 use Rattle.sql_bound.specs.declared.query.BoundKey.TheVariants.{Item, Column as ByColumn}
 use Rattle.sql_bound.specs.declared.query.Shape.{Shape}
 use Rattle.sql_bound.specs.declared.query.Shape.TheVariants.{Rows, Pairs}
-use Rattle.value_rules.specs.Examples.{on_meridian, no_flux, faint_or_second}
-use Rattle.answer_rules.specs.Examples.{column, first_col, second_col, number, select}
+use Rattle.value_rules.specs.Examples.{on_meridian, no_flux, faint_or_second, number}
+use Rattle.answer_rules.specs.Examples.{column, first_col, second_col, select}
 use Rattle.answer_rules.specs.Queries.{all_ids, once}
 
 -- a query with an order, and a limit

@@ -28,7 +28,7 @@ use Rattle.sql_tree.specs.declared.expr.Atom.TheVariants as atom
 use Rattle.sql_tree.specs.declared.query.ItemKind.TheVariants as what
 use Rattle.sql_rules.specs.Examples.{name, alone}
 use Rattle.transcript_rules.specs.Written.{own, item, items, called, says, each, some_of, query}
-use Rattle.answer_rules.specs.Queries.{joined, once}
+use Rattle.answer_rules.specs.Queries.{join_within, once}
 use Rattle.answer_rules.specs.Expected.{own_overlaps}
 use Rattle.sky_rules.specs.Examples.{halves}
 use Rattle.transcript_examples.specs.Worked.{bright, bare}
@@ -60,12 +60,12 @@ unfolding keyword_of tokens_from too_deep many col_at bracket_with atom_with fac
     sorted_at order_at limit_at from_at front_at query_at query_of tree_of
 read = refl
 
-bound : bound_of bare.names tree ≡ Ok (joined (pos 5) [])
+bound : bound_of bare.names tree ≡ Ok (join_within (pos 5) [])
 unfolding columns_of mentions_of_cond width_of exprs_of unknown_name not_grouped join_form area_form too_wide
     order_name bind_fault bound_expr lone_of bound_query bound_of factor product sum cond_of
 bound = simp (columns, conditions, by_chord)
 
-far : radius_refusal own_overlaps bare.objects (joined (pos 5) []) ≡ Some (record {
+far : radius_refusal own_overlaps bare.objects (join_within (pos 5) []) ≡ Some (record {
   asked = pos 5;
   allowed =
       pos 4;
@@ -76,9 +76,9 @@ far = refl
 pub returns : goal.returns
 unfolding digits refusal_line
 returns c =
-    radius_told_by own_overlaps bare 1 text tree (joined (pos 5) []) (record {
+    radius_told_by own_overlaps bare 1 text tree (join_within (pos 5) []) (record {
       asked = pos 5;
       allowed =
           pos 4;
     })
-    (understood_by bare.names text tree (joined (pos 5) []) read bound) far
+    (understood_by bare.names text tree (join_within (pos 5) []) read bound) far

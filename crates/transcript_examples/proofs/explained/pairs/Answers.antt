@@ -30,7 +30,7 @@ use Rattle.sql_tree.specs.declared.query.Selection.TheVariants as selection
 use Rattle.sql_rules.specs.Examples.{name, lone, alone}
 use Rattle.transcript_rules.specs.Written.{col, own, less, added, item, named, items, called, says, each, some_of, by}
 use Rattle.transcript_rules.specs.Written.{query}
-use Rattle.answer_rules.specs.Queries.{joined, once}
+use Rattle.answer_rules.specs.Queries.{join_within, once}
 use Rattle.sky_rules.specs.Examples.{halves}
 use Rattle.transcript_examples.proofs.RowQueries.{differences, all_of_pairs}
 use Rattle.transcript_examples.specs.Worked.{bright, empty}
@@ -69,25 +69,25 @@ unfolding keyword_of tokens_from too_deep many col_at bracket_with atom_with fac
     sorted_at order_at limit_at from_at front_at query_at query_of tree_of
 read_ids = refl
 
-bound_ids : bound_of bright.names tree_ids ≡ Ok (joined (pos 9) (once ∷ []))
+bound_ids : bound_of bright.names tree_ids ≡ Ok (join_within (pos 9) (once ∷ []))
 unfolding columns_of mentions_of_cond width_of exprs_of unknown_name not_grouped join_form area_form too_wide
     order_name bind_fault bound_expr lone_of bound_query bound_of factor product sum cond_of
 bound_ids = simp (columns, conditions, by_compare, by_chord)
 
-near_ids : radius_refusal halves bright.objects (joined (pos 9) (once ∷ [])) ≡ None
+near_ids : radius_refusal halves bright.objects (join_within (pos 9) (once ∷ [])) ≡ None
 unfolding side_heading walk
 near_ids = refl
 
-planned_ids : plan_of halves bright.objects (joined (pos 9) (once ∷ [])) ≡ 0 ∷ 4 ∷ 7 ∷ []
+planned_ids : plan_of halves bright.objects (join_within (pos 9) (once ∷ [])) ≡ 0 ∷ 4 ∷ 7 ∷ []
 unfolding side_heading walk
 planned_ids = refl
 
-printed_ids : chunk_line bright.names tree_ids (chunk_query_of (joined (pos 9) (once ∷ []))) ≡ codes
+printed_ids : chunk_line bright.names tree_ids (chunk_query_of (join_within (pos 9) (once ∷ []))) ≡ codes
     "chunk: SELECT a.objectId,b.objectId,a.objectId,b.objectId FROM Object_c_s a,Object_c_s_near b WHERE chord2(a,b)<=9 AND a.objectId<b.objectId\n"
 unfolding chunk_line digits
 printed_ids = simp (printed_columns, printed_conditions)
 
-merged_ids : merge_line (merge_plan_of (joined (pos 9) (once ∷ []))) ≡ codes
+merged_ids : merge_line (merge_plan_of (join_within (pos 9) (once ∷ []))) ≡ codes
     "merge: SELECT c1,c2 FROM pieces ORDER BY c3,c4\n"
 unfolding factor product signed sum cond_of merge_line key_expr_text digits
 merged_ids = refl
@@ -95,11 +95,11 @@ merged_ids = refl
 pub returns-clause-ids : goal.returns-clause-ids
 unfolding digits
 returns-clause-ids c =
-    explained_by halves bright 1 text_ids tree_ids (joined (pos 9) (once ∷ [])) (0 ∷ 4 ∷ 7 ∷ [])
+    explained_by halves bright 1 text_ids tree_ids (join_within (pos 9) (once ∷ [])) (0 ∷ 4 ∷ 7 ∷ [])
     (codes
     "chunk: SELECT a.objectId,b.objectId,a.objectId,b.objectId FROM Object_c_s a,Object_c_s_near b WHERE chord2(a,b)<=9 AND a.objectId<b.objectId\n")
     (codes "merge: SELECT c1,c2 FROM pieces ORDER BY c3,c4\n")
-    (understood_by bright.names text_ids tree_ids (joined (pos 9) (once ∷ [])) read_ids bound_ids) near_ids
+    (understood_by bright.names text_ids tree_ids (join_within (pos 9) (once ∷ [])) read_ids bound_ids) near_ids
     planned_ids printed_ids merged_ids
 
 abbrev text_sorted : List ℕ

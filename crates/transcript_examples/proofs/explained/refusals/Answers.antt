@@ -29,7 +29,7 @@ use Rattle.sql_tree.specs.declared.query.ItemKind.TheVariants as what
 use Rattle.sql_rules.specs.Examples.{name, alone}
 use Rattle.transcript_rules.specs.Written.{col, own, one, times, added, item, items, table, called, says, each}
 use Rattle.transcript_rules.specs.Written.{some_of, int, ints, query}
-use Rattle.answer_rules.specs.Queries.{joined, once, sum_of_squares}
+use Rattle.answer_rules.specs.Queries.{join_within, once, sum_of_squares}
 use Rattle.sky_rules.specs.Examples.{halves}
 use Rattle.transcript_examples.specs.Worked.{bright, large}
 use Rattle.answer_rules.specs.Plans.{plan_of, radius_refusal}
@@ -113,12 +113,12 @@ unfolding keyword_of tokens_from too_deep many col_at bracket_with atom_with fac
     sorted_at order_at limit_at from_at front_at query_at query_of tree_of
 read_radius = refl
 
-bound_radius : bound_of bright.names tree_radius ≡ Ok (joined (pos 26) (once ∷ []))
+bound_radius : bound_of bright.names tree_radius ≡ Ok (join_within (pos 26) (once ∷ []))
 unfolding columns_of mentions_of_cond width_of exprs_of unknown_name not_grouped join_form area_form too_wide
     order_name bind_fault bound_expr lone_of bound_query bound_of factor product sum cond_of
 bound_radius = simp (columns, conditions, by_compare, by_chord)
 
-far_radius : radius_refusal halves bright.objects (joined (pos 26) (once ∷ [])) ≡ Some (record {
+far_radius : radius_refusal halves bright.objects (join_within (pos 26) (once ∷ [])) ≡ Some (record {
   asked = pos 26;
   allowed = pos 25;
 })
@@ -128,12 +128,12 @@ far_radius = refl
 pub returns-clause-radius : goal.returns-clause-radius
 unfolding digits refusal_line
 returns-clause-radius c =
-    radius_told_by halves bright 1 text_radius tree_radius (joined (pos 26) (once ∷ [])) (record {
+    radius_told_by halves bright 1 text_radius tree_radius (join_within (pos 26) (once ∷ [])) (record {
       asked = pos
           26;
       allowed = pos 25;
     })
-    (understood_by bright.names text_radius tree_radius (joined (pos 26) (once ∷ [])) read_radius
+    (understood_by bright.names text_radius tree_radius (join_within (pos 26) (once ∷ [])) read_radius
     bound_radius) far_radius
 
 abbrev text_total : List ℕ

@@ -28,7 +28,7 @@ use Rattle.sql_tree.specs.declared.expr.Atom.TheVariants as atom
 use Rattle.sql_tree.specs.declared.query.ItemKind.TheVariants as what
 use Rattle.sql_rules.specs.Examples.{name, alone}
 use Rattle.transcript_rules.specs.Written.{own, item, items, called, says, each, some_of, query}
-use Rattle.answer_rules.specs.Queries.{joined, once}
+use Rattle.answer_rules.specs.Queries.{join_within, once}
 use Rattle.answer_rules.specs.Expected.{own_overlaps}
 use Rattle.sky_rules.specs.Examples.{halves}
 use Rattle.transcript_examples.specs.Worked.{bright, bare}
@@ -63,12 +63,12 @@ unfolding keyword_of tokens_from too_deep many col_at bracket_with atom_with fac
     sorted_at order_at limit_at from_at front_at query_at query_of tree_of
 read_above = refl
 
-bound_above : bound_of bright.names tree_above ≡ Ok (joined (pos 26) (once ∷ []))
+bound_above : bound_of bright.names tree_above ≡ Ok (join_within (pos 26) (once ∷ []))
 unfolding columns_of mentions_of_cond width_of exprs_of unknown_name not_grouped join_form area_form too_wide
     order_name bind_fault bound_expr lone_of bound_query bound_of factor product sum cond_of
 bound_above = simp (columns, conditions, by_compare, by_chord)
 
-far_above : radius_refusal halves bright.objects (joined (pos 26) (once ∷ [])) ≡ Some (record {
+far_above : radius_refusal halves bright.objects (join_within (pos 26) (once ∷ [])) ≡ Some (record {
   asked = pos 26;
   allowed = pos 25;
 })
@@ -78,11 +78,11 @@ far_above = refl
 pub returns-clause-above : goal.returns-clause-above
 unfolding digits refusal_line
 returns-clause-above c =
-    radius_by halves bright 1 text_above tree_above (joined (pos 26) (once ∷ [])) (record {
+    radius_by halves bright 1 text_above tree_above (join_within (pos 26) (once ∷ [])) (record {
       asked = pos 26;
       allowed = pos 25;
     })
-    (understood_by bright.names text_above tree_above (joined (pos 26) (once ∷ [])) read_above bound_above)
+    (understood_by bright.names text_above tree_above (join_within (pos 26) (once ∷ [])) read_above bound_above)
     far_above
 
 abbrev text_least : List ℕ
@@ -109,12 +109,12 @@ unfolding keyword_of tokens_from too_deep many col_at bracket_with atom_with fac
     sorted_at order_at limit_at from_at front_at query_at query_of tree_of
 read_least = refl
 
-bound_least : bound_of bright.names tree_least ≡ Ok (joined (pos 25) (once ∷ []))
+bound_least : bound_of bright.names tree_least ≡ Ok (join_within (pos 25) (once ∷ []))
 unfolding columns_of mentions_of_cond width_of exprs_of unknown_name not_grouped join_form area_form too_wide
     order_name bind_fault bound_expr lone_of bound_query bound_of factor product sum cond_of
 bound_least = simp (columns, conditions, by_compare, by_chord)
 
-far_least : radius_refusal own_overlaps bright.objects (joined (pos 25) (once ∷ [])) ≡ Some (record {
+far_least : radius_refusal own_overlaps bright.objects (join_within (pos 25) (once ∷ [])) ≡ Some (record {
   asked = pos
       25;
   allowed = pos 4;
@@ -125,12 +125,12 @@ far_least = refl
 pub returns-clause-least : goal.returns-clause-least
 unfolding digits refusal_line
 returns-clause-least c =
-    radius_by own_overlaps bright 1 text_least tree_least (joined (pos 25) (once ∷ [])) (record {
+    radius_by own_overlaps bright 1 text_least tree_least (join_within (pos 25) (once ∷ [])) (record {
       asked = pos
           25;
       allowed = pos 4;
     })
-    (understood_by bright.names text_least tree_least (joined (pos 25) (once ∷ [])) read_least bound_least)
+    (understood_by bright.names text_least tree_least (join_within (pos 25) (once ∷ [])) read_least bound_least)
     far_least
 
 abbrev text_empty : List ℕ
@@ -154,12 +154,12 @@ unfolding keyword_of tokens_from too_deep many col_at bracket_with atom_with fac
     sorted_at order_at limit_at from_at front_at query_at query_of tree_of
 read_empty = refl
 
-bound_empty : bound_of bare.names tree_empty ≡ Ok (joined (pos 5) [])
+bound_empty : bound_of bare.names tree_empty ≡ Ok (join_within (pos 5) [])
 unfolding columns_of mentions_of_cond width_of exprs_of unknown_name not_grouped join_form area_form too_wide
     order_name bind_fault bound_expr lone_of bound_query bound_of factor product sum cond_of
 bound_empty = simp (columns, conditions, by_chord)
 
-far_empty : radius_refusal own_overlaps bare.objects (joined (pos 5) []) ≡ Some (record {
+far_empty : radius_refusal own_overlaps bare.objects (join_within (pos 5) []) ≡ Some (record {
   asked = pos 5;
   allowed =
       pos 4;
@@ -170,9 +170,9 @@ far_empty = refl
 pub returns-clause-empty : goal.returns-clause-empty
 unfolding digits refusal_line
 returns-clause-empty c =
-    radius_by own_overlaps bare 1 text_empty tree_empty (joined (pos 5) []) (record {
+    radius_by own_overlaps bare 1 text_empty tree_empty (join_within (pos 5) []) (record {
       asked = pos 5;
       allowed =
           pos 4;
     })
-    (understood_by bare.names text_empty tree_empty (joined (pos 5) []) read_empty bound_empty) far_empty
+    (understood_by bare.names text_empty tree_empty (join_within (pos 5) []) read_empty bound_empty) far_empty

@@ -29,7 +29,8 @@ use Rattle.sql_tree.specs.declared.expr.Atom.TheVariants as atom
 use Rattle.sql_tree.specs.declared.query.ItemKind.TheVariants as what
 use Rattle.sql_rules.specs.Examples.{name, alone}
 use Rattle.transcript_rules.specs.Written.{col, item, items, table, says, each, some_of, int, ints, query}
-use Rattle.answer_rules.specs.Queries.{all_within, one_point, above_1000, north_box, middle_box}
+use Rattle.value_rules.specs.Examples.{middle_box}
+use Rattle.answer_rules.specs.Queries.{all_within, one_point, above_1000, north_box}
 use Rattle.answer_rules.specs.Examples.{ids_shown}
 use Rattle.answer_rules.specs.Expected.{ids_in_the_middle}
 use Rattle.sky_rules.specs.Examples.{halves}

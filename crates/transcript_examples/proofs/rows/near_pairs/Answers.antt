@@ -29,7 +29,7 @@ use Rattle.sql_tree.specs.declared.expr.Atom.TheVariants as atom
 use Rattle.sql_tree.specs.declared.query.ItemKind.TheVariants as what
 use Rattle.sql_rules.specs.Examples.{name, alone}
 use Rattle.transcript_rules.specs.Written.{own, item, items, called, says, each, some_of, query}
-use Rattle.answer_rules.specs.Queries.{joined, once}
+use Rattle.answer_rules.specs.Queries.{join_within, once}
 use Rattle.transcript_examples.proofs.RowQueries.{first_pairs}
 use Rattle.answer_rules.specs.Expected.{pairs_within_9, pairs_within_25}
 use Rattle.sky_rules.specs.Examples.{halves}
@@ -66,7 +66,7 @@ unfolding keyword_of tokens_from too_deep many col_at bracket_with atom_with fac
     sorted_at order_at limit_at from_at front_at query_at query_of tree_of
 read_nine = refl
 
-bound_nine : bound_of bright.names tree_nine ≡ Ok (joined (pos 9) (once ∷ []))
+bound_nine : bound_of bright.names tree_nine ≡ Ok (join_within (pos 9) (once ∷ []))
 unfolding columns_of mentions_of_cond width_of exprs_of unknown_name not_grouped join_form area_form too_wide
     order_name bind_fault bound_expr lone_of bound_query bound_of factor product sum cond_of
 bound_nine = simp (columns, conditions, by_compare, by_chord)
@@ -75,19 +75,19 @@ headed_nine : headings bright.names tree_nine ≡ codes "a.objectId" ∷ codes "
 unfolding headings digits
 headed_nine = simp printed_columns
 
-answered_nine : flat_answer bright.objects (joined (pos 9) (once ∷ [])) ≡ Ok pairs_within_9
+answered_nine : flat_answer bright.objects (join_within (pos 9) (once ∷ [])) ≡ Ok pairs_within_9
 answered_nine = simp trees refl
 
-planned_nine : plan_of halves bright.objects (joined (pos 9) (once ∷ [])) ≡ 0 ∷ 4 ∷ 7 ∷ []
+planned_nine : plan_of halves bright.objects (join_within (pos 9) (once ∷ [])) ≡ 0 ∷ 4 ∷ 7 ∷ []
 unfolding side_heading walk
 planned_nine = refl
 
 pub returns-clause-nine : goal.returns-clause-nine
 unfolding digits table_lines
 returns-clause-nine c =
-    answered_by halves bright 1 text_nine tree_nine (joined (pos 9) (once ∷ []))
+    answered_by halves bright 1 text_nine tree_nine (join_within (pos 9) (once ∷ []))
     (codes "a.objectId" ∷ codes "b.objectId" ∷ []) pairs_within_9 (0 ∷ 4 ∷ 7 ∷ [])
-    (understood_by bright.names text_nine tree_nine (joined (pos 9) (once ∷ [])) read_nine bound_nine)
+    (understood_by bright.names text_nine tree_nine (join_within (pos 9) (once ∷ [])) read_nine bound_nine)
     headed_nine answered_nine planned_nine
 
 abbrev text_more : List ℕ
@@ -114,7 +114,7 @@ unfolding keyword_of tokens_from too_deep many col_at bracket_with atom_with fac
     sorted_at order_at limit_at from_at front_at query_at query_of tree_of
 read_more = refl
 
-bound_more : bound_of bright.names tree_more ≡ Ok (joined (pos 25) (once ∷ []))
+bound_more : bound_of bright.names tree_more ≡ Ok (join_within (pos 25) (once ∷ []))
 unfolding columns_of mentions_of_cond width_of exprs_of unknown_name not_grouped join_form area_form too_wide
     order_name bind_fault bound_expr lone_of bound_query bound_of factor product sum cond_of
 bound_more = simp (columns, conditions, by_compare, by_chord)
@@ -123,19 +123,19 @@ headed_more : headings bright.names tree_more ≡ codes "a.objectId" ∷ codes "
 unfolding headings digits
 headed_more = simp printed_columns
 
-answered_more : flat_answer bright.objects (joined (pos 25) (once ∷ [])) ≡ Ok pairs_within_25
+answered_more : flat_answer bright.objects (join_within (pos 25) (once ∷ [])) ≡ Ok pairs_within_25
 answered_more = simp trees refl
 
-planned_more : plan_of halves bright.objects (joined (pos 25) (once ∷ [])) ≡ 0 ∷ 4 ∷ 7 ∷ []
+planned_more : plan_of halves bright.objects (join_within (pos 25) (once ∷ [])) ≡ 0 ∷ 4 ∷ 7 ∷ []
 unfolding side_heading walk
 planned_more = refl
 
 pub returns-clause-more : goal.returns-clause-more
 unfolding digits table_lines
 returns-clause-more c =
-    answered_by halves bright 1 text_more tree_more (joined (pos 25) (once ∷ []))
+    answered_by halves bright 1 text_more tree_more (join_within (pos 25) (once ∷ []))
     (codes "a.objectId" ∷ codes "b.objectId" ∷ []) pairs_within_25 (0 ∷ 4 ∷ 7 ∷ [])
-    (understood_by bright.names text_more tree_more (joined (pos 25) (once ∷ [])) read_more bound_more)
+    (understood_by bright.names text_more tree_more (join_within (pos 25) (once ∷ [])) read_more bound_more)
     headed_more answered_more planned_more
 
 abbrev text_strict : List ℕ
@@ -162,7 +162,7 @@ unfolding keyword_of tokens_from too_deep many col_at bracket_with atom_with fac
     sorted_at order_at limit_at from_at front_at query_at query_of tree_of
 read_strict = refl
 
-bound_strict : bound_of bright.names tree_strict ≡ Ok (joined (pos 25) (once ∷ []))
+bound_strict : bound_of bright.names tree_strict ≡ Ok (join_within (pos 25) (once ∷ []))
 unfolding columns_of mentions_of_cond width_of exprs_of unknown_name not_grouped join_form area_form too_wide
     order_name bind_fault bound_expr lone_of bound_query bound_of factor product sum cond_of
 bound_strict = simp (columns, conditions, by_compare, by_chord)
@@ -171,19 +171,19 @@ headed_strict : headings bright.names tree_strict ≡ codes "a.objectId" ∷ cod
 unfolding headings digits
 headed_strict = simp printed_columns
 
-answered_strict : flat_answer bright.objects (joined (pos 25) (once ∷ [])) ≡ Ok pairs_within_25
+answered_strict : flat_answer bright.objects (join_within (pos 25) (once ∷ [])) ≡ Ok pairs_within_25
 answered_strict = simp trees refl
 
-planned_strict : plan_of halves bright.objects (joined (pos 25) (once ∷ [])) ≡ 0 ∷ 4 ∷ 7 ∷ []
+planned_strict : plan_of halves bright.objects (join_within (pos 25) (once ∷ [])) ≡ 0 ∷ 4 ∷ 7 ∷ []
 unfolding side_heading walk
 planned_strict = refl
 
 pub returns-clause-strict : goal.returns-clause-strict
 unfolding digits table_lines
 returns-clause-strict c =
-    answered_by halves bright 1 text_strict tree_strict (joined (pos 25) (once ∷ []))
+    answered_by halves bright 1 text_strict tree_strict (join_within (pos 25) (once ∷ []))
     (codes "a.objectId" ∷ codes "b.objectId" ∷ []) pairs_within_25 (0 ∷ 4 ∷ 7 ∷ [])
-    (understood_by bright.names text_strict tree_strict (joined (pos 25) (once ∷ [])) read_strict
+    (understood_by bright.names text_strict tree_strict (join_within (pos 25) (once ∷ [])) read_strict
     bound_strict) headed_strict answered_strict planned_strict
 
 abbrev text_first : List ℕ

@@ -28,7 +28,7 @@ use Rattle.sql_tree.specs.declared.expr.Atom.TheVariants as atom
 use Rattle.sql_tree.specs.declared.query.ItemKind.TheVariants as what
 use Rattle.sql_rules.specs.Examples.{name, alone}
 use Rattle.transcript_rules.specs.Written.{own, item, items, called, says, each, some_of, query}
-use Rattle.answer_rules.specs.Queries.{joined}
+use Rattle.answer_rules.specs.Queries.{join_within}
 use Rattle.answer_rules.specs.Expected.{pairs_within_0}
 use Rattle.sky_rules.specs.Examples.{halves}
 use Rattle.transcript_examples.specs.Worked.{bright}
@@ -61,7 +61,7 @@ unfolding keyword_of tokens_from too_deep many col_at bracket_with atom_with fac
     sorted_at order_at limit_at from_at front_at query_at query_of tree_of
 read_itself = refl
 
-bound_itself : bound_of bright.names tree_itself ≡ Ok (joined (pos 0) [])
+bound_itself : bound_of bright.names tree_itself ≡ Ok (join_within (pos 0) [])
 unfolding columns_of mentions_of_cond width_of exprs_of unknown_name not_grouped join_form area_form too_wide
     order_name bind_fault bound_expr lone_of bound_query bound_of factor product sum cond_of
 bound_itself = simp (columns, conditions, by_chord)
@@ -70,19 +70,19 @@ headed_itself : headings bright.names tree_itself ≡ codes "a.objectId" ∷ cod
 unfolding headings digits
 headed_itself = simp printed_columns
 
-answered_itself : flat_answer bright.objects (joined (pos 0) []) ≡ Ok pairs_within_0
+answered_itself : flat_answer bright.objects (join_within (pos 0) []) ≡ Ok pairs_within_0
 answered_itself = simp trees refl
 
-planned_itself : plan_of halves bright.objects (joined (pos 0) []) ≡ 0 ∷ 4 ∷ 7 ∷ []
+planned_itself : plan_of halves bright.objects (join_within (pos 0) []) ≡ 0 ∷ 4 ∷ 7 ∷ []
 unfolding side_heading walk
 planned_itself = refl
 
 pub returns-clause-itself : goal.returns-clause-itself
 unfolding digits table_lines
 returns-clause-itself c =
-    answered_by halves bright 1 text_itself tree_itself (joined (pos 0) [])
+    answered_by halves bright 1 text_itself tree_itself (join_within (pos 0) [])
     (codes "a.objectId" ∷ codes "b.objectId" ∷ []) pairs_within_0 (0 ∷ 4 ∷ 7 ∷ [])
-    (understood_by bright.names text_itself tree_itself (joined (pos 0) []) read_itself bound_itself)
+    (understood_by bright.names text_itself tree_itself (join_within (pos 0) []) read_itself bound_itself)
     headed_itself answered_itself planned_itself
 
 abbrev text_none : List ℕ
@@ -106,7 +106,7 @@ unfolding keyword_of tokens_from too_deep many col_at bracket_with atom_with fac
     sorted_at order_at limit_at from_at front_at query_at query_of tree_of
 read_none = refl
 
-bound_none : bound_of bright.names tree_none ≡ Ok (joined (negsuc 0) [])
+bound_none : bound_of bright.names tree_none ≡ Ok (join_within (negsuc 0) [])
 unfolding columns_of mentions_of_cond width_of exprs_of unknown_name not_grouped join_form area_form too_wide
     order_name bind_fault bound_expr lone_of bound_query bound_of factor product sum cond_of
 bound_none = simp (columns, conditions, by_chord)
@@ -115,17 +115,17 @@ headed_none : headings bright.names tree_none ≡ codes "a.objectId" ∷ codes "
 unfolding headings digits
 headed_none = simp printed_columns
 
-answered_none : flat_answer bright.objects (joined (negsuc 0) []) ≡ Ok ([])
+answered_none : flat_answer bright.objects (join_within (negsuc 0) []) ≡ Ok ([])
 answered_none = refl
 
-planned_none : plan_of halves bright.objects (joined (negsuc 0) []) ≡ 0 ∷ 4 ∷ 7 ∷ []
+planned_none : plan_of halves bright.objects (join_within (negsuc 0) []) ≡ 0 ∷ 4 ∷ 7 ∷ []
 unfolding side_heading walk
 planned_none = refl
 
 pub returns-clause-none : goal.returns-clause-none
 unfolding digits table_lines
 returns-clause-none c =
-    answered_by halves bright 1 text_none tree_none (joined (negsuc 0) [])
+    answered_by halves bright 1 text_none tree_none (join_within (negsuc 0) [])
     (codes "a.objectId" ∷ codes "b.objectId" ∷ []) ([]) (0 ∷ 4 ∷ 7 ∷ [])
-    (understood_by bright.names text_none tree_none (joined (negsuc 0) []) read_none bound_none) headed_none
+    (understood_by bright.names text_none tree_none (join_within (negsuc 0) []) read_none bound_none) headed_none
     answered_none planned_none

@@ -29,7 +29,7 @@ use Rattle.sql_tree.specs.declared.query.ItemKind.TheVariants as what
 use Rattle.sql_rules.specs.Examples.{name, alone}
 use Rattle.transcript_rules.specs.Written.{col, own, one, times, added, item, items, table, called, says, each}
 use Rattle.transcript_rules.specs.Written.{some_of, int, ints, query}
-use Rattle.answer_rules.specs.Queries.{all_ids, joined, once, sum_of_squares}
+use Rattle.answer_rules.specs.Queries.{all_ids, join_within, once, sum_of_squares}
 use Rattle.answer_rules.specs.Examples.{ids_shown}
 use Rattle.answer_rules.specs.Expected.{pairs_within_25}
 use Rattle.sky_rules.specs.Examples.{halves}
@@ -118,33 +118,33 @@ unfolding keyword_of tokens_from too_deep many col_at bracket_with atom_with fac
     sorted_at order_at limit_at from_at front_at query_at query_of tree_of
 read_radius = refl
 
-bound_radius : bound_of bright.names tree_radius ≡ Ok (joined (pos 26) (once ∷ []))
+bound_radius : bound_of bright.names tree_radius ≡ Ok (join_within (pos 26) (once ∷ []))
 unfolding columns_of mentions_of_cond width_of exprs_of unknown_name not_grouped join_form area_form too_wide
     order_name bind_fault bound_expr lone_of bound_query bound_of factor product sum cond_of
 bound_radius = simp (columns, conditions, by_compare, by_chord)
 
-near_radius : radius_refusal halves bright.objects (joined (pos 26) (once ∷ [])) ≡ Some (record {
+near_radius : radius_refusal halves bright.objects (join_within (pos 26) (once ∷ [])) ≡ Some (record {
   asked = pos 26;
   allowed = pos 25;
 })
 unfolding side_heading walk
 near_radius = refl
 
-answered_radius : flat_answer bright.objects (joined (pos 26) (once ∷ [])) ≡ Ok pairs_within_25
+answered_radius : flat_answer bright.objects (join_within (pos 26) (once ∷ [])) ≡ Ok pairs_within_25
 answered_radius = simp trees refl
 
-planned_radius : plan_of halves bright.objects (joined (pos 26) (once ∷ [])) ≡ 0 ∷ 4 ∷ 7 ∷ []
+planned_radius : plan_of halves bright.objects (join_within (pos 26) (once ∷ [])) ≡ 0 ∷ 4 ∷ 7 ∷ []
 unfolding side_heading walk
 planned_radius = refl
 
 pub returns-clause-radius : goal.returns-clause-radius
 returns-clause-radius c =
-    judged_by halves bright text_radius tree_radius (joined (pos 26) (once ∷ [])) (Some (record {
+    judged_by halves bright text_radius tree_radius (join_within (pos 26) (once ∷ [])) (Some (record {
       asked = pos
           26;
       allowed = pos 25;
     })) (Ok pairs_within_25) (0 ∷ 4 ∷ 7 ∷ [])
-    (understood_by bright.names text_radius tree_radius (joined (pos 26) (once ∷ [])) read_radius
+    (understood_by bright.names text_radius tree_radius (join_within (pos 26) (once ∷ [])) read_radius
     bound_radius) near_radius answered_radius planned_radius
 
 abbrev text_total : List ℕ
