@@ -16,9 +16,10 @@ use Rattle.sql_rules.specs.Printed.{print_group, print_kind, print_limit, print_
 use Rattle.sql_rules.specs.PrintedExprs.{Bytes}
 use Rattle.answer_rules.specs.declared.rewritten.ChunkQuery.{ChunkQuery}
 use Rattle.answer_rules.specs.declared.rewritten.MergePlan.{MergePlan}
+use Rattle.answer_rules.specs.Finish.{keys_by}
 use Rattle.transcript_rules.specs.ChunkLines.{chunk_limit, chunk_tables, chunk_texts, part_texts}
 use Rattle.transcript_rules.specs.ColumnNames.{clause}
-use Rattle.transcript_rules.specs.MergeLines.{factor_text, key_atom, keys_of, merged_texts, order_key_texts}
+use Rattle.transcript_rules.specs.MergeLines.{factor_text, key_atom, merged_texts, order_key_texts}
 use Rattle.transcript_rules.specs.ColumnNames.{place_names}
 use Rattle.transcript_rules.specs.MergeLines.{product_text, signed_text, sum_text, tie_names}
 use Rattle.transcript_rules.specs.Tables.{by_commas}
@@ -62,7 +63,7 @@ from_order m = clause (codes " ORDER BY ") (order_key_texts m m.order ++ tie_nam
 
 -- what stands behind the pieces
 abbrev pub from_keys : MergePlan → Bytes
-from_keys m = clause (codes " GROUP BY ") (place_names 0 (length (keys_of m.shape))) ++ from_order m
+from_keys m = clause (codes " GROUP BY ") (place_names 0 (length (keys_by m.shape))) ++ from_order m
 
 -- what stands from the merged items on
 abbrev pub from_merged : MergePlan → Bytes

@@ -2,13 +2,14 @@
 ghost use Rattle.std.specs.Prelude.{◌≡◌, [], ◌++◌, ◌+◌, ◌≤◌, ◌^◌, codes, length, map, slice_get, unwrap_or};
 ghost use Rattle.sky_io.specs.Sinks.{Wrote};
 ghost use Rattle.sql_rules.specs.PrintedExprs.{behind_each, text_if};
+ghost use Rattle.answer_rules.specs.Finish.{keys_by};
 ghost use Rattle.transcript_rules.specs.ColumnNames.{clause, id_count, place_names};
-ghost use Rattle.transcript_rules.specs.MergeLines.{keys_of, merged_over, merged_texts, order_key_text};
+ghost use Rattle.transcript_rules.specs.MergeLines.{merged_over, merged_texts, order_key_text};
 ghost use Rattle.transcript_rules.specs.MergeLines.{order_key_texts, tie_names};
 ghost use Rattle.answer_text.specs.Explaining.{tie_end, tie_start};
 
 use crate::column_places::{id_count, put_column_name, put_places, put_places_clause};
-use crate::merged_items::{keys_of, put_merged};
+use crate::merged_items::{keys_by, put_merged};
 use answer_rules::{MergeItem, MergeKey, MergeOrder, MergePlan};
 use sky_io::{Put, Sink};
 use sql_bound::{BoundCol, Shape};
@@ -17,9 +18,9 @@ use sql_print::put_if;
 /// Writes GROUP BY, where there are keys.
 pub(crate) fn put_group_by<K: Sink>(sink: &mut K, merge: &MergePlan) -> Put
     ensures { Wrote (K.state sink.old) (K.state sink.new)
-        (clause (codes " GROUP BY ") (place_names 0 (length (keys_of merge.now.shape)))) result }
+        (clause (codes " GROUP BY ") (place_names 0 (length (keys_by merge.now.shape)))) result }
 {
-    put_places_clause(sink, b" GROUP BY ", 0, keys_of(&merge.shape).len() as u64)
+    put_places_clause(sink, b" GROUP BY ", 0, keys_by(&merge.shape).len() as u64)
 }
 
 // How many merged items there are.
@@ -140,7 +141,7 @@ fn put_merged_at<K: Sink>(sink: &mut K, merge: &MergePlan, place: usize) -> Put
     ensures { Wrote (K.state sink.old) (K.state sink.new)
         (unwrap_or (slice_get (merged_texts merge.now) place) []) result }
 {
-    put_listed(sink, keys_of(&merge.shape), merge.items.as_slice(), place)
+    put_listed(sink, keys_by(&merge.shape), merge.items.as_slice(), place)
 }
 
 // The same, of these items over these keys.

@@ -2,8 +2,9 @@
 ghost use Rattle.std.specs.Prelude.{◌≡◌, ◌++◌, ◌+◌, ◌-◌, ◌<◌, ◌^◌, codes, length, map};
 ghost use Rattle.sky_io.specs.Sinks.{Wrote};
 ghost use Rattle.sql_rules.specs.PrintedExprs.{behind_each, in_brackets};
+ghost use Rattle.answer_rules.specs.Finish.{keys_by};
 ghost use Rattle.transcript_rules.specs.ColumnNames.{column_name};
-ghost use Rattle.transcript_rules.specs.MergeLines.{call, keys_of, merged_over};
+ghost use Rattle.transcript_rules.specs.MergeLines.{call, merged_over};
 ghost use Rattle.transcript_rules.specs.Tables.{by_commas};
 
 use crate::column_places::put_column_name;
@@ -13,8 +14,8 @@ use sky_io::{Put, Sink};
 use sql_bound::{BoundCol, Shape};
 
 /// The keys of a grouping.
-pub(crate) fn keys_of(shape: &Shape) -> &[BoundCol]
-    ensures { result.now ≡ keys_of shape.now }
+pub(crate) fn keys_by(shape: &Shape) -> &[BoundCol]
+    ensures { result.now ≡ keys_by shape.now }
 {
     match shape {
         Shape::Rows => &[],

@@ -12,6 +12,7 @@ use Rattle.sql_bound.specs.declared.query.Shape.{Shape}
 use Rattle.sql_bound.specs.declared.query.Shape.TheVariants.{Rows, Pairs, Groups}
 use Rattle.sql_rules.specs.Printed.{print_limit}
 use Rattle.sql_rules.specs.PrintedExprs.{Bytes, text_if, behind_each, in_brackets}
+use Rattle.answer_rules.specs.Finish.{keys_by}
 use Rattle.answer_rules.specs.Rewriting.{key_place}
 use Rattle.answer_rules.specs.declared.rewritten.MergeItem.{MergeItem}
 use Rattle.answer_rules.specs.declared.rewritten.MergeItem.TheVariants as merged
@@ -69,15 +70,9 @@ merged_over keys (merged.Max n) = call (codes "MAX") (length keys + n)
 merged_over keys (merged.Avg n m) =
     call (codes "SUM") (length keys + n) ++ (codes "/" ++ call (codes "SUM") (length keys + m))
 
--- the keys of a grouping
-abbrev pub keys_of : Shape → List BoundCol
-keys_of Rows = []
-keys_of (Pairs limit) = []
-keys_of (Groups keys) = keys
-
 -- the merged items
 abbrev pub merged_texts : MergePlan → List Bytes
-merged_texts m = map (merged_over (keys_of m.shape)) m.items
+merged_texts m = map (merged_over (keys_by m.shape)) m.items
 
 -- ---- GROUP BY and ORDER BY
 
@@ -106,5 +101,5 @@ merge_order_texts m = order_key_texts m m.order ++ tie_names m m.shape
 unfoldable pub merge_line : MergePlan → Bytes
 merge_line m =
     line (codes "merge: SELECT " ++ (by_commas (merged_texts m) ++ (codes " FROM pieces"
-    ++ (clause (codes " GROUP BY ") (place_names 0 (length (keys_of m.shape)))
+    ++ (clause (codes " GROUP BY ") (place_names 0 (length (keys_by m.shape)))
     ++ (clause (codes " ORDER BY ") (merge_order_texts m) ++ print_limit m.limit)))))
