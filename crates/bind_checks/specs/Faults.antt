@@ -1,23 +1,24 @@
 -- The first fault of a query, from one of the checks on.
 use Rattle.std.specs.Prelude.{ℕ, List, Option}
+use Rattle.std.specs.Option.{option_or}
 use Rattle.sql_tree.specs.declared.query.Query.{Query}
 use Rattle.bind_rules.specs.declared.fault.BindFault.{BindFault}
-use Rattle.bind_rules.specs.Checks.{or_else, order_name, too_wide}
+use Rattle.bind_rules.specs.Checks.{order_name, too_wide}
 use Rattle.bind_rules.specs.Forms.{area_form, join_form}
 use Rattle.bind_rules.specs.Names.{not_grouped}
 
 -- from the widths on
 unfoldable pub from_widths : List (List ℕ) → Query → Option BindFault
-from_widths names q = or_else (too_wide names q) (order_name names q)
+from_widths names q = option_or (too_wide names q) (order_name names q)
 
 -- from the area tests on
 unfoldable pub from_areas : List (List ℕ) → Query → Option BindFault
-from_areas names q = or_else (area_form q) (from_widths names q)
+from_areas names q = option_or (area_form q) (from_widths names q)
 
 -- from the form of a join on
 unfoldable pub from_join : List (List ℕ) → Query → Option BindFault
-from_join names q = or_else (join_form q) (from_areas names q)
+from_join names q = option_or (join_form q) (from_areas names q)
 
 -- from the grouping on
 unfoldable pub from_grouping : List (List ℕ) → Query → Option BindFault
-from_grouping names q = or_else (not_grouped q) (from_join names q)
+from_grouping names q = option_or (not_grouped q) (from_join names q)

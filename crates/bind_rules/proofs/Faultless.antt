@@ -2,7 +2,7 @@
 use Rattle.std.proofs.Common.{◌≡◌, ℕ, Bool, true, false, List, [], ◌∷◌, ◌++◌, map, Option, Some, None, Ok, refl}
 use Rattle.std.specs.Prelude.{◌&&◌, not, if◌then◌else◌}
 use Rattle.std.specs.List.{AllByRecursion as Each, flat_map, list_any, find}
-use Rattle.std.specs.Option.{is_some, option_map}
+use Rattle.std.specs.Option.{is_some, option_map, option_or}
 use Rattle.std.proofs.lemmas.Bool.{and_parts}
 use Rattle.sql_token.specs.declared.token.Span.{Span}
 use Rattle.sql_bound.specs.declared.query.Bound.{Bound}
@@ -15,7 +15,7 @@ use Rattle.bind_rules.specs.declared.fault.BindFault.TheVariants as fault
 use Rattle.table_rules.specs.Names.{column_of}
 use Rattle.bind_rules.specs.Binding.{by_fault, bound_query, bound_of}
 use Rattle.bind_rules.specs.Bounds.{Scope}
-use Rattle.bind_rules.specs.Checks.{too_wide, order_name, or_else, bind_fault}
+use Rattle.bind_rules.specs.Checks.{too_wide, order_name, bind_fault}
 use Rattle.bind_rules.specs.Columns.{tables, is_known, is_qualified_well}
 use Rattle.bind_rules.specs.Forms.{join_form, area_form, bad_area, first_of, is_area_form, values_of}
 use Rattle.bind_rules.specs.Mentions.{Mention, Column, Table, Mentions, columns_of, mentioned, item_exprs, mentions_of_where, mentions_of}
@@ -40,7 +40,7 @@ pub record Faultless (names : List (List ℕ)) (q : Query) : Type 0 where
 abbrev pub scope_of : List (List ℕ) → Query → Scope
 scope_of names q = record { names = names; second = q.second }
 
-or_none : (a b : Option BindFault) → or_else a b ≡ None → (a ≡ None) × (b ≡ None)
+or_none : (a b : Option BindFault) → option_or a b ≡ None → (a ≡ None) × (b ≡ None)
 or_none None b h = (refl, h)
 or_none (Some f) b h = absurd cc
 

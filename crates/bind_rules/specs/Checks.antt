@@ -2,7 +2,7 @@
 use Rattle.std.specs.Prelude.{ℕ, Bool, false, ◌&&◌, ◌||◌, not, if◌then◌else◌}
 use Rattle.std.specs.Prelude.{List, Option, None, Some}
 use Rattle.std.specs.List.{list_any, position}
-use Rattle.std.specs.Option.{is_some}
+use Rattle.std.specs.Option.{is_some, option_or}
 use Rattle.std.specs.Str.{bytes_eq}
 use Rattle.sql_tree.specs.declared.name.Col.{Col}
 use Rattle.sql_tree.specs.declared.name.Name.{Name}
@@ -52,13 +52,8 @@ order_name names q = order_fault names q q.order
 
 -- ---- all checks
 
--- one fault, or else the other
-abbrev pub or_else : Option BindFault → Option BindFault → Option BindFault
-or_else (Some f) other = Some f
-or_else None other = other
-
 -- the first fault of a query over the schema of these further columns
 unfoldable pub bind_fault : List (List ℕ) → Query → Option BindFault
 bind_fault names q =
-    or_else (unknown_name names q) (or_else (not_grouped q) (or_else (join_form q) (or_else (area_form q)
-    (or_else (too_wide names q) (order_name names q)))))
+    option_or (unknown_name names q) (option_or (not_grouped q) (option_or (join_form q) (option_or (area_form q)
+    (option_or (too_wide names q) (order_name names q)))))

@@ -36,10 +36,11 @@ use Rattle.answer_rules.proofs.Cuts.{cut_is_sound}
 use Rattle.answer_rules.proofs.Planned.{plan_finishes}
 use Rattle.std.proofs.Common.{arith}
 use Rattle.std.specs.Prelude.{option_map, Option}
+use Rattle.std.specs.Option.{option_or}
 use Rattle.std.proofs.Common.{◌+◌}
 use Rattle.answer_rules.specs.declared.refusal.Radius.{Radius}
 use Rattle.transcript_rules.specs.declared.refusal.Refusal.TheVariants as refusal
-use Rattle.transcript_rules.specs.Refusals.{understood, or_else, refusal_of, total_by, total_refusal, total_refusal_by}
+use Rattle.transcript_rules.specs.Refusals.{understood, refusal_of, total_by, total_refusal, total_refusal_by}
 use Rattle.transcript_rules.proofs.Steps.{early_known}
 use Rattle.sql_bound.specs.declared.query.Shape.{Shape}
 use Rattle.chunk_rules.specs.Filled.{is_filled}
@@ -112,7 +113,7 @@ pub out : (g : Partition) (c : Catalogue) (text : Bytes) (head : Query) (query :
 unfolding refusal_of total_refusal
 out g c text head query chunks total is p =
     let answer : flat_answer c.objects p.understanding.bound ≡ Err total = is p.understanding.bound (can_run g c text head query chunks p) in
-    ap (λ r. or_else r (total_refusal_by c.objects (understood c.names text))) p.accepted
+    ap (λ r. option_or r (total_refusal_by c.objects (understood c.names text))) p.accepted
     ∙ ap (total_refusal_by c.objects) p.known ∙ ap total_by answer
 
 -- chunks that hold a row and where the query reaches can be scanned
@@ -195,4 +196,4 @@ is_total g c query chunks view total sky rows piece is q can =
 pub refused_early : (g : Partition) (c : Catalogue) (text : Bytes) (why : Refusal) → early_refusal g c text ≡ Some why
     → refusal_of g c text ≡ Some why
 unfolding refusal_of
-refused_early g c text why early = ap (λ r. or_else r (total_refusal c text)) early
+refused_early g c text why early = ap (λ r. option_or r (total_refusal c text)) early

@@ -1,6 +1,7 @@
 -- None of the demo's queries is refused.
 use Rattle.std.proofs.Common.{◌≡◌, ◌∙◌, refl, sym, ap, subst, [], ◌∷◌, None, Ok}
 use Rattle.std.specs.Prelude.{All}
+use Rattle.std.specs.Option.{option_or}
 use Rattle.std.proofs.lemmas.List.Elements.{All-from_recursion}
 use Rattle.table_rules.specs.Objects.{Catalogue}
 use Rattle.sky_rules.specs.Partition.{Partition}
@@ -12,7 +13,7 @@ use Rattle.bind_rules.specs.Binding.{bound_of}
 use Rattle.answer_rules.specs.Answers.{flat_answer}
 use Rattle.answer_rules.specs.Plans.{radius_refusal}
 use Rattle.session_script.specs.Views.{query_lines}
-use Rattle.transcript_rules.specs.Refusals.{or_else, refusal_of, total_by, total_refusal, total_refusal_by, understood}
+use Rattle.transcript_rules.specs.Refusals.{refusal_of, total_by, total_refusal, total_refusal_by, understood}
 use Rattle.transcript_rules.proofs.Steps.{early_known, understood_by}
 use Rattle.demo_laws.specs.DemoInput.{demo_plan}
 use Rattle.transcript_examples.proofs.DemoQueries.{demo_totals, demo_kinds, demo_belt, demo_pairs}
@@ -35,7 +36,7 @@ not_refused : (g : Partition) (c : Catalogue) (text : Bytes) (q : Query) (b : Bo
     → refusal_of g c text ≡ None
 unfolding refusal_of total_refusal
 not_refused g c text q b known near within =
-    ap (λ r. or_else r (total_refusal c text)) (early_known g c text q b None known near)
+    ap (λ r. option_or r (total_refusal c text)) (early_known g c text q b None known near)
     ∙ ap (total_refusal_by c.objects) known ∙ within
 
 -- the same of a query over the columns of the demo

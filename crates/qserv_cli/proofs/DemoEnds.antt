@@ -1,7 +1,7 @@
 -- How the queries of the demo's script end: none of them is refused, and none is cancelled.
 use Rattle.std.proofs.Common.{◌≡◌, refl, ap, ◌∙◌, subst, ℕ, zero, suc, ◌+◌, ◌≤◌, arith, Bool, true, false, not, ◌&&◌, ◌||◌, cond, List, [], ◌∷◌, All, length, map, take, nat_eq, Option, None, Some, Ok}
 use Rattle.std.specs.List.{list_all, list_any}
-use Rattle.std.specs.Option.{is_some}
+use Rattle.std.specs.Option.{is_some, option_or}
 use Rattle.table_rules.specs.Objects.{Catalogue}
 use Rattle.table_rules.specs.declared.limits.TheConstants.{ROWS_MOST}
 use Rattle.sky_rules.specs.Partition.{Partition}
@@ -18,7 +18,7 @@ use Rattle.session_rules.specs.Ends.{Judged, behind_query, cancels, has_cancel, 
 use Rattle.session_rules.specs.declared.end.EndKind.{EndKind}
 use Rattle.session_rules.specs.declared.end.EndKind.TheVariants.{Answered, Refused, Cancelled, Spent}
 use Rattle.transcript_rules.specs.declared.refusal.Refusal.{Refusal}
-use Rattle.transcript_rules.specs.Refusals.{early_refusal, total_refusal, refusal_of, or_else}
+use Rattle.transcript_rules.specs.Refusals.{early_refusal, total_refusal, refusal_of}
 use Rattle.transcript_rules.specs.Transcripts.{FitEnds, judged_of}
 use Rattle.qserv_cli.specs.Reached.{IsScriptOf}
 use Rattle.qserv_cli.specs.Jobs.{IsAnsweredOrSpent, IsDemoSurvey}
@@ -62,7 +62,7 @@ no_cancel k ss all = none_cancels k (behind_query k ss) (behind_queries k ss all
 
 -- ---- a query that is not refused, of a script that cancels none, is answered or spent
 
-neither : (early total : Option Refusal) → or_else early total ≡ None → (is_some early || is_some total) ≡ false
+neither : (early total : Option Refusal) → option_or early total ≡ None → (is_some early || is_some total) ≡ false
 neither (Some why) total none = absurd (cc none)
 neither None (Some why) none = absurd (cc none)
 neither None None none = refl

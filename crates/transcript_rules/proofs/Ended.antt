@@ -1,7 +1,7 @@
 -- What the end of a query says of it, where the ends fit.
 use Rattle.std.proofs.Common.{◌≡◌, refl, sym, ap, ◌∙◌, subst, ℕ, ◌+◌, Bool, true, false, ◌&&◌, ◌||◌}
 use Rattle.std.proofs.Common.{List, Option, None, Some}
-use Rattle.std.specs.Option.{is_some}
+use Rattle.std.specs.Option.{is_some, option_or}
 use Rattle.table_rules.specs.Objects.{Catalogue}
 use Rattle.sky_rules.specs.Partition.{Partition}
 use Rattle.sql_rules.specs.PrintedExprs.{Bytes}
@@ -10,7 +10,7 @@ use Rattle.session_rules.specs.Ends.{has_cancel, has_work, may_end}
 use Rattle.session_rules.specs.declared.end.EndKind.{EndKind}
 use Rattle.session_rules.specs.declared.end.EndKind.TheVariants.{Answered, Refused, Cancelled, Spent}
 use Rattle.transcript_rules.specs.declared.refusal.Refusal.{Refusal}
-use Rattle.transcript_rules.specs.Refusals.{early_refusal, total_refusal, or_else, refusal_of}
+use Rattle.transcript_rules.specs.Refusals.{early_refusal, total_refusal, refusal_of}
 use Rattle.transcript_rules.specs.Blocks.{block, end_lines}
 use Rattle.transcript_rules.specs.Transcripts.{judged_of}
 use Rattle.transcript_rules.specs.Laws.{AnsweredUnlessCancelledOrSpent, CancelledIsAskedFor}
@@ -30,7 +30,7 @@ reason g c k text (Some why) b early total any = record {
   shows = refused_by g c k text why (refused_early g c text why early);
 }
 reason g c k text None (Some why) early total any =
-    let is : refusal_of g c text ≡ Some why = ap (λ r. or_else r (total_refusal c text)) early ∙ total in
+    let is : refusal_of g c text ≡ Some why = ap (λ r. option_or r (total_refusal c text)) early ∙ total in
     record { why = why; refused = is; shows = refused_by g c k text why is }
 reason g c k text None None early total any = absurd (cc any)
 
@@ -55,7 +55,7 @@ cancelled_is_asked_for w g c s ends i text block_text h =
     (sym (ap (λ n. has_cancel s.steps n) (from_one i)) ∙ both.1, both.0)
 
 -- what has no refusal is not refused
-not_refused : (a b : Option Refusal) (rest : Bool) → or_else a b ≡ None → ((is_some a || is_some b) && rest) ≡ true → ⊥
+not_refused : (a b : Option Refusal) (rest : Bool) → option_or a b ≡ None → ((is_some a || is_some b) && rest) ≡ true → ⊥
 not_refused (Some r) b rest none any = cc none
 not_refused None (Some r) rest none any = cc none
 not_refused None None rest none any = cc any

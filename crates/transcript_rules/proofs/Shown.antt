@@ -1,7 +1,7 @@
 -- What the block of a query shows, where the ends fit.
 use Rattle.std.proofs.Common.{◌≡◌, inl, inr, refl, sym, ap, ◌∙◌, subst, ℕ, ◌+◌, Bool, true, false, not, ◌&&◌, ◌||◌}
 use Rattle.std.proofs.Common.{List, ◌++◌, length, Option, None, Some, Result, Ok, Err}
-use Rattle.std.specs.Option.{is_some}
+use Rattle.std.specs.Option.{is_some, option_or}
 use Rattle.table_rules.specs.Objects.{Catalogue}
 use Rattle.sky_rules.specs.Partition.{Partition}
 use Rattle.sql_rules.specs.PrintedExprs.{Bytes}
@@ -14,7 +14,7 @@ use Rattle.session_rules.specs.declared.end.EndKind.{EndKind}
 use Rattle.session_rules.specs.declared.end.EndKind.TheVariants.{Answered, Refused, Cancelled, Spent}
 use Rattle.transcript_rules.specs.declared.refusal.Refusal.{Refusal}
 use Rattle.transcript_rules.specs.Refusals.{Understood, understood, early_by, early_refusal, total_by, total_refusal_by}
-use Rattle.transcript_rules.specs.Refusals.{total_refusal, or_else, refusal_of}
+use Rattle.transcript_rules.specs.Refusals.{total_refusal, refusal_of}
 use Rattle.transcript_rules.specs.RefusalLines.{refusal_line}
 use Rattle.transcript_rules.specs.Tables.{headings}
 use Rattle.transcript_rules.specs.Blocks.{number_line, answer_lines, answered_lines, block}
@@ -40,7 +40,7 @@ pub is_allowed : (w : ℕ) (g : Partition) (c : Catalogue) (s : ScriptView) (end
 is_allowed w g c s ends i text end written h = may_be w g c s ends i text end h.fits h.asked h.ended
 
 -- a refusal is an early one or one for a total
-either_refusal : (a b : Option Refusal) (why : Refusal) → or_else a b ≡ Some why → (is_some a || is_some b) ≡ true
+either_refusal : (a b : Option Refusal) (why : Refusal) → option_or a b ≡ Some why → (is_some a || is_some b) ≡ true
 either_refusal (Some r) b why h = refl
 either_refusal None (Some r) why h = refl
 either_refusal None None why h = absurd (cc h)

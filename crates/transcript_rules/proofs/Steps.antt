@@ -1,7 +1,7 @@
 -- The block of a query, step by step: its tree, what it is bound to, its refusal or its answer, and its plan.
 use Rattle.std.proofs.Common.{◌≡◌, ℕ, ℤ, List, Result, Ok, Err, Option, None, Some, ◌++◌, length, ap, ◌∙◌, option_map}
 use Rattle.std.proofs.Common.{refl, sym, codes, true, false, not, ◌&&◌, [], ◌∷◌}
-use Rattle.std.specs.Option.{is_some}
+use Rattle.std.specs.Option.{is_some, option_or}
 use Rattle.table_rules.specs.Objects.{Catalogue}
 use Rattle.sky_rules.specs.Partition.{Partition}
 use Rattle.sql_tree.specs.declared.query.Query.{Query}
@@ -20,7 +20,7 @@ use Rattle.session_rules.specs.declared.end.EndKind.TheVariants.{Answered, Refus
 use Rattle.transcript_rules.specs.declared.refusal.Refusal.{Refusal}
 use Rattle.transcript_rules.specs.declared.refusal.Refusal.TheVariants as refusal
 use Rattle.transcript_rules.specs.Refusals.{Understood, understood, with_tree, with_bound, early_by, early_refusal}
-use Rattle.transcript_rules.specs.Refusals.{total_by as total_by_answer, total_refusal_by, total_refusal, or_else}
+use Rattle.transcript_rules.specs.Refusals.{total_by as total_by_answer, total_refusal_by, total_refusal}
 use Rattle.transcript_rules.specs.Refusals.{refusal_of}
 use Rattle.transcript_rules.specs.RefusalLines.{line, refusal_line}
 use Rattle.transcript_rules.specs.Tables.{headings, table_lines}
@@ -58,7 +58,7 @@ answered_by g c k text q b heads rows chunks known headed answered planned =
 pub refused_early : (g : Partition) (c : Catalogue) (text : Bytes) (why : Refusal)
     → early_refusal g c text ≡ Some why → refusal_of g c text ≡ Some why
 unfolding refusal_of
-refused_early g c text why early = ap (λ r. or_else r (total_refusal c text)) early
+refused_early g c text why early = ap (λ r. option_or r (total_refusal c text)) early
 
 -- the block of a query that is refused
 pub refused_by : (g : Partition) (c : Catalogue) (k : ℕ) (text : Bytes) (why : Refusal)
@@ -113,7 +113,7 @@ pub total_by : (g : Partition) (c : Catalogue) (k : ℕ) (text : Bytes) (q : Que
 unfolding refusal_of total_refusal
 total_by g c k text q b t known near answered =
     refused_by g c k text (refusal.Total (record { total = t }))
-    (ap (λ r. or_else r (total_refusal c text)) (early_known g c text q b None known near)
+    (ap (λ r. option_or r (total_refusal c text)) (early_known g c text q b None known near)
     ∙ ap (total_refusal_by c.objects) known ∙ ap total_by_answer answered)
 
 -- the block that explains a query which is not refused before it is run, of its three lines

@@ -6,7 +6,7 @@ use Rattle.std.proofs.lemmas.List.{length-append, length-map}
 use Rattle.std.proofs.lemmas.List.Quantifiers.{position-Some}
 use Rattle.std.proofs.lemmas.Grind.{flat_map-append}
 use Rattle.std.specs.List.{flat_map, list_any, position}
-use Rattle.std.specs.Option.{is_some, option_and_then}
+use Rattle.std.specs.Option.{is_some, option_and_then, option_or}
 use Rattle.sql_bound.specs.declared.query.Bound.{Bound}
 use Rattle.sql_bound.specs.declared.expr.BoundExpr.{BoundExpr}
 use Rattle.sql_bound.specs.declared.expr.BoundCol.{BoundCol}
@@ -29,7 +29,7 @@ use Rattle.bind_rules.specs.declared.fault.BindFault.TheVariants as fault
 use Rattle.bind_rules.specs.Binding.{columns_from, star_items, bound_item, bound_items, bound_order, key_by}
 use Rattle.bind_rules.specs.Binding.{bound_query, bound_of, by_fault, chord_limit, first_or}
 use Rattle.bind_rules.specs.Bounds.{Scope, bound_col}
-use Rattle.bind_rules.specs.Checks.{alias_place, is_named, bind_fault, or_else}
+use Rattle.bind_rules.specs.Checks.{alias_place, is_named, bind_fault}
 use Rattle.bind_rules.specs.Columns.{is_join, qualifier}
 use Rattle.bind_rules.specs.Forms.{is_join_form, join_form}
 use Rattle.bind_rules.specs.Mentions.{items_of}
@@ -316,7 +316,7 @@ shape_each names q s None true limit same joined is none = groups_each q s
 shape_each names q s None false limit same joined is none = rows_each names q s same is joined
 
 -- one fault or the other: none of both
-no_fault : (a b : Option BindFault) → or_else a b ≡ None → (a ≡ None) × (b ≡ None)
+no_fault : (a b : Option BindFault) → option_or a b ≡ None → (a ≡ None) × (b ≡ None)
 no_fault (Some f) b h = absurd (cc h)
 no_fault None b h = (refl, h)
 

@@ -1,5 +1,6 @@
 -- Whether a query is refused, and why: the first refusal that applies.
 use Rattle.std.specs.Prelude.{ℕ, List, Option, None, Some, option_map, Result, Ok, Err}
+use Rattle.std.specs.Option.{option_or}
 use Rattle.table_rules.specs.Objects.{Obj, Catalogue}
 use Rattle.sky_rules.specs.Partition.{Partition}
 use Rattle.sql_tree.specs.declared.query.Query.{Query}
@@ -55,11 +56,6 @@ total_refusal_by table (Err why) = None
 unfoldable pub total_refusal : Catalogue → List ℕ → Option Refusal
 total_refusal c text = total_refusal_by c.objects (understood c.names text)
 
--- one refusal, or else the other
-abbrev pub or_else : Option Refusal → Option Refusal → Option Refusal
-or_else (Some why) other = Some why
-or_else None other = other
-
 -- the refusal of a query over a sky plan and a catalogue: the first that applies, and none where it has an answer
 unfoldable pub refusal_of : Partition → Catalogue → List ℕ → Option Refusal
-refusal_of g c text = or_else (early_refusal g c text) (total_refusal c text)
+refusal_of g c text = option_or (early_refusal g c text) (total_refusal c text)
