@@ -3,8 +3,8 @@ use Rattle.std.specs.Prelude.{ℕ, length, nat_lt, nat_le, nat_eq, ℤ, pos, neg
 use Rattle.std.specs.Prelude.{Bool, true, false, not, ◌&&◌, ◌||◌, List, [], ◌∷◌, ◌++◌, Option, None, Some}
 use Rattle.std.specs.List.{list_all, list_any}
 use Rattle.std.specs.Bool.{beq}
-use Rattle.sky_vector.specs.declared.limits.TheConstants.{CHORD_SQUARED_MOST}
 use Rattle.sky_vector.specs.Plane.{plane_product}
+use Rattle.sql_bound.specs.Radii.{is_squared_radius}
 use Rattle.sql_bound.specs.declared.area.AreaTest.{AreaTest}
 use Rattle.sql_bound.specs.declared.area.AreaTest.TheVariants.{Band, Cap, Boxed}
 use Rattle.sql_bound.specs.declared.cond.BoundCond.{BoundCond}
@@ -47,10 +47,10 @@ is_sound_at allowed t = list_all allowed (columns_at t) && nat_le (widest_at t) 
 abbrev pub is_sound_expr : (BoundCol → Bool) → BoundExpr → Bool
 is_sound_expr allowed e = is_sound_at allowed (term_of e)
 
--- a cap's n is from 0 to 2^62, and the second side of a box lies less than half a turn to the left of its first
+-- a cap's n is a squared radius, and the second side of a box lies less than half a turn to the left of its first
 abbrev pub is_sound_area : AreaTest → Bool
 is_sound_area (Band lo hi) = true
-is_sound_area (Cap centre n) = int_le (pos 0) n && int_le n (pos CHORD_SQUARED_MOST)
+is_sound_area (Cap centre n) = is_squared_radius n
 is_sound_area (Boxed lo hi a b) = int_lt (pos 0) (plane_product a.dx a.dy b.dx b.dy)
 
 -- each term and each area of the formula is sound
