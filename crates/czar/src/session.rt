@@ -7,6 +7,7 @@ ghost use Rattle.sky_rules.specs.Partition.{chunk_count};
 ghost use Rattle.answer_rules.specs.Bases.{Asks, IsBase, StandsFor};
 ghost use Rattle.turn_lock.specs.Seats.{first_seat};
 ghost use Rattle.scan_session.specs.KnownEnds.{PlansFit};
+ghost use Rattle.session_rules.specs.declared.limits.TheConstants.{WORKERS_MOST};
 ghost use Rattle.session_script.specs.Scripts.{query_count};
 ghost use Rattle.session_script.specs.Views.{query_lines};
 ghost use Rattle.transcript_rules.specs.Transcripts.{FitEnds};
@@ -43,7 +44,7 @@ pub fn run_session<R: Threads + Wait + Sync, G: Gate + Sync>(
     workers: u32,
     gate: &G,
 ) -> Result<Vec<End>, Memory>
-    requires few { workers ≤ 16 }
+    requires few { workers ≤ WORKERS_MOST }
     ensures fit { IfOk result (λ ends.
         FitEnds workers world.now.plan world.now.rows script.now (map kind_of ends.items)) }
     ensures shown { IfOk result (λ ends.
@@ -65,7 +66,7 @@ fn run_planned<R: Threads + Wait + Sync, G: Gate + Sync>(
     gate: &G,
     plans: Vec<Plan>,
 ) -> Result<Vec<End>, Memory>
-    requires few { workers ≤ 16 }
+    requires few { workers ≤ WORKERS_MOST }
     requires plans { ArePlans world.now.plan world.now.rows (query_lines script.now) plans.items }
     ensures fit { IfOk result (λ ends.
         FitEnds workers world.now.plan world.now.rows script.now (map kind_of ends.items)) }
@@ -110,7 +111,7 @@ fn driven<'w, R: Threads + Wait + Sync, G: Gate + Sync>(
     gate: &G,
     plans: &[Plan],
 ) -> Result<Vec<BoardEnd<Piece<'w>>>, Memory>
-    requires few { workers ≤ 16 }
+    requires few { workers ≤ WORKERS_MOST }
     requires plans { ArePlans world.now.plan world.now.rows (query_lines script.now) plans.now }
     ensures { IfOk result (λ ends.
         IsDriven workers world.now.plan world.now.rows script.now.steps plans.now ends.items) }
@@ -141,7 +142,7 @@ fn driven_by<'w, R: Threads + Wait + Sync, G: Gate + Sync>(
     plans: &[Plan],
     queries: &[Option<ChunkQuery>],
 ) -> Result<Vec<BoardEnd<Piece<'w>>>, Memory>
-    requires few { workers ≤ 16 }
+    requires few { workers ≤ WORKERS_MOST }
     requires plans { ArePlans world.now.plan world.now.rows (query_lines script.now) plans.now }
     requires queries { queries.now ≡ map chunk_query plans.now }
     ensures { IfOk result (λ ends.
@@ -170,7 +171,7 @@ fn driven_at<'w, R: Threads + Wait + Sync, G: Gate + Sync>(
     board: SharedBoard<Piece<'w>>,
     seat: Seat<Board<Piece<'w>>>,
 ) -> Result<Vec<BoardEnd<Piece<'w>>>, Memory>
-    requires few { workers ≤ 16 }
+    requires few { workers ≤ WORKERS_MOST }
     requires plans { ArePlans world.now.plan world.now.rows (query_lines script.now) plans.now }
     requires queries { queries.now ≡ map chunk_query plans.now }
     requires base { IsBase (base_of world.now.plan world.now.rows queries.now) }
@@ -203,7 +204,7 @@ fn drive_all<'w, R: Threads + Wait + Sync, G: Gate + Sync>(
     seat: Seat<Board<Piece<'w>>>,
     all: Vec<Option<Planned<Piece<'w>>>>,
 ) -> Result<Vec<BoardEnd<Piece<'w>>>, Memory>
-    requires few { workers ≤ 16 }
+    requires few { workers ≤ WORKERS_MOST }
     requires each { length plans.now ≡ query_count script.now.steps }
     requires fit { PlansFit StandsFor Asks (chunk_count world.now.plan)
         (base_of world.now.plan world.now.rows queries.now) all.items }

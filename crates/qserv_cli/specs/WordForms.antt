@@ -3,7 +3,7 @@ use Rattle.std.specs.Prelude.{◌≤◌}
 use Rattle.table_rules.specs.declared.limits.TheConstants.{ROWS_MOST}
 use Rattle.demo_rules.specs.declared.limits.TheConstants.{SEED_MOST}
 use Rattle.qserv_cli.specs.Words.{Form as Asked, Load, Asks, Demo, IsManned}
-use Rattle.qserv_cli.specs.declared.task.TheConstants.{WORKERS_MOST}
+use Rattle.session_rules.specs.declared.limits.TheConstants.{WORKERS_MOST}
 use Rattle.qserv_cli.specs.declared.words.Form.{Form}
 use Rattle.qserv_cli.specs.declared.words.Form.TheVariants as held
 

@@ -7,7 +7,7 @@ use Rattle.std.specs.declared.alloc.Global.{Global}
 use Rattle.text_rules.specs.Numbers.{natural}
 use Rattle.table_rules.specs.declared.limits.TheConstants.{ROWS_MOST}
 use Rattle.demo_rules.specs.declared.limits.TheConstants.{SEED_MOST}
-use Rattle.qserv_cli.specs.declared.task.TheConstants.{WORKERS_MOST}
+use Rattle.session_rules.specs.declared.limits.TheConstants.{WORKERS_MOST}
 use Rattle.qserv_cli.specs.declared.task.Task.{Task}
 use Rattle.qserv_cli.specs.declared.task.Task.TheVariants.{Answer, Explain}
 

@@ -5,7 +5,7 @@ ghost use Rattle.demo_rules.specs.declared.limits.TheConstants.{SEED_MOST};
 ghost use Rattle.qserv_cli.specs.Inputs.{survey_of};
 ghost use Rattle.qserv_cli.specs.Jobs.{IsDemoSurvey};
 ghost use Rattle.qserv_cli.specs.Steps.{IsDemo, IsDemoOver};
-ghost use Rattle.qserv_cli.specs.declared.task.TheConstants.{WORKERS_MOST};
+ghost use Rattle.session_rules.specs.declared.limits.TheConstants.{WORKERS_MOST};
 
 use crate::inputs::Inputs;
 use crate::outcome::Outcome;

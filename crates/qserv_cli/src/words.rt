@@ -4,8 +4,9 @@ ghost use Rattle.text_rules.specs.Numbers.{natural};
 ghost use Rattle.qserv_cli.specs.Words.{bytes_of, demo_by, form_of, form_of_four, number_between};
 ghost use Rattle.qserv_cli.specs.WordForms.{IsWithin, asked_by};
 
-use crate::task::{Task, WORKERS_MOST};
+use crate::task::Task;
 use demo_rules::limits::SEED_MOST;
+use session_rules::limits::WORKERS_MOST;
 use sky_text::read_natural;
 use table_rules::limits::ROWS_MOST;
 

@@ -12,7 +12,7 @@ ghost use Rattle.qserv_cli.specs.Inputs.{survey_of};
 ghost use Rattle.qserv_cli.specs.Jobs.{Explains, Reports, Runs, job_on};
 ghost use Rattle.qserv_cli.specs.Steps.{IsFlushed, IsTaskOver, IsWritten};
 ghost use Rattle.qserv_cli.specs.Words.{IsManned};
-ghost use Rattle.qserv_cli.specs.declared.task.TheConstants.{WORKERS_MOST};
+ghost use Rattle.session_rules.specs.declared.limits.TheConstants.{WORKERS_MOST};
 
 use crate::ends::{kinds_of, no_ends};
 use crate::inputs::Inputs;

@@ -1,6 +1,7 @@
 //! A whole session: from the plans of a script's queries to their ends.
 ghost use Rattle.std.specs.Prelude.{◌≡◌, ℕ, ◌+◌, ◌≤◌, [], List, length, vec_len, vec_capacity, IfOk, Option};
 ghost use Rattle.scan_rules.specs.declared.limits.TheConstants.{QUERY_MOST, RING_MOST};
+ghost use Rattle.session_rules.specs.declared.limits.TheConstants.{WORKERS_MOST};
 ghost use Rattle.session_script.specs.Laws.{NumberedFrom};
 ghost use Rattle.session_script.specs.Scripts.{query_count};
 ghost use Rattle.scan_session.specs.Drove.{AreEnds, Drove};
@@ -107,7 +108,7 @@ where
     requires each { vec_len plans ≡ query_count steps.now }
     requires few { vec_len plans ≤ QUERY_MOST }
     requires fit { PlansFit P.stands P.asks seat.root.ring seat.root.root plans.items }
-    requires workers { workers ≤ 16 }
+    requires workers { workers ≤ WORKERS_MOST }
     ensures drove { IfOk result.0 (λ ends.
         Drove workers (plan_in plans.items) steps.now result.1.seen) }
     ensures len { IfOk result.0 (λ ends. vec_len ends ≡ vec_len plans) }

@@ -1,6 +1,7 @@
 //! Whole sessions over short scripts: that they end with answers, that queries share laps, and that workers run at one
 //! time. A query's work on a chunk is a mark of both, so each piece shows whose it is and what it was made of.
 ghost use Rattle.std.specs.Prelude.{◌≡◌, ◌<◌, ◌≤◌, [], All, IfOk, IfSome, length, vec_len};
+ghost use Rattle.session_rules.specs.declared.limits.TheConstants.{WORKERS_MOST};
 
 use crate::{End, Planned, drive};
 use scan_board::SharedBoard;
@@ -159,7 +160,7 @@ fn session<R: Threads + Wait + Sync, E: Engine<Marks> + Sync, G: Gate + Sync>(
     workers: u32,
 ) -> Result<Vec<u8>, Fail>
     requires root { E.root engine.now ≡ 7 }
-    requires workers { workers ≤ 16 }
+    requires workers { workers ≤ WORKERS_MOST }
 {
     if text.len() > 1000 {
         return Err(Fail::new("a long script"));
@@ -288,7 +289,7 @@ fn hundred_are_answered<R: Threads + Wait + Sync>(
     rt: &R,
     workers: u32,
 ) -> Result<bool, Fail>
-    requires { workers ≤ 16 }
+    requires { workers ≤ WORKERS_MOST }
 {
     let marker = marker_of(alloc, 0);
     let text = queries(alloc, 100)?;

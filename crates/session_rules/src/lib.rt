@@ -9,5 +9,6 @@
 pub mod end;
 pub mod examples;
 pub mod laws;
+pub mod limits;
 
 pub use end::{EndKind, Ends};
