@@ -19,6 +19,7 @@ use Rattle.answer_rules.specs.Examples.{column, first_col}
 use Rattle.answer_rules.specs.Groups.{Group, groups_of, groups_answer, totals_over}
 use Rattle.answer_rules.proofs.Apart.{each_filter, each_map}
 use Rattle.transcript_rules.specs.Refusals.{total_by}
+use Rattle.demo_rules.specs.declared.limits.TheConstants.{FLUXES}
 use Rattle.demo_rules.specs.Draws.{draw_of}
 use Rattle.demo_rules.specs.DemoRows.{IsDemoCatalogue, IsDemoObject}
 use Rattle.transcript_examples.proofs.DemoQueries.{demo_totals, demo_kinds, demo_belt, demo_pairs}
@@ -42,7 +43,7 @@ record IsDim (p : Pick) : Type 0 where
 -- each object of the demo is one
 dim : (seed i : ℕ) (o : Obj) → IsDemoObject seed i o → IsDim (row o)
 dim seed i o d = record {
-  n = draw_of seed i 4 % 100000;
+  n = draw_of seed i 4 % FLUXES;
   is = flux_is (row o) ∙ ap (λ further. unwrap_or (slice_get further 0) None) d.further;
   few = omega arith;
 }

@@ -4,10 +4,11 @@ use Rattle.std.specs.Prelude.{◌&&◌}
 use Rattle.std.specs.List.{list_all}
 use Rattle.std.proofs.lemmas.Int.{ints}
 use Rattle.std.proofs.lemmas.Option.{slice_get-get_or}
-use Rattle.sky_vector.specs.Points.{Point, is_admissible}
+use Rattle.sky_vector.specs.Points.{Point, is_admissible, is_coordinate}
 use Rattle.table_rules.specs.Objects.{Obj, IsRow, is_further}
+use Rattle.demo_rules.specs.declared.limits.TheConstants.{FLUXES, KINDS}
 use Rattle.demo_rules.specs.Draws.{draw_of}
-use Rattle.demo_rules.specs.DemoRows.{IsDemoObject, leaning_point, kept_point, is_coordinate, on_meridian, cut_quotient, further_values, height, lean_x, lean_y}
+use Rattle.demo_rules.specs.DemoRows.{IsDemoObject, leaning_point, kept_point, on_meridian, cut_quotient, further_values, height, lean_x, lean_y}
 use Rattle.demo_rules.specs.Laws.{DemoIsACatalogue}
 
 kept_by : (p : Point) (rest last : Bool) → last ≡ is_admissible p → is_admissible (if rest && last then p else on_meridian) ≡ true
@@ -37,7 +38,7 @@ two_further a b h k = rw (h, k) refl
 
 further_are : (seed i : ℕ) → list_all is_further (further_values seed i) ≡ true
 further_are seed i =
-    two_further (Some (pos (draw_of seed i 4 % 100000))) (Some (pos (draw_of seed i 5 % 8))) (small_is_further (draw_of seed i 4 % 100000) (omega arith)) (small_is_further (draw_of seed i 5 % 8) (omega arith))
+    two_further (Some (pos (draw_of seed i 4 % FLUXES))) (Some (pos (draw_of seed i 5 % KINDS))) (small_is_further (draw_of seed i 4 % FLUXES) (omega arith)) (small_is_further (draw_of seed i 5 % KINDS) (omega arith))
 
 -- an object of the demo is a row
 object_is_row : (seed i : ℕ) (o : Obj) → i ≤ 2 ^ 22 → IsDemoObject seed i o → IsRow o

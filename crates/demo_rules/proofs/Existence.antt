@@ -1,9 +1,10 @@
 -- The demo's catalogue exists.
-use Rattle.std.proofs.Common.{◌≡◌, ℕ, zero, suc, ◌+◌, ◌*◌, ◌^◌, ◌≤◌, ◌<◌, ◌⊎◌, inl, inr, pos, ◌+ℤ◌, ◌-ℤ◌, nat_abs, List, [], ◌∷◌, length, Some, refl, sym, ap, arith}
+use Rattle.std.proofs.Common.{◌≡◌, ℕ, zero, suc, ◌+◌, ◌*◌, ◌≤◌, ◌<◌, ◌⊎◌, inl, inr, pos, ◌+ℤ◌, ◌-ℤ◌, nat_abs, List, [], ◌∷◌, length, Some, refl, sym, ap, arith}
 use Rattle.std.specs.Prelude.{codes, slice_get}
 use Rattle.std.proofs.lemmas.Bool.{cases_lt}
 use Rattle.std.proofs.lemmas.Nat.{mul-lt}
 use Rattle.sky_vector.specs.Points.{Point, square}
+use Rattle.sky_vector.specs.declared.limits.TheConstants.{RADIUS}
 use Rattle.table_rules.specs.Objects.{Obj}
 use Rattle.sky_vector.specs.Roots.{IsRoot}
 use Rattle.demo_rules.specs.DemoRows.{StandsAt, IsDemoObject, leaning_point, height, lean_x, lean_y, further_values}
@@ -23,7 +24,7 @@ root_of (suc n) =
 
 stands : (seed i : ℕ) → (at : Point) × StandsAt seed i at
 stands seed i =
-    let t = root_of (nat_abs (pos (2 ^ 56) -ℤ square (height seed i))) in
+    let t = root_of (nat_abs (pos (RADIUS * RADIUS) -ℤ square (height seed i))) in
     let h = root_of (nat_abs (square (lean_x seed i) +ℤ square (lean_y seed i))) in (
       leaning_point (height seed i) (lean_x seed i) (lean_y seed i) t.0 h.0,
       record { t = t.0; h = h.0; from_axis = t.1; long = h.1; is = refl },

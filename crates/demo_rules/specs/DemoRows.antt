@@ -1,11 +1,12 @@
 -- The objects of the demo: scattered over the sphere, with a flux and a kind.
-use Rattle.std.specs.Prelude.{◌≡◌, ℕ, ◌+◌, ◌^◌, ◌/◌, ◌%◌, nat_eq, ℤ, pos, negsuc, neg_ℤ, nat_abs, int_le}
+use Rattle.std.specs.Prelude.{◌≡◌, ℕ, ◌+◌, ◌*◌, ◌/◌, ◌%◌, nat_eq, ℤ, pos, negsuc, neg_ℤ, nat_abs}
 use Rattle.std.specs.Prelude.{◌-ℤ◌, ◌+ℤ◌, ◌*ℤ◌, Bool, ◌&&◌, List, [], ◌∷◌, length, codes, Option, Some}
 use Rattle.std.specs.Prelude.{if◌then◌else◌, slice_get}
-use Rattle.sky_vector.specs.Points.{Point, square, is_admissible}
-use Rattle.sky_vector.specs.declared.limits.TheConstants.{COORDINATE_MOST}
+use Rattle.sky_vector.specs.Points.{Point, square, is_admissible, is_coordinate}
+use Rattle.sky_vector.specs.declared.limits.TheConstants.{RADIUS}
 use Rattle.table_rules.specs.Objects.{Obj, Catalogue}
 use Rattle.sky_vector.specs.Roots.{IsRoot}
+use Rattle.demo_rules.specs.declared.limits.TheConstants.{FLUXES, HEIGHTS, KINDS, LEAN_MIDDLE}
 use Rattle.demo_rules.specs.Draws.{draw_of}
 
 -- a number divided by a natural one, cut towards zero
@@ -13,25 +14,21 @@ abbrev pub cut_quotient : ℤ → ℕ → ℤ
 cut_quotient (pos n) h = pos (n / h)
 cut_quotient (negsuc n) h = neg_ℤ (pos ((n + 1) / h))
 
--- the height of object i: its first draw, brought to ±2^28
+-- the height of object i: its first draw, brought to the heights of the sphere
 abbrev pub height : ℕ → ℕ → ℤ
-height seed i = pos (draw_of seed i 1 % 536870913) -ℤ pos 268435456
+height seed i = pos (draw_of seed i 1 % HEIGHTS) -ℤ pos RADIUS
 
 -- how far object i leans to x: its second draw about 0
 abbrev pub lean_x : ℕ → ℕ → ℤ
-lean_x seed i = pos (draw_of seed i 2) -ℤ pos 1073741823
+lean_x seed i = pos (draw_of seed i 2) -ℤ pos LEAN_MIDDLE
 
 -- how far object i leans to y: its third draw about 0
 abbrev pub lean_y : ℕ → ℕ → ℤ
-lean_y seed i = pos (draw_of seed i 3) -ℤ pos 1073741823
+lean_y seed i = pos (draw_of seed i 3) -ℤ pos LEAN_MIDDLE
 
 -- the point of the equator on the first meridian, where objects stand that have no other place
 abbrev pub on_meridian : Point
-on_meridian = record { x = pos 268435456; y = pos 0; z = pos 0 }
-
--- a coordinate is within those of an admissible point
-abbrev pub is_coordinate : ℤ → Bool
-is_coordinate a = int_le (neg_ℤ (pos COORDINATE_MOST)) a && int_le a (pos COORDINATE_MOST)
+on_meridian = record { x = pos RADIUS; y = pos 0; z = pos 0 }
 
 -- the point, where it is a position of the sky
 abbrev pub kept_point : Point → Point
@@ -44,17 +41,17 @@ leaning_point z u v t h =
     if nat_eq h 0 then on_meridian
     else kept_point (record { x = cut_quotient (u *ℤ pos t) h; y = cut_quotient (v *ℤ pos t) h; z = z })
 
--- Where object i stands: at its height on the sphere of radius 2^28, in the direction to which it leans.
+-- Where object i stands: at its height on the sphere, in the direction to which it leans.
 pub record StandsAt (seed i : ℕ) (at : Point) : Type 0 where
   pub t : ℕ
   pub h : ℕ
-  pub from_axis : IsRoot (nat_abs (pos (2 ^ 56) -ℤ square (height seed i))) t
+  pub from_axis : IsRoot (nat_abs (pos (RADIUS * RADIUS) -ℤ square (height seed i))) t
   pub long : IsRoot (nat_abs (square (lean_x seed i) +ℤ square (lean_y seed i))) h
   pub is : at ≡ leaning_point (height seed i) (lean_x seed i) (lean_y seed i) t h
 
 -- the further values of object i: its flux and its kind
 abbrev pub further_values : ℕ → ℕ → List (Option ℤ)
-further_values seed i = Some (pos (draw_of seed i 4 % 100000)) ∷ Some (pos (draw_of seed i 5 % 8)) ∷ []
+further_values seed i = Some (pos (draw_of seed i 4 % FLUXES)) ∷ Some (pos (draw_of seed i 5 % KINDS)) ∷ []
 
 -- Object i of the demo.
 pub record IsDemoObject (seed i : ℕ) (o : Obj) : Type 0 where

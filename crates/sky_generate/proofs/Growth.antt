@@ -12,7 +12,7 @@ use Rattle.table_rules.specs.declared.limits.TheConstants.{ROWS_MOST}
 use Rattle.demo_rules.proofs.Catalogues.{ids_ascend}
 use Rattle.demo_rules.specs.DemoRows.{IsDemoObject, StandsAt}
 use Rattle.demo_rules.specs.Draws.{draw, draw_of}
-use Rattle.demo_rules.specs.declared.limits.TheConstants.{MODULUS, MULTIPLIER}
+use Rattle.demo_rules.specs.declared.limits.TheConstants.{FLUXES, KINDS, MODULUS, MULTIPLIER}
 use Rattle.sky_generate.specs.declared.draws.Draws.{Draws}
 use Rattle.sky_generate.specs.Draws.{AreDrawnFrom, next_draw}
 use Rattle.sky_generate.specs.Places.{IsObjectBy, StandsBy}
@@ -74,8 +74,8 @@ demo_object seed i d o are by = record {
   id = by.id;
   at = stands seed i d.height d.lean_x d.lean_y o.at are.height are.lean_x are.lean_y by.at;
   further = by.further
-      ∙ ap (λ n. Some (pos (n % 100000)) ∷ Some (pos (d.kind % 8)) ∷ []) are.flux
-      ∙ ap (λ n. Some (pos (draw_of seed i 4 % 100000)) ∷ Some (pos (n % 8)) ∷ []) are.kind;
+      ∙ ap (λ n. Some (pos (n % FLUXES)) ∷ Some (pos (d.kind % KINDS)) ∷ []) are.flux
+      ∙ ap (λ n. Some (pos (draw_of seed i 4 % FLUXES)) ∷ Some (pos (n % KINDS)) ∷ []) are.kind;
 }
 
 -- ---- one more

@@ -4,10 +4,10 @@ use Rattle.std.proofs.Common.{if◌then◌else◌, refl, ap, subst, ◌∙◌, a
 use Rattle.std.specs.Prelude.{◌&&◌}
 use Rattle.std.proofs.lemmas.Bool.{and_parts}
 use Rattle.std.proofs.lemmas.Int.{ints}
-use Rattle.sky_vector.specs.Points.{IsWithin, Point, is_admissible, square}
+use Rattle.sky_vector.specs.Points.{IsWithin, Point, is_admissible, is_coordinate, square}
 use Rattle.sky_vector.specs.Roots.{IsRoot}
 use Rattle.demo_rules.proofs.Catalogues.{leaning_is_admissible}
-use Rattle.demo_rules.specs.DemoRows.{cut_quotient, is_coordinate, kept_point, leaning_point, on_meridian}
+use Rattle.demo_rules.specs.DemoRows.{cut_quotient, kept_point, leaning_point, on_meridian}
 use Rattle.sky_generate.specs.Places.{StandsBy, height_by, lean_by}
 
 one_within : (a : ℤ) → is_coordinate a ≡ true → IsWithin a

@@ -1,10 +1,11 @@
 -- The demo's catalogue as far as it is made.
 use Rattle.std.specs.Prelude.{◌≡◌, ℕ, ◌*◌}
 use Rattle.table_rules.specs.Objects.{Catalogue}
+use Rattle.demo_rules.specs.declared.limits.TheConstants.{DRAWS_EACH}
 use Rattle.demo_rules.specs.Draws.{draw}
 use Rattle.demo_rules.specs.DemoRows.{IsDemoCatalogue}
 
 -- The first objects, so many, and the last draw that they took, which is the seed where there is none.
 pub record IsMadeSoFar (made seed : ℕ) (c : Catalogue) (last : ℕ) : Type 0 where
   pub rows : IsDemoCatalogue made seed c
-  pub before : last ≡ draw seed (5 * made)
+  pub before : last ≡ draw seed (DRAWS_EACH * made)

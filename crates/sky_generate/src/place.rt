@@ -2,14 +2,15 @@
 
 ghost use Rattle.std.specs.Prelude.{◌≡◌, ◌+ℤ◌, ◌-ℤ◌, ◌*ℤ◌, ◌<◌, ◌≤◌, ◌^◌, IsTrue, ◌&&◌};
 ghost use Rattle.std.specs.Prelude.{nat_abs, pos, unsigned_abs};
-ghost use Rattle.demo_rules.specs.DemoRows.{cut_quotient, is_coordinate, kept_point, leaning_point, on_meridian};
+ghost use Rattle.demo_rules.specs.DemoRows.{cut_quotient, kept_point, leaning_point, on_meridian};
 ghost use Rattle.demo_rules.specs.declared.limits.TheConstants.{MODULUS};
 ghost use Rattle.sky_generate.specs.Places.{StandsBy, height_by, lean_by};
-ghost use Rattle.sky_vector.specs.Points.{is_admissible, square};
+ghost use Rattle.sky_vector.specs.Points.{is_admissible, is_coordinate, square};
 ghost use Rattle.sky_vector.specs.Pos.{point};
 ghost use Rattle.sky_vector.specs.Roots.{IsRoot};
 
-use sky_vector::limits::COORDINATE_MOST;
+use demo_rules::limits::{HEIGHTS, LEAN_MIDDLE};
+use sky_vector::limits::{COORDINATE_MOST, RADIUS};
 use sky_vector::{Pos, isqrt, length_ok};
 
 /// Where the object with these draws stands.
@@ -30,7 +31,7 @@ fn height_by(draw: u64) -> i64
     ensures value { result ≡ height_by draw }
     ensures size { unsigned_abs result ≤ 2 ^ 28 }
 {
-    (draw % 536870913) as i64 - 268435456
+    (draw % HEIGHTS) as i64 - RADIUS as i64
 }
 
 /// How far a draw makes an object lean, at most 2^30.
@@ -39,7 +40,7 @@ fn lean_by(draw: u64) -> i64
     ensures value { result ≡ lean_by draw }
     ensures size { unsigned_abs result ≤ 2 ^ 30 }
 {
-    draw as i64 - 1073741823
+    draw as i64 - LEAN_MIDDLE as i64
 }
 
 /// How far from the axis the sphere is at this height, at most 2^28.
@@ -163,5 +164,5 @@ fn is_coordinate(a: i64) -> bool
 fn meridian() -> Pos
     ensures { point result ≡ on_meridian }
 {
-    Pos::new(268435456, 0, 0).unwrap()
+    Pos::new(RADIUS as i64, 0, 0).unwrap()
 }

@@ -9,6 +9,7 @@ ghost use Rattle.table_rules.specs.declared.limits.TheConstants.{ROWS_MOST};
 
 use crate::draws::Draws;
 use crate::place::place;
+use demo_rules::limits::{FLUXES, KINDS};
 use sky_io::Memory;
 use sky_row::{Row, Rows, Schema};
 use std::alloc::Global;
@@ -47,8 +48,8 @@ fn object(id: u32, draws: &Draws) -> Row
     ensures { IsObjectBy id draws.now result }
 {
     let at = place(draws.height, draws.lean_x, draws.lean_y);
-    let flux = (draws.flux % 100000) as i64;
-    let kind = (draws.kind % 8) as i64;
+    let flux = (draws.flux % FLUXES) as i64;
+    let kind = (draws.kind % KINDS) as i64;
     Row::new(i64::from(id), at, &[Some(flux), Some(kind)])
 }
 

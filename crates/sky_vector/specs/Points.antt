@@ -16,6 +16,10 @@ IsWithin part = (neg_ℤ (pos PART_MOST) ≤ℤ part) × (part ≤ℤ pos PART_M
 abbrev pub IsCoordinate : ℤ → Type 0
 IsCoordinate part = (neg_ℤ (pos COORDINATE_MOST) ≤ℤ part) × (part ≤ℤ pos COORDINATE_MOST)
 
+-- the same as a test
+abbrev pub is_coordinate : ℤ → Bool
+is_coordinate part = int_le (neg_ℤ (pos COORDINATE_MOST)) part && int_le part (pos COORDINATE_MOST)
+
 -- the number times itself
 abbrev pub square : ℤ → ℤ
 square a = a *ℤ a

@@ -1,6 +1,9 @@
 //! The limits of places, in grid units, and of numbers: each stands here once, and definitions and code cite it.
 
-/// The least length of an admissible position: 16 less than the radius of the sphere, 2^28.
+/// The radius of the sphere.
+pub const RADIUS: u64 = 1 << 28;
+
+/// The least length of an admissible position: 16 less than the radius.
 pub const LENGTH_LEAST: u64 = 268435440;
 
 /// The largest length of an admissible position: 16 more than the radius.
