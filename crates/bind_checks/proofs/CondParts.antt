@@ -11,7 +11,8 @@ use Rattle.sql_tree.specs.declared.cond.Pred.TheFolds.{fold_out-Cond, fold_out-C
 use Rattle.sql_tree.specs.declared.cond.Pred.TheVariants as pred
 use Rattle.sql_tree.specs.declared.expr.Expr.{Expr}
 use Rattle.sql_tree.specs.declared.name.Name.{Name}
-use Rattle.bind_rules.specs.Mentions.{Mentions, Side, joined, mentioned, mentions_at_cond, mentions_at_conj}
+use Rattle.text_rules.specs.Readings.{joined}
+use Rattle.bind_rules.specs.Mentions.{Mentions, Side, mentioned, mentions_at_cond, mentions_at_conj}
 use Rattle.bind_rules.specs.Mentions.{mentions_at_neg, mentions_at_pred, mentions_of_cond}
 use Rattle.bind_rules.specs.Widths.{Exprs, exprs_at_pred, exprs_of}
 use Rattle.bind_rules.proofs.Folds.{fold_group, fold_compare, fold_between, fold_among, fold_null, fold_area}

@@ -13,7 +13,8 @@ use Rattle.sql_tree.specs.declared.expr.Factor.{Factor, out-Factor}
 use Rattle.sql_tree.specs.declared.expr.Prod.{Prod, out-Prod}
 use Rattle.sql_tree.specs.declared.expr.Signed.{Signed, out-Signed}
 use Rattle.sql_tree.specs.declared.name.Col.{Col}
-use Rattle.bind_rules.specs.Mentions.{Cols, joined, cols_at_atom, cols_at_expr, cols_at_factor, cols_at_prod}
+use Rattle.text_rules.specs.Readings.{joined}
+use Rattle.bind_rules.specs.Mentions.{Cols, cols_at_atom, cols_at_expr, cols_at_factor, cols_at_prod}
 use Rattle.bind_rules.specs.Mentions.{cols_at_signed, columns_of}
 use Rattle.bind_rules.proofs.Folds.{fold_int, fold_col, fold_bracket}
 use Rattle.bind_checks.proofs.Loops.{drop_at}

@@ -19,7 +19,8 @@ use Rattle.sql_tree.specs.declared.query.Query.{Query}
 use Rattle.sql_tree.specs.declared.query.TableRef.{TableRef}
 use Rattle.sql_tree.specs.Spans.{col_span}
 use Rattle.bind_rules.specs.Columns.{tables}
-use Rattle.bind_rules.specs.Mentions.{Column, Table, Side, Cols, Mentions, joined, columns_of, mentioned, mentions_of}
+use Rattle.text_rules.specs.Readings.{joined}
+use Rattle.bind_rules.specs.Mentions.{Column, Table, Side, Cols, Mentions, columns_of, mentioned, mentions_of}
 use Rattle.bind_rules.specs.Mentions.{mentions_of_cond, mentions_of_where, column_in, columns_in, item_exprs}
 use Rattle.bind_rules.specs.Mentions.{mentions_at_cond, mentions_at_conj, mentions_at_neg, mentions_at_pred}
 use Rattle.bind_rules.specs.Widths.{Exprs, all_exprs, exprs_at_pred, exprs_in, exprs_of}

@@ -16,7 +16,7 @@ use Rattle.sql_tree.specs.declared.cond.Pred.TheOpen.{Pred-F}
 use Rattle.sql_tree.specs.declared.cond.Pred.TheVariants as pred
 use Rattle.sql_tree.specs.declared.expr.Expr.{Expr}
 use Rattle.sql_tree.specs.declared.name.Name.{Name}
-use Rattle.bind_rules.specs.Mentions.{joined}
+use Rattle.text_rules.specs.Readings.{joined}
 use Rattle.bind_checks.proofs.Loops.{drop_at}
 use Rattle.bind_rules.proofs.Folds.{fold_group, fold_compare, fold_between, fold_among, fold_null, fold_area, fold_chord}
 use Rattle.bind_rules.specs.Tops.{Test, Area, Chord, Found}

@@ -7,7 +7,8 @@ use Rattle.sql_tree.specs.declared.cond.Pred.{Pred}
 use Rattle.sql_tree.specs.declared.cond.Pred.TheFolds.{fold-Conj, fold-Neg, fold-Pred}
 use Rattle.sql_tree.specs.declared.query.Item.{Item}
 use Rattle.sql_tree.specs.declared.query.Query.{Query}
-use Rattle.bind_rules.specs.Mentions.{Cols, Mentions, Table, expr_of, item_exprs, joined, mentioned}
+use Rattle.text_rules.specs.Readings.{joined}
+use Rattle.bind_rules.specs.Mentions.{Cols, Mentions, Table, expr_of, item_exprs, mentioned}
 use Rattle.bind_rules.specs.Mentions.{mentions_at_cond, mentions_at_conj, mentions_at_neg, mentions_at_pred}
 use Rattle.bind_rules.specs.Mentions.{mentions_of_where}
 use Rattle.bind_rules.specs.Columns.{tables}

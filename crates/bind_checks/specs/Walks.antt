@@ -4,7 +4,7 @@ use Rattle.std.specs.Prelude.{Bool, true, false, ◌&&◌, not, List, [], ◌∷
 use Rattle.sql_tree.specs.declared.cond.Cond.{Cond}
 use Rattle.sql_tree.specs.declared.cond.Pred.TheFolds.{fold-Cond}
 use Rattle.sql_tree.specs.declared.cond.Pred.TheOpen.{Cond-F, Conj-F, Neg-F, Pred-F}
-use Rattle.bind_rules.specs.Mentions.{joined}
+use Rattle.text_rules.specs.Readings.{joined}
 use Rattle.bind_rules.specs.Tops.{Test, Found, found_at, test_at_pred}
 
 -- tests, each with whether it is a conjunct

@@ -2,7 +2,8 @@
 ghost use Rattle.std.specs.Prelude.{◌≡◌, Bool, [], ◌∷◌, map};
 ghost use Rattle.sql_tree.specs.Spans.{col_span};
 ghost use Rattle.sql_tree.specs.declared.name.Col.{Col};
-ghost use Rattle.bind_rules.specs.Mentions.{columns_of, joined};
+ghost use Rattle.text_rules.specs.Readings.{joined};
+ghost use Rattle.bind_rules.specs.Mentions.{columns_of};
 ghost use Rattle.bind_checks.specs.Firsts.{atom_columns, factor_columns, first_place, prod_columns, signed_columns};
 
 use sql_token::Span;

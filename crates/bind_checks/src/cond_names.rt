@@ -1,6 +1,7 @@
 //! The first name in WHERE that is not known.
 ghost use Rattle.std.specs.Prelude.{◌≡◌, ◌++◌, [], ◌∷◌, ℕ, List, map};
-ghost use Rattle.bind_rules.specs.Mentions.{Side, joined, mentioned, mentions_of_cond, mentions_of_where};
+ghost use Rattle.text_rules.specs.Readings.{joined};
+ghost use Rattle.bind_rules.specs.Mentions.{Side, mentioned, mentions_of_cond, mentions_of_where};
 ghost use Rattle.bind_checks.specs.Parts.{conj_mentions, neg_mentions, pred_mentions};
 ghost use Rattle.bind_checks.specs.Unknowns.{unknown_at};
 

@@ -1,7 +1,7 @@
 //! Whether an expression in WHERE passes a test.
 ghost use Rattle.std.specs.Prelude.{◌≡◌, [], ◌∷◌, map};
 ghost use Rattle.std.specs.List.{list_any};
-ghost use Rattle.bind_rules.specs.Mentions.{joined};
+ghost use Rattle.text_rules.specs.Readings.{joined};
 ghost use Rattle.bind_rules.specs.Widths.{exprs_in, exprs_of};
 ghost use Rattle.bind_checks.specs.Parts.{conj_exprs, neg_exprs, pred_exprs};
 

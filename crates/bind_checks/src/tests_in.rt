@@ -2,7 +2,7 @@
 //! shown one test after another.
 ghost use Rattle.std.specs.Prelude.{◌≡◌, ◌&&◌, Bool, [], ◌∷◌, map};
 ghost use Rattle.std.specs.List.{flat_map};
-ghost use Rattle.bind_rules.specs.Mentions.{joined};
+ghost use Rattle.text_rules.specs.Readings.{joined};
 ghost use Rattle.sql_tree.specs.declared.cond.Pred.TheOpen.{Pred-F};
 ghost use Rattle.bind_rules.specs.Conjuncts.{conjuncts};
 ghost use Rattle.bind_rules.specs.Tops.{Found, found_in, tests_in};

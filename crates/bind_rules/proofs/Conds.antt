@@ -26,7 +26,7 @@ use Rattle.bind_rules.specs.Bounds.{Scope, bound_expr}
 use Rattle.bind_rules.specs.Conjuncts.{conjuncts}
 use Rattle.bind_rules.specs.Wholes.{area_pred, bracket, before, all_there, conj_by, any_by, neg_by, bound_pred, bound_any, bound_all, bound_cond, bound_conjunct}
 use Rattle.bind_rules.specs.Forms.{values_of, is_area_form}
-use Rattle.bind_rules.specs.Mentions.{joined}
+use Rattle.text_rules.specs.Readings.{joined}
 use Rattle.bind_rules.specs.Tops.{Test, Tests, Area, Chord, Found, found_in, within_pred, within}
 use Rattle.bind_rules.specs.Widths.{Exprs, exprs_at_pred, exprs_of}
 use Rattle.bind_rules.proofs.AreaTests.{IsSoundArea, area_sound}

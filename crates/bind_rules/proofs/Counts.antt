@@ -11,7 +11,8 @@ use Rattle.sql_token.specs.Bytes.{is_blank}
 use Rattle.sql_token.specs.Faults.{TokenFault, TooMany}
 use Rattle.sql_token.specs.Keywords.{keyword_of}
 use Rattle.sql_token.specs.Signs.{long_sign, short_sign}
-use Rattle.sql_token.specs.Tokens.{word_kind, int_token, short_at, long_at, sign_at, token_at, Standing, Blank, Begins, Faulty, begins, standing_at, put_before, and_behind, tokens_from, if_flat, within_limits, and_then, tokens_of, too_deep}
+use Rattle.text_rules.specs.Readings.{joined, put_before}
+use Rattle.sql_token.specs.Tokens.{word_kind, int_token, short_at, long_at, sign_at, token_at, Standing, Blank, Begins, Faulty, begins, standing_at, and_behind, tokens_from, if_flat, within_limits, and_then, tokens_of, too_deep}
 use Rattle.sql_token.specs.declared.keyword.Keyword.{Keyword}
 use Rattle.sql_token.specs.declared.keyword.Keyword.TheVariants as keyword
 use Rattle.sql_token.specs.declared.sign.Sign.{Sign}
@@ -37,7 +38,6 @@ use Rattle.sql_rules.specs.SpellingConds.{spell_neg, spell_pred}
 use Rattle.sql_rules.proofs.Law.{read_is_written}
 use Rattle.value_rules.specs.Sound.{is_sound_limit}
 use Rattle.bind_rules.specs.Laws.{is_count, HasCounts, WhatIsReadHasCounts}
-use Rattle.bind_rules.specs.Mentions.{joined}
 use Rattle.bind_rules.specs.Conjuncts.{conjuncts}
 use Rattle.bind_rules.specs.Tops.{Test, Area, Chord, Tests, found_in, within_pred, within, tests_in}
 use Rattle.bind_rules.proofs.Found.{of_found}

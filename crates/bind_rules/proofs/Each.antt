@@ -3,7 +3,7 @@ use Rattle.std.proofs.Common.{◌≡◌, Bool, true, false, List, [], ◌∷◌,
 use Rattle.std.specs.Prelude.{◌||◌}
 use Rattle.std.specs.List.{AllByRecursion as Each, flat_map, list_all, find, list_any}
 use Rattle.std.proofs.lemmas.Bool.{and_parts}
-use Rattle.bind_rules.specs.Mentions.{joined}
+use Rattle.text_rules.specs.Readings.{joined}
 
 pub front : {X : Type 0} (P : X → Type 0) (xs ys : List X) → Each P (xs ++ ys) → Each P xs
 front P [] ys h = tt

@@ -26,7 +26,8 @@ use Rattle.value_rules.specs.Widths.{width_at, widest_at}
 use Rattle.value_rules.proofs.Parts.{term_int, term_col, term_bracket, term_factor_roll, term_prod_roll, term_signed_roll, term_expr_roll}
 use Rattle.std.proofs.lemmas.List.{append-nil}
 use Rattle.bind_rules.specs.Bounds.{Scope, bound_col, bound_atom_step, bound_expr_step, bound_factor_step, bound_prod_step, bound_signed_step, bound_expr}
-use Rattle.bind_rules.specs.Mentions.{Cols, joined, cols_at_atom, cols_at_expr, cols_at_factor, cols_at_prod, cols_at_signed, columns_of}
+use Rattle.text_rules.specs.Readings.{joined}
+use Rattle.bind_rules.specs.Mentions.{Cols, cols_at_atom, cols_at_expr, cols_at_factor, cols_at_prod, cols_at_signed, columns_of}
 use Rattle.bind_rules.specs.Widths.{Width, just, bound_by, and_then, taken_from_left, width_at_atom, width_at_expr, width_at_factor, width_at_prod, width_at_signed, width_of}
 use Rattle.bind_rules.proofs.Folds.{fold_int, fold_col, fold_bracket}
 use Rattle.bind_rules.proofs.Inductions.{expr_induction}

@@ -14,7 +14,7 @@ use Rattle.sql_token.specs.declared.token.Span.{Span}
 use Rattle.sql_tree.specs.declared.cond.Pred.{Pred}
 use Rattle.sql_tree.specs.declared.cond.Pred.TheOpen.{Pred-F}
 use Rattle.bind_rules.specs.Conjuncts.{conjunct, where_conjuncts}
-use Rattle.bind_rules.specs.Mentions.{joined}
+use Rattle.text_rules.specs.Readings.{joined}
 use Rattle.bind_rules.specs.Tops.{Test, Tests, Found, found_at, found_by, found_in, test_of, within_pred, within, tests_in, top_tests}
 use Rattle.bind_rules.proofs.Each.{mapped, unmapped, weaker, of_parts, in_parts}
 use Rattle.bind_rules.proofs.Folds.{fold_group, fold_compare, fold_between, fold_among, fold_null, fold_area, fold_chord}

@@ -9,7 +9,7 @@ use Rattle.sql_tree.specs.declared.cond.Pred.TheFolds.{fold-Pred, fold-Cond, fol
 use Rattle.sql_tree.specs.declared.cond.Pred.TheOpen.{Cond-F, Conj-F, Neg-F, Pred-F}
 use Rattle.sql_tree.specs.declared.cond.Pred.TheVariants as pred
 use Rattle.bind_rules.specs.Conjuncts.{conjunct, conjuncts, conjuncts_of_conj, conjuncts_of_neg, conjuncts_of_pred, or_conjuncts}
-use Rattle.bind_rules.specs.Mentions.{joined}
+use Rattle.text_rules.specs.Readings.{joined}
 use Rattle.bind_rules.proofs.Apart.{group_apart, compare_apart, between_apart, among_apart, null_apart, area_apart, chord_apart, neg_apart, conj_apart, cond_apart}
 use Rattle.bind_rules.proofs.Each.{flat_append}
 use Rattle.bind_rules.proofs.Folds.{fold_group}

@@ -6,7 +6,8 @@ use Rattle.sql_tree.specs.declared.cond.Conj.{Conj}
 use Rattle.sql_tree.specs.declared.cond.Neg.{Neg}
 use Rattle.sql_tree.specs.declared.cond.Pred.{Pred}
 use Rattle.sql_tree.specs.declared.cond.Pred.TheFolds.{fold-Pred, fold-Conj, fold-Neg, fold-roll-Cond, fold-roll-Conj, fold-roll-Neg}
-use Rattle.bind_rules.specs.Mentions.{Mention, Side, Mentions, joined, mentioned, mentions_at_pred, mentions_at_cond, mentions_at_conj, mentions_at_neg, mentions_of_cond}
+use Rattle.text_rules.specs.Readings.{joined}
+use Rattle.bind_rules.specs.Mentions.{Mention, Side, Mentions, mentioned, mentions_at_pred, mentions_at_cond, mentions_at_conj, mentions_at_neg, mentions_of_cond}
 use Rattle.bind_rules.specs.Widths.{Exprs, exprs_at_pred, exprs_of}
 use Rattle.bind_rules.proofs.Each.{front, back, both}
 use Rattle.bind_rules.proofs.Folds.{fold_group, fold_compare, fold_between, fold_among, fold_null, fold_area, fold_chord}

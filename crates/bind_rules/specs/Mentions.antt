@@ -1,6 +1,7 @@
 -- The names that a query mentions, in the order of its text.
 use Rattle.std.specs.Prelude.{List, [], ◌∷◌, ◌++◌, map, Option, None, Some}
 use Rattle.std.specs.List.{flat_map}
+use Rattle.text_rules.specs.Readings.{joined}
 use Rattle.sql_tree.specs.declared.cond.Cond.{Cond}
 use Rattle.sql_tree.specs.declared.cond.Pred.TheFolds.{fold-Cond}
 use Rattle.sql_tree.specs.declared.cond.Pred.TheOpen.{Cond-F, Conj-F, Neg-F, Pred-F}
@@ -26,10 +27,6 @@ pub data Mention : Type 0 where
 -- columns
 abbrev pub Cols : Type 0
 Cols = List Col
-
--- lists one behind another
-abbrev pub joined : {A : Type 0} → List (List A) → List A
-joined = flat_map (λ part. part)
 
 -- the columns of an atom
 abbrev pub cols_at_atom : Atom-F Cols Cols Cols Cols Cols → Cols

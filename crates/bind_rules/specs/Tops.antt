@@ -15,7 +15,7 @@ use Rattle.sql_tree.specs.declared.cond.Pred.TheOpen.{Pred-F}
 use Rattle.sql_tree.specs.declared.expr.Expr.{Expr}
 use Rattle.sql_tree.specs.declared.name.Name.{Name}
 use Rattle.bind_rules.specs.Conjuncts.{where_conjuncts}
-use Rattle.bind_rules.specs.Mentions.{joined}
+use Rattle.text_rules.specs.Readings.{joined}
 
 -- An area test, a chord test, an equation, or IN without NOT.
 pub data Test : Type 0 where

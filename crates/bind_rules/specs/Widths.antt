@@ -10,7 +10,8 @@ use Rattle.sql_tree.specs.declared.expr.Atom.TheOpen.{Atom-F, Expr-F, Factor-F, 
 use Rattle.sql_tree.specs.declared.expr.Expr.{Expr}
 use Rattle.sql_tree.specs.declared.query.Query.{Query}
 use Rattle.table_rules.specs.Names.{column_of}
-use Rattle.bind_rules.specs.Mentions.{joined, item_exprs}
+use Rattle.text_rules.specs.Readings.{joined}
+use Rattle.bind_rules.specs.Mentions.{item_exprs}
 
 -- The largest size of a value, and the largest of all numbers that are computed on the way to it.
 pub record Width : Type 0 where

@@ -1,7 +1,8 @@
 //! The catalogue of a text: its header, then its rows record by record, then the rows in order.
 ghost use Rattle.std.specs.Prelude.{◌≡◌, ◌+◌, ◌≤◌, ◌^◌, ℕ, List, [], length, IfErr, IfOk, OnOk, Ok, Err, None, Some};
 ghost use Rattle.sky_io.specs.Stops.{IfBad};
-ghost use Rattle.table_rules.specs.Records.{data_faults, judged};
+ghost use Rattle.text_rules.specs.Readings.{judged};
+ghost use Rattle.table_rules.specs.Records.{data_faults};
 ghost use Rattle.catalogue_load.specs.Catalogue.{catalogue_of, catalogue_with};
 ghost use Rattle.catalogue_load.specs.Judged.{HasRead};
 ghost use Rattle.catalogue_load.specs.Standing.{HasLeft, StillGives};

@@ -5,7 +5,7 @@ use Rattle.std.proofs.lemmas.List.{drop_all}
 use Rattle.sky_io.specs.Sinks.{SinkState, Wrote}
 use Rattle.sky_io.specs.declared.sink.Put.{Put}
 use Rattle.sql_rules.specs.PrintedExprs.{Bytes}
-use Rattle.transcript_rules.specs.Transcripts.{joined}
+use Rattle.text_rules.specs.Readings.{joined}
 
 -- the blocks from some place on are the one there and those behind it
 pub next_block : (blocks : List Bytes) (i : ℕ) → i < length blocks

@@ -16,7 +16,8 @@ use Rattle.sql_token.specs.Faults.{TokenFault}
 use Rattle.sql_token.specs.Laws.{IsWritten, StandFrom}
 use Rattle.sql_token.specs.Signs.{long_sign, short_sign}
 use Rattle.sql_token.specs.Tokens.{token, word_kind, word_at, int_token, int_at, short_at, long_at, sign_at, token_at, Standing}
-use Rattle.sql_token.specs.Tokens.{Blank, Begins, Faulty, begins, standing_at, put_before, and_behind, tokens_from}
+use Rattle.text_rules.specs.Readings.{put_before}
+use Rattle.sql_token.specs.Tokens.{Blank, Begins, Faulty, begins, standing_at, and_behind, tokens_from}
 use Rattle.text_rules.specs.Numbers.{is_digit}
 use Rattle.sql_rules.proofs.Within.{lifts, drops, after, within}
 use Rattle.sql_rules.specs.Symbols.{Symbol, Named, Number, Adds, Compares, AreaName, Fixed, kind_symbol, symbols}

@@ -10,7 +10,8 @@ use Rattle.sql_token.specs.declared.token.Span.{Span}
 use Rattle.sql_token.specs.declared.token.Token.{Token}
 use Rattle.sql_token.specs.declared.token.TokenKind.{TokenKind}
 use Rattle.sql_token.specs.Bytes.{is_blank}
-use Rattle.sql_token.specs.Tokens.{and_behind, begins, put_before, token, tokens_from}
+use Rattle.text_rules.specs.Readings.{put_before}
+use Rattle.sql_token.specs.Tokens.{and_behind, begins, token, tokens_from}
 use Rattle.sql_token.proofs.Steps.{behind_blank, behind_inside, behind_token, no_byte}
 use Rattle.sql_tree.specs.declared.cond.AreaKind.TheVariants as area
 use Rattle.sql_tree.specs.declared.cond.Cmp.TheVariants as cmp

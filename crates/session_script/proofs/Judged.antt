@@ -9,7 +9,8 @@ use Rattle.session_script.specs.declared.fault.ScriptFault.{ScriptFault}
 use Rattle.session_script.specs.declared.step.Step.{Step}
 use Rattle.session_script.specs.declared.step.Step.TheVariants as step
 use Rattle.session_script.specs.Answers.{StopsBy, behind_end}
-use Rattle.session_script.specs.Scripts.{and_behind, put_before, queries_with, query_count, query_spans, script_of, step_of, steps_from}
+use Rattle.text_rules.specs.Readings.{put_before}
+use Rattle.session_script.specs.Scripts.{and_behind, queries_with, query_count, query_spans, script_of, step_of, steps_from}
 use Rattle.session_script.specs.Views.{ScriptView}
 use Rattle.session_script.proofs.LinePlaces.{FirstLeft, first_left, placed_from}
 use Rattle.session_script.proofs.Spans.{query_spans-append}

@@ -14,7 +14,8 @@ use Rattle.session_script.specs.declared.step.Step.{Step}
 use Rattle.session_script.specs.declared.step.Step.TheVariants as step
 use Rattle.session_script.specs.Laws.{IsQuery, LinesAreTexts, NumberedFrom}
 use Rattle.session_script.specs.Places.{placed_lines}
-use Rattle.session_script.specs.Scripts.{and_behind, is_query, part_of, put_before, queries_with, query_count, query_spans, query_text, said_by, script_of, span_at, step_of, step_said, steps_from}
+use Rattle.text_rules.specs.Readings.{put_before}
+use Rattle.session_script.specs.Scripts.{and_behind, is_query, part_of, queries_with, query_count, query_spans, query_text, said_by, script_of, span_at, step_of, step_said, steps_from}
 use Rattle.session_script.specs.Views.{ScriptView, query_lines}
 use Rattle.session_script.proofs.Judged.{no_line, one_line}
 

@@ -8,6 +8,7 @@ use Rattle.sql_token.specs.declared.token.Span.{Span}
 use Rattle.session_script.specs.declared.step.Step.{Step}
 use Rattle.session_script.specs.declared.step.Step.TheVariants as step
 use Rattle.text_rules.specs.declared.limits.TheConstants.{QUERIES_MOST, QUERY_TEXT_MOST}
+use Rattle.text_rules.specs.Readings.{put_before}
 use Rattle.session_script.specs.declared.saying.Saying.{Saying}
 use Rattle.session_script.specs.declared.saying.Saying.TheVariants.{Note, Cancels, Waits, Asks}
 use Rattle.session_script.specs.declared.fault.ScriptFault.{ScriptFault}
@@ -72,11 +73,6 @@ abbrev pub queries_with : ℕ → Step → ℕ
 queries_with queries (step.Query n span) = queries + 1
 queries_with queries (step.Wait n) = queries
 queries_with queries (step.Cancel n) = queries
-
--- a step before the steps behind it
-abbrev pub put_before : Step → Result (List Step) ScriptFault → Result (List Step) ScriptFault
-put_before s (Ok ss) = Ok (s ∷ ss)
-put_before s (Err why) = Err why
 
 -- the steps from a line on, of its own and of what follows, which is told how many queries there are before it
 abbrev pub and_behind : ℕ → Result (Option Step) ScriptFault → (ℕ → Result (List Step) ScriptFault)

@@ -7,7 +7,8 @@ use Rattle.sky_rules.specs.declared.fault.SkyFault.{SkyFault}
 use Rattle.sky_rules.specs.declared.fault.SkyFault.TheVariants.{Syntax, Overlap, Order, Count, TooMany}
 use Rattle.sky_rules.specs.Partition.{Stripe, Partition}
 use Rattle.sky_rules.specs.SkyWords.{Version, Said, said_on}
-use Rattle.sky_rules.specs.SkyText.{is_overlap, is_in_order, is_cut, is_room, stripe_said, judged_stripe, fault_of, stripe_on, stripes_on, no_line, stripe_faults, no_stripe_fault, judged, sky_under, unless_fault}
+use Rattle.text_rules.specs.Readings.{judged}
+use Rattle.sky_rules.specs.SkyText.{is_overlap, is_in_order, is_cut, is_room, stripe_said, judged_stripe, fault_of, stripe_on, stripes_on, no_line, stripe_faults, no_stripe_fault, sky_under, unless_fault}
 use Rattle.sky_rules.specs.SkySteps.{stripes_with, whole_sky, ReadLineByLine}
 
 -- places counted one further

@@ -7,6 +7,7 @@ use Rattle.std.specs.List.{filter, flat_map, last_or, range_with_len}
 use Rattle.std.specs.Option.{option_to_list}
 use Rattle.std.specs.Ordering.{int_eq}
 use Rattle.text_rules.specs.Lines.{Line, lines_of, is_note}
+use Rattle.text_rules.specs.Readings.{judged}
 use Rattle.sky_rules.specs.Partition.{Stripe, Partition, sky_bottom, sky_end, chunks_in}
 use Rattle.sky_rules.specs.SkyWords.{Version, shared, own, Said, version_on, said_on}
 use Rattle.sky_rules.specs.declared.limits.TheConstants.{STRIPES_MOST, CHUNKS_MOST, STRIPE_CHUNKS_MOST}
@@ -96,11 +97,6 @@ stripe_faults version lines =
 abbrev pub no_stripe_fault : ℕ → List Stripe → List SkyFault
 no_stripe_fault behind [] = Syntax behind ∷ []
 no_stripe_fault behind (stripe ∷ rest) = []
-
--- the answer of a judgement: the first of the faults, or what was judged where there is none
-abbrev pub judged : {A : Type 0} → List SkyFault → A → Result A SkyFault
-judged [] found = Ok found
-judged (fault ∷ later) found = Err fault
 
 -- the partition that the lines behind the first say; `behind` is the number behind the text's last line
 abbrev pub sky_under : ℕ → Version → List Line → Result Partition SkyFault

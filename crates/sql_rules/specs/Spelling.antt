@@ -1,6 +1,7 @@
 -- What spells an expression: one equation for each rule of the grammar.
 use Rattle.std.specs.Prelude.{List, [], ◌∷◌, ◌++◌, Bool, if◌then◌else◌, Option, None, Some, true}
 use Rattle.std.specs.List.{flat_map}
+use Rattle.text_rules.specs.Readings.{joined}
 use Rattle.sql_token.specs.declared.sign.Sign.TheVariants as sign
 use Rattle.sql_tree.specs.declared.expr.Atom.{Atom}
 use Rattle.sql_tree.specs.declared.expr.Atom.TheFolds.{fold-Atom, fold-Expr, fold-Factor, fold-Prod, fold-Signed}
@@ -24,10 +25,6 @@ optional there p = if there then p ∷ [] else []
 -- each part behind one and the same symbol: {p part}
 abbrev pub led_by : Symbol → List Symbols → Symbols
 led_by p = flat_map (λ part. p ∷ part)
-
--- parts one behind another
-abbrev pub joined : List Symbols → Symbols
-joined = flat_map (λ part. part)
 
 -- ( part )
 abbrev pub bracketed : Symbols → Symbols

@@ -12,7 +12,8 @@ use Rattle.sql_token.specs.Bytes.{is_blank}
 use Rattle.sql_token.specs.Faults.{TokenFault, BadByte, Literal, TooMany, Depth}
 use Rattle.sql_token.specs.Faulty.{IsBadByte, IsLargeInt, IsTooMany, NoneBehind, StandUpTo}
 use Rattle.sql_token.specs.Laws.{IsShaped, StandFrom}
-use Rattle.sql_token.specs.Tokens.{and_behind, and_then, begins, if_flat, put_before, token_at, tokens_from, tokens_of, too_deep, within_limits}
+use Rattle.text_rules.specs.Readings.{put_before}
+use Rattle.sql_token.specs.Tokens.{and_behind, and_then, begins, if_flat, token_at, tokens_from, tokens_of, too_deep, within_limits}
 use Rattle.sql_token.proofs.Fronts.{both}
 use Rattle.sql_token.proofs.Longest.{Longest}
 use Rattle.sql_token.proofs.Only.{first_read, only_tokens, some_blanks}

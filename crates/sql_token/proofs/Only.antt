@@ -7,7 +7,8 @@ use Rattle.sql_token.specs.Answers.{behind}
 use Rattle.sql_token.specs.Bytes.{is_blank}
 use Rattle.sql_token.specs.Faults.{TokenFault}
 use Rattle.sql_token.specs.Laws.{IsFirst, IsShaped, IsWritten, StandFrom}
-use Rattle.sql_token.specs.Tokens.{and_then, tokens_of, within_limits, put_before, token, token_at, tokens_from}
+use Rattle.text_rules.specs.Readings.{put_before}
+use Rattle.sql_token.specs.Tokens.{and_then, tokens_of, within_limits, token, token_at, tokens_from}
 use Rattle.sql_token.proofs.Fronts.{both}
 use Rattle.sql_token.proofs.Longest.{Longest}
 use Rattle.sql_token.proofs.FrontTokens.{front_read, no_blank}

@@ -9,7 +9,8 @@ use Rattle.sql_token.specs.declared.token.TokenStop.TheVariants as stop
 use Rattle.sql_token.specs.Answers.{StopsBy, IsNext, behind}
 use Rattle.sql_token.specs.Bytes.{is_blank}
 use Rattle.sql_token.specs.Faults.{TokenFault, BadByte, Literal, TooMany, Depth}
-use Rattle.sql_token.specs.Tokens.{and_behind, begins, put_before, token_at, tokens_from}
+use Rattle.text_rules.specs.Readings.{put_before}
+use Rattle.sql_token.specs.Tokens.{and_behind, begins, token_at, tokens_from}
 use Rattle.sql_token.proofs.Spans.{stands_in}
 use Rattle.sql_token.proofs.Steps.{behind_blanks, behind_inside, behind_token, no_byte}
 

@@ -6,7 +6,8 @@ use Rattle.sql_token.specs.declared.token.Token.{Token}
 use Rattle.sql_token.specs.Bytes.{is_blank}
 use Rattle.sql_token.specs.Faults.{TokenFault, TooMany}
 use Rattle.sql_token.specs.Laws.{IsFirst, IsWritten, StandFrom}
-use Rattle.sql_token.specs.Tokens.{and_behind, and_then, begins, if_flat, put_before, token_at, tokens_from, tokens_of, too_deep, within_limits}
+use Rattle.text_rules.specs.Readings.{put_before}
+use Rattle.sql_token.specs.Tokens.{and_behind, and_then, begins, if_flat, token_at, tokens_from, tokens_of, too_deep, within_limits}
 use Rattle.sql_token.proofs.Longest.{Longest, longest_in}
 use Rattle.sql_token.proofs.Spans.{stands_in}
 use Rattle.sql_token.proofs.Steps.{behind_blank, behind_token, in_token, no_byte}

@@ -4,7 +4,8 @@ use Rattle.sql_token.specs.declared.token.Token.{Token}
 use Rattle.sql_token.specs.declared.token.TokenStop.{TokenStop}
 use Rattle.sql_token.specs.declared.token.TokenStop.TheVariants as stop
 use Rattle.sql_token.specs.Faults.{TokenFault, BadByte, Literal, TooMany, Depth}
-use Rattle.sql_token.specs.Tokens.{tokens_from, put_before}
+use Rattle.text_rules.specs.Readings.{put_before}
+use Rattle.sql_token.specs.Tokens.{tokens_from}
 
 -- the reader stops with the fault that the definition gives, or wants memory
 abbrev pub StopsBy : {A : Type 0} → Result A TokenFault → TokenStop → Type 0

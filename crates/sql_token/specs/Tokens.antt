@@ -11,6 +11,7 @@ use Rattle.sql_token.specs.declared.token.Token.{Token}
 use Rattle.sql_token.specs.declared.token.TokenKind.{TokenKind}
 use Rattle.sql_token.specs.declared.token.TokenKind.TheVariants as kind
 use Rattle.text_rules.specs.Words.{begins_word, continues_word}
+use Rattle.text_rules.specs.Readings.{put_before}
 use Rattle.sql_token.specs.Bytes.{is_blank}
 use Rattle.sql_token.specs.Keywords.{keyword_of}
 use Rattle.sql_token.specs.Signs.{long_sign, short_sign}
@@ -84,11 +85,6 @@ begins (Err fault) = Faulty fault
 abbrev pub standing_at : ℕ → List ℕ → Standing
 standing_at place [] = Blank
 standing_at place (b ∷ bs) = if is_blank b then Blank else begins (token_at place (b ∷ bs))
-
--- a token before the tokens behind it
-abbrev pub put_before : Token → Result (List Token) TokenFault → Result (List Token) TokenFault
-put_before t (Ok ts) = Ok (t ∷ ts)
-put_before t (Err fault) = Err fault
 
 -- the tokens from a place on, of what stands there and of what follows, which is told how many of its first bytes
 -- belong to the token

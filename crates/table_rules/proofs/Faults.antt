@@ -2,7 +2,8 @@
 use Rattle.std.proofs.Common.{◌≡◌, refl, subst, ℕ, ◌+◌, ◌<◌, zero, suc, arith, Bool, true, false, List, [], ◌∷◌, ◌++◌, Ok}
 use Rattle.std.specs.List.{flat_map, range_with_len}
 use Rattle.table_rules.specs.declared.fault.LoadFault.{LoadFault}
-use Rattle.table_rules.specs.Records.{judged, unless}
+use Rattle.text_rules.specs.Readings.{judged}
+use Rattle.table_rules.specs.Records.{unless}
 
 abbrev pub Faults : Type 0
 Faults = List LoadFault

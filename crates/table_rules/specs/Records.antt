@@ -7,6 +7,7 @@ use Rattle.std.specs.Prelude.{Option, None, Some, unwrap_or, Result, Ok, Err, if
 use Rattle.std.specs.List.{flat_map, range_with_len}
 use Rattle.std.specs.Str.{bytes_eq}
 use Rattle.text_rules.specs.Numbers.{int_of}
+use Rattle.text_rules.specs.Readings.{judged}
 use Rattle.sky_vector.specs.Points.{is_admissible}
 use Rattle.table_rules.specs.Objects.{Obj, Catalogue, column_bound}
 use Rattle.table_rules.specs.Names.{first_names, can_follow}
@@ -14,11 +15,6 @@ use Rattle.table_rules.specs.Ordered.{by_id, has_id}
 use Rattle.table_rules.specs.declared.limits.TheConstants.{ROWS_MOST}
 use Rattle.table_rules.specs.declared.fault.LoadFault.{LoadFault}
 use Rattle.table_rules.specs.declared.fault.LoadFault.TheVariants.{Header, FieldCount, Number, Range, Length, Repeated, TooManyRows}
-
--- the answer of a judgement: the first of the faults, or what was judged where there is none
-abbrev pub judged : {A : Type 0} → List LoadFault → A → Result A LoadFault
-judged [] found = Ok found
-judged (fault ∷ later) found = Err fault
 
 -- the fault, where it isn't right
 abbrev pub unless : Bool → LoadFault → List LoadFault

@@ -12,7 +12,7 @@ use Rattle.transcript_rules.specs.declared.refusal.Refusal.{Refusal}
 use Rattle.transcript_rules.specs.Refusals.{Understood, understood, early_refusal}
 use Rattle.transcript_rules.specs.RefusalLines.{line, refusal_line}
 use Rattle.transcript_rules.specs.Blocks.{number_line}
-use Rattle.transcript_rules.specs.Transcripts.{joined}
+use Rattle.text_rules.specs.Readings.{joined}
 use Rattle.transcript_rules.specs.ChunkLines.{chunk_line}
 use Rattle.transcript_rules.specs.MergeLines.{merge_line}
 

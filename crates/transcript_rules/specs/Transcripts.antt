@@ -1,7 +1,7 @@
 -- The transcript of a script, and which ends fit it.
 use Rattle.std.specs.Prelude.{◌≡◌, ℕ, ◌+◌, Bool, true, false, List, [], ◌∷◌, map, Result, Ok, Err}
-use Rattle.std.specs.List.{flat_map}
 use Rattle.std.specs.Option.{is_some}
+use Rattle.text_rules.specs.Readings.{joined}
 use Rattle.table_rules.specs.Objects.{Obj, Catalogue}
 use Rattle.sky_rules.specs.Partition.{Partition}
 use Rattle.sql_rules.specs.PrintedExprs.{Bytes}
@@ -12,10 +12,6 @@ use Rattle.session_rules.specs.declared.end.EndKind.{EndKind}
 use Rattle.transcript_rules.specs.declared.refusal.Refusal.{Refusal}
 use Rattle.transcript_rules.specs.Refusals.{Understood, understood, early_refusal, total_refusal}
 use Rattle.transcript_rules.specs.Blocks.{block}
-
--- texts one behind the other
-abbrev pub joined : List Bytes → Bytes
-joined texts = flat_map (λ text. text) texts
 
 -- the blocks of queries that end so, of which the first has this number
 abbrev pub blocks_from : Partition → Catalogue → ℕ → List Bytes → List EndKind → List Bytes

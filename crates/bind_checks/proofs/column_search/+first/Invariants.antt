@@ -1,6 +1,6 @@
 use Rattle.std.proofs.Common.{◌≡◌, map, drop}
 use Rattle.sql_tree.specs.Spans.{col_span}
-use Rattle.bind_rules.specs.Mentions.{joined}
+use Rattle.text_rules.specs.Readings.{joined}
 use Rattle.bind_checks.specs.Firsts.{factor_columns, first_place, signed_columns}
 use Rattle.bind_checks.proofs.column_search.+first.Given as goal
 

@@ -1,5 +1,5 @@
 use Rattle.std.proofs.Common.{◌≡◌, map, drop}
-use Rattle.bind_rules.specs.Mentions.{joined}
+use Rattle.text_rules.specs.Readings.{joined}
 use Rattle.bind_checks.specs.Parts.{conj_mentions, neg_mentions}
 use Rattle.bind_checks.specs.Unknowns.{unknown_at}
 use Rattle.bind_checks.proofs.cond_names.+unknown.Given as goal

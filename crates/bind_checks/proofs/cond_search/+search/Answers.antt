@@ -1,7 +1,7 @@
 use Rattle.std.proofs.Common.{◌∙◌, map, refl, sym}
 use Rattle.sql_tree.specs.declared.cond.Cond.{out-Cond}
 use Rattle.sql_tree.specs.declared.cond.Conj.{out-Conj}
-use Rattle.bind_rules.specs.Mentions.{joined}
+use Rattle.text_rules.specs.Readings.{joined}
 use Rattle.bind_checks.specs.Parts.{conj_exprs, neg_exprs}
 use Rattle.bind_checks.proofs.Anys.{any_here, any_later}
 use Rattle.bind_checks.proofs.CondParts.{among_exprs, area_exprs, between_exprs, chord_exprs, compare_exprs}

@@ -1,6 +1,6 @@
 use Rattle.std.proofs.Common.{◌≡◌, map, drop}
 use Rattle.std.specs.List.{list_any}
-use Rattle.bind_rules.specs.Mentions.{joined}
+use Rattle.text_rules.specs.Readings.{joined}
 use Rattle.bind_checks.specs.Parts.{conj_exprs, neg_exprs}
 use Rattle.bind_checks.proofs.cond_search.+search.Given as goal
 

@@ -1,7 +1,7 @@
 use Rattle.std.proofs.Common.{ap, ◌∙◌, length, map}
 use Rattle.std.specs.Prelude.{◌&&◌, ◌==◌}
 use Rattle.sql_tree.specs.declared.cond.Cond.{out-Cond}
-use Rattle.bind_rules.specs.Mentions.{joined}
+use Rattle.text_rules.specs.Readings.{joined}
 use Rattle.bind_checks.specs.Walks.{kept_if, is_alone}
 use Rattle.bind_checks.specs.Gathering.{tests_of_conj, tests_of_neg}
 use Rattle.bind_checks.proofs.TestWalks.{nothing_gathered, gathers_two, under_more, next_part, alone_length, cond_tests, conj_tests, neg_tests, group_tests, compare_tests, between_tests, among_tests, null_tests, area_tests, chord_tests}

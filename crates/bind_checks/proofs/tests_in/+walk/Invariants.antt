@@ -1,5 +1,5 @@
 use Rattle.std.proofs.Common.{map, drop}
-use Rattle.bind_rules.specs.Mentions.{joined}
+use Rattle.text_rules.specs.Readings.{joined}
 use Rattle.bind_checks.specs.Walks.{kept_if}
 use Rattle.bind_checks.specs.Gathering.{tests_of_conj, tests_of_neg}
 use Rattle.bind_checks.proofs.TestWalks.{Under}

@@ -1,7 +1,7 @@
 use Rattle.std.proofs.Common.{drop}
 use Rattle.sky_io.proofs.Writes.{Under}
 use Rattle.transcript_rules.specs.Explained.{explain_blocks_of}
-use Rattle.transcript_rules.specs.Transcripts.{joined}
+use Rattle.text_rules.specs.Readings.{joined}
 use Rattle.czar.proofs.explained.put_explained.Given as goal
 
 abbrev pub invariant-loop-place : goal.invariant-loop-place

@@ -1,6 +1,7 @@
 use Rattle.std.proofs.Common.{drop, map}
 use Rattle.sky_io.proofs.Writes.{Under}
-use Rattle.transcript_rules.specs.Transcripts.{blocks_of, joined}
+use Rattle.text_rules.specs.Readings.{joined}
+use Rattle.transcript_rules.specs.Transcripts.{blocks_of}
 use Rattle.czar.specs.Ends.{kind_of}
 use Rattle.czar.proofs.transcript.put_transcript.Given as goal
 
