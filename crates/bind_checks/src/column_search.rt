@@ -45,6 +45,7 @@ fn first_in_signeds<T: ColumnTest>(test: &T, rest: &[Signed]) -> Option<Span>
     None
 }
 
+// Of one further product.
 #[cycle(first)]
 fn first_in_signed<T: ColumnTest>(test: &T, signed: &Signed) -> Option<Span>
     ensures { result ≡ first_place col_span (T.passes test.now) (signed_columns signed.now) }
@@ -52,6 +53,7 @@ fn first_in_signed<T: ColumnTest>(test: &T, signed: &Signed) -> Option<Span>
     first_in_prod(test, &signed.prod)
 }
 
+// Of a product.
 #[cycle(first)]
 fn first_in_prod<T: ColumnTest>(test: &T, prod: &Prod) -> Option<Span>
     ensures { result ≡ first_place col_span (T.passes test.now) (prod_columns prod.now) }
@@ -77,6 +79,7 @@ fn first_in_factors<T: ColumnTest>(test: &T, rest: &[Factor]) -> Option<Span>
     None
 }
 
+// Of a factor, whatever its sign.
 #[cycle(first)]
 fn first_in_factor<T: ColumnTest>(test: &T, factor: &Factor) -> Option<Span>
     ensures { result ≡ first_place col_span (T.passes test.now) (factor_columns factor.now) }
@@ -84,6 +87,7 @@ fn first_in_factor<T: ColumnTest>(test: &T, factor: &Factor) -> Option<Span>
     first_in_atom(test, &factor.atom)
 }
 
+// Of an int, a column, or what stands in brackets.
 #[cycle(first)]
 fn first_in_atom<T: ColumnTest>(test: &T, atom: &Atom) -> Option<Span>
     ensures { result ≡ first_place col_span (T.passes test.now) (atom_columns atom.now) }

@@ -21,6 +21,7 @@ pub(crate) fn unknown_in_where(query: &Query, schema: &Schema, cond: &Option<Con
     }
 }
 
+// In a condition.
 #[cycle(unknown)]
 fn unknown_in_cond(query: &Query, schema: &Schema, cond: &Cond) -> Option<Span>
     ensures { result ≡ unknown_at schema.now query.now (mentions_of_cond cond.now) }
@@ -45,6 +46,7 @@ fn unknown_in_conjs(query: &Query, schema: &Schema, rest: &[Conj]) -> Option<Spa
     None
 }
 
+// In a conjunction.
 #[cycle(unknown)]
 fn unknown_in_conj(query: &Query, schema: &Schema, conj: &Conj) -> Option<Span>
     ensures { result ≡ unknown_at schema.now query.now (conj_mentions conj.now) }
@@ -69,6 +71,7 @@ fn unknown_in_negs(query: &Query, schema: &Schema, rest: &[Neg]) -> Option<Span>
     None
 }
 
+// In a predicate, with or without NOT.
 #[cycle(unknown)]
 fn unknown_in_neg(query: &Query, schema: &Schema, neg: &Neg) -> Option<Span>
     ensures { result ≡ unknown_at schema.now query.now (neg_mentions neg.now) }
@@ -76,6 +79,7 @@ fn unknown_in_neg(query: &Query, schema: &Schema, neg: &Neg) -> Option<Span>
     unknown_in_pred(query, schema, &neg.pred)
 }
 
+// In a predicate: in its expressions from the left, and in the condition that stands in brackets.
 #[cycle(unknown)]
 fn unknown_in_pred(query: &Query, schema: &Schema, pred: &Pred) -> Option<Span>
     ensures { result ≡ unknown_at schema.now query.now (pred_mentions pred.now) }

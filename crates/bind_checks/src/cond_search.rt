@@ -18,6 +18,7 @@ pub(crate) fn is_in_where<T: ExprTest>(test: &T, cond: &Option<Cond>) -> bool
     }
 }
 
+// Of a condition.
 #[cycle(search)]
 fn is_in_cond<T: ExprTest>(test: &T, cond: &Cond) -> bool
     ensures { result ≡ list_any (T.passes test.now) (exprs_of cond.now) }
@@ -42,6 +43,7 @@ fn is_in_conjs<T: ExprTest>(test: &T, rest: &[Conj]) -> bool
     false
 }
 
+// Of a conjunction.
 #[cycle(search)]
 fn is_in_conj<T: ExprTest>(test: &T, conj: &Conj) -> bool
     ensures { result ≡ list_any (T.passes test.now) (conj_exprs conj.now) }
@@ -66,6 +68,7 @@ fn is_in_negs<T: ExprTest>(test: &T, rest: &[Neg]) -> bool
     false
 }
 
+// Of a predicate, with or without NOT.
 #[cycle(search)]
 fn is_in_neg<T: ExprTest>(test: &T, neg: &Neg) -> bool
     ensures { result ≡ list_any (T.passes test.now) (neg_exprs neg.now) }
@@ -73,6 +76,7 @@ fn is_in_neg<T: ExprTest>(test: &T, neg: &Neg) -> bool
     is_in_pred(test, &neg.pred)
 }
 
+// Of a predicate: of its own expressions, and of the condition that stands in brackets.
 #[cycle(search)]
 fn is_in_pred<T: ExprTest>(test: &T, pred: &Pred) -> bool
     ensures { result ≡ list_any (T.passes test.now) (pred_exprs pred.now) }
@@ -93,18 +97,21 @@ fn is_in_pred<T: ExprTest>(test: &T, pred: &Pred) -> bool
     }
 }
 
+// Whether this expression passes the test.
 fn is_one<T: ExprTest>(test: &T, e: &Expr) -> bool
     ensures { result ≡ list_any (T.passes test.now) (e.now ∷ []) }
 {
     test.passes(e)
 }
 
+// Whether one of two expressions passes the test.
 fn is_one_of_two<T: ExprTest>(test: &T, first: &Expr, second: &Expr) -> bool
     ensures { result ≡ list_any (T.passes test.now) (first.now ∷ second.now ∷ []) }
 {
     test.passes(first) || test.passes(second)
 }
 
+// Whether one of three expressions passes the test.
 fn is_one_of_three<T: ExprTest>(test: &T, first: &Expr, second: &Expr, third: &Expr) -> bool
     ensures { result ≡
         list_any (T.passes test.now) (first.now ∷ second.now ∷ third.now ∷ []) }

@@ -19,6 +19,7 @@ pub(crate) fn is_too_wide(schema: &Schema, e: &Expr) -> bool
     }
 }
 
+// The largest size of a number of the expression, where none can be above 2^100.
 #[cycle(narrow)]
 fn narrow_expr(schema: &Schema, e: &Expr) -> Option<u128>
     ensures { result ≡ narrow (width_of schema.now e.now) }
@@ -57,6 +58,7 @@ fn with_signed(schema: &Schema, sum: u128, signed: &Signed) -> Option<u128>
     }
 }
 
+// The same of a product.
 #[cycle(narrow)]
 fn narrow_prod(schema: &Schema, prod: &Prod) -> Option<u128>
     ensures { result ≡ narrow (prod_width schema.now prod.now) }
@@ -95,6 +97,7 @@ fn with_factor(schema: &Schema, product: u128, factor: &Factor) -> Option<u128>
     }
 }
 
+// Of a factor, whatever its sign.
 #[cycle(narrow)]
 fn narrow_factor(schema: &Schema, factor: &Factor) -> Option<u128>
     ensures { result ≡ narrow_factor schema.now factor.now }
@@ -102,6 +105,7 @@ fn narrow_factor(schema: &Schema, factor: &Factor) -> Option<u128>
     narrow_atom(schema, &factor.atom)
 }
 
+// Of an int, a column, or what stands in brackets.
 #[cycle(narrow)]
 fn narrow_atom(schema: &Schema, atom: &Atom) -> Option<u128>
     ensures { result ≡ narrow (atom_width schema.now atom.now) }
@@ -113,6 +117,7 @@ fn narrow_atom(schema: &Schema, atom: &Atom) -> Option<u128>
     }
 }
 
+// The size of an int.
 fn size_of(n: &Int) -> u128
     ensures { result ≡ nat_abs n.now }
 {
@@ -137,6 +142,7 @@ fn capped(n: u128) -> Option<u128>
     if n > NUMBER_MOST { None } else { Some(n) }
 }
 
+// The sum, where it is at most 2^100.
 #[tactic(auto, unfolding(crate::specs::Narrow::capped))]
 fn capped_sum(a: u128, b: u128) -> Option<u128>
     ensures { result ≡ capped (a + b) }
@@ -147,6 +153,7 @@ fn capped_sum(a: u128, b: u128) -> Option<u128>
     }
 }
 
+// The product, where it is at most 2^100.
 #[tactic(auto, unfolding(crate::specs::Narrow::capped))]
 fn capped_product(a: u128, b: u128) -> Option<u128>
     ensures { result ≡ capped (a * b) }

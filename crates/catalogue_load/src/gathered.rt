@@ -85,18 +85,14 @@ impl Gathered {
         ensures bad { IfErr result (λ stop. IfBad stop (λ fault. first_of (faults_alone
             (4 + length self.old.names) (length self.old.objects) (fields_of fields.now)) ≡ Some fault)) }
     {
-        match next_row(
+        let row = next_row(
             &mut self.cells,
             self.columns.schema().width() as usize,
             self.columns.len() as usize,
             fields,
-        ) {
-            Ok(row) => match self.columns.push(&row) {
-                Ok(()) => Ok(()),
-                Err(_) => Err(Stop::Memory),
-            },
-            Err(stop) => Err(stop),
-        }
+        )?;
+        self.columns.push(&row)?;
+        Ok(())
     }
 
     /// The rows in ascending id, or the first fault of an id that an earlier row has.

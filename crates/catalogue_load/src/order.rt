@@ -20,10 +20,7 @@ use table_rules::LoadFault;
 fn copied(alloc: Global, ids: &[i64]) -> Result<Vec<i64>, Memory>
     ensures { IfOk result (λ copy. copy.items ≡ ids.now) }
 {
-    match Vec::from_slice(alloc, ids) {
-        Ok(copy) => Ok(copy),
-        Err(_) => Err(Memory),
-    }
+    Ok(Vec::from_slice(alloc, ids)?)
 }
 
 /// The fault of the first id that one before it equals, or `None` where no two are equal.
@@ -32,13 +29,12 @@ fn repeat_in(alloc: Global, ids: &[i64]) -> Result<Option<LoadFault>, Memory>
     ensures none { IfOk result (λ found. IfNone found (IsDistinct int_eq ids.now)) }
     ensures some { IfOk result (λ found. IfSome found (λ fault. IsRepeat ids.now fault)) }
 {
-    match first_repeat(alloc, ids) {
-        Ok(Some(place)) => Ok(Some(LoadFault::Repeated {
+    match first_repeat(alloc, ids)? {
+        Some(place) => Ok(Some(LoadFault::Repeated {
             row: place + 1,
             id: ids[place as usize],
         })),
-        Ok(None) => Ok(None),
-        Err(memory) => Err(memory),
+        None => Ok(None),
     }
 }
 
@@ -83,10 +79,8 @@ pub(crate) fn in_order(alloc: Global, columns: Columns) -> Result<Rows, Stop<Loa
     if ids_ascend(columns.ids()) {
         return Ok(Rows::ascending(columns));
     }
-    match copied(alloc, columns.ids()) {
-        Ok(ids) => sorted(alloc, columns, ids.as_slice()),
-        Err(_) => Err(Stop::Memory),
-    }
+    let ids = copied(alloc, columns.ids())?;
+    sorted(alloc, columns, ids.as_slice())
 }
 
 /// The first fault of rows behind which stands a record with this one, or want of memory. Takes memory for the ids, where

@@ -22,9 +22,7 @@ pub(crate) fn blocks_of(
     ensures { IfOk result (λ blocks. blocks.items
         ≡ map (λ chunk. block_at rows.now (get_or own.now chunk [])) chunks.now) }
 {
-    let Ok(mut blocks) = Vec::with_capacity(alloc, chunks.len()) else {
-        return Err(Memory);
-    };
+    let mut blocks = Vec::with_capacity(alloc, chunks.len())?;
     for chunk in chunks {
         blocks.push_reserved(Block::build(alloc, rows, own.of(*chunk))?);
     }

@@ -20,10 +20,8 @@ fn has_some(list: &[u32]) -> bool
 fn push(list: &mut Vec<u32>, number: u32) -> Result<(), Memory>
     ensures { OnOk result (list.new.items ≡ list.old.items ++ number ∷ []) }
 {
-    match list.push(number) {
-        Ok(()) => Ok(()),
-        Err(_) => Err(Memory),
-    }
+    list.push(number)?;
+    Ok(())
 }
 
 /// Puts the number behind the list, where the answer is yes.
@@ -55,10 +53,8 @@ fn push_empty(alloc: Global, lists: &mut Vec<Vec<u32>>) -> Result<(), Memory>
     ensures { OnOk result (map (λ l. l.items) lists.new.items
         ≡ map (λ l. l.items) lists.old.items ++ [] ∷ []) }
 {
-    match lists.push(Vec::new(alloc)) {
-        Ok(()) => Ok(()),
-        Err(_) => Err(Memory),
-    }
+    lists.push(Vec::new(alloc))?;
+    Ok(())
 }
 
 /// So many empty lists.

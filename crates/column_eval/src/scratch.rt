@@ -31,6 +31,7 @@ pub(crate) struct Pool<T> {
 }
 
 impl<T: Copy> Pool<T> {
+    // No vectors. Takes no memory.
     fn new(alloc: Global) -> Pool<T> {
         Pool {
             alloc,
@@ -45,10 +46,8 @@ impl<T: Copy> Pool<T> {
     {
         let mut found = self.free.pop().unwrap_or(Vec::new(self.alloc));
         found.clear();
-        match found.reserve(count) {
-            Ok(()) => Ok(found),
-            Err(_) => Err(Memory),
-        }
+        found.reserve(count)?;
+        Ok(found)
     }
 
     /// Keeps a vector for its next use. Where there is no memory to keep it, it is gone.

@@ -105,11 +105,10 @@ fn push_if(is_needed: bool, chunk: u32, into: &mut Vec<u32>) -> Result<(), Memor
         into.new.items ≡ into.old.items ++ (if is_needed then chunk ∷ [] else [])) }
     ensures none { IfErr result (λ _. into.new.items ≡ into.old.items) }
 {
-    if is_needed && into.push(chunk).is_err() {
-        Err(Memory)
-    } else {
-        Ok(())
+    if is_needed {
+        into.push(chunk)?;
     }
+    Ok(())
 }
 
 /// Whether the full overlap of the chunk holds the position, where the chunk that holds it is known.

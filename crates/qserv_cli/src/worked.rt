@@ -24,6 +24,7 @@ pub const LARGE_VALUES: &str =
 pub const WITH_NULL: &str =
     "objectId,x,y,z,flux\n1,268435456,0,0,10\n2,268435456,3,0,\n3,268435456,0,4,30\n4,268435456,-3,0,\n5,268435456,0,-1,-5\n6,0,0,268435456,60\n";
 
+/// The words that ask for the answers of the script, with no worker beside the czar.
 pub const QUERY: [&str; 5] = ["query", "sky", "csv", "script", "0"];
 
 /// The same with so many workers.
@@ -31,6 +32,7 @@ pub fn query_with(workers: &str) -> [&str; 5] {
     ["query", "sky", "csv", "script", workers]
 }
 
+/// The words that ask for the plans of the script.
 pub const EXPLAIN: [&str; 4] = ["explain", "sky", "csv", "script"];
 
 /// What a call wrote, its status, and what is told of it.
@@ -59,6 +61,7 @@ pub fn texts_of(
     Ok(texts)
 }
 
+/// The words as they are given to a program.
 pub fn words_of(alloc: Global, words: &[&str]) -> Result<Vec<String>, Fail> {
     let mut all = Vec::new(alloc);
     for word in words {
@@ -67,6 +70,7 @@ pub fn words_of(alloc: Global, words: &[&str]) -> Result<Vec<String>, Fail> {
     Ok(all)
 }
 
+/// A sink in memory that takes so many bytes, and at which no call fails.
 pub fn sink_of(alloc: Global, room: usize) -> Result<MemSink, Fail> {
     Ok(MemSink::new(alloc, room, Vec::new(alloc))?)
 }

@@ -30,6 +30,7 @@ fn naming(
     }
 }
 
+// Where the line stands in a script, if it begins at the place.
 fn span_at(place: usize, line: &Line<'_>) -> Span
     requires { place + length line.now.text.now ≤ TEXT_MOST }
     ensures { result ≡ span_at place (line_of line.now) }

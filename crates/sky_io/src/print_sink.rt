@@ -55,6 +55,7 @@ impl PrintSink<Stderr> {
 }
 
 impl<P: Print> PrintSink<P> {
+    // A sink over the printer, to which nothing was written yet.
     fn over(out: P) -> PrintSink<P>
         ensures { result ≡ unused_stream }
     {

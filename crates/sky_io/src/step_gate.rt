@@ -39,6 +39,7 @@ impl StepGate {
         self.has_given_up.load(Ordering::SeqCst)
     }
 
+    // Whether all pass from now on.
     fn is_open(&self) -> bool {
         self.met() || self.given_up()
     }

@@ -190,10 +190,8 @@ fn push_number(values: &mut Vec<i64>, present: &Vec<bool>, number: i64) -> Resul
         ≡ cells_of values.old.items present.now.items ++ Some number ∷ []) }
     ensures err { OnErr result (values.new.items ≡ values.old.items) }
 {
-    match values.push(number) {
-        Ok(()) => Ok(()),
-        Err(_) => Err(Memory),
-    }
+    values.push(number)?;
+    Ok(())
 }
 
 /// Puts the first NULL of a column behind its values, which makes its presence.
@@ -218,13 +216,8 @@ fn make_presence(values: &Vec<i64>, present: &mut Vec<bool>) -> Result<(), Memor
     ensures same { cells_of values.now.items present.new.items
         ≡ cells_of values.now.items present.old.items }
 {
-    match Vec::from_elem(*values.allocator(), true, values.len()) {
-        Ok(all) => {
-            *present = all;
-            Ok(())
-        },
-        Err(_) => Err(Memory),
-    }
+    *present = Vec::from_elem(*values.allocator(), true, values.len())?;
+    Ok(())
 }
 
 /// Puts a value and its presence behind the others, or neither.
@@ -242,9 +235,7 @@ fn push_present(
     ensures err { OnErr result (cells_of values.new.items present.new.items
         ≡ cells_of values.old.items present.old.items) }
 {
-    if values.push(value.unwrap_or(0)).is_err() {
-        return Err(Memory);
-    }
+    values.push(value.unwrap_or(0))?;
     if present.push(value.is_some()).is_err() {
         values.pop();
         return Err(Memory);

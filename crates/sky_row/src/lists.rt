@@ -220,10 +220,7 @@ fn columns_at(alloc: Global, columns: &[Column], places: &[u32]) -> Result<Vec<C
 {
     let mut found = Vec::new(alloc);
     for column in columns {
-        let one = column.at(alloc, places)?;
-        if found.push(one).is_err() {
-            return Err(Memory);
-        }
+        found.push(column.at(alloc, places)?)?;
     }
     Ok(found)
 }
@@ -235,9 +232,7 @@ fn empty_columns(alloc: Global, width: u32) -> Result<Vec<Column>, Memory>
 {
     let mut columns = Vec::new(alloc);
     for turn in 0..width {
-        if columns.push(Column::new(alloc)).is_err() {
-            return Err(Memory);
-        }
+        columns.push(Column::new(alloc))?;
     }
     Ok(columns)
 }
@@ -248,10 +243,8 @@ fn push_id(ids: &mut Vec<i64>, id: i64) -> Result<(), Memory>
     ensures ok { OnOk result (ids.new.items ≡ ids.old.items ++ id ∷ []) }
     ensures front { IsFront ids.old.items ids.new.items }
 {
-    match ids.push(id) {
-        Ok(()) => Ok(()),
-        Err(_) => Err(Memory),
-    }
+    ids.push(id)?;
+    Ok(())
 }
 
 /// Puts a part of a position behind the others.
@@ -261,10 +254,8 @@ fn push_part(parts: &mut Vec<i32>, part: i64) -> Result<(), Memory>
     ensures ok { OnOk result (parts.new.items ≡ parts.old.items ++ part ∷ []) }
     ensures front { IsFront parts.old.items parts.new.items }
 {
-    match parts.push(part as i32) {
-        Ok(()) => Ok(()),
-        Err(_) => Err(Memory),
-    }
+    parts.push(part as i32)?;
+    Ok(())
 }
 
 /// Puts the further values of a row behind their columns. Where there is no memory, some columns have theirs.
@@ -291,10 +282,7 @@ fn push_cell(column: &mut Column, row: &Row, k: u32) -> Result<(), Memory>
     ensures ok { OnOk result (column.new ≡ column.old ++ get_or row.now.further k None ∷ []) }
     ensures front { IsFront column.old column.new }
 {
-    match column.push(row.value(4 + k)) {
-        Ok(()) => Ok(()),
-        Err(memory) => Err(memory),
-    }
+    column.push(row.value(4 + k))
 }
 
 /// Cuts columns behind so many rows.

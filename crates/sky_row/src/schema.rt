@@ -57,13 +57,9 @@ impl Schema {
         if !self.can_follow(name) {
             return Err(Stop::Bad(BadName));
         }
-        let Ok(copy) = Vec::from_slice(*self.names.allocator(), name) else {
-            return Err(Stop::Memory);
-        };
-        match self.names.push(copy) {
-            Ok(()) => Ok(()),
-            Err(_) => Err(Stop::Memory),
-        }
+        let copy = Vec::from_slice(*self.names.allocator(), name)?;
+        self.names.push(copy)?;
+        Ok(())
     }
 
     /// Whether one more column can have the name.

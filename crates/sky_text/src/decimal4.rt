@@ -20,6 +20,7 @@ pub fn put_decimal4<K: Sink>(sink: &mut K, scaled: i128) -> Put
     }
 }
 
+// Writes the number below zero that has this size in ten-thousandths.
 fn put_negative<K: Sink>(sink: &mut K, size: u128) -> Put
     ensures { Wrote (K.state sink.old) (K.state sink.new) (45 ∷ ten_thousandths size) result }
 {
@@ -29,6 +30,7 @@ fn put_negative<K: Sink>(sink: &mut K, size: u128) -> Put
     }
 }
 
+// Writes a number of ten-thousandths that is not below zero.
 fn put_size<K: Sink>(sink: &mut K, size: u128) -> Put
     ensures { Wrote (K.state sink.old) (K.state sink.new) (ten_thousandths size) result }
 {
@@ -38,6 +40,7 @@ fn put_size<K: Sink>(sink: &mut K, size: u128) -> Put
     }
 }
 
+// Writes a point, and so many ten-thousandths in four digits.
 fn put_decimals<K: Sink>(sink: &mut K, part: u32) -> Put
     requires { part < 10000 }
     ensures { Wrote (K.state sink.old) (K.state sink.new) (46 ∷ four_digits part) result }
@@ -51,6 +54,7 @@ fn put_decimals<K: Sink>(sink: &mut K, part: u32) -> Put
     ])
 }
 
+// The digit, as a byte of text.
 fn digit(n: u32) -> u8
     requires { n < 10 }
     ensures { result ≡ 48 + n }

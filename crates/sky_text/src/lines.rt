@@ -51,6 +51,7 @@ impl<'a> Lines<'a> {
     }
 }
 
+// Where the first line feed stands, if there is one.
 fn end_of_line(text: &[u8]) -> Option<usize>
     ensures { result ≡ position (λ b. b == 10) text.now }
 {
@@ -96,12 +97,14 @@ impl<'a> Iterator for Lines<'a> {
     }
 }
 
+// Whether a line is spaces and tabs alone; an empty one is.
 fn is_blank(text: &[u8]) -> bool
     ensures { result ≡ list_all is_space_or_tab text.now }
 {
     text.iter().all(|b| *b == b' ' || *b == b'\t')
 }
 
+// Whether the first byte of a line is `#`.
 fn begins_with_hash(text: &[u8]) -> bool
     ensures { result ≡ begins_with_hash text.now }
 {

@@ -1,38 +1,38 @@
-//! Reads numbers in decimal.
-ghost use Rattle.std.specs.Prelude.{◌≡◌, ◌≤◌};
+//! Reads numbers in decimal, each in one pass over its bytes.
+ghost use Rattle.std.specs.Prelude.{◌≡◌, ◌≤◌, length, None, Some, if◌then◌else◌};
 ghost use Rattle.std.specs.List.{list_all};
-ghost use Rattle.text_rules.specs.Numbers.{natural, whole_number, int_of, is_natural, is_digit};
+ghost use Rattle.text_rules.specs.Numbers.{int_of, is_digit, natural, value_after, whole_number};
 ghost use Rattle.text_rules.specs.declared.limits.TheConstants.{INT_DIGITS_MOST};
 
 use text_rules::limits::INT_DIGITS_MOST;
 
-fn is_digits(text: &[u8]) -> bool
-    ensures { result ≡ list_all is_digit text.now }
+// The number that at most 19 digits write, or `None` where a byte is no digit.
+#[tactic(auto, using(crate::proofs::Digits::more_digits, crate::proofs::Digits::few_digits))]
+fn read_digits(text: &[u8]) -> Option<u64>
+    requires { length text.now ≤ INT_DIGITS_MOST }
+    ensures { result ≡ (if list_all is_digit text.now
+        then Some (value_after 0 text.now) else None) }
 {
-    text.iter().all(|b| b.is_ascii_digit())
-}
-
-fn is_natural(text: &[u8], most: usize) -> bool
-    ensures { result ≡ is_natural most text.now }
-{
-    !text.is_empty() && text.len() <= most && is_digits(text)
+    let mut n: u64 = 0;
+    for b in text {
+        if !b.is_ascii_digit() {
+            return None;
+        }
+        n = n * 10 + u64::from(*b - b'0');
+    }
+    Some(n)
 }
 
 /// The number of one digit or more and at most `most`, or `None` where the text is something else. Leading zeros may
 /// stand. Takes no memory.
-#[tactic(auto, using(crate::proofs::Digits::more_digits, crate::proofs::Digits::few_digits))]
 pub fn read_natural(text: &[u8], most: usize) -> Option<u64>
     requires { most ≤ INT_DIGITS_MOST }
     ensures { result ≡ natural most text.now }
 {
-    if !is_natural(text, most) {
+    if text.is_empty() || text.len() > most {
         return None;
     }
-    let mut n: u64 = 0;
-    for b in text {
-        n = n * 10 + u64::from(*b - b'0');
-    }
-    Some(n)
+    read_digits(text)
 }
 
 /// The number of an optional minus and at most `most` digits, or `None` where the text is something else. Takes no memory.

@@ -5,24 +5,28 @@ ghost use Rattle.text_rules.specs.Numbers.{is_digit};
 ghost use Rattle.text_rules.specs.Words.{begins_word, continues_word};
 ghost use Rattle.sql_token.specs.Bytes.{is_blank};
 
+// A space, a tab, or an end of line, of either kind.
 fn is_blank(byte: u8) -> bool
     ensures { result ≡ is_blank byte }
 {
     byte == b' ' || byte == b'\t' || byte == b'\n' || byte == b'\r'
 }
 
+/// A letter of ASCII or an underscore.
 pub(crate) fn begins_word(byte: u8) -> bool
     ensures { result ≡ begins_word byte }
 {
     byte.is_ascii_alphabetic() || byte == b'_'
 }
 
+// A byte that begins a word, or a digit.
 fn continues_word(byte: u8) -> bool
     ensures { result ≡ continues_word byte }
 {
     begins_word(byte) || byte.is_ascii_digit()
 }
 
+/// A digit of ASCII.
 pub(crate) fn is_digit(byte: u8) -> bool
     ensures { result ≡ is_digit byte }
 {

@@ -7,12 +7,14 @@ use crate::limits::BRACKETS_MOST;
 use crate::sign::Sign;
 use crate::token::{Token, TokenKind};
 
+// Whether the token is an opening bracket.
 fn opens(token: &Token) -> bool
     ensures { result ≡ opens token.now.kind }
 {
     matches!(token.kind, TokenKind::Sign(Sign::Open))
 }
 
+// Whether the token is a closing bracket.
 fn closes(token: &Token) -> bool
     ensures { result ≡ closes token.now.kind }
 {

@@ -14,6 +14,7 @@ use crate::keyword::keyword_of;
 use crate::sign::{long_sign, short_sign};
 use crate::token::{Span, Token, TokenKind, TokenStop};
 
+// The token of this kind that has so many bytes, from a place on.
 fn token(kind: TokenKind, place: u32, bytes: usize) -> Token
     requires { place + bytes ≤ QUERY_TEXT_MOST }
     ensures { result ≡ token kind place bytes }
@@ -27,6 +28,7 @@ fn token(kind: TokenKind, place: u32, bytes: usize) -> Token
     }
 }
 
+// The keyword or the name at the front of the text, which stands at the place.
 fn word_at(place: u32, text: &[u8]) -> Token
     requires { place + length text.now ≤ QUERY_TEXT_MOST }
     ensures { result ≡ word_at place text.now }
@@ -51,6 +53,7 @@ fn small_int(digits: &[u8]) -> Option<Int>
     Int::new(n)
 }
 
+// The int at the front of the text, or the fault of one above 2^63 - 1.
 #[tactic(auto, using(crate::proofs::Ints::all_digits))]
 fn int_at(place: u32, text: &[u8]) -> Result<Token, TokenStop>
     requires { place + length text.now ≤ QUERY_TEXT_MOST }
@@ -63,6 +66,7 @@ fn int_at(place: u32, text: &[u8]) -> Result<Token, TokenStop>
     }
 }
 
+// The sign of one byte, or the fault of a byte with which no token begins.
 fn short_at(place: u32, byte: u8) -> Result<Token, TokenStop>
     requires { place < QUERY_TEXT_MOST }
     ensures { Gives (short_at place (short_sign byte)) result }
@@ -73,6 +77,7 @@ fn short_at(place: u32, byte: u8) -> Result<Token, TokenStop>
     }
 }
 
+// The sign at the front of the text: one of two bytes goes before one of its first byte.
 fn sign_at(place: u32, text: &[u8]) -> Result<Token, TokenStop>
     requires some { 0 < length text.now }
     requires short { place + length text.now ≤ QUERY_TEXT_MOST }

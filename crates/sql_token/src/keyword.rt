@@ -98,6 +98,7 @@ impl Keyword {
     }
 }
 
+// Whether the word is the keyword, in capitals or small letters.
 fn is_spelled(word: &[u8], keyword: Keyword) -> bool
     ensures { result ≡ is_spelled word.now keyword }
 {

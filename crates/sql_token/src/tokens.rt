@@ -27,6 +27,7 @@ impl Model for Tokens {
 }
 
 impl Tokens {
+    /// No tokens. Takes no memory.
     pub(crate) fn new(alloc: Global) -> Tokens
         ensures { result ≡ [] }
     {
@@ -35,6 +36,7 @@ impl Tokens {
         }
     }
 
+    /// Puts a token behind the others.
     pub(crate) fn push(&mut self, token: Token) -> Result<(), TokenStop>
         ensures ok { OnOk result (self.new ≡ self.old ++ token ∷ []) }
         ensures err { IfErr result (λ why. why ≡ TokenStop.Memory) }

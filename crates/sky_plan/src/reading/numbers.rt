@@ -26,6 +26,7 @@ impl Model for Numbers {
 }
 
 impl Numbers {
+    /// No numbers.
     fn new() -> Numbers
         ensures { result ≡ [] }
     {
