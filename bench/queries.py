@@ -93,7 +93,8 @@ LINES = [
     ("GROUP BY 100,000 values, the ten largest", ["SELECT flux,COUNT(*) AS n FROM Object GROUP BY flux ORDER BY n DESC LIMIT 10"], 2, 120),
     ("a tenth of the rows as text", ["SELECT objectId,flux FROM Object WHERE flux<10000"], 2, 40),
     ("ORDER BY .. LIMIT 10", ["SELECT objectId,flux FROM Object ORDER BY flux DESC LIMIT 10"], 4, 15),
-    ("a small cap", ["SELECT objectId FROM Object WHERE area_cap(268435456,0,0,1000000000000)"], 16, 1),
+    ("a small cap", ["SELECT objectId FROM Object WHERE area_cap(268435456,0,0,1000000000000)"], 200, 1),
+    ("one id", ["SELECT flux FROM Object WHERE objectId=500000"], 200, 1),
     ("pairs within 65,536", [f"SELECT a.objectId,b.objectId FROM Object a,Object b WHERE chord2(a,b)<={REACH * REACH} AND a.objectId<b.objectId"], 1, 150),
 ]
 
@@ -109,6 +110,7 @@ def wanted(rows):
         [[(row[0], row[4]) for row in rows if row[4] < 10000]],
         [brightest(rows)],
         [in_cap(rows)],
+        [[(row[4],) for row in rows if row[0] == 500000]],
         None,
     ]
 

@@ -2,7 +2,7 @@
 use Rattle.std.proofs.Common.{◌≡◌, ℕ, zero, suc, ◌+◌, ◌<◌, Bool, true, false, cond, ◌&&◌, List, [], ◌∷◌, ◌++◌, filter, length, take, get_or, refl, sym, ap, subst, ◌∙◌, arith, None}
 use Rattle.std.specs.Prelude.{AllPairs, All}
 use Rattle.std.specs.Option.{IfSome}
-use Rattle.std.specs.List.{last_or, list_all, range_with_len}
+use Rattle.std.specs.List.{last_or, list_all}
 use Rattle.std.proofs.lemmas.List.{get_or_default, get_or-take, length-take, take_more}
 use Rattle.std.proofs.lemmas.List.Elements.{All-filter}
 use Rattle.scan_rules.proofs.ChunkSets.{last_below}
@@ -20,13 +20,6 @@ filter_twice p q (x ∷ xs) = twice_step q x (filter p xs) (filter (λ y. p y &&
 pub filter_same : {X : Type 0} (p q : X → Bool) (xs : List X) → ((x : X) → p x ≡ q x) → filter p xs ≡ filter q xs
 filter_same p q [] h = refl
 filter_same p q (x ∷ xs) h = ap (λ b. cond b (x ∷ filter p xs) (filter p xs)) (h x) ∙ ap (λ l. cond (q x) (x ∷ l) l) (filter_same p q xs h)
-
--- tests that agree on the numbers of a range keep the same of them
-pub range_filter_same : (p q : ℕ → Bool) (a n : ℕ) → ((c : ℕ) → c < a + n → p c ≡ q c) → filter p (range_with_len a n) ≡ filter q (range_with_len a n)
-range_filter_same p q a zero h = refl
-range_filter_same p q a (suc n) h =
-    ap (λ b. cond b (a ∷ filter p (range_with_len (a + 1) n)) (filter p (range_with_len (a + 1) n))) (h a (omega arith))
-    ∙ ap (λ l. cond (q a) (a ∷ l) l) (range_filter_same p q (a + 1) n (λ c k. h c (omega (arith, k))))
 
 -- nothing is left out by no test
 pub filter_all : {X : Type 0} (xs : List X) → filter (λ x. true) xs ≡ xs

@@ -1,4 +1,4 @@
 pub mod Filters
-pub mod Listed
+pub mod Held
 pub mod Chosen
 pub mod Marking

@@ -1,12 +1,10 @@
 //! Which of the chunks that hold a row a query needs.
 
-ghost use Rattle.std.specs.Prelude.{◌≡◌, ◌<◌, [], All, AllPairs, IfNone, IfOk, IfSome, List, filter};
+ghost use Rattle.std.specs.Prelude.{◌≡◌, ◌<◌, All, AllPairs, IfOk, filter};
 ghost use Rattle.std.specs.List.{list_all};
-ghost use Rattle.table_rules.specs.Objects.{IdsAscend, Obj};
 ghost use Rattle.sky_rules.specs.Partition.{chunk_count};
 ghost use Rattle.sky_rules.specs.Bounds.{bounds_of};
 ghost use Rattle.chunk_rules.specs.Filled.{filled_chunks};
-ghost use Rattle.object_index.specs.Indexes.{IsIndexOf};
 ghost use Rattle.answer_rules.specs.Plans.{area_meets, plan_of};
 
 use crate::area::areas_meet;
@@ -16,32 +14,27 @@ use object_index::Index;
 use scan_rules::ChunkSet;
 use sky_io::Memory;
 use sky_plan::SkyPlan;
+use sky_row::Rows;
 use sql_bound::{AreaTest, Bound};
 use std::alloc::Global;
 
 /// The chunks that a query needs, of those that hold a row: each passes the query's area tests, and holds one of the ids
-/// of each of its id tests. An index of the ids is needed only where the query has an id test. Takes memory for the chunks,
-/// and for a mark a chunk while it looks ids up.
+/// of each of its id tests. Takes memory for the chunks, and for a mark a chunk while it looks ids up.
 pub fn plan(
     alloc: Global,
     bound: &Bound,
     sky: &SkyPlan,
-    index: &Option<Index>,
+    rows: &Rows,
     filled: &[u32],
 ) -> Result<ChunkSet, Memory>
     requires there { All (λ c. c < chunk_count sky.now) filled.now }
     requires ascend { AllPairs (λ a b. a < b) filled.now }
-    requires indexed { IfNone index.now (bound.now.ids ≡ []) }
-    ensures plan { IfOk result (λ chunks. (table : List Obj)
-        → IfSome index.now (IsIndexOf sky.now table) → filled.now ≡ filled_chunks sky.now table
-        → IdsAscend table → chunks ≡ plan_of sky.now table bound.now) }
+    ensures plan { IfOk result (λ chunks. filled.now ≡ filled_chunks sky.now rows.now.objects
+        → chunks ≡ plan_of sky.now rows.now.objects bound.now) }
     ensures there { IfOk result (λ chunks. All (λ c. c < chunk_count sky.now) chunks) }
 {
     let chunks = in_areas(alloc, sky, bound.areas.as_slice(), filled)?;
-    match index {
-        Some(index) => with_ids(alloc, sky.chunks(), index, bound.ids.as_slice(), chunks),
-        None => Ok(chunks),
-    }
+    with_ids(alloc, &Index::new(sky, rows), bound.ids.as_slice(), chunks)
 }
 
 /// Those of the chunks that each of the areas may have a point in.

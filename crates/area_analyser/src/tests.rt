@@ -1,10 +1,9 @@
 //! What no clause says: that plans are made with memory left, and what they and the refusals are over six rows by hand.
 
-ghost use Rattle.std.specs.Prelude.{◌≡◌, ◌<◌, [], All, length, IfNone, IfOk, IfSome};
+ghost use Rattle.std.specs.Prelude.{◌≡◌, ◌<◌, All, length, IfOk, IfSome};
 ghost use Rattle.sky_rules.specs.Partition.{chunk_count};
 
 use crate::{Radius, plan, radius_ok};
-use object_index::Index;
 use scan_rules::ChunkSet;
 use sky_io::Memory;
 use sky_plan::SkyPlan;
@@ -67,22 +66,19 @@ fn six_rows(alloc: Global) -> Result<Option<Rows>, Fail> {
     Ok(Rows::in_order(alloc, columns)?)
 }
 
-// The sky and the index of the six rows over it.
-fn survey(alloc: Global) -> Result<Option<(SkyPlan, Index)>, Fail> {
+// The sky and the six rows.
+fn survey(alloc: Global) -> Result<Option<(SkyPlan, Rows)>, Fail> {
     let Ok(sky) = SkyPlan::read(alloc, SKY) else {
         return Ok(None);
     };
     let Some(rows) = six_rows(alloc)? else {
         return Ok(None);
     };
-    let index = Index::build(alloc, &sky, &rows)?;
-    Ok(Some((sky, index)))
+    Ok(Some((sky, rows)))
 }
 
 // A query with these tests.
-fn query(alloc: Global, shape: Shape, areas: Areas, ids: IdTests) -> Bound
-    ensures { result.ids ≡ ids }
-{
+fn query(alloc: Global, shape: Shape, areas: Areas, ids: IdTests) -> Bound {
     Bound {
         shape,
         items: Items::new(alloc),
@@ -99,22 +95,19 @@ fn planned(
     alloc: Global,
     bound: &Bound,
     sky: &SkyPlan,
-    index: &Option<Index>,
+    rows: &Rows,
 ) -> Result<Option<ChunkSet>, Fail>
-    requires { IfNone index.now (bound.now.ids ≡ []) }
     ensures { IfOk result (λ found. IfSome found (λ chunks.
         All (λ c. c < chunk_count sky.now) chunks)) }
 {
     if sky.chunks() != 8 {
         return Ok(None);
     }
-    Ok(Some(plan(alloc, bound, sky, index, [0, 4, 7].as_slice())?))
+    Ok(Some(plan(alloc, bound, sky, rows, [0, 4, 7].as_slice())?))
 }
 
 // The rows in an area.
-fn within(alloc: Global, area: AreaTest) -> Result<Bound, AllocError>
-    ensures { IfOk result (λ bound. bound.ids ≡ []) }
-{
+fn within(alloc: Global, area: AreaTest) -> Result<Bound, AllocError> {
     let mut areas = Items::new(alloc);
     areas.push(area)?;
     Ok(query(alloc, Shape::Rows, areas, Items::new(alloc)))
@@ -137,7 +130,7 @@ fn quarter(lo: i64, hi: i64, a: (i64, i64), b: (i64, i64)) -> Option<AreaTest> {
 #[test]
 fn an_area_takes_the_chunks_that_it_touches(rt: HostRuntime) -> Result<(), Fail> {
     let alloc = rt.alloc();
-    let Some((sky, _index)) = survey(alloc)? else {
+    let Some((sky, rows)) = survey(alloc)? else {
         panic!(rt; "no survey");
     };
     let cases = [
@@ -163,7 +156,7 @@ fn an_area_takes_the_chunks_that_it_touches(rt: HostRuntime) -> Result<(), Fail>
         let Some(area) = area else {
             panic!(rt; "no area {number}");
         };
-        let Some(chunks) = planned(alloc, &within(alloc, area)?, &sky, &None)? else {
+        let Some(chunks) = planned(alloc, &within(alloc, area)?, &sky, &rows)? else {
             panic!(rt; "no chunks");
         };
         assert_eq!(rt; chunks.as_slice(), want, "area {number}");
@@ -182,6 +175,9 @@ fn with_ids(alloc: Global, first: &[i64], second: &[i64]) -> Result<Bound, Alloc
 #[test]
 fn ids_take_the_chunks_that_hold_one_of_each_list(rt: HostRuntime) -> Result<(), Fail> {
     let alloc = rt.alloc();
+    let Some((sky, rows)) = survey(alloc)? else {
+        panic!(rt; "no survey");
+    };
     let all = [1, 2, 3, 4, 5, 6];
     let cases = [
         ([2, 4, 99].as_slice(), all.as_slice(), [4, 7].as_slice()),
@@ -192,12 +188,8 @@ fn ids_take_the_chunks_that_hold_one_of_each_list(rt: HostRuntime) -> Result<(),
         (all.as_slice(), [-1, 5, 5].as_slice(), [0].as_slice()),
     ];
     for (first, second, want) in cases {
-        let Some((sky, index)) = survey(alloc)? else {
-            panic!(rt; "no survey");
-        };
-        let index = Some(index);
         let bound = with_ids(alloc, first, second)?;
-        let Some(chunks) = planned(alloc, &bound, &sky, &index)? else {
+        let Some(chunks) = planned(alloc, &bound, &sky, &rows)? else {
             panic!(rt; "no chunks");
         };
         assert_eq!(rt; chunks.as_slice(), want, "{first:?} {second:?}");
@@ -206,9 +198,7 @@ fn ids_take_the_chunks_that_hold_one_of_each_list(rt: HostRuntime) -> Result<(),
 }
 
 // A join within a limit, of first rows in a band.
-fn join(alloc: Global, limit: i64, lo: i64, hi: i64) -> Result<Bound, AllocError>
-    ensures { IfOk result (λ bound. bound.ids ≡ []) }
-{
+fn join(alloc: Global, limit: i64, lo: i64, hi: i64) -> Result<Bound, AllocError> {
     let mut areas = Items::new(alloc);
     areas.push(AreaTest::Band { lo, hi })?;
     Ok(query(alloc, Shape::Pairs { limit }, areas, Items::new(alloc)))
@@ -217,7 +207,7 @@ fn join(alloc: Global, limit: i64, lo: i64, hi: i64) -> Result<Bound, AllocError
 #[test]
 fn a_join_goes_by_the_least_overlap_of_its_plan(rt: HostRuntime) -> Result<(), Fail> {
     let alloc = rt.alloc();
-    let Some((sky, _index)) = survey(alloc)? else {
+    let Some((sky, rows)) = survey(alloc)? else {
         panic!(rt; "no survey");
     };
     let cases = [
@@ -254,7 +244,7 @@ fn a_join_goes_by_the_least_overlap_of_its_plan(rt: HostRuntime) -> Result<(), F
     ];
     for (limit, lo, hi, want) in cases {
         let bound = join(alloc, limit, lo, hi)?;
-        let Some(chunks) = planned(alloc, &bound, &sky, &None)? else {
+        let Some(chunks) = planned(alloc, &bound, &sky, &rows)? else {
             panic!(rt; "no chunks");
         };
         assert_eq!(rt; radius_ok(&bound, &sky, &chunks), want, "{limit} {lo} {hi}");

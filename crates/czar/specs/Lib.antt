@@ -1,5 +1,4 @@
 pub mod Understandings
-pub mod Indexed
 pub mod Plans
 pub mod Ends
 pub mod Attached

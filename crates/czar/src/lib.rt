@@ -11,7 +11,6 @@
 mod attach;
 pub mod end;
 mod explained;
-mod lookup;
 pub mod plan;
 mod scans;
 pub mod session;

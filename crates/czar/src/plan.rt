@@ -8,10 +8,9 @@ ghost use Rattle.session_script.specs.Scripts.{query_count};
 ghost use Rattle.session_script.specs.Views.{query_lines};
 ghost use Rattle.czar.specs.Plans.{ArePlans, IsCutOf, IsPlanBy, IsPlanOf, PlanFor};
 
-use crate::lookup::Lookup;
 use crate::understanding::{Understanding, understand};
 use answer_rules::Rewritten;
-use area_analyser::radius_ok;
+use area_analyser::{plan, radius_ok};
 use chunk_rewriter::rewrite;
 use chunk_store::Store;
 use scan_rules::ChunkSet;
@@ -36,16 +35,15 @@ pub enum Plan {
     Refused(Refusal),
 }
 
-/// The plans of a script's queries, in their order; lines that wait or cancel are passed over. Takes memory for them, and
-/// for an index of the rows by their ids where a query asks for some. Nothing is run.
+/// The plans of a script's queries, in their order; lines that wait or cancel are passed over. Takes memory for them. Nothing
+/// is run.
 pub fn explain(alloc: Global, world: &Store, script: &Script<'_>) -> Result<Vec<Plan>, Memory>
     ensures { IfOk result (λ plans.
         ArePlans world.now.plan world.now.rows (query_lines script.now) plans.items) }
 {
-    let mut lookup = Lookup::new(world);
     let mut plans = Vec::new(alloc);
     for before in 0..script.queries() {
-        push_plan(alloc, world, script, before, &mut lookup, &mut plans)?;
+        push_plan(alloc, world, script, before, &mut plans)?;
     }
     Ok(plans)
 }
@@ -56,39 +54,29 @@ fn push_plan(
     world: &Store,
     script: &Script<'_>,
     before: u32,
-    lookup: &mut Lookup<'_>,
     plans: &mut Vec<Plan>,
 ) -> Result<(), Memory>
     requires there { before < query_count script.now.steps }
     requires few { before < QUERIES_MOST }
-    requires same { lookup.old ≡ world.now }
     requires plans { ArePlans world.now.plan world.now.rows
         (take before (query_lines script.now)) plans.old.items }
-    ensures same { lookup.new ≡ lookup.old }
-    ensures plans { OnOk result (ArePlans world.now.plan world.now.rows
+    ensures { OnOk result (ArePlans world.now.plan world.now.rows
         (take (before + 1) (query_lines script.now)) plans.new.items) }
 {
     query_lines_are_query_texts();
-    match plan_line(alloc, world, lookup, script.text_of(before + 1)) {
+    match plan_line(alloc, world, script.text_of(before + 1)) {
         Ok(plan) => Ok(plans.push(plan)?),
         Err(Memory) => Err(Memory),
     }
 }
 
 /// The plan of the query with this line.
-pub(crate) fn plan_line(
-    alloc: Global,
-    world: &Store,
-    lookup: &mut Lookup<'_>,
-    text: &[u8],
-) -> Result<Plan, Memory>
-    requires same { lookup.old ≡ world.now }
-    requires short { length text.now ≤ QUERY_TEXT_MOST }
-    ensures plan { IfOk result (PlanFor world.now.plan world.now.rows text.now) }
-    ensures same { lookup.new ≡ lookup.old }
+pub(crate) fn plan_line(alloc: Global, world: &Store, text: &[u8]) -> Result<Plan, Memory>
+    requires { length text.now ≤ QUERY_TEXT_MOST }
+    ensures { IfOk result (PlanFor world.now.plan world.now.rows text.now) }
 {
     match understand(alloc, world.rows().schema(), text) {
-        Ok(understanding) => plan_understood(alloc, world, lookup, understanding),
+        Ok(understanding) => plan_understood(alloc, world, understanding),
         Err(Memory) => Err(Memory),
     }
 }
@@ -97,35 +85,33 @@ pub(crate) fn plan_line(
 fn plan_understood(
     alloc: Global,
     world: &Store,
-    lookup: &mut Lookup<'_>,
     understanding: Understanding,
 ) -> Result<Plan, Memory>
-    requires same { lookup.old ≡ world.now }
-    ensures plan { IfOk result (IsPlanBy world.now.plan world.now.rows understanding) }
-    ensures same { lookup.new ≡ lookup.old }
+    ensures { IfOk result (IsPlanBy world.now.plan world.now.rows understanding) }
 {
     match understanding {
         Understanding::Unknown(why) => Ok(Plan::Refused(why)),
-        Understanding::Known { tree, bound } => plan_known(alloc, world, lookup, tree, &bound),
+        Understanding::Known { tree, bound } => plan_known(alloc, world, tree, &bound),
     }
 }
 
 /// The plan of the queries that are understood as this tree, bound so.
-fn plan_known(
-    alloc: Global,
-    world: &Store,
-    lookup: &mut Lookup<'_>,
-    tree: Query,
-    bound: &Bound,
-) -> Result<Plan, Memory>
-    requires same { lookup.old ≡ world.now }
-    ensures plan { IfOk result (IsPlanOf world.now.plan world.now.rows tree bound.now) }
-    ensures same { lookup.new ≡ lookup.old }
+fn plan_known(alloc: Global, world: &Store, tree: Query, bound: &Bound) -> Result<Plan, Memory>
+    ensures { IfOk result (IsPlanOf world.now.plan world.now.rows tree bound.now) }
 {
-    match lookup.chunks(alloc, bound) {
+    match chunks_of(alloc, world, bound) {
         Ok(chunks) => plan_over(alloc, world, tree, bound, chunks),
         Err(Memory) => Err(Memory),
     }
+}
+
+/// The chunks that the query needs.
+fn chunks_of(alloc: Global, world: &Store, bound: &Bound) -> Result<ChunkSet, Memory>
+    ensures plan { IfOk result (λ chunks.
+        chunks ≡ plan_of world.now.plan world.now.rows.objects bound.now) }
+    ensures there { IfOk result (λ chunks. All (λ c. c < chunk_count world.now.plan) chunks) }
+{
+    plan(alloc, bound, world.plan(), world.rows(), world.filled())
 }
 
 /// The plan of those that need these chunks: they are refused where the overlap of these does not allow them.

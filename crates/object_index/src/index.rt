@@ -1,77 +1,87 @@
-//! An index of the rows of a catalogue by their ids.
-ghost use Rattle.std.specs.Prelude.{◌≡◌, ◌<◌, List, false, get_or, length, option_map, pos, IfNone, IfOk, IfSome};
-ghost use Rattle.sky_rules.specs.Partition.{Partition};
-ghost use Rattle.table_rules.specs.Objects.{Obj};
+//! An index of the rows of a catalogue by their ids: the ids ascend, so one is found by bisection.
+ghost use Rattle.std.specs.Prelude.{◌≡◌, ◌<◌, false, get_or, length, IfNone, IfSome, IsTrue};
+ghost use Rattle.sky_rules.specs.Partition.{chunk_count};
+ghost use Rattle.sky_rules.specs.Bounds.{in_chunk};
+ghost use Rattle.sky_row.specs.Columns.{no_row};
+ghost use Rattle.sky_plan.specs.Places.{IsOnlyChunk};
 ghost use Rattle.table_rules.specs.Ordered.{has_id};
-ghost use Rattle.object_index.specs.Indexes.{IsIndexOf, IsPlaceOf, chunk_listed};
+ghost use Rattle.object_index.specs.Indexes.{IsPlaceOf, IsRowOf};
 
 use crate::place::Place;
-use indexmap::IndexMap;
-use sky_io::Memory;
 use sky_plan::SkyPlan;
 use sky_row::Rows;
-use std::alloc::Global;
 use std::marker::Model;
 
-/// The chunk of each row of a catalogue, by its id.
+/// A plan of the sky and the rows of a catalogue, which are asked for the places of ids.
 #[derive(Drop)]
-pub struct Index {
-    /// In the order of the rows, so that an entry's number is its row's.
-    chunks: IndexMap<i64, u32>,
+pub struct Index<'w> {
+    plan: &'w SkyPlan,
+    rows: &'w Rows,
 }
 
-impl Model for Index {
-    ghost use Rattle.std.specs.Prelude.{List, length, ◌≤◌};
-    ghost use Rattle.table_rules.specs.declared.limits.TheConstants.{ROWS_MOST};
-    ghost use Rattle.object_index.specs.Indexes.{Entry};
-    ghost use Rattle.object_index.specs.Pairs.{entries_of};
+impl<'w> Model for Index<'w> {
+    ghost use Rattle.object_index.specs.Indexes.{Indexed};
 
-    ghost Value = { List Entry };
+    ghost Value = { Indexed };
 
-    ghost view = { λ x. entries_of x.chunks.entries };
-
-    ghost invariant = { λ x. length x.chunks.entries ≤ ROWS_MOST };
+    ghost view = { λ x. record { plan = x.plan.now; rows = x.rows.now.objects } };
 }
 
-/// The id at the place.
-fn id_at(ids: &[i64], place: u32) -> i64
-    requires { place < length ids.now }
-    ensures { result ≡ get_or ids.now place (pos 0) }
-{
-    ids[place as usize]
-}
-
-impl Index {
-    /// The index of the rows over the plan. Takes memory for an entry a row.
-    pub fn build(alloc: Global, plan: &SkyPlan, rows: &Rows) -> Result<Index, Memory>
-        ensures { IfOk result (λ index. IsIndexOf plan.now rows.now.objects index) }
+impl<'w> Index<'w> {
+    /// The index of the rows over the plan. Takes no memory, and looks at no row.
+    pub fn new(plan: &'w SkyPlan, rows: &'w Rows) -> Index<'w>
+        ensures { result ≡ record { plan = plan.now; rows = rows.now.objects } }
     {
-        let Ok(mut chunks) = IndexMap::with_capacity(alloc, rows.len() as usize) else {
-            return Err(Memory);
-        };
-        for place in 0..rows.len() {
-            let at = rows.position(place);
-            let Ok(_) = chunks.insert(id_at(rows.ids(), place), plan.chunk_of(&at)) else {
-                return Err(Memory);
-            };
-        }
-        Ok(Index { chunks })
+        Index { plan, rows }
+    }
+
+    /// The plan of the sky. Takes no memory.
+    pub fn plan(&self) -> &SkyPlan
+        ensures { result.now ≡ self.now.plan }
+    {
+        self.plan
     }
 
     /// The place of the row with the id, or `None` where no row has it. Takes no memory.
     pub fn place(&self, id: i64) -> Option<Place>
-        ensures found { IfSome result (λ place. (g : Partition) (rows : List Obj)
-            → IsIndexOf g rows self.now → IsPlaceOf g rows id place.chunk place.row) }
-        ensures none { IfNone result ((g : Partition) (rows : List Obj)
-            → IsIndexOf g rows self.now → has_id rows id ≡ false) }
-        ensures chunk { option_map (λ place. place.chunk) result ≡ chunk_listed self.now id }
+        ensures found { IfSome result (λ place.
+            IsPlaceOf self.now.plan self.now.rows id place.chunk place.row) }
+        ensures none { IfNone result (has_id self.now.rows id ≡ false) }
     {
-        match self.chunks.get_full(&id) {
-            Some((row, _, chunk)) => Some(Place {
-                chunk: *chunk,
-                row: row as u32,
-            }),
+        match row_of(self.rows, id) {
+            Some(row) => Some(self.place_of(row)),
             None => None,
         }
+    }
+
+    /// The row with this number, and the chunk that holds it.
+    fn place_of(&self, row: u32) -> Place
+        requires { row < length self.now.rows }
+        ensures row { result.row ≡ row }
+        ensures there { result.chunk < chunk_count self.now.plan }
+        ensures holds { IsTrue (in_chunk self.now.plan result.chunk
+            (get_or self.now.rows row no_row).at) }
+        ensures only { IsOnlyChunk self.now.plan result.chunk
+            (get_or self.now.rows row no_row).at }
+    {
+        let at = self.rows.position(row);
+        Place {
+            chunk: self.plan.chunk_of(&at),
+            row,
+        }
+    }
+}
+
+/// The number of the row with the id, or `None` where no row has it.
+fn row_of(rows: &Rows, id: i64) -> Option<u32>
+    ensures low { IfSome result (λ row. row < length rows.now.objects) }
+    ensures found { IfSome result (λ row.
+        IsRowOf rows.now.objects id row (get_or rows.now.objects row no_row)) }
+    ensures none { IfNone result (has_id rows.now.objects id ≡ false) }
+{
+    let _count = rows.len();
+    match rows.ids().binary_search(&id) {
+        Ok(row) => Some(row as u32),
+        Err(_) => None,
     }
 }

@@ -1,9 +1,9 @@
 //! The index from an object's id to its chunk and its row.
 //!
-//! Callers see an `Index` as its entries, an id and a chunk for each row (`specs/Indexes.antt`).
-//! Below: the kit's `indexmap` finds an id, `sky_plan` places a position, `sky_row` keeps the rows. Above: the choice of a
-//! query's chunks by ids.
-//! No rows are kept, and nothing is searched row by row.
+//! Callers see an `Index` as the partition and the rows that it is of (`specs/Indexes.antt`).
+//! Below: `sky_row` keeps the rows, whose ids ascend, `sky_plan` places a position. Above: the choice of a query's chunks by
+//! ids.
+//! Nothing is kept beside them: an id is found by bisection.
 #![tactic(auto)]
 
 pub mod index;

@@ -4,8 +4,8 @@ use Rattle.czar.specs.Plans.{PlanFor}
 use Rattle.czar.proofs.Each.{one_planned}
 use Rattle.czar.proofs.plan.push_plan.Goals as goal
 
-pub returns-in_ok-push-in-Ok-clause-plans : goal.returns-in_ok-push-in-Ok-clause-plans
-returns-in_ok-push-in-Ok-clause-plans c =
-    let planned = subst (λ (t : Bytes). PlanFor c.args.world.now.plan c.args.world.now.rows t c.in-Ok.plan) c.text_of.ensures.text c.in-Ok.ensures.plan in
+pub returns-in_ok-push-in-Ok : goal.returns-in_ok-push-in-Ok
+returns-in_ok-push-in-Ok c =
+    let planned = subst (λ (t : Bytes). PlanFor c.args.world.now.plan c.args.world.now.rows t c.in-Ok.plan) c.text_of.ensures.text c.in-Ok.ensures in
     rw c.in_ok-push-in-Ok.ensures.items
     (one_planned c.query_lines_are_query_texts.ensures c.args.world.now.plan c.args.world.now.rows c.args.script.now c.args.before c.args.plans.now.items c.in-Ok.plan c.requires.there c.requires.plans planned)
