@@ -9,11 +9,11 @@
 #![tactic(auto)]
 
 mod attach;
+mod chunk_engine;
 pub mod end;
 mod explained;
 mod lookup;
 pub mod plan;
-mod scans;
 pub mod session;
 mod told;
 mod transcript;

@@ -17,9 +17,9 @@ ghost use Rattle.czar.specs.Ends.{EndsShow, kind_of};
 ghost use Rattle.czar.specs.Plans.{ArePlans};
 
 use crate::attach::{prepared, seated};
+use crate::chunk_engine::ChunkEngine;
 use crate::end::End;
 use crate::plan::{Plan, explain};
-use crate::scans::Scans;
 use crate::told::all_told;
 use answer_rules::ChunkQuery;
 use chunk_store::Store;
@@ -175,7 +175,7 @@ impl<'s, 't, R: Threads + Wait + Sync, G: Gate + Sync> Session<'s, 't, R, G> {
     {
         know(self.world);
         let _ = self.script.queries();
-        let scans = Scans {
+        let engine = ChunkEngine {
             alloc: self.alloc,
             world: self.world,
             queries,
@@ -185,7 +185,7 @@ impl<'s, 't, R: Threads + Wait + Sync, G: Gate + Sync> Session<'s, 't, R, G> {
             self.rt,
             board,
             seat,
-            &scans,
+            &engine,
             self.gate,
             planned,
             self.script.steps(),
