@@ -6,11 +6,13 @@ use Rattle.std.specs.List.{last_or}
 use Rattle.std.proofs.lemmas.List.{get_or_default, get_or-take, length-take, take_more}
 use Rattle.std.proofs.lemmas.Option.{slice_get-map}
 use Rattle.scan_rules.proofs.ChunkSets.{last_below}
-use Rattle.table_rules.specs.Objects.{Catalogue}
+use Rattle.table_rules.specs.Objects.{Catalogue, IsCatalogue}
+use Rattle.sky_rules.specs.Limits.{IsSky}
 use Rattle.sky_rules.specs.Partition.{Partition}
+use Rattle.scan_rules.specs.declared.limits.TheConstants.{QUERY_MOST}
 use Rattle.answer_rules.specs.declared.rewritten.ChunkQuery.{ChunkQuery}
 use Rattle.answer_rules.specs.declared.rewritten.Rewritten.{Rewritten}
-use Rattle.answer_rules.specs.Bases.{Base, columns_in, query_at}
+use Rattle.answer_rules.specs.Bases.{Base, IsBase, columns_in, query_at}
 use Rattle.answer_rules.specs.SoundChunks.{IsSoundChunk}
 use Rattle.sql_tree.specs.declared.query.Query.{Query}
 use Rattle.czar.specs.Attached.{base_of, chunk_query, numbered_from, with_next, IsSoundIfThere}
@@ -156,6 +158,45 @@ sound_at columns (e ∷ es) q cq known all =
         (all 0 e (omega arith))
     by_first false is later =
         later (sym (ap (λ t. option_map (λ x. x.1) (cond t (Some e) (find (λ x. x.0 == q) es))) is) ∙ known)
+
+-- ---- the base is one
+
+-- no number is below the first
+from_number : (m k : ℕ) (xs : List (Option ChunkQuery)) → m ≤ k → All (λ (e : ℕ × ChunkQuery). m ≤ e.0) (numbered_from k xs)
+from_number m k [] least i d low = absurd (omega (arith, low))
+from_number m k (Some query ∷ xs) least zero d low = least
+from_number m k (Some query ∷ xs) least (suc i) d low = from_number m (k + 1) xs (omega (arith, least)) i d (omega (arith, low))
+from_number m k (None ∷ xs) least i d low = from_number m (k + 1) xs (omega (arith, least)) i d low
+
+-- the numbers ascend
+ascend_from : (k : ℕ) (xs : List (Option ChunkQuery)) → AllPairs (λ (e f : ℕ × ChunkQuery). e.0 < f.0) (numbered_from k xs)
+ascend_from k [] i j d before low = absurd (omega (arith, low))
+ascend_from k (Some query ∷ xs) zero zero d before low = absurd (omega (arith, before))
+ascend_from k (Some query ∷ xs) zero (suc j) d before low =
+    let above = from_number (k + 1) (k + 1) xs (omega arith) j d (omega (arith, low)) in omega (arith, above)
+ascend_from k (Some query ∷ xs) (suc i) zero d before low = absurd (omega (arith, before))
+ascend_from k (Some query ∷ xs) (suc i) (suc j) d before low = ascend_from (k + 1) xs i j d (omega (arith, before)) (omega (arith, low))
+ascend_from k (None ∷ xs) i j d before low = ascend_from (k + 1) xs i j d before low
+
+-- each can be run, where those that are there can
+sound_from : (columns k : ℕ) (xs : List (Option ChunkQuery)) → All (IsSoundIfThere columns) xs
+    → All (λ (e : ℕ × ChunkQuery). IsSoundChunk columns e.1) (numbered_from k xs)
+sound_from columns k [] sound i d low = absurd (omega (arith, low))
+sound_from columns k (Some query ∷ xs) sound zero d low = sound 0 None (omega arith)
+sound_from columns k (Some query ∷ xs) sound (suc i) d low =
+    sound_from columns (k + 1) xs (λ n e l. sound (suc n) e (omega (arith, l))) i d (omega (arith, low))
+sound_from columns k (None ∷ xs) sound i d low = sound_from columns (k + 1) xs (λ n e l. sound (suc n) e (omega (arith, l))) i d low
+
+pub is_base : (g : Partition) (c : Catalogue) (xs : List (Option ChunkQuery)) → IsSky g → IsCatalogue c → length xs ≤ QUERY_MOST
+    → All (IsSoundIfThere (4 + length c.names)) xs → IsBase (base_of g c xs)
+is_base g c xs sky rows few sound = record {
+  sky = sky;
+  rows = rows;
+  ascend = ascend_from 1 xs;
+  from_1 = from_number 1 1 xs (omega arith);
+  to_255 = λ i d low. let below = below_from 1 xs (1 + length xs) (omega arith) i d low in omega (arith, below, few);
+  sound = sound_from (4 + length c.names) 1 xs sound;
+}
 
 -- ---- the root grows
 

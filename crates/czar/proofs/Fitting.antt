@@ -1,8 +1,10 @@
 -- What is attached fits the board: chunks of the sky that the base asks, and pieces over none.
-use Rattle.std.proofs.Common.{◌≡◌, ◌∙◌, sym, ap, refl, subst, ℕ, zero, suc, ◌+◌, ◌<◌, arith, List, [], ◌∷◌, All, length, map, get_or, None, Some, Option, option_map, slice_get}
+use Rattle.std.proofs.Common.{◌≡◌, ◌∙◌, sym, ap, refl, subst, ℕ, zero, suc, ◌+◌, ◌<◌, ◌≤◌, arith, List, [], ◌∷◌, All, length, map, get_or, None, Some, Option, option_map, slice_get}
 use Rattle.std.proofs.lemmas.Option.{get_or_from_slice_get, slice_get-map}
-use Rattle.table_rules.specs.Objects.{Catalogue}
+use Rattle.table_rules.specs.Objects.{Catalogue, IsCatalogue}
+use Rattle.sky_rules.specs.Limits.{IsSky}
 use Rattle.sky_rules.specs.Partition.{Partition, chunk_count}
+use Rattle.scan_rules.specs.declared.limits.TheConstants.{QUERY_MOST}
 use Rattle.sql_rules.specs.PrintedExprs.{Bytes}
 use Rattle.sql_tree.specs.declared.query.Query.{Query}
 use Rattle.answer_rules.specs.declared.rewritten.ChunkQuery.{ChunkQuery}
@@ -19,7 +21,7 @@ use Rattle.czar.specs.Plans.{ArePlans, PlanFor}
 use Rattle.czar.specs.Running.{IsOpen, IsSomePlan}
 use Rattle.czar.specs.declared.plan.Plan.{Plan}
 use Rattle.czar.specs.declared.plan.Plan.TheVariants.{Planned, Refused}
-use Rattle.czar.proofs.Attaching.{known_under}
+use Rattle.czar.proofs.Attaching.{is_base, known_under}
 use Rattle.czar.proofs.Ending.{opened, runnable, sound_chunk}
 
 -- some line has each of the plans
@@ -123,9 +125,10 @@ plans_fit g c texts plans base are = record { each = each }
 
 -- so of the lists that were made of them
 pub all_fit : (g : Partition) (c : Catalogue) (texts : List Bytes) (plans : List Plan) (queries : List (Option ChunkQuery)) (all : List (Option (Attachable PieceView)))
-    → IsBase (base_of g c queries) → ArePlans g c texts plans → queries ≡ map chunk_query plans → all ≡ map attached plans
+    → IsSky g → IsCatalogue c → length queries ≤ QUERY_MOST → ArePlans g c texts plans → queries ≡ map chunk_query plans → all ≡ map attached plans
     → PlansFit StandsFor Asks (chunk_count g) (base_of g c queries) all
-all_fit g c texts plans queries all base are is made =
+all_fit g c texts plans queries all sky rows few are is made =
+    let base = is_base g c queries sky rows few (sound_queries g c texts plans queries are is) in
     subst (λ (l : List (Option (Attachable PieceView))). PlansFit StandsFor Asks (chunk_count g) (base_of g c queries) l) (sym made)
     (subst (λ (xs : List (Option ChunkQuery)). PlansFit StandsFor Asks (chunk_count g) (base_of g c xs) (map attached plans)) (sym is)
     (plans_fit g c texts plans (subst (λ (xs : List (Option ChunkQuery)). IsBase (base_of g c xs)) is base) are))

@@ -17,6 +17,7 @@ use Rattle.answer_rules.specs.declared.rewritten.Rewritten.{Rewritten}
 use Rattle.session_rules.specs.Ends.{Judged, is_refused}
 use Rattle.session_rules.specs.declared.end.EndKind.{EndKind}
 use Rattle.session_script.specs.Laws.{NumberedFrom}
+use Rattle.session_script.specs.declared.step.Step.{Step}
 use Rattle.session_script.specs.Scripts.{part_of, query_count, query_spans}
 use Rattle.session_script.specs.Views.{ScriptView, query_lines}
 use Rattle.scan_session.specs.Laws.{IsJudgedBy, ShowsKind, is_empty}
@@ -26,7 +27,7 @@ use Rattle.scan_session.specs.declared.end.End.TheVariants as board
 use Rattle.scan_session.proofs.Fitting.{drove_fits}
 use Rattle.transcript_rules.specs.Refusals.{total_by, total_refusal, total_refusal_by}
 use Rattle.transcript_rules.specs.Transcripts.{FitEnds, is_idle, is_none_of, judged_of}
-use Rattle.czar.specs.Attached.{attached}
+use Rattle.czar.specs.Attached.{attached, chunk_query}
 use Rattle.czar.specs.Driven.{IsDriven}
 use Rattle.czar.specs.Ended.{AllMayEnd, MayEnd, all_ended, answer_end, ended}
 use Rattle.czar.specs.Ends.{EndShows, EndsShow, kind_of}
@@ -221,26 +222,31 @@ as_many g c S k (t ∷ texts) (p ∷ plans) (e ∷ ends) are is = ap suc (as_man
 
 -- ---- a session's ends
 
+-- what they are, plan by plan
+driven_ends : (workers : ℕ) (g : Partition) (c : Catalogue) (steps : List Step) (plans : List Plan) (ends : List (BoardEnd PieceView))
+    (d : IsDriven workers g c steps (map chunk_query plans) (map attached plans) ends) → AreEndsFor g c d.seen 1 plans ends
+driven_ends workers g c steps plans ends d = ends_for g c d.seen plans ends (d.each ∙ length-map plans attached) d.are
+
 pub session_may_end : (workers : ℕ) (g : Partition) (c : Catalogue) (s : ScriptView) (plans : List Plan) (ends : List (BoardEnd PieceView))
-    → IsSky g → IsCatalogue c → ArePlans g c (query_lines s) plans → IsDriven workers g c s.steps plans ends → AllMayEnd plans ends
+    → IsSky g → IsCatalogue c → ArePlans g c (query_lines s) plans → IsDriven workers g c s.steps (map chunk_query plans) (map attached plans) ends → AllMayEnd plans ends
 session_may_end workers g c s plans ends sky rows are d =
-    all_may_end g c d.seen 1 (query_lines s) plans ends sky rows are (ends_for g c d.seen plans ends d.each d.are)
+    all_may_end g c d.seen 1 (query_lines s) plans ends sky rows are (driven_ends workers g c s.steps plans ends d)
 
 pub session_shows : (workers : ℕ) (g : Partition) (c : Catalogue) (s : ScriptView) (plans : List Plan) (ends : List (BoardEnd PieceView))
-    → IsSky g → IsCatalogue c → ArePlans g c (query_lines s) plans → IsDriven workers g c s.steps plans ends
+    → IsSky g → IsCatalogue c → ArePlans g c (query_lines s) plans → IsDriven workers g c s.steps (map chunk_query plans) (map attached plans) ends
     → EndsShow g c (query_lines s) (all_ended plans ends)
 session_shows workers g c s plans ends sky rows are d =
-    all_show g c d.seen 1 (query_lines s) plans ends sky rows are (ends_for g c d.seen plans ends d.each d.are)
+    all_show g c d.seen 1 (query_lines s) plans ends sky rows are (driven_ends workers g c s.steps plans ends d)
 
 from_first : (plans : List Plan) (n : ℕ) (p : Plan) → slice_get plans n ≡ Some p → slice_get plans (0 + n) ≡ Some p
 from_first plans n p here = let on : n ≡ 0 + n = omega arith in subst (λ m. slice_get plans m ≡ Some p) on here
 
 pub session_fits : (workers : ℕ) (g : Partition) (c : Catalogue) (s : ScriptView) (plans : List Plan) (ends : List (BoardEnd PieceView))
-    → IsSky g → IsCatalogue c → NumberedFrom 0 s.steps → ArePlans g c (query_lines s) plans → IsDriven workers g c s.steps plans ends
+    → IsSky g → IsCatalogue c → NumberedFrom 0 s.steps → ArePlans g c (query_lines s) plans → IsDriven workers g c s.steps (map chunk_query plans) (map attached plans) ends
     → FitEnds workers g c s (map kind_of (all_ended plans ends))
 session_fits workers g c s plans ends sky rows numbered are d =
     let lines = query_lines s in
-    let is = ends_for g c d.seen plans ends d.each d.are in
+    let is = driven_ends workers g c s.steps plans ends d in
     let spans : length lines ≡ query_count s.steps = length-map (query_spans s.steps) (λ span. part_of s.text (Some span)) in
     let judged : length (map (judged_of g c) lines) ≡ length lines = length-map lines (judged_of g c) in
     let kinds : length (map kind_of (all_ended plans ends)) ≡ length lines = length-map (all_ended plans ends) kind_of ∙ as_many g c d.seen 1 lines plans ends are is in
@@ -256,14 +262,14 @@ session_fits workers g c s plans ends sky rows numbered are d =
 -- so of what is told
 pub told_shows : {V : Type 0} (workers : ℕ) (g : Partition) (c : Catalogue) (s : ScriptView) (plans : List Plan) (ends : List (BoardEnd PieceView))
     (items : V → List End) (r : Result V Memory) → IsSky g → IsCatalogue c → ArePlans g c (query_lines s) plans
-    → IsDriven workers g c s.steps plans ends → IfOk r (λ v. items v ≡ all_ended plans ends) → IfOk r (λ v. EndsShow g c (query_lines s) (items v))
+    → IsDriven workers g c s.steps (map chunk_query plans) (map attached plans) ends → IfOk r (λ v. items v ≡ all_ended plans ends) → IfOk r (λ v. EndsShow g c (query_lines s) (items v))
 told_shows workers g c s plans ends items (Ok v) sky rows are d is =
     subst (λ (es : List End). EndsShow g c (query_lines s) es) (sym is) (session_shows workers g c s plans ends sky rows are d)
 told_shows workers g c s plans ends items (Err m) sky rows are d is = tt
 
 pub told_fits : {V : Type 0} (workers : ℕ) (g : Partition) (c : Catalogue) (s : ScriptView) (plans : List Plan) (ends : List (BoardEnd PieceView))
     (items : V → List End) (r : Result V Memory) → IsSky g → IsCatalogue c → NumberedFrom 0 s.steps → ArePlans g c (query_lines s) plans
-    → IsDriven workers g c s.steps plans ends → IfOk r (λ v. items v ≡ all_ended plans ends)
+    → IsDriven workers g c s.steps (map chunk_query plans) (map attached plans) ends → IfOk r (λ v. items v ≡ all_ended plans ends)
     → IfOk r (λ v. FitEnds workers g c s (map kind_of (items v)))
 told_fits workers g c s plans ends items (Ok v) sky rows numbered are d is =
     subst (λ (es : List End). FitEnds workers g c s (map kind_of es)) (sym is) (session_fits workers g c s plans ends sky rows numbered are d)

@@ -1,9 +1,10 @@
 //! What a session attaches for the queries of a script, and the board that it is attached to.
 
-ghost use Rattle.std.specs.Prelude.{◌≡◌, ◌+◌, ◌<◌, ◌≤◌, All, AllPairs, IfOk, OnOk, length, map, take};
+ghost use Rattle.std.specs.Prelude.{◌≡◌, ◌+◌, ◌<◌, ◌≤◌, ◌++◌, ◌∷◌, []};
+ghost use Rattle.std.specs.Prelude.{All, AllPairs, IfOk, OnOk, length, map, take};
 ghost use Rattle.sky_rules.specs.Partition.{chunk_count};
 ghost use Rattle.scan_rules.specs.declared.limits.TheConstants.{QUERY_MOST};
-ghost use Rattle.answer_rules.specs.Bases.{IsBase, columns_in};
+ghost use Rattle.answer_rules.specs.Bases.{columns_in};
 ghost use Rattle.turn_lock.specs.Seats.{first_seat};
 ghost use Rattle.czar.specs.Attached.{IsSoundIfThere, attached, base_of, chunk_query, with_next};
 
@@ -49,22 +50,8 @@ fn attached_by<'w>(alloc: Global, plan: &Plan) -> Result<Option<Planned<Piece<'w
     }
 }
 
-/// What is attached for each query of a script, in their order.
-pub(crate) fn all_attached<'w>(
-    alloc: Global,
-    plans: &[Plan],
-) -> Result<Vec<Option<Planned<Piece<'w>>>>, Memory>
-    ensures { IfOk result (λ all. all.items ≡ map attached plans.now) }
-{
-    let mut all = Vec::new(alloc);
-    for plan in plans {
-        let one = attached_by(alloc, plan)?;
-        all.push(one)?;
-    }
-    Ok(all)
-}
-
-/// The chunk query of a query that is planned, once more.
+/// A copy of the chunk query of a query that is planned. The plan has it beside the query's tree, which may not be shared
+/// with a worker's thread.
 fn query_by(alloc: Global, plan: &Plan) -> Result<Option<ChunkQuery>, Memory>
     ensures { IfOk result (λ it. it ≡ chunk_query plan.now) }
 {
@@ -77,16 +64,37 @@ fn query_by(alloc: Global, plan: &Plan) -> Result<Option<ChunkQuery>, Memory>
     }
 }
 
-/// The chunk query of each query of a script, in their order.
-pub(crate) fn all_queries(alloc: Global, plans: &[Plan]) -> Result<Vec<Option<ChunkQuery>>, Memory>
-    ensures { IfOk result (λ all. all.items ≡ map chunk_query plans.now) }
+/// Puts the chunk query of one query more, and what is attached for it, behind those of the others.
+fn prepare<'w>(
+    alloc: Global,
+    plan: &Plan,
+    queries: &mut Vec<Option<ChunkQuery>>,
+    planned: &mut Vec<Option<Planned<Piece<'w>>>>,
+) -> Result<(), Memory>
+    ensures queries { OnOk result (queries.new.items
+        ≡ queries.old.items ++ chunk_query plan.now ∷ []) }
+    ensures attached { OnOk result (planned.new.items
+        ≡ planned.old.items ++ attached plan.now ∷ []) }
 {
-    let mut all = Vec::new(alloc);
+    queries.push(query_by(alloc, plan)?)?;
+    planned.push(attached_by(alloc, plan)?)?;
+    Ok(())
+}
+
+/// The chunk query of each query of a script, and what is attached for it, in their order.
+pub(crate) fn prepared<'w>(
+    alloc: Global,
+    plans: &[Plan],
+) -> Result<(Vec<Option<ChunkQuery>>, Vec<Option<Planned<Piece<'w>>>>), Memory>
+    ensures queries { IfOk result (λ r. r.0.items ≡ map chunk_query plans.now) }
+    ensures attached { IfOk result (λ r. r.1.items ≡ map attached plans.now) }
+{
+    let mut queries = Vec::new(alloc);
+    let mut planned = Vec::new(alloc);
     for plan in plans {
-        let one = query_by(alloc, plan)?;
-        all.push(one)?;
+        prepare(alloc, plan, &mut queries, &mut planned)?;
     }
-    Ok(all)
+    Ok((queries, planned))
 }
 
 /// Gives the root the chunk query of the query with this number, where there is one.
@@ -130,7 +138,8 @@ fn give_next(
     give(alloc, &queries[place], place as u32 + 1, root)
 }
 
-/// What the pieces of a session rest on: the world, and the chunk queries with their numbers.
+/// What the pieces of a session rest on: the world, and the chunk queries with their numbers. These are copies: the root
+/// lies in the board, and a worker that scans a chunk for a query has let the board go.
 fn root_of<'w>(
     alloc: Global,
     world: &'w Store,
@@ -138,15 +147,12 @@ fn root_of<'w>(
 ) -> Result<PieceRoot<'w>, Memory>
     requires few { length queries.now ≤ QUERY_MOST }
     requires sound { All (IsSoundIfThere (4 + length world.now.rows.names)) queries.now }
-    ensures root { IfOk result (λ root.
-        root ≡ base_of world.now.plan world.now.rows queries.now) }
-    ensures base { IfOk result IsBase }
+    ensures { IfOk result (λ root. root ≡ base_of world.now.plan world.now.rows queries.now) }
 {
     let mut root = PieceRoot::new(alloc, world.plan(), world.rows());
     for place in 0..queries.len() {
         give_next(alloc, world, queries, place, &mut root)?;
     }
-    let _ = root.len();
     Ok(root)
 }
 
@@ -158,12 +164,10 @@ pub(crate) fn seated<'w>(
 ) -> Result<(SharedBoard<Piece<'w>>, Seat<Board<Piece<'w>>>), Memory>
     requires few { length queries.now ≤ QUERY_MOST }
     requires sound { All (IsSoundIfThere (4 + length world.now.rows.names)) queries.now }
-    ensures seat { IfOk result (λ r. r.1 ≡ first_seat r.0 (record {
+    ensures { IfOk result (λ r. r.1 ≡ first_seat r.0 (record {
       root = base_of world.now.plan world.now.rows queries.now;
       ring = chunk_count world.now.plan;
     })) }
-    ensures base { IfOk result (λ _.
-        IsBase (base_of world.now.plan world.now.rows queries.now)) }
 {
     let root = root_of(alloc, world, queries)?;
     let board = Board::new(alloc, world.plan().chunks(), root)?;

@@ -9,10 +9,10 @@
 #![tactic(auto)]
 
 mod attach;
+mod chunk_engine;
 pub mod end;
 mod explained;
 pub mod plan;
-mod scans;
 pub mod session;
 mod told;
 mod transcript;

@@ -19,7 +19,7 @@ use std::alloc::Global;
 
 /// The world of a session, and the chunk queries of its queries by their numbers, from 1.
 #[derive(Drop)]
-pub(crate) struct Scans<'w, 's> {
+pub(crate) struct ChunkEngine<'w, 's> {
     pub(crate) alloc: Global,
     pub(crate) world: &'w Store,
     pub(crate) queries: &'s [Option<ChunkQuery>],
@@ -42,7 +42,7 @@ fn piece_of<'w>(
     }
 }
 
-impl<'w, 's> Engine<Piece<'w>> for Scans<'w, 's> {
+impl<'w, 's> Engine<Piece<'w>> for ChunkEngine<'w, 's> {
     ghost use Rattle.czar.specs.Attached.{base_of};
 
     ghost root = { λ s. base_of s.world.now.plan s.world.now.rows s.queries.now };

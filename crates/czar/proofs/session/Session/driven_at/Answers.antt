@@ -2,7 +2,7 @@ use Rattle.std.proofs.Common.{sym, ap, subst, ℕ, ◌≤◌}
 use Rattle.scan_rules.specs.declared.limits.TheConstants.{RING_MOST}
 use Rattle.czar.proofs.Crossing.{crossing}
 use Rattle.czar.proofs.Driving.{driven}
-use Rattle.czar.proofs.session.drive_all.Goals as goal
+use Rattle.czar.proofs.session.Session.driven_at.Goals as goal
 
 pub drive-ends-requires-send-P-Root : goal.drive-ends-requires-send-P-Root
 drive-ends-requires-send-P-Root g c = λ κs lives. search crossing depth 60 fits 20000
@@ -16,5 +16,6 @@ drive-ends-requires-sync-E g c = λ κs lives. search crossing depth 60 fits 200
 
 pub returns : goal.returns
 returns g c =
-    driven c.args.workers c.args.world.now.plan c.args.world.now.rows c.args.script.now.steps c.steps-steps.result.now c.args.plans.now c.args.queries.now c.args.all c.args.seat c.drive-ends.result.1 _
-    c.steps-steps.ensures.steps c.requires.queries c.requires.attached (ap (λ s. s.root) c.requires.seat) c.drive-ends.ensures.manned c.drive-ends.ensures.drove c.drive-ends.ensures.len c.drive-ends.ensures.ends
+    let s = c.args.self.now in
+    driven s.workers s.world.now.plan s.world.now.rows s.script.now.steps c.steps.result.now c.args.queries.now c.args.planned c.args.seat c.drive-ends.result.1 _
+    c.steps.ensures.steps (ap (λ s. s.root) c.requires.seat) c.drive-ends.ensures.manned c.drive-ends.ensures.drove c.drive-ends.ensures.len c.drive-ends.ensures.ends

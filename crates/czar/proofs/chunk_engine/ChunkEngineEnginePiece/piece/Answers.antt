@@ -1,5 +1,5 @@
 use Rattle.czar.proofs.Scanning.{from_1, never_none, open_for, query_is, sound_for, stands, within}
-use Rattle.czar.proofs.scans.ScansEnginePiece.piece.Goals as goal
+use Rattle.czar.proofs.chunk_engine.ChunkEngineEnginePiece.piece.Goals as goal
 
 pub overflow_sub-q : goal.overflow_sub-q
 overflow_sub-q c = from_1 c.args.self.now.world.now.plan c.args.self.now.world.now.rows c.args.self.now.queries.now c.args.q c.args.chunk c.requires.asked
