@@ -197,7 +197,8 @@ def main():
     folder = os.path.abspath(words.folder)
     os.makedirs(folder, exist_ok=True)
     world, script = random_worlds.World(random_worlds.SKIES[0], NAMES, ROWS), SCRIPT + SESSION * words.session
-    catalogue = [",".join("" if value is None else str(value) for value in row) for row in ROWS]
+    # from the last, so that the rows have to be put in order
+    catalogue = [",".join("" if value is None else str(value) for value in row) for row in reversed(ROWS)]
     texts = {"sky": [random_worlds.SKIES[0].rstrip()], "csv": [",".join(NAMES), *catalogue], "script": script}
     compare_answers.write(folder, {name: "\n".join(lines) + "\n" for name, lines in texts.items()})
     wrong = 0
