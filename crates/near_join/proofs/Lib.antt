@@ -11,3 +11,6 @@ pub mod Gaining
 pub mod Lining
 pub mod Sounding
 pub mod Joining
+pub mod Squares
+pub mod Upwards
+pub mod Taking

@@ -1,16 +1,17 @@
 -- The strip of a chunk, and what a subchunk takes of it.
-use Rattle.std.proofs.Common.{◌≡◌, ℕ, zero, suc, ◌+◌, ◌-◌, ◌<◌, ◌≤◌, ℤ, pos, ◌+ℤ◌, ◌-ℤ◌, ◌≤ℤ◌, Bool, true, false, not, cond, ◌&&◌, ◌||◌, List, [], ◌∷◌, ◌++◌, length, get_or, slice_get, slice_index_or, slice_range, take, drop, map, filter, int_le, Some, refl, sym, ap, subst, ◌∙◌, arith, IsPermutation, All, AllPairs, Result, Ok, Err, OnOk, rules, FitsSigned, w32}
+use Rattle.std.proofs.Common.{◌≡◌, ℕ, zero, suc, ◌+◌, ◌-◌, ◌<◌, ◌≤◌, ℤ, pos, ◌+ℤ◌, ◌-ℤ◌, ◌≤ℤ◌, Bool, true, false, not, cond, ◌&&◌, ◌||◌, List, [], ◌∷◌, ◌++◌, length, get_or, slice_get, slice_index_or, slice_range, take, drop, map, filter, int_le, Some, refl, sym, ap, subst, ◌∙◌, arith, IsPermutation, All, AllPairs}
 use Rattle.std.specs.List.{range_with_len}
 use Rattle.std.proofs.lemmas.Bool.{and_from, and_left, or_left}
 use Rattle.std.proofs.lemmas.Int.{ints}
-use Rattle.std.proofs.lemmas.List.{append-nil, get_or_read_under, map-append, get_or-map, get_or-drop, length-drop, length-map, take_more}
-use Rattle.std.proofs.lemmas.List.Elements.{All-append, All-get_or, All-map, All-nil, All-push, filter-append}
+use Rattle.std.proofs.lemmas.List.{map-append, get_or-map, get_or-drop, length-drop, length-map, take_more}
+use Rattle.std.proofs.lemmas.List.Elements.{All-append, All-get_or, All-map}
+use Rattle.std.proofs.lemmas.List.Filters.{length-filter_both}
 use Rattle.std.proofs.lemmas.List.Kept.{AllPairs-filter}
-use Rattle.std.proofs.lemmas.List.Sorted.{IsPermutation-sym, IsPermutation-trans, IsPermutation-map, All-permutation}
+use Rattle.std.proofs.lemmas.List.Sorted.{IsPermutation-sym, IsPermutation-trans, IsPermutation-map, All-permutation, length_permutation}
 use Rattle.sky_vector.specs.Points.{IsAdmissible, IsWithin, Point, chord_squared, square}
 use Rattle.sky_vector.proofs.Coordinates.{admissible_within}
 use Rattle.sky_vector.proofs.Signed.{square_up}
-use Rattle.sky_rules.specs.Bounds.{Bounds, in_chunk, in_sub, near_sub, near_sides, near_bounds, sub_bounds_of}
+use Rattle.sky_rules.specs.Bounds.{Bounds, in_chunk, in_sub, near_sub, near_sides, sub_bounds_of}
 use Rattle.sky_rules.specs.Limits.{IsSky}
 use Rattle.sky_rules.specs.Partition.{Partition, chunk_count, sub_count, overlap_at}
 use Rattle.sky_rules.proofs.OnlyPlace.{near_enough, sub_lies_in_its_chunk}
@@ -22,7 +23,7 @@ use Rattle.sky_row.specs.Columns.{IsGathered, no_row, objects_at}
 use Rattle.sky_row.proofs.Gathering.{point_same}
 use Rattle.sky_row.proofs.Presence.{gathered_is}
 use Rattle.answer_rules.specs.Coverage.{AreInTheSky}
-use Rattle.near_join.specs.Strips.{StripView, IsListed, IsChunkStrip, IsSubStrip, IsWhole, height_in, heights_at, in_strip, is_beside, object_at, row_in, with_row}
+use Rattle.near_join.specs.Strips.{StripView, IsListed, IsChunkStrip, IsSubStrip, IsWhole, height_in, heights_at, in_strip, is_beside, object_at, row_in}
 use Rattle.near_join.specs.Walk.{in_reach, reach_objects}
 use Rattle.near_join.specs.Windows.{Ascend, IsBetween}
 use Rattle.near_join.proofs.Filters.{each_of_all, filter_of_map, filter_same, filter_twice, filter_part}
@@ -108,6 +109,13 @@ chunk_strip_is g objects c own beside places zs s e f is p up same listed =
       rise = subst Ascend heights up;
     }
 
+-- a strip has no more rows than the table
+pub strip_short : (g : Partition) (objects : List Obj) (c : ℕ) (s : StripView) → IsChunkStrip g objects c s → length s.places ≤ length objects
+strip_short g objects c s is =
+    let same = length_permutation (filter (in_strip g c) objects) (objects_at objects s.places) is.all in
+    let wide = length-map s.places (object_at objects) in
+    let few = length-filter_both (in_strip g c) (λ o. not (in_strip g c o)) (λ o. refl) objects in omega (arith, same, wide, few)
+
 -- the places of both lists are those of rows
 pub both_there : (objects : List Obj) (own beside places : List ℕ) → All (λ p. p < length objects) own → All (λ p. p < length objects) beside → IsPermutation (own ++ beside) places
     → All (λ p. p < length objects) places
@@ -181,7 +189,7 @@ ascend_to f places up i j d l h =
 
 -- ---- what a subchunk takes of its chunk's strip
 
-no_chord : (u : Point) → chord_squared u u ≡ pos 0
+pub no_chord : (u : Point) → chord_squared u u ≡ pos 0
 no_chord u =
     let nothing_left : (a : ℤ) → square (a -ℤ a) ≡ pos 0 = λ a. ap square (none a) in
     let x = nothing_left u.x in
@@ -260,30 +268,7 @@ sub_strip_is g objects c s r bounds strip near from to sky there below eb er is 
       rise = subst Ascend (sym (listed.zs ∙ ap (heights_at objects) near_is)) (ascend_to height (filter beside strip.places) (AllPairs-filter (λ p q. height p ≤ℤ height q) beside strip.places up));
     }
 
--- ---- a strip with a row more
-
-strip_same : (a b : StripView) → a.places ≡ b.places → a.xs ≡ b.xs → a.ys ≡ b.ys → a.zs ≡ b.zs → a ≡ b
-strip_same a b places xs ys zs = by a.places b.places a.xs b.xs a.ys b.ys a.zs b.zs places xs ys zs
-  where
-    by : (p q : List ℕ) (x u y v z w : List ℤ) → p ≡ q → x ≡ u → y ≡ v → z ≡ w → ◌≡◌ {A = StripView} (record { places = p; xs = x; ys = y; zs = z }) (record { places = q; xs = u; ys = v; zs = w })
-    by p q x u y v z w e f g h = rw (e, f, g, h) refl
-
--- each column has the row's value
-pub pushed : {A E : Type 0} (r : Result A E) (old kept new : StripView) (place : ℕ) (at : Point) → kept ≡ old
-    → new.places ≡ kept.places ++ place ∷ [] → new.xs ≡ kept.xs ++ at.x ∷ [] → new.ys ≡ kept.ys ++ at.y ∷ [] → OnOk r (new.zs ≡ kept.zs ++ at.z ∷ [])
-    → OnOk r (new ≡ with_row old place at)
-pushed (Err e) old kept new place at is places xs ys zs = tt
-pushed (Ok a) old kept new place at is places xs ys zs = subst (λ (s : StripView). new ≡ with_row s place at) is (strip_same new (with_row kept place at) places xs ys zs)
-
--- what an index reads
-pub read_one : {X : Type 0} (xs ys : List X) (i : ℕ) (x d : X) → x ≡ get_or xs i x → xs ≡ ys → i < length ys → x ≡ get_or ys i d
-read_one xs ys i x d is same low = get_or_read_under ys i (length ys) x d (is ∙ ap (λ l. get_or l i x) same) low refl
-
--- a part within the grid has room in 32 bits
-pub fits_within : (a : ℤ) → IsWithin a → FitsSigned w32 a
-fits_within a within = search rules
-
--- ---- the loop over a part of a strip
+-- ---- a part of a list
 
 -- a part of a list with one element more
 pub slice_more : {X : Type 0} (xs : List X) (from i : ℕ) (d : X) → from ≤ i → i < length xs → slice_range xs from (i + 1) ≡ slice_range xs from i ++ get_or xs i d ∷ []
@@ -300,52 +285,3 @@ slice_none xs from = ap (λ n. take n (drop from xs)) none
   where
     none : from - from ≡ 0
     none = omega arith
-
--- no row is listed in an empty strip
-pub none_listed : (objects : List Obj) → IsListed objects (record { places = []; xs = []; ys = []; zs = [] })
-none_listed objects = record { there = All-nil (λ p. p < length objects); xs = refl; ys = refl; zs = refl }
-
--- one row more is listed
-pub one_listed : (objects : List Obj) (s : StripView) (place : ℕ) (at : Point) → IsListed objects s → place < length objects → at ≡ (object_at objects place).at → IsListed objects (with_row s place at)
-one_listed objects s place at listed low e = record {
-  there = All-push (λ p. p < length objects) s.places place listed.there low;
-  xs = ap (λ l. l ++ at.x ∷ []) listed.xs ∙ ap (λ p. map (λ p. (object_at objects p).at.x) s.places ++ p.x ∷ []) e ∙ sym (map-append (λ p. (object_at objects p).at.x) s.places (place ∷ []));
-  ys = ap (λ l. l ++ at.y ∷ []) listed.ys ∙ ap (λ p. map (λ p. (object_at objects p).at.y) s.places ++ p.y ∷ []) e ∙ sym (map-append (λ p. (object_at objects p).at.y) s.places (place ∷ []));
-  zs = ap (λ l. l ++ at.z ∷ []) listed.zs ∙ ap (λ p. heights_at objects s.places ++ p.z ∷ []) e ∙ sym (map-append (λ p. (object_at objects p).at.z) s.places (place ∷ []));
-}
-
--- What the loop over a part of a chunk's strip keeps: so far it has those that are near.
-pub record IsTaken (objects : List Obj) (r : ℕ) (bounds : Bounds) (strip : StripView) (from i : ℕ) (near : StripView) : Type 0 where
-  pub places : near.places ≡ filter (is_beside objects r bounds) (slice_range strip.places from i)
-  pub listed : IsListed objects near
-
-pub none_taken : (objects : List Obj) (r : ℕ) (bounds : Bounds) (strip near : StripView) (from : ℕ) → near ≡ record { places = []; xs = []; ys = []; zs = [] } → IsTaken objects r bounds strip from from near
-none_taken objects r bounds strip near from e = record {
-  places = ap (λ (s : StripView). s.places) e ∙ sym (ap (filter (is_beside objects r bounds)) (slice_none strip.places from));
-  listed = subst (IsListed objects) (sym e) (none_listed objects);
-}
-
--- one row more was looked at
-pub one_taken : (objects : List Obj) (r : ℕ) (bounds : Bounds) (strip old new : StripView) (from i : ℕ) (at : Point) (is : Bool) → IsListed objects strip → from ≤ i → i < length strip.places
-    → at ≡ row_in strip i → is ≡ near_bounds r bounds at → new ≡ cond is (with_row old (get_or strip.places i 0) (row_in strip i)) old
-    → IsTaken objects r bounds strip from i old → IsTaken objects r bounds strip from (i + 1) new
-one_taken objects r bounds strip old new from i at is listed l h e f step taken =
-    let place = get_or strip.places i 0 in
-    let row : row_in strip i ≡ (object_at objects place).at = row_is objects strip i listed h in
-    let test : is_beside objects r bounds place ≡ is = sym (f ∙ ap (near_bounds r bounds) (e ∙ row)) in
-    let longer : filter (is_beside objects r bounds) (slice_range strip.places from (i + 1)) ≡ filter (is_beside objects r bounds) (slice_range strip.places from i) ++ cond is (place ∷ []) [] =
-    ap (filter (is_beside objects r bounds)) (slice_more strip.places from i 0 l h)
-    ∙ filter-append (is_beside objects r bounds) (slice_range strip.places from i) (place ∷ [])
-    ∙ ap (λ b. filter (is_beside objects r bounds) (slice_range strip.places from i) ++ cond b (place ∷ []) []) test in
-    by is longer step
-  where
-    by : (b : Bool) → filter (is_beside objects r bounds) (slice_range strip.places from (i + 1)) ≡ filter (is_beside objects r bounds) (slice_range strip.places from i) ++ cond b (get_or strip.places i 0 ∷ []) []
-        → new ≡ cond b (with_row old (get_or strip.places i 0) (row_in strip i)) old → IsTaken objects r bounds strip from (i + 1) new
-    by true longer step = record {
-      places = ap (λ (s : StripView). s.places) step ∙ ap (λ l. l ++ get_or strip.places i 0 ∷ []) taken.places ∙ sym longer;
-      listed = subst (IsListed objects) (sym step) (one_listed objects old (get_or strip.places i 0) (row_in strip i) taken.listed (listed.there i 0 h) (row_is objects strip i listed h));
-    }
-    by false longer step = record {
-      places = ap (λ (s : StripView). s.places) step ∙ taken.places ∙ sym (longer ∙ append-nil (filter (is_beside objects r bounds) (slice_range strip.places from i)));
-      listed = subst (IsListed objects) (sym step) taken.listed;
-    }

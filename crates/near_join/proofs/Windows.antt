@@ -4,11 +4,11 @@ use Rattle.std.specs.Int.{IsIsqrt}
 use Rattle.std.specs.List.{AllWithin}
 use Rattle.std.specs.List.Sorted.{IsPartitionedBy, IsPartitionPoint}
 use Rattle.std.proofs.Math.Nat.{mul-le-mul}
-use Rattle.std.proofs.lemmas.Bool.{both_ways, cases_lt, cases_order, and_parts, and_from, and_left, and_right}
-use Rattle.std.proofs.lemmas.Int.{ints, to_z-of_z}
+use Rattle.std.proofs.lemmas.Bool.{cases_lt, cases_order, and_parts, and_from, and_left, and_right}
+use Rattle.std.proofs.lemmas.Int.{ints}
 use Rattle.std.proofs.lemmas.List.{get_or_default}
 use Rattle.wedge_rules.proofs.Tests.{le_from, le_to, lt_from, lt_to}
-use Rattle.near_join.specs.Windows.{Ascend, is_within, IsWindow, IsRoot, IsBetween, IsInside}
+use Rattle.near_join.specs.Windows.{Ascend, is_within, IsWindow, IsRoot, IsBetween}
 
 same_test : (a b : Bool) → (a ≡ true → b ≡ true) → (b ≡ true → a ≡ true) → a ≡ b
 same_test true true f h = refl
@@ -149,23 +149,10 @@ root_fits limit root fits is =
     let small = root_small limit root fits is in
     let e = is.1 in omega (arith, ints, small, e)
 
--- ---- two walks from a height
+-- ---- a walk from a height
 
 not_upto : (b high : ℤ) → int_lt high b ≡ true → int_le b high ≡ false
 not_upto b high h = grind (arith, ints)
-
-pub not_at_most : (low high : ℤ) → int_le low high ≡ false → high <ℤ low
-not_at_most low high h = grind (arith, ints)
-
-pub upto : (b high : ℤ) → int_lt high b ≡ false → int_le b high ≡ true
-upto b high h = grind (arith, ints)
-
--- a height below a bound has only such before it
-pub below_all : (zs : List ℤ) (low : ℤ) (n m : ℕ) → Ascend zs → n < length zs → m ≡ n + 1 → int_lt (slice_index_or zs n (pos 0)) low ≡ true → AllWithin (λ b. int_le low b ≡ false) zs 0 m
-below_all zs low n m up h e under =
-    λ k d l o. let step : slice_index_or zs k d ≤ℤ slice_index_or zs n d = up_to zs up k n d (omega (arith, o, e)) h in
-    let here : slice_index_or zs n d ≡ slice_index_or zs n (pos 0) = get_or_default zs n d (pos 0) h in
-    let small = lt_from (slice_index_or zs n (pos 0)) low under in not_below low (slice_index_or zs k d) (lt_to (slice_index_or zs k d) low (omega (arith, ints, step, here, small)))
 
 -- a height above a bound has only such behind it
 pub above_all : (zs : List ℤ) (high : ℤ) (n : ℕ) → Ascend zs → n < length zs → int_lt high (slice_index_or zs n (pos 0)) ≡ true → AllWithin (λ b. int_le b high ≡ false) zs n (length zs)
@@ -173,80 +160,3 @@ above_all zs high n up h over =
     λ k d l m. let step : slice_index_or zs n d ≤ℤ slice_index_or zs k d = up_to zs up n k d l m in
     let here : slice_index_or zs n d ≡ slice_index_or zs n (pos 0) = get_or_default zs n d (pos 0) h in
     let large = lt_from high (slice_index_or zs n (pos 0)) over in not_upto (slice_index_or zs k d) high (lt_to high (slice_index_or zs k d) (omega (arith, ints, step, here, large)))
-
--- one height more, of those that pass a test, in front
-pub one_before : (P : ℤ → Type 0) (zs : List ℤ) (n m i : ℕ) → n < length zs → m ≡ n + 1 → P (slice_index_or zs n (pos 0)) → AllWithin P zs m i → AllWithin P zs n i
-one_before P zs n m i h e p all = λ k d l o. by k d l o (cases_order n k)
-  where
-    by : (k : ℕ) (d : ℤ) → n ≤ k → k < i → (n ≡ k) ⊎ ((n < k) ⊎ (k < n)) → P (slice_index_or zs k d)
-    by k d l o (inl f) = subst (λ j. P (slice_index_or zs j d)) f (subst P (get_or_default zs n (pos 0) d h) p)
-    by k d l o (inr (inl f)) = all k d (omega (arith, e, f)) o
-    by k d l o (inr (inr f)) = absurd (omega (arith, l, f))
-
--- and behind
-pub one_behind : (P : ℤ → Type 0) (zs : List ℤ) (i n : ℕ) → n < length zs → P (slice_index_or zs n (pos 0)) → AllWithin P zs i n → AllWithin P zs i (n + 1)
-one_behind P zs i n h p all = λ k d l o. by k d l o (cases_order n k)
-  where
-    by : (k : ℕ) (d : ℤ) → i ≤ k → k < n + 1 → (n ≡ k) ⊎ ((n < k) ⊎ (k < n)) → P (slice_index_or zs k d)
-    by k d l o (inl f) = subst (λ j. P (slice_index_or zs j d)) f (subst P (get_or_default zs n (pos 0) d h) p)
-    by k d l o (inr (inl f)) = absurd (omega (arith, o, f))
-    by k d l o (inr (inr f)) = all k d l f
-
--- what two walks find
-pub around_is : (zs : List ℤ) (low high : ℤ) (i from to : ℕ) → Ascend zs → i < length zs → IsInside low high (slice_index_or zs i (pos 0)) → from ≤ i
-    → AllWithin (λ a. int_le low a ≡ false) zs 0 from → AllWithin (λ a. int_le low a ≡ true) zs from i → i ≤ to → to ≤ length zs
-    → AllWithin (λ a. int_le a high ≡ true) zs i to → AllWithin (λ a. int_le a high ≡ false) zs to (length zs) → IsBetween zs low high from to
-around_is zs low high i from to up there is l under least m long most over =
-    let reached : i < to = past (cases_lt i to) in
-    record {
-      order = omega (arith, l, m);
-      there = long;
-      below = λ k d a b. and_left (int_le low (slice_index_or zs k d)) (int_le (slice_index_or zs k d) high) (under k d a b);
-      inside = λ k d a b. within k d a b (cases_lt k i);
-      above = λ k d a b. and_right (int_le low (slice_index_or zs k d)) (int_le (slice_index_or zs k d) high) (over k d a b);
-      none = λ e. absurd (omega (arith, e, l, reached));
-    }
-  where
-    here : (d : ℤ) → slice_index_or zs i d ≡ slice_index_or zs i (pos 0)
-    here d = get_or_default zs i d (pos 0) there
-
-    past : (i < to) ⊎ (to ≤ i) → i < to
-    past (inl k) = k
-    past (inr k) =
-        let high_here : int_le (slice_index_or zs i (pos 0)) high ≡ true = le_to (slice_index_or zs i (pos 0)) high is.most in
-        let low_here : int_le (slice_index_or zs i (pos 0)) high ≡ false = over i (pos 0) k there in
-        absurd (both_ways (int_le (slice_index_or zs i (pos 0)) high) low_here high_here)
-
-    within : (k : ℕ) (d : ℤ) → from ≤ k → k < to → (k < i) ⊎ (i ≤ k) → (int_le low (slice_index_or zs k d) && int_le (slice_index_or zs k d) high) ≡ true
-    within k d a b (inl c) =
-        let step = up_to zs up k i d (omega (arith, c)) there in
-        let e = here d in
-        let top = is.most in
-        and_from (int_le low (slice_index_or zs k d)) (int_le (slice_index_or zs k d) high) (least k d a c) (le_to (slice_index_or zs k d) high (omega (arith, ints, step, e, top)))
-    within k d a b (inr c) =
-        let step = up_to zs up i k d c (omega (arith, b, long)) in
-        let e = here d in
-        let bottom = is.least in
-        and_from (int_le low (slice_index_or zs k d)) (int_le (slice_index_or zs k d) high) (le_to low (slice_index_or zs k d) (omega (arith, ints, step, e, bottom))) (most k d c b)
-
--- no height is from low to high where low is the higher one
-pub none_between : (zs : List ℤ) (low high : ℤ) → high <ℤ low → IsBetween zs low high 0 0
-none_between zs low high h = record {
-  order = omega arith;
-  there = omega arith;
-  below = λ k d a b. absurd (omega (arith, b));
-  inside = λ k d a b. absurd (omega (arith, b));
-  above = λ k d a b. outside (slice_index_or zs k d) (int_le low (slice_index_or zs k d)) refl;
-  none = λ e. refl;
-}
-  where
-    outside : (a : ℤ) (b : Bool) → int_le low a ≡ b → (int_le low a && int_le a high) ≡ false
-    outside a false e = and_left (int_le low a) (int_le a high) e
-    outside a true e = let l = le_from low a e in and_right (int_le low a) (int_le a high) (not_upto a high (lt_to high a (omega (arith, ints, l, h))))
-
--- what two walks over a column tell of the heights of the rows, where the root has room in 64 bits
-pub window_here : (column zs : List ℤ) (i : ℕ) (root limit : ℤ) (from to : ℕ) → FitsSigned w64 root
-    → ((l : ℤ) → IsRoot l (to_z w64 (of_z w64 root)) → IsWindow column (slice_index_or column i (pos 0)) l from to)
-    → IsRoot limit root → column ≡ zs → IsWindow zs (slice_index_or zs i (pos 0)) limit from to
-window_here column zs i root limit from to room all is e =
-    subst (λ (l : List ℤ). IsWindow l (slice_index_or l i (pos 0)) limit from to) e (all limit (subst (IsRoot limit) (sym (to_z-of_z w64 root room)) is))

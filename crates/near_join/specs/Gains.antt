@@ -1,9 +1,8 @@
 -- What a step of a join puts into the piece.
-use Rattle.std.specs.Prelude.{◌≡◌, ℤ, List, Option, ◌++◌, map}
+use Rattle.std.specs.Prelude.{◌≡◌, ℤ, List, [], ◌∷◌, Option, ◌++◌, ◌&&◌, if◌then◌else◌, map}
 use Rattle.std.specs.List.{filter, flat_map}
 use Rattle.table_rules.specs.Objects.{Obj}
 use Rattle.sky_rules.specs.Bounds.{Bounds, in_bounds}
-use Rattle.value_rules.specs.Truth.{meets}
 use Rattle.value_rules.specs.Values.{Pick, pair}
 use Rattle.answer_rules.specs.Keeps.{KeepsFirst}
 use Rattle.answer_rules.specs.Pieces.{PieceView, OfRows, OfGroups, chunk_lines}
@@ -40,6 +39,14 @@ swept_pairs cq limit others rows = flat_map (row_pairs cq limit others) rows
 abbrev pub held_rows : Bounds → List Obj → List Obj
 held_rows bounds rows = filter (λ o. in_bounds bounds o.at) rows
 
--- the pairs of one row with those of the others with which it meets the conditions
-abbrev pub met_pairs : ChunkQuery → List Obj → Obj → List Pick
-met_pairs cq others u = map (pair u) (filter (λ v. meets cq.conds (pair u v)) others)
+-- the pair of two rows that join, where the bounds hold the first
+abbrev pub held_pair : ChunkQuery → ℤ → Bounds → Obj → Obj → List Pick
+held_pair cq limit bounds u v = if in_bounds bounds u.at && joins limit cq.conds u v then pair u v ∷ [] else []
+
+-- the pairs of two rows, in both orders
+abbrev pub both_ways : ChunkQuery → ℤ → Bounds → Obj → Obj → List Pick
+both_ways cq limit bounds u v = held_pair cq limit bounds u v ++ held_pair cq limit bounds v u
+
+-- the pair of a row with itself, and its pairs with others in both orders
+abbrev pub upward_pairs : ChunkQuery → ℤ → Bounds → Obj → List Obj → List Pick
+upward_pairs cq limit bounds u others = held_pair cq limit bounds u u ++ flat_map (both_ways cq limit bounds u) others

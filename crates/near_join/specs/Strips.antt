@@ -1,5 +1,5 @@
 -- Rows by their places in ascending height, with the parts of their positions side by side.
-use Rattle.std.specs.Prelude.{◌≡◌, ℕ, ◌+◌, ◌*◌, ◌%◌, ◌<◌, ℤ, pos, ◌+ℤ◌, unsigned_abs, Bool, ◌||◌, List, [], ◌∷◌, ◌++◌, length, map, get_or, All}
+use Rattle.std.specs.Prelude.{◌≡◌, ℕ, ◌+◌, ◌*◌, ◌%◌, ◌<◌, ℤ, pos, ◌+ℤ◌, unsigned_abs, Bool, ◌||◌, List, length, map, get_or, All}
 use Rattle.std.specs.List.{filter}
 use Rattle.std.specs.List.Sorted.{IsPermutation}
 use Rattle.sky_vector.specs.Points.{IsWithin, Point}
@@ -10,7 +10,7 @@ use Rattle.sky_row.specs.Columns.{no_row, objects_at}
 use Rattle.sky_rules.specs.Bounds.{Bounds, in_chunk, near_bounds}
 use Rattle.sky_rules.specs.Partition.{Partition}
 use Rattle.overlap_tables.specs.Overlaps.{in_full_overlap}
-use Rattle.near_join.specs.Walk.{reach_objects}
+use Rattle.near_join.specs.Walk.{is_near, reach_objects}
 use Rattle.near_join.specs.Windows.{Ascend}
 
 -- What contracts see of a strip: the places of its rows, and the parts of their positions.
@@ -32,15 +32,6 @@ pub record IsWhole (s : StripView) : Type 0 where
 -- the position of the row with a number, from 0, in a strip
 abbrev pub row_in : StripView → ℕ → Point
 row_in s i = record { x = get_or s.xs i (pos 0); y = get_or s.ys i (pos 0); z = get_or s.zs i (pos 0) }
-
--- a strip with one row more
-abbrev pub with_row : StripView → ℕ → Point → StripView
-with_row s place at = record {
-  places = s.places ++ place ∷ [];
-  xs = s.xs ++ at.x ∷ [];
-  ys = s.ys ++ at.y ∷ [];
-  zs = s.zs ++ at.z ∷ [];
-}
 
 -- the row at a place
 abbrev pub object_at : List Obj → ℕ → Obj
@@ -92,3 +83,7 @@ pub record IsSubStrip (g : Partition) (objects : List Obj) (c s : ℕ) (near : S
 -- the row at the place is in the near region of the bounds, for a radius
 abbrev pub is_beside : List Obj → ℕ → Bounds → ℕ → Bool
 is_beside objects r bounds place = near_bounds r bounds (object_at objects place).at
+
+-- the rows at two places are near enough to be a pair
+abbrev pub is_close : List Obj → ℤ → ℕ → ℕ → Bool
+is_close objects limit place other = is_near limit (object_at objects place) (object_at objects other)

@@ -7,6 +7,7 @@
 //! No merging: an order and a LIMIT are left to the piece.
 #![tactic(auto)]
 
+mod beside;
 mod chunk;
 pub mod heights;
 pub mod laws;
@@ -17,6 +18,7 @@ mod reach;
 mod rising;
 mod strip;
 mod sweep;
+mod ways;
 
 pub use chunk::join;
 pub use heights::window;

@@ -50,19 +50,9 @@ pub(crate) fn fill(
 {
     values.clear();
     for item in items {
-        push(values, cell(item, first, second))?;
+        values.push(cell(item, first, second))?;
     }
     Ok(())
-}
-
-/// Puts the value behind the others.
-fn push(values: &mut Vec<Option<Num>>, value: Option<Num>) -> Result<(), Memory>
-    ensures { OnOk result (values.new.items ≡ values.old.items ++ value ∷ []) }
-{
-    match values.push(value) {
-        Ok(()) => Ok(()),
-        Err(_) => Err(Memory),
-    }
 }
 
 /// The value of an item; an aggregate has none on a pair.

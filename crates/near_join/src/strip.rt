@@ -1,11 +1,12 @@
 //! Rows by their places, in ascending height, with their positions as three columns: a sweep reads them from front to back,
 //! and looks up a row only where it is near enough.
 
-ghost use Rattle.std.specs.Prelude.{◌≡◌, ◌<◌, ◌++◌, ◌∷◌, [], All, IfOk, OnOk, length, get_or, pos};
+ghost use Rattle.std.specs.Prelude.{◌≡◌, ◌<◌, All, IfOk, List, length, get_or, map, pos};
 ghost use Rattle.sky_vector.specs.Points.{IsWithin};
 ghost use Rattle.sky_vector.specs.Pos.{point};
+ghost use Rattle.table_rules.specs.Objects.{Obj};
 ghost use Rattle.sky_rules.specs.Partition.{chunk_count};
-ghost use Rattle.near_join.specs.Strips.{IsChunkStrip, IsListed, IsWhole, row_in, with_row};
+ghost use Rattle.near_join.specs.Strips.{IsChunkStrip, IsListed, IsWhole, row_in};
 
 use crate::order::places_by_height;
 use chunk_store::Store;
@@ -33,18 +34,6 @@ impl Model for Strip {
 }
 
 impl Strip {
-    /// A strip without rows. Takes no memory.
-    pub(crate) fn empty(alloc: Global) -> Strip
-        ensures { result ≡ record { places = []; xs = []; ys = []; zs = [] } }
-    {
-        Strip {
-            places: Vec::new(alloc),
-            xs: Vec::new(alloc),
-            ys: Vec::new(alloc),
-            zs: Vec::new(alloc),
-        }
-    }
-
     /// How many rows there are.
     pub(crate) fn len(&self) -> usize
         ensures { result ≡ length self.now.places }
@@ -80,18 +69,20 @@ impl Strip {
         )
     }
 
-    /// Puts the row with this number in another strip behind the others. Where there is no memory, some of the columns may
-    /// have it.
-    pub(crate) fn push(&mut self, from: &Strip, i: usize) -> Result<(), Memory>
-        requires whole { IsWhole from.now }
-        requires there { i < length from.now.places }
-        ensures { OnOk result (self.new
-            ≡ with_row self.old (get_or from.now.places i 0) (row_in from.now i)) }
+    /// The rows with these numbers, in their order. Takes memory for each column once.
+    pub(crate) fn taken(&self, alloc: Global, numbers: &[u32]) -> Result<Strip, Memory>
+        requires whole { IsWhole self.now }
+        requires there { All (λ k. k < length self.now.places) numbers.now }
+        ensures places { IfOk result (λ s.
+            s.places ≡ map (λ k. get_or self.now.places k 0) numbers.now) }
+        ensures listed { IfOk result (λ s. (objects : List Obj) → IsListed objects self.now
+            → IsListed objects s) }
     {
-        push(&mut self.places, from.places[i])?;
-        push(&mut self.xs, from.xs[i])?;
-        push(&mut self.ys, from.ys[i])?;
-        push(&mut self.zs, from.zs[i])
+        let places = gather(alloc, self.places.as_slice(), numbers)?;
+        let xs = gather(alloc, self.xs.as_slice(), numbers)?;
+        let ys = gather(alloc, self.ys.as_slice(), numbers)?;
+        let zs = gather(alloc, self.zs.as_slice(), numbers)?;
+        Ok(Strip { places, xs, ys, zs })
     }
 }
 
@@ -116,16 +107,6 @@ fn point_of(x: i32, y: i32, z: i32) -> Pos
         x: i64::from(x),
         y: i64::from(y),
         z: i64::from(z),
-    }
-}
-
-/// Puts the value behind the others.
-fn push<T: Copy>(values: &mut Vec<T>, value: T) -> Result<(), Memory>
-    ensures { OnOk result (values.new.items ≡ values.old.items ++ value ∷ []) }
-{
-    match values.push(value) {
-        Ok(()) => Ok(()),
-        Err(_) => Err(Memory),
     }
 }
 

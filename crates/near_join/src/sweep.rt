@@ -1,21 +1,23 @@
 //! What a subchunk takes of the strip of its chunk: its rows and those of its overlap.
 
-ghost use Rattle.std.specs.Prelude.{◌≡◌, ◌++◌, ◌<◌, ◌≤◌, ◌+ℤ◌, ◌-ℤ◌, [], ◌∷◌, IfOk, OnOk, filter, get_or, if◌then◌else◌, length, pos, slice_range};
-ghost use Rattle.sky_rules.specs.Bounds.{sub_bounds_of};
+ghost use Rattle.std.specs.Prelude.{◌≡◌, ◌-◌, ◌<◌, ◌≤◌, ◌^◌, ◌+ℤ◌, ◌-ℤ◌, IfOk, filter, length, pos, slice_range, take};
+ghost use Rattle.std.specs.List.{range_with_len};
+ghost use Rattle.sky_rules.specs.Bounds.{near_sides, sub_bounds_of};
 ghost use Rattle.sky_rules.specs.Limits.{IsSky};
 ghost use Rattle.sky_rules.specs.Partition.{chunk_count, sub_count};
 ghost use Rattle.sky_rules.specs.declared.limits.TheConstants.{OVERLAP_MOST};
-ghost use Rattle.sky_plan.specs.Regions.{bounds_shown};
-ghost use Rattle.near_join.specs.Strips.{IsChunkStrip, IsListed, IsSubStrip, IsWhole, is_beside, row_in, with_row};
+ghost use Rattle.sky_plan.specs.Regions.{bounds_shown, sides_shown};
+ghost use Rattle.near_join.specs.Strips.{IsChunkStrip, IsListed, IsSubStrip, IsWhole, is_beside, row_in};
 ghost use Rattle.near_join.specs.Windows.{Ascend, IsBetween};
 
+use crate::beside::is_near;
 use crate::heights::between_narrow;
 use crate::strip::Strip;
 use chunk_store::Store;
-use overlap_tables::is_near;
 use sky_io::Memory;
 use sky_plan::Region;
 use sky_row::Rows;
+use sky_vector::Dir;
 use std::alloc::Global;
 
 /// A subchunk's rows and those of its overlap, in ascending height, of the strip of its chunk. Takes memory for them.
@@ -36,9 +38,11 @@ pub(crate) fn sub_strip(
     ensures { IfOk result (λ near.
         IsSubStrip store.now.plan store.now.rows.objects chunk sub near) }
 {
+    let rows = store.rows();
+    let _ = rows.len();
     let radius = store.plan().radius_of(chunk);
     let (from, to) = near_heights(strip.zs(), region, radius);
-    near_ones(alloc, store.rows(), strip, from, to, region, radius)
+    near_ones(alloc, rows, strip, from, to, region, radius)
 }
 
 /// The places of the heights that are no farther than the radius from those of the region.
@@ -52,7 +56,8 @@ fn near_heights(zs: &[i32], region: &Region, radius: u32) -> (usize, usize)
     between_narrow(zs, region.z_low - radius, region.z_high + radius)
 }
 
-/// Of the rows from one number up to and without another those that are near the region, in the same order.
+/// Of the rows from one number up to and without another, which are those that are near the heights of the region, those that
+/// are near the region, in the same order.
 fn near_ones(
     alloc: Global,
     rows: &Rows,
@@ -64,27 +69,68 @@ fn near_ones(
 ) -> Result<Strip, Memory>
     requires listed { IsListed rows.now.objects strip.now }
     requires whole { IsWhole strip.now }
-    requires order { from ≤ to }
-    requires there { to ≤ length strip.now.places }
+    requires few { length strip.now.places < 2 ^ 32 }
+    requires heights { IsBetween strip.now.zs (region.now.z_low -ℤ pos radius)
+        (region.now.z_high +ℤ pos radius) from to }
     requires radius { radius ≤ OVERLAP_MOST }
     ensures places { IfOk result (λ near. near.places
         ≡ filter (is_beside rows.now.objects radius (bounds_shown region.now))
         (slice_range strip.now.places from to)) }
     ensures listed { IfOk result (λ near. IsListed rows.now.objects near) }
 {
-    let mut near = Strip::empty(alloc);
-    for i in from..to {
-        push_if(&mut near, is_near(region, radius, &strip.at(i)), strip, i)?;
-    }
-    Ok(near)
+    let numbers = near_numbers(alloc, strip, from, to, region.sides, radius)?;
+    strip.taken(alloc, numbers.as_slice())
 }
 
-/// Puts the row with this number behind the others, where the answer is yes.
-fn push_if(near: &mut Strip, is: bool, strip: &Strip, i: usize) -> Result<(), Memory>
+/// The numbers, from one up to and without another, of the rows that are near these sides. Takes memory for them.
+fn near_numbers(
+    alloc: Global,
+    strip: &Strip,
+    from: usize,
+    to: usize,
+    sides: Option<(Dir, Dir)>,
+    radius: u32,
+) -> Result<Vec<u32>, Memory>
     requires whole { IsWhole strip.now }
-    requires there { i < length strip.now.places }
-    ensures { OnOk result (near.new ≡ (if is
-        then with_row near.old (get_or strip.now.places i 0) (row_in strip.now i) else near.old)) }
+    requires few { length strip.now.places < 2 ^ 32 }
+    requires order { from ≤ to }
+    requires there { to ≤ length strip.now.places }
+    requires radius { radius ≤ OVERLAP_MOST }
+    ensures { IfOk result (λ numbers. numbers.items
+        ≡ filter (λ k. near_sides radius (sides_shown sides) (row_in strip.now k))
+        (range_with_len from (to - from))) }
 {
-    if is { near.push(strip, i) } else { Ok(()) }
+    let mut numbers = Vec::from_elem(alloc, 0, to - from)?;
+    let count = put_near(strip, from, to, sides, radius, numbers.as_mut_slice());
+    numbers.truncate(count);
+    Ok(numbers)
+}
+
+/// Writes the numbers, from one up to and without another, of the rows that are near these sides to the front of a list, and
+/// answers how many they are: each is written, over the one before it where that is not near, so that nothing is decided.
+fn put_near(
+    strip: &Strip,
+    from: usize,
+    to: usize,
+    sides: Option<(Dir, Dir)>,
+    radius: u32,
+    numbers: &mut [u32],
+) -> usize
+    requires whole { IsWhole strip.now }
+    requires few { length strip.now.places < 2 ^ 32 }
+    requires order { from ≤ to }
+    requires there { to ≤ length strip.now.places }
+    requires radius { radius ≤ OVERLAP_MOST }
+    requires room { length numbers.old ≡ to - from }
+    ensures value { take result numbers.new
+        ≡ filter (λ k. near_sides radius (sides_shown sides) (row_in strip.now k))
+        (range_with_len from (to - from)) }
+    ensures len { length numbers.new ≡ length numbers.old }
+{
+    let mut count = 0usize;
+    for i in from..to {
+        numbers[count] = i as u32;
+        count += usize::from(is_near(sides, radius, &strip.at(i)));
+    }
+    count
 }

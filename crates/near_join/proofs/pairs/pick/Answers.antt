@@ -1,35 +1,49 @@
-use Rattle.std.proofs.Common.{◌≡◌, ◌∙◌, ℕ, arith, ap, filter, slice_range, sym, subst}
-use Rattle.near_join.specs.Rising.{is_picked}
-use Rattle.near_join.specs.Strips.{object_at}
-use Rattle.near_join.proofs.Gaining.{none_picked, one_picked, picked_of}
+use Rattle.std.proofs.Common.{◌≡◌, ◌∙◌, ◌+◌, ◌<◌, ℕ, ℤ, List, ap, arith, get_or, int_le, int_lt, length, pos, rules, sym, true, ◌+ℤ◌, FitsSigned, w64}
+use Rattle.std.proofs.lemmas.Int.{to_z-of_z}
+use Rattle.sky_vector.specs.Points.{Point, chord_squared}
+use Rattle.sky_vector.specs.Pos.{point}
+use Rattle.near_join.specs.Strips.{IsListed, IsWhole, is_close, object_at}
 use Rattle.near_join.proofs.Sweeping.{row_is}
+use Rattle.near_join.proofs.Upwards.{one_picked, rest_far}
 use Rattle.near_join.proofs.pairs.pick.Goals as goal
 
-pub loop-i-init : goal.loop-i-init
-loop-i-init c = record {
-  order = omega arith;
-  end = c.requires.order;
-  picked = c.clear.ensures.items ∙ none_picked (is_picked c.args.rows.now.objects c.args.reach.now.limit c.args.reach.now.rises c.args.place) c.args.near.now.places c.args.from;
-}
-
-pub loop-i-preserved : goal.loop-i-preserved
-loop-i-preserved c =
+pub loop-k-preserved : goal.loop-k-preserved
+loop-k-preserved c =
     let objects = c.args.rows.now.objects in
     let near = c.args.near.now in
-    let i = c.loop-i.i in
-    let low = c.loop-i.invariant.order in
-    let next = c.loop-i-test.true in
-    let there = c.requires.there in
+    let limit = c.args.reach.now.limit in
+    let k = c.loop-k.k in
+    let place = get_or near.places c.args.i 0 in
+    let least = c.loop-k.invariant.least in
+    let next = c.loop-k-test.true in
+    let wide = c.len-count.ensures in
+    let low : k < length near.places = omega (arith, next, wide) in
+    let is : c.is_pair.result ≡ is_close objects limit place c.place.result =
+    c.is_pair.ensures
+    ∙ ap (λ (p : Point). int_le (chord_squared p (point c.at.result)) limit) (c.at-at.ensures ∙ row_is objects near c.args.i c.requires.listed c.requires.there)
+    ∙ ap (λ (p : Point). int_le (chord_squared (object_at objects place).at p) limit) (c.at.ensures ∙ row_is objects near k c.requires.listed low ∙ ap (λ (q : ℕ). (object_at objects q).at) (sym c.place.ensures)) in
     record {
-      order = omega (arith, low);
-      end = omega (arith, next);
-      picked = one_picked objects c.args.reach.now.limit c.args.reach.now.rises c.args.place c.place-other.result near.places c.loop-i.found.items c.push_if.new.found.items c.args.from i c.is_pair.result low (omega (arith, next, there)) c.place-other.ensures
-          (picked_of objects c.args.reach.now.limit c.args.reach.now.rises c.args.place c.place-other.result _ _ c.is_pair.result c.is_pair.ensures c.requires.at
-          (c.at.ensures ∙ row_is objects near i c.requires.listed (omega (arith, next, there)) ∙ ap (λ (p : ℕ). (object_at objects p).at) (sym c.place-other.ensures)))
-          c.in_ok-push_if.ensures c.loop-i.invariant.picked;
+      least = omega (arith, least);
+      most = omega (arith, low);
+      picked = one_picked (is_close objects limit place) c.place.result near.places c.loop-k.found.items c.push_if.new.found.items (c.args.i + 1) k c.is_pair.result least low c.place.ensures is
+          c.in_ok-push_if.ensures c.loop-k.invariant.picked;
     }
 
-pub returns : goal.returns
-returns c =
-    let end : c.loop-i.i ≡ c.args.to = omega (arith, c.loop-i.invariant.end, c.loop-i-test.false) in
-    subst (λ (n : ℕ). c.loop-i.found.items ≡ filter (is_picked c.args.rows.now.objects c.args.reach.now.limit c.args.reach.now.rises c.args.place) (slice_range c.args.near.now.places c.args.from n)) end c.loop-i.invariant.picked
+pub returns-then-is_above : goal.returns-then-is_above
+returns-then-is_above c =
+    let objects = c.args.rows.now.objects in
+    let near = c.args.near.now in
+    let root = c.args.reach.now.root in
+    let high = c.highest-high.result in
+    let k = c.loop-k.k in
+    let place = get_or near.places c.args.i 0 in
+    let next = c.loop-k-test.true in
+    let wide = c.len-count.ensures in
+    let zs_wide = IsWhole.wide_z c.requires.whole in
+    let fits_high : FitsSigned w64 high = search rules in
+    let is : c.is_above.result ≡ int_lt high (get_or c.zs.result.now k (pos 0)) = simp to_z-of_z at c.is_above.ensures in
+    let over : int_lt high (get_or near.zs k (pos 0)) ≡ true = ap (λ (l : List ℤ). int_lt high (get_or l k (pos 0))) (sym c.zs.ensures) ∙ sym is ∙ c.if-is_above.true in
+    let at : high ≡ (object_at objects place).at.z +ℤ root = c.highest-high.ensures ∙ ap (λ (p : Point). p.z +ℤ root) (c.at-at.ensures ∙ row_is objects near c.args.i c.requires.listed c.requires.there) in
+    c.loop-k.invariant.picked
+    ∙ rest_far objects c.args.reach.now.limit root high near.places near.zs place (c.args.i + 1) k (IsListed.zs c.requires.listed) c.requires.ascend c.args.reach.now.is_root at c.loop-k.invariant.least
+    (omega (arith, next, wide, zs_wide)) over

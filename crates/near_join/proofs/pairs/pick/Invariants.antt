@@ -1,10 +1,10 @@
-use Rattle.std.proofs.Common.{◌≡◌, ◌≤◌, filter, slice_range}
-use Rattle.near_join.specs.Rising.{is_picked}
+use Rattle.std.proofs.Common.{◌≡◌, ◌≤◌, ◌+◌, filter, get_or, length, slice_range}
+use Rattle.near_join.specs.Strips.{is_close}
 use Rattle.near_join.proofs.pairs.pick.Given as goal
 
-abbrev pub invariant-loop-i : goal.invariant-loop-i
-invariant-loop-i l = record {
-  order : l.fn.from ≤ l.i;
-  end : l.i ≤ l.fn.to;
-  picked : l.found.items ≡ filter (is_picked l.fn.rows.objects l.reach.limit l.reach.rises l.place) (slice_range l.near.places l.fn.from l.i);
+abbrev pub invariant-loop-k : goal.invariant-loop-k
+invariant-loop-k l = record {
+  least : l.fn.i + 1 ≤ l.k;
+  most : l.k ≤ length l.near.places;
+  picked : l.found.items ≡ filter (is_close l.fn.rows.objects l.reach.limit (get_or l.near.places l.fn.i 0)) (slice_range l.near.places (l.fn.i + 1) l.k);
 }

@@ -1,32 +1,40 @@
-use Rattle.std.proofs.Common.{◌≡◌, ℕ, arith, filter, subst, slice_range}
-use Rattle.sky_plan.specs.Regions.{bounds_shown}
-use Rattle.sky_vector.specs.Pos.{point}
-use Rattle.near_join.specs.Strips.{is_beside}
-use Rattle.near_join.proofs.Sweeping.{IsTaken, none_taken, one_taken}
+use Rattle.std.proofs.Common.{◌∙◌, ◌-◌, ◌<◌, ℕ, List, arith, ap, get_or, length, map, sym, subst}
+use Rattle.std.specs.Prelude.{All}
+use Rattle.std.specs.List.{range_with_len}
+use Rattle.std.proofs.lemmas.List.Elements.{All-filter}
+use Rattle.sky_rules.specs.Bounds.{near_sides}
+use Rattle.sky_plan.specs.Regions.{bounds_shown, sides_shown}
+use Rattle.near_join.specs.Strips.{IsWhole, row_in}
+use Rattle.near_join.specs.Windows.{IsBetween}
+use Rattle.near_join.proofs.Answering.{if_ok}
+use Rattle.near_join.proofs.Taking.{near_part, range_below}
 use Rattle.near_join.proofs.sweep.near_ones.Goals as goal
 
-pub loop-i-init : goal.loop-i-init
-loop-i-init c = record {
-  order = omega arith;
-  end = c.requires.order;
-  taken = none_taken c.args.rows.now.objects c.args.radius (bounds_shown c.args.region.now) c.args.strip.now c.empty-near.result c.args.from c.empty-near.ensures;
-}
+pub near_numbers-requires-clause-order : goal.near_numbers-requires-clause-order
+near_numbers-requires-clause-order c = IsBetween.order c.requires.heights
 
-pub loop-i-preserved : goal.loop-i-preserved
-loop-i-preserved c =
-    let low = c.loop-i.invariant.order in
-    let next = c.loop-i-test.true in
-    record {
-      order = omega (arith, low);
-      end = omega (arith, next);
-      taken = one_taken c.args.rows.now.objects c.args.radius (bounds_shown c.args.region.now) c.args.strip.now c.loop-i.near c.push_if.new.near c.args.from c.loop-i.i (point c.at.result) c.is_near.result
-          c.requires.listed low (omega (arith, next, c.requires.there)) c.at.ensures c.is_near.ensures c.in_ok-push_if.ensures c.loop-i.invariant.taken;
-    }
+pub near_numbers-requires-clause-there : goal.near_numbers-requires-clause-there
+near_numbers-requires-clause-there c =
+    let there = IsBetween.there c.requires.heights in
+    let wide = IsWhole.wide_z c.requires.whole in omega (arith, there, wide)
+
+pub taken-requires-clause-there : goal.taken-requires-clause-there
+taken-requires-clause-there c =
+    let order = IsBetween.order c.requires.heights in
+    let there = IsBetween.there c.requires.heights in
+    let wide = IsWhole.wide_z c.requires.whole in
+    let strip = c.args.strip.now in
+    subst (All (λ (k : ℕ). k < length strip.places)) (sym (c.as_slice.ensures.value ∙ c.in_ok-numbers.ensures))
+    (All-filter (λ (k : ℕ). near_sides c.args.radius (sides_shown c.args.region.now.sides) (row_in strip k)) (λ (k : ℕ). k < length strip.places) (range_with_len c.args.from (c.args.to - c.args.from))
+    (range_below (c.args.to - c.args.from) c.args.from (length strip.places) (omega (arith, order, there, wide))))
 
 pub returns-clause-places : goal.returns-clause-places
 returns-clause-places c =
-    let end : c.loop-i.i ≡ c.args.to = omega (arith, c.loop-i.invariant.end, c.loop-i-test.false) in
-    subst (λ (n : ℕ). c.loop-i.near.places ≡ filter (is_beside c.args.rows.now.objects c.args.radius (bounds_shown c.args.region.now)) (slice_range c.args.strip.now.places c.args.from n)) end (IsTaken.places c.loop-i.invariant.taken)
+    let strip = c.args.strip.now in
+    if_ok c.taken.result _ _
+    (λ near e. e ∙ ap (λ (l : List ℕ). map (λ k. get_or strip.places k 0) l) (c.as_slice.ensures.value ∙ c.in_ok-numbers.ensures)
+    ∙ near_part c.args.rows.now.objects c.args.radius (bounds_shown c.args.region.now) strip c.args.from c.args.to c.requires.listed (IsWhole.wide_z c.requires.whole) c.requires.heights)
+    c.taken.ensures.places
 
 pub returns-clause-listed : goal.returns-clause-listed
-returns-clause-listed c = IsTaken.listed c.loop-i.invariant.taken
+returns-clause-listed c = if_ok c.taken.result _ _ (λ near f. f c.args.rows.now.objects c.requires.listed) c.taken.ensures.listed
