@@ -50,8 +50,8 @@ fn attached_by<'w>(alloc: Global, plan: &Plan) -> Result<Option<Planned<Piece<'w
     }
 }
 
-/// A copy of the chunk query of a query that is planned. The plan has it beside the query's tree, which may not be shared
-/// with a worker's thread.
+/// A copy of the chunk query of a query that is planned: the engine of the workers borrows chunk queries alone, and a plan
+/// has its own beside the query's tree.
 fn query_by(alloc: Global, plan: &Plan) -> Result<Option<ChunkQuery>, Memory>
     ensures { IfOk result (λ it. it ≡ chunk_query plan.now) }
 {

@@ -95,7 +95,7 @@ impl<'s, 't, R: Threads + Wait + Sync, G: Gate + Sync> Session<'s, 't, R, G> {
         }
     }
 
-    /// What the queries are told by their plans, where the board was left with these ends.
+    /// What each query is told, by its plan and by how it ended at the board.
     fn told(&self, plans: Vec<Plan>, ends: Vec<BoardEnd<Piece<'_>>>) -> Result<Vec<End>, Memory>
         requires plans { ArePlans self.now.world.now.plan self.now.world.now.rows
             (query_lines self.now.script.now) plans.items }
