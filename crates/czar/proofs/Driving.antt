@@ -1,5 +1,5 @@
 -- What a driven session tells of its ends.
-use Rattle.std.proofs.Common.{◌≡◌, ◌∙◌, sym, ap, subst, ℕ, List, length, map, Ok, Err, Result, IfOk, Option, Vec, vec_len}
+use Rattle.std.proofs.Common.{◌≡◌, ◌∙◌, sym, ap, subst, ℕ, List, map, Ok, Err, Result, IfOk, Option, Vec, vec_len}
 use Rattle.table_rules.specs.Objects.{Catalogue}
 use Rattle.sky_io.specs.declared.Memory.{Memory}
 use Rattle.sky_rules.specs.Partition.{Partition, chunk_count}
