@@ -105,7 +105,7 @@ impl Hints {
         if count == 0 {
             return usize::MAX;
         }
-        self.places[(number(key) % count as u64) as usize] as usize
+        self.places[number(key) as usize & (count - 1)] as usize
     }
 
     /// A group of the key, where a hint leads to one. Takes no memory.
@@ -123,7 +123,7 @@ impl Hints {
         if count == 0 {
             return;
         }
-        self.places[(number(key) % count as u64) as usize] = hint(place);
+        self.places[number(key) as usize & (count - 1)] = hint(place);
     }
 }
 
