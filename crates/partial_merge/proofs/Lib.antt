@@ -14,3 +14,6 @@ pub mod Totalling
 pub mod Absorbing
 pub mod Rooting
 pub mod Repacking
+pub mod Owning
+pub mod Increasing
+pub mod Gaining

@@ -95,7 +95,7 @@ one_way w own g [] a b = sym a.0 ∙ b.0
 one_way w own g (h ∷ hs) a b = put_ways w own g h hs (put_group key_order add_own_sums g hs) (key_order g.key h.key) a b
 
 -- alike groups have the ways that they have when they are gathered
-have_from : (own : List Way) (gs : Gathered) → AreAlike gs → HaveWays own (gather key_order add_own_sums gs) → HaveWays own gs
+pub have_from : (own : List Way) (gs : Gathered) → AreAlike gs → HaveWays own (gather key_order add_own_sums gs) → HaveWays own gs
 have_from own [] a h = tt
 have_from own (g ∷ gs) a h =
     subst (λ w. HaveWays w (g ∷ gs)) (one_way (ways_in g) own g (gather key_order add_own_sums gs) (gathered_have (ways_in g) (g ∷ gs) a) h) a

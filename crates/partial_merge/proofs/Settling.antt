@@ -26,6 +26,7 @@ use Rattle.answer_rules.proofs.Totals.{key_total}
 use Rattle.partial_merge.specs.Adding.{AllMayAdd, IsAs, MayAdd, MayPut, TwoFit, parts_of, placed, stacked, summed, width_in}
 use Rattle.partial_merge.specs.declared.mark.Mark.{Mark}
 use Rattle.partial_merge.specs.Groups.{AreAlike, ArePiled, Gathered, HaveWays, IsThere, group_of, most_rows, pile_of, ways_in, width_of}
+use Rattle.partial_merge.specs.Sharing.{HaveOwnParts}
 use Rattle.partial_merge.proofs.Piling.{alike_from, groups_grow}
 use Rattle.partial_merge.proofs.Summing.{add_long}
 
@@ -85,27 +86,27 @@ abbrev rest_of : List Way → List Way
 rest_of [] = []
 rest_of (x ∷ xs) = xs
 
-all_may_add : (r s : ℕ) (xs ys : List Part) → r + s ≤ most_rows → Each (IsSmallPart r) xs → Each (IsSmallPart s) ys → AllMayAdd xs ys
+pub all_may_add : (r s : ℕ) (xs ys : List Part) → r + s ≤ most_rows → Each (IsSmallPart r) xs → Each (IsSmallPart s) ys → AllMayAdd xs ys
 all_may_add r s [] ys l h k = tt
 all_may_add r s (x ∷ xs) [] l h k = tt
 all_may_add r s (x ∷ xs) (y ∷ ys) l h k = (may_add r s x y l h.0 k.0, all_may_add r s xs ys l h.1 k.1)
 
-all_small : (r s : ℕ) (xs ys : List Part) → ways xs ≡ ways ys → Each (IsSmallPart r) xs → Each (IsSmallPart s) ys → Each (IsSmallPart (r + s)) (add_own_parts xs ys)
+pub all_small : (r s : ℕ) (xs ys : List Part) → ways xs ≡ ways ys → Each (IsSmallPart r) xs → Each (IsSmallPart s) ys → Each (IsSmallPart (r + s)) (add_own_parts xs ys)
 all_small r s [] ys e h k = tt
 all_small r s (x ∷ xs) [] e h k = tt
 all_small r s (x ∷ xs) (y ∷ ys) e h k = (add_small r s x y (sym (ap (head_or x.way) e)) h.0 k.0, all_small r s xs ys (ap rest_of e) h.1 k.1)
 
-sum_ways : (xs ys : List Part) → ways xs ≡ ways ys → ways (add_own_parts xs ys) ≡ ways xs
+pub sum_ways : (xs ys : List Part) → ways xs ≡ ways ys → ways (add_own_parts xs ys) ≡ ways xs
 sum_ways [] ys e = refl
 sum_ways (x ∷ xs) [] e = absurd (cc e)
 sum_ways (x ∷ xs) (y ∷ ys) e = ap (λ l. x.way ∷ l) (sum_ways xs ys (ap rest_of e))
 
-same_long : (xs ys : List Part) → ways xs ≡ ways ys → length xs ≡ length ys
+pub same_long : (xs ys : List Part) → ways xs ≡ ways ys → length xs ≡ length ys
 same_long xs ys e = sym (length-map xs (λ p. p.way)) ∙ ap length e ∙ length-map ys (λ p. p.way)
 
 -- ---- the order of two keys
 
-is_equal : (o : Ordering) → is_eq o ≡ true → o ≡ Equal
+pub is_equal : (o : Ordering) → is_eq o ≡ true → o ≡ Equal
 is_equal Less h = absurd (cc h)
 is_equal Equal h = refl
 is_equal Greater h = absurd (cc h)
@@ -128,7 +129,7 @@ onto g h = record { key = h.key; part = add_own_sums g.part h.part }
 put_before : (g h : Partial Key Sums) (hs : Gathered) → key_order g.key h.key ≡ Less → put_group key_order add_own_sums g (h ∷ hs) ≡ g ∷ (h ∷ hs)
 put_before g h hs e = ap (λ o. put_by add_own_sums o g h hs (put_group key_order add_own_sums g hs)) e
 
-put_onto : (g h : Partial Key Sums) (hs : Gathered) → key_order g.key h.key ≡ Equal → put_group key_order add_own_sums g (h ∷ hs) ≡ onto g h ∷ hs
+pub put_onto : (g h : Partial Key Sums) (hs : Gathered) → key_order g.key h.key ≡ Equal → put_group key_order add_own_sums g (h ∷ hs) ≡ onto g h ∷ hs
 put_onto g h hs e = ap (λ o. put_by add_own_sums o g h hs (put_group key_order add_own_sums g hs)) e
 
 -- ---- lists
@@ -157,7 +158,7 @@ have_first : (gs : Gathered) → AreAlike gs → HaveWays (first_ways gs) gs
 have_first [] a = tt
 have_first (g ∷ gs) a = a
 
-parts_long : (parts : List Part) (m : Mark) → IsThere (length parts) m → length (parts_of parts m) ≡ m.to - m.from
+pub parts_long : (parts : List Part) (m : Mark) → IsThere (length parts) m → length (parts_of parts m) ≡ m.to - m.from
 parts_long parts m h = omega (arith, h.order, h.there, length-take (m.to - m.from) (drop m.from parts), length-drop m.from parts)
 
 take_all : (ps : List Part) → take (length ps) ps ≡ ps
@@ -337,6 +338,7 @@ pub record Halfway (parts : List Part) (marks left : List Mark) (fresh : List Pa
   pub wide : HaveWidth (width_in marks) left
   pub done : stacked fresh out ≡ pile_of parts taken
   pub there : All (IsThere (length fresh)) out
+  pub own : HaveOwnParts out
 
 pub at_first : (parts : List Part) (marks sorted : List Mark) (fresh : List Part) (out : List Mark) → ArePiled parts marks → IsPermutation marks sorted → IsSorted mark_order sorted → fresh ≡ [] → out ≡ [] → Halfway parts marks sorted fresh out
 at_first parts marks sorted fresh out p m s e f =
@@ -350,6 +352,7 @@ at_first parts marks sorted fresh out p m s e f =
       wide = recursion_from_All (λ x. width_of x ≡ width_in marks) sorted (All-permutation (λ x. width_of x ≡ width_in marks) marks sorted m (All-from_recursion (λ x. width_of x ≡ width_in marks) marks (same_width parts marks p)));
       done = ap (λ o. stacked fresh o) f;
       there = subst (λ o. All (IsThere (length fresh)) o) (sym f) (All-from_recursion (IsThere (length fresh)) [] tt);
+      own = subst HaveOwnParts (sym f) tt;
     }
 
 ascends_back : (xs ys : List Mark) → Ascends mark_order (xs ++ ys) → Ascends mark_order ys
@@ -402,8 +405,8 @@ may_put parts marks rest taken mark n =
     w.0 (gathered_have own (map G taken) w.1) s.0 (gathered_small own (map G taken) w.1 s.1)
     (omega (arith, n.piled.few, ap rows_in groups, sum_by-append (λ (x : Partial Key Sums). x.part.rows) (map G rest) (G mark ∷ map G taken), sum_by-cons (λ (x : Partial Key Sums). x.part.rows) (G mark) (map G taken), own_rows own (map G taken) w.1))
 
-pub one_more : (parts : List Part) (marks left rest : List Mark) (mark : Mark) (fresh now : List Part) (out new : List Mark) (h : Halfway parts marks left fresh out) → Next parts marks rest h.taken mark → stacked now new ≡ put_group key_order add_own_sums (group_of parts mark) (stacked fresh out) → All (IsThere (length now)) new → Halfway parts marks rest now new
-one_more parts marks left rest mark fresh now out new h n e t = record {
+pub one_more : (parts : List Part) (marks left rest : List Mark) (mark : Mark) (fresh now : List Part) (out new : List Mark) (h : Halfway parts marks left fresh out) → Next parts marks rest h.taken mark → stacked now new ≡ put_group key_order add_own_sums (group_of parts mark) (stacked fresh out) → All (IsThere (length now)) new → HaveOwnParts new → Halfway parts marks rest now new
+one_more parts marks left rest mark fresh now out new h n e t o = record {
   taken = mark ∷ h.taken;
   piled = n.piled;
   same = n.same;
@@ -411,6 +414,7 @@ one_more parts marks left rest mark fresh now out new h n e t = record {
   wide = each_front (λ m. width_of m ≡ width_in marks) rest (mark ∷ []) n.wide;
   done = e ∙ ap (put_group key_order add_own_sums (group_of parts mark)) h.done;
   there = t;
+  own = o;
 }
 
 -- room for the parts of one group goes

@@ -9,6 +9,7 @@ pub mod Sizes
 pub mod Groups
 pub mod Held
 pub mod Adding
+pub mod Sharing
 pub mod Merging
 pub mod Lines
 pub mod Roots

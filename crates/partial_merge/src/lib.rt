@@ -15,6 +15,7 @@ mod cell;
 mod group_table;
 mod heap;
 mod held;
+mod hints;
 mod kept;
 pub mod key;
 pub mod limits;
@@ -34,6 +35,7 @@ mod row_table;
 mod settle;
 mod short_key;
 pub mod table;
+mod taking;
 pub mod tally;
 #[cfg(test)]
 mod tests;

@@ -2,7 +2,7 @@
 //!
 //! A key may stand in it more than once; what contracts see is the list in which those of one key are added up.
 
-ghost use Rattle.std.specs.Prelude.{◌≡◌, ◌+◌, ◌≤◌, ◌-◌, ◌^◌, ◌++◌, ◌∷◌, [], All, Err, length, map, IfErr, IfOk, Ok, OnErr, OnOk, vec_capacity, vec_len};
+ghost use Rattle.std.specs.Prelude.{◌≡◌, ◌+◌, ◌≤◌, ◌*◌, ◌++◌, ◌∷◌, [], All, Err, length, map, IfErr, IfOk, Ok, OnErr, OnOk, vec_capacity, vec_len};
 ghost use Rattle.answer_rules.specs.Finish.{groups_merged, merged_groups};
 ghost use Rattle.answer_rules.specs.Gather.{gather};
 ghost use Rattle.answer_rules.specs.Keys.{key_order};
@@ -10,15 +10,19 @@ ghost use Rattle.answer_rules.specs.Parts.{add_own_sums};
 ghost use Rattle.answer_rules.specs.Small.{IsSmallGroup};
 ghost use Rattle.partial_merge.specs.Merging.{MayMerge};
 ghost use Rattle.sky_io.specs.Stops.{IfBad};
-ghost use Rattle.partial_merge.specs.Groups.{ArePiled, IsThere, MayGather, group_by, moved, pile_of};
+ghost use Rattle.partial_merge.specs.Adding.{width_in};
+ghost use Rattle.partial_merge.specs.Groups.{ArePiled, MayGather, group_by, pile_of};
+ghost use Rattle.partial_merge.specs.Sharing.{HaveOwnParts};
 
 use crate::group_table::group_table;
+use crate::hints::Hints;
 use crate::key::Key;
-use crate::lists::{append, reserve};
+use crate::lists::reserve;
 use crate::lone::put_lone;
 use crate::mark::Mark;
-use crate::settle::{keep_short, settle};
+use crate::settle::{keep_short, part_count, settle};
 use crate::table::Table;
+use crate::taking::take_all;
 use crate::tally::Tally;
 use answer_rules::{MergePlan, TotalOut};
 use sky_io::{Memory, Stop};
@@ -33,6 +37,7 @@ pub(crate) struct Pile {
     marks: Vec<Mark>,
     tallies: Vec<Tally>,
     settled: usize,
+    hints: Hints,
 }
 
 /// How long a pile may become before it is settled for the first time, twice over.
@@ -40,12 +45,13 @@ const SHORT: usize = 32;
 
 impl Model for Pile {
     ghost use Rattle.partial_merge.specs.Groups.{ArePiled, Gathered, pile_of};
+    ghost use Rattle.partial_merge.specs.Sharing.{HaveOwnParts};
 
     ghost Value = { Gathered };
 
     ghost view = { λ p. pile_of p.tallies.items p.marks.items };
 
-    ghost invariant = { λ p. ArePiled p.tallies.items p.marks.items };
+    ghost invariant = { λ p. ArePiled p.tallies.items p.marks.items × HaveOwnParts p.marks.items };
 }
 
 /// Puts copies of the parts behind the others. Takes no memory.
@@ -68,41 +74,46 @@ fn put_parts(tallies: &mut Vec<Tally>, parts: &[Tally]) -> Result<(), Memory>
     Ok(())
 }
 
-/// Puts the groups behind the others, their parts so much farther behind. Takes no memory.
-fn put_moved(marks: &mut Vec<Mark>, others: Vec<Mark>, by: usize, count: usize)
-    requires room { vec_len marks.old + length others.items ≤ vec_capacity marks.old }
-    requires there { All (IsThere count) others.items }
-    requires fits { by + count ≤ 2 ^ 64 - 1 }
-    ensures { marks.new.items ≡ marks.old.items ++ map (moved by) others.items }
+/// Room for the groups of another pile and for their parts. After `Err` nothing has changed.
+fn make_room(
+    marks: &mut Vec<Mark>,
+    tallies: &mut Vec<Tally>,
+    others: &Vec<Mark>,
+) -> Result<(), Memory>
+    ensures marks { marks.new.items ≡ marks.old.items }
+    ensures tallies { tallies.new.items ≡ tallies.old.items }
+    ensures room { OnOk result (vec_len marks.new + length others.now.items
+        ≤ vec_capacity marks.new) }
+    ensures space { OnOk result (vec_len tallies.new
+        + length others.now.items * width_in others.now.items ≤ vec_capacity tallies.new) }
 {
-    for other in others {
-        marks.push_reserved(other.moved(by));
-    }
+    reserve(marks, others.len())?;
+    reserve(tallies, part_count(others)?)
 }
 
-/// Takes in the groups of another pile, whose parts go behind these. After `Err` nothing has changed.
+/// Takes in the groups of another pile. After `Err` nothing has changed.
 fn join(
     marks: &mut Vec<Mark>,
     tallies: &mut Vec<Tally>,
+    hints: &mut Hints,
     others: Vec<Mark>,
     more: Vec<Tally>,
 ) -> Result<(), Memory>
     requires mine { ArePiled tallies.old.items marks.old.items }
+    requires own { HaveOwnParts marks.old.items }
     requires theirs { ArePiled more.items others.items }
     requires alike { MayGather (pile_of tallies.old.items marks.old.items)
         (pile_of more.items others.items) }
     ensures mine { ArePiled tallies.new.items marks.new.items }
+    ensures own { HaveOwnParts marks.new.items }
     ensures joined { OnOk result (pile_of tallies.new.items marks.new.items
         ≡ gather key_order add_own_sums (pile_of tallies.old.items marks.old.items
         ++ pile_of more.items others.items)) }
     ensures marks { OnErr result (marks.new.items ≡ marks.old.items) }
     ensures tallies { OnErr result (tallies.new.items ≡ tallies.old.items) }
 {
-    let count = more.len();
-    let by = tallies.len();
-    reserve(marks, others.len())?;
-    append(tallies, more)?;
-    put_moved(marks, others, by, count);
+    make_room(marks, tallies, &others)?;
+    take_all(marks, tallies, hints, others, &more);
     Ok(())
 }
 
@@ -115,10 +126,12 @@ fn put(
     parts: &[Tally],
 ) -> Result<(), Memory>
     requires mine { ArePiled tallies.old.items marks.old.items }
+    requires own { HaveOwnParts marks.old.items }
     requires alike { MayGather (pile_of tallies.old.items marks.old.items)
         (group_by key rows parts.now ∷ []) }
     requires small { IsSmallGroup (group_by key rows parts.now) }
     ensures mine { ArePiled tallies.new.items marks.new.items }
+    ensures own { HaveOwnParts marks.new.items }
     ensures put { OnOk result (pile_of tallies.new.items marks.new.items
         ≡ gather key_order add_own_sums (pile_of tallies.old.items marks.old.items
         ++ group_by key rows parts.now ∷ [])) }
@@ -148,6 +161,7 @@ impl Pile {
             marks: Vec::new(alloc),
             tallies: Vec::new(alloc),
             settled: SHORT,
+            hints: Hints::none(alloc),
         }
     }
 
@@ -174,9 +188,22 @@ impl Pile {
             marks,
             tallies,
             settled: _,
+            hints: _,
         } = other;
-        join(&mut self.marks, &mut self.tallies, marks, tallies)?;
-        self.settled = keep_short(self.alloc, &mut self.marks, &mut self.tallies, self.settled);
+        join(
+            &mut self.marks,
+            &mut self.tallies,
+            &mut self.hints,
+            marks,
+            tallies,
+        )?;
+        self.settled = keep_short(
+            self.alloc,
+            &mut self.marks,
+            &mut self.tallies,
+            &mut self.hints,
+            self.settled,
+        );
         Ok(())
     }
 
@@ -199,6 +226,7 @@ impl Pile {
             mut marks,
             mut tallies,
             settled: _,
+            hints: _,
         } = self;
         settle(alloc, &mut marks, &mut tallies)?;
         put_lone(&mut marks, keys)?;

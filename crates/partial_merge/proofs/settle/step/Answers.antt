@@ -6,6 +6,8 @@ use Rattle.answer_rules.specs.Parts.{Part, add_own_sums}
 use Rattle.partial_merge.specs.Adding.{MayPut, parts_of, placed, stacked}
 use Rattle.partial_merge.specs.declared.mark.Mark.{Mark}
 use Rattle.partial_merge.specs.Groups.{IsThere, group_of}
+use Rattle.partial_merge.specs.Sharing.{HaveOwnParts}
+use Rattle.partial_merge.proofs.Owning.{alone_owns}
 use Rattle.partial_merge.proofs.Settling.{alone_there, none_left, put_first}
 use Rattle.partial_merge.proofs.settle.step.Goals as goal
 
@@ -40,3 +42,11 @@ put_two-requires-clause-may c = subst (λ (ms : List Mark). MayPut (group_of c.a
 
 pub returns-in-Some-clause-put : goal.returns-in-Some-clause-put
 returns-in-Some-clause-put c = c.put_two.ensures.put ∙ ap (λ (ms : List Mark). put_group key_order add_own_sums (group_of c.args.tallies.now.items c.args.mark) (stacked c.args.fresh.now.items ms)) (sym c.in-Some.ensures.items)
+
+pub returns-in-None-clause-own : goal.returns-in-None-clause-own
+returns-in-None-clause-own c =
+    subst HaveOwnParts (sym (out_is c))
+    (alone_owns c.args.fresh.now.items [] c.args.mark (subst (λ (ms : List Mark). All (IsThere (length c.args.fresh.now.items)) ms) (none c) c.requires.there) (subst HaveOwnParts (none c) c.requires.own))
+
+pub put_two-requires-clause-own : goal.put_two-requires-clause-own
+put_two-requires-clause-own c = subst HaveOwnParts c.in-Some.ensures.items c.requires.own
