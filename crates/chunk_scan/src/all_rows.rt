@@ -9,18 +9,19 @@ ghost use Rattle.partial_merge.specs.Joining.{IsOfRows, TakesRow};
 ghost use Rattle.chunk_scan.specs.Computed.{AreReady, cells_in, keys_on};
 ghost use Rattle.chunk_scan.specs.Lines.{IsOfRowsOver};
 
-use crate::columns::{columns, fill_at, rank_at};
+use crate::columns::{columns, fill_at, give_back, rank_at};
 use crate::line::is_down;
+use crate::scratch::Scratch;
 use answer_rules::ChunkQuery;
 use column_block::Block;
-use column_eval::{Scratch, ValueList};
+use column_eval::ValueList;
 use partial_merge::{Piece, Rank};
 use sky_io::Memory;
 use sky_vector::Num;
 use std::alloc::Global;
 
-/// The piece of the rows at these places, which have these keys. Takes memory for a value a row and item, for the evaluator,
-/// and for what the piece keeps.
+/// The piece of the rows at these places, which have these keys. Takes memory for what the piece keeps, for a few words an
+/// item, and where the scratch has no vector with enough room.
 pub(crate) fn all_rows<'w>(
     alloc: Global,
     block: &Block,
@@ -47,6 +48,7 @@ pub(crate) fn all_rows<'w>(
         let rank = rank_at(down, keys, ids, places[i], i);
         push_at(&mut piece, &mut values, columns.as_slice(), &rank, i)?;
     }
+    give_back(columns, scratch);
     Ok(piece)
 }
 

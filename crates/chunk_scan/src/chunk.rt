@@ -14,24 +14,25 @@ ghost use Rattle.chunk_scan.specs.Lines.{IsPieceOver};
 
 use crate::group_piece::piece_of_groups;
 use crate::row_piece::row_piece;
+use crate::scratch::Scratch;
 use crate::standing::standing;
 use answer_rules::ChunkQuery;
 use chunk_store::Store;
 use column_block::Block;
-use column_eval::Scratch;
 use partial_merge::Piece;
 use sky_io::Memory;
 use sky_row::Rows;
 use sql_bound::Shape;
 use std::alloc::Global;
 
-/// What the query finds in the chunk alone. Takes memory for a truth and a place a row of the chunk, for the evaluator, and
-/// for what the piece keeps.
+/// What the query finds in the chunk alone, whatever the scratch was used for before. Takes memory for what the piece keeps,
+/// for a few words a key and item, and where the scratch has no vector with enough room.
 pub fn scan<'w>(
     alloc: Global,
     store: &'w Store,
     chunk: u32,
     query: &ChunkQuery,
+    scratch: &mut Scratch,
 ) -> Result<Piece<'w>, Memory>
     requires there { chunk < chunk_count store.now.plan }
     requires filled { is_filled store.now.plan store.now.rows.objects chunk ≡ true }
@@ -43,17 +44,10 @@ pub fn scan<'w>(
     let block = store.block(chunk);
     let own = store.chunk(chunk);
     let rows = store.rows();
-    let mut scratch = Scratch::new(alloc);
-    let places = standing(alloc, block, query.conds.as_slice(), &mut scratch)?;
-    piece_at(
-        alloc,
-        block,
-        rows,
-        own,
-        query,
-        places.as_slice(),
-        &mut scratch,
-    )
+    let places = standing(block, query.conds.as_slice(), scratch)?;
+    let piece = piece_at(alloc, block, rows, own, query, places.as_slice(), scratch)?;
+    scratch.places.give(places);
+    Ok(piece)
 }
 
 /// What a store tells of itself: its plan is within the limits, and its rows lie in the sky and are not too many. Takes no

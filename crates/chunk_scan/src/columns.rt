@@ -10,16 +10,17 @@ ghost use Rattle.chunk_scan.specs.Computed.{AreReady, cells_in, item_on, key_in,
 ghost use Rattle.chunk_scan.specs.Parted.{IsReady};
 
 use crate::line::{push, rank_of};
+use crate::scratch::Scratch;
 use answer_rules::{ChunkItem, ChunkOrder};
 use column_block::Block;
-use column_eval::{Scratch, ValueList, values};
+use column_eval::{ValueList, values};
 use partial_merge::Rank;
 use sky_io::Memory;
 use sky_vector::Num;
 use std::alloc::Global;
 
-/// The values that the rows at these places are ordered by, if there is an order. Takes memory for a value a row, and for
-/// the evaluator.
+/// The values that the rows at these places are ordered by, if there is an order. Takes memory where the scratch has no
+/// vector with enough room.
 pub(crate) fn keys(
     block: &Block,
     order: &Option<ChunkOrder>,
@@ -49,11 +50,11 @@ fn keys_by(
     ensures { IfOk result (λ keys. keys
         ≡ keys_on (objects_at block.now.objects places.now) (Some order.now)) }
 {
-    Ok(Some(values(block, &order.key, places, scratch)?))
+    Ok(Some(values(block, &order.key, places, &mut scratch.columns)?))
 }
 
-/// For each of these items its values on the rows at these places. Takes memory for a value a row and item, and for the
-/// evaluator.
+/// For each of these items its values on the rows at these places. Takes memory for a list of them, and where the scratch
+/// has no vector with enough room.
 pub(crate) fn columns(
     alloc: Global,
     block: &Block,
@@ -77,9 +78,20 @@ pub(crate) fn columns(
 fn put(columns: &mut Vec<ValueList>, column: ValueList) -> Result<(), Memory>
     ensures { OnOk result (columns.new.items ≡ columns.old.items ++ column ∷ []) }
 {
-    match columns.push(column) {
-        Ok(()) => Ok(()),
-        Err(_) => Err(Memory),
+    Ok(columns.push(column)?)
+}
+
+/// Gives the values of the items back to the scratch. Takes no memory.
+pub(crate) fn give_back(columns: Vec<ValueList>, scratch: &mut Scratch) {
+    for column in columns {
+        column.give_back(&mut scratch.columns);
+    }
+}
+
+/// Gives the values that rows are ordered by back to the scratch. Takes no memory.
+pub(crate) fn give_keys_back(keys: Option<ValueList>, scratch: &mut Scratch) {
+    if let Some(keys) = keys {
+        keys.give_back(&mut scratch.columns);
     }
 }
 
@@ -96,7 +108,7 @@ fn column(
         ≡ item_on (objects_at block.now.objects places.now) item.now) }
 {
     match item {
-        ChunkItem::Plain(e) => values(block, e, places, scratch),
+        ChunkItem::Plain(e) => values(block, e, places, &mut scratch.columns),
         _ => unreachable!(),
     }
 }

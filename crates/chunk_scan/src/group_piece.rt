@@ -21,17 +21,17 @@ ghost use Rattle.partial_merge.specs.Joining.{MayTakeGroup, with_group};
 use crate::key_order::by_key;
 use crate::part::fill;
 use crate::runs::{run_end, starts};
-use crate::worth::worths;
+use crate::scratch::Scratch;
+use crate::worth::{give_back, worths};
 use answer_rules::ChunkQuery;
 use column_block::Block;
-use column_eval::Scratch;
 use partial_merge::{Key, Piece, Tally};
 use sky_io::Memory;
 use sql_bound::BoundCol;
 use std::alloc::Global;
 
-/// The piece of the groups of the rows at these places. Takes memory for a truth, a place and two words a row, for the values
-/// of each aggregate's expression, and for what the piece keeps.
+/// The piece of the groups of the rows at these places. Takes memory for what the piece keeps, for a few words a key and item,
+/// and where the scratch has no vector with enough room.
 pub(crate) fn piece_of_groups<'w>(
     alloc: Global,
     block: &Block,
@@ -72,8 +72,10 @@ fn by_keys<'w>(
     ensures { IfOk result (λ piece. piece ≡ OfGroups (partials_of keys.now query.now.items
         (map row (objects_at block.now.objects places.now)))) }
 {
-    let order = by_key(alloc, block, keys, places)?;
-    group_piece(alloc, block, query, keys, order.as_slice(), scratch)
+    let order = by_key(block, keys, places, scratch)?;
+    let piece = group_piece(alloc, block, query, keys, order.as_slice(), scratch)?;
+    scratch.places.give(order);
+    Ok(piece)
 }
 
 /// The same of places in any order. Of a key there is a group for each time that it stands anew; the piece joins them.
@@ -93,7 +95,7 @@ fn group_piece<'w>(
         (map row (objects_at block.now.objects places.now)))) }
 {
     let _count = block.len();
-    let starts = starts(alloc, block, keys, places)?;
+    let starts = starts(block, keys, places, scratch)?;
     let worths = worths(alloc, block, query.items.as_slice(), places, scratch)?;
     let mut piece = Piece::empty(alloc, query);
     let mut cells = Vec::new(alloc);
@@ -118,6 +120,8 @@ fn group_piece<'w>(
         )?;
         from = to;
     }
+    scratch.flags.give(starts);
+    give_back(worths, scratch);
     Ok(piece)
 }
 
@@ -161,10 +165,7 @@ fn fill_key(
 fn push_cell(cells: &mut Vec<Option<i64>>, value: Option<i64>) -> Result<(), Memory>
     ensures { OnOk result (cells.new.items ≡ cells.old.items ++ value ∷ []) }
 {
-    match cells.push(value) {
-        Ok(()) => Ok(()),
-        Err(_) => Err(Memory),
-    }
+    Ok(cells.push(value)?)
 }
 
 /// The value of the row at the place in a key column.

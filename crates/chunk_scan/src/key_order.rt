@@ -9,30 +9,29 @@ ghost use Rattle.std.specs.List.Sorted.{IsPermutation};
 ghost use Rattle.table_rules.specs.declared.limits.TheConstants.{ROWS_MOST};
 ghost use Rattle.value_rules.specs.Sound.{has_col};
 
-use crate::standing::zeros;
+use crate::scratch::Scratch;
 use crate::together::bring_together;
 use crate::word::{mix_narrow, mix_presence, mix_wide, put_places, take_places};
 use column_block::Block;
 use sky_io::Memory;
 use sky_row::Column;
 use sql_bound::BoundCol;
-use std::alloc::Global;
 
-/// The places with those of one key together. Takes memory for two words and a place a row, 20 bytes.
+/// The places with those of one key together, in a vector of the scratch. It needs two words and a place a row, 20 bytes.
 pub(crate) fn by_key(
-    alloc: Global,
     block: &Block,
     keys: &[BoundCol],
     places: &[u32],
+    scratch: &mut Scratch,
 ) -> Result<Vec<u32>, Memory>
     requires few { length block.now.objects ≤ ROWS_MOST }
     requires there { All (λ place. place < length block.now.objects) places.now }
     requires sound { IsTrue (list_all (has_col (4 + block.now.width) false) keys.now) }
     ensures { IfOk result (λ order. IsPermutation places.now order.items) }
 {
-    let mut words = room(alloc, places.len())?;
-    let mut spare = room(alloc, places.len())?;
-    let mut order = zeros(alloc, places.len())?;
+    let mut words = scratch.words.filled(0, places.len())?;
+    let mut spare = scratch.words.filled(0, places.len())?;
+    let mut order = scratch.places.filled(0, places.len())?;
     put_numbers(words.as_mut_slice(), block, keys, places);
     reorder(
         words.as_mut_slice(),
@@ -40,17 +39,9 @@ pub(crate) fn by_key(
         places,
         order.as_mut_slice(),
     );
+    scratch.words.give(words);
+    scratch.words.give(spare);
     Ok(order)
-}
-
-/// Room for so many words.
-fn room(alloc: Global, count: usize) -> Result<Vec<u64>, Memory>
-    ensures { IfOk result (λ list. list.items ≡ replicate count 0) }
-{
-    match vec![in alloc; 0u64; count] {
-        Ok(list) => Ok(list),
-        Err(_) => Err(Memory),
-    }
 }
 
 /// Puts the places into the order, those of one number together. `spare` is room for as many words.

@@ -6,6 +6,7 @@
 //! which rows of one key stand together, the values of its aggregates are computed a column at a time, and rows of one key that
 //! stand together are put into the piece as one group. Of rows the values that they are ordered by are computed so, and without
 //! a LIMIT those of the items too; with a LIMIT n a row that comes behind n others is passed over before its items are computed.
+//! What a scan needs beside its piece stands in a `Scratch`, which its caller keeps for the next one.
 //! Below: `chunk_store` for the rows of a chunk and their columns, `expr_eval` for values, `partial_merge` for the piece.
 //! Above: the sessions.
 //! No pairs of rows, no threads and no other chunk.
@@ -29,6 +30,7 @@ mod place;
 mod row_mask;
 mod row_piece;
 mod runs;
+mod scratch;
 mod standing;
 mod together;
 mod word;
@@ -36,3 +38,4 @@ mod worth;
 
 pub use chunk::scan;
 pub use row_mask::mask;
+pub use scratch::Scratch;

@@ -49,10 +49,7 @@ pub(crate) fn fill(
 pub(crate) fn push(values: &mut Vec<Option<Num>>, value: Option<Num>) -> Result<(), Memory>
     ensures { OnOk result (values.new.items ≡ values.old.items ++ value ∷ []) }
 {
-    match values.push(value) {
-        Ok(()) => Ok(()),
-        Err(_) => Err(Memory),
-    }
+    Ok(values.push(value)?)
 }
 
 /// The value of an item; an aggregate has none on a row.

@@ -41,10 +41,7 @@ pub(crate) fn fill(
 fn push(parts: &mut Vec<Tally>, part: Tally) -> Result<(), Memory>
     ensures { OnOk result (parts.new.items ≡ parts.old.items ++ part ∷ []) }
 {
-    match parts.push(part) {
-        Ok(()) => Ok(()),
-        Err(_) => Err(Memory),
-    }
+    Ok(parts.push(part)?)
 }
 
 /// The part of the rows from one place up to another; NULL is not counted, and COUNT(*) counts the rows.

@@ -9,11 +9,11 @@ ghost use Rattle.answer_rules.specs.SoundChunks.{IsSoundChunk};
 ghost use Rattle.value_rules.specs.Sound.{has_col, is_paired, is_sound_cond};
 ghost use Rattle.chunk_scan.specs.Standing.{mask_of};
 
-use crate::standing::{filled, standing};
+use crate::scratch::Scratch;
+use crate::standing::standing;
 use answer_rules::ChunkQuery;
 use chunk_store::Store;
 use column_block::Block;
-use column_eval::Scratch;
 use sky_io::Memory;
 use sql_bound::BoundCond;
 use std::alloc::Global;
@@ -47,8 +47,8 @@ fn mask_over(alloc: Global, block: &Block, conds: &[BoundCond]) -> Result<Vec<bo
     ensures { IfOk result (λ mask. mask.items ≡ mask_of conds.now block.now.objects) }
 {
     let mut scratch = Scratch::new(alloc);
-    let places = standing(alloc, block, conds, &mut scratch)?;
-    let mut mask = filled(alloc, false, block.len())?;
+    let places = standing(block, conds, &mut scratch)?;
+    let mut mask = scratch.flags.filled(false, block.len())?;
     set_at(mask.as_mut_slice(), places.as_slice());
     Ok(mask)
 }

@@ -11,18 +11,18 @@ ghost use Rattle.answer_rules.specs.SoundChunks.{IsSoundChunk};
 ghost use Rattle.chunk_scan.specs.Lines.{IsOfRowsOver};
 
 use crate::all_rows::all_rows;
-use crate::columns::keys;
+use crate::columns::{give_keys_back, keys};
 use crate::first_rows::first_rows;
+use crate::scratch::Scratch;
 use answer_rules::ChunkQuery;
 use column_block::Block;
-use column_eval::Scratch;
 use partial_merge::Piece;
 use sky_io::Memory;
 use sky_row::Rows;
 use std::alloc::Global;
 
-/// The piece of the rows at these places among those of the chunk. Takes memory for a value a row that they are ordered by,
-/// without a LIMIT for one more a row and item, for the evaluator, and for what the piece keeps.
+/// The piece of the rows at these places among those of the chunk. Takes memory for what the piece keeps, for a few words an
+/// item, and where the scratch has no vector with enough room.
 pub(crate) fn row_piece<'w>(
     alloc: Global,
     block: &Block,
@@ -43,8 +43,10 @@ pub(crate) fn row_piece<'w>(
         (objects_at block.now.objects places.now)) }
 {
     let keys = keys(block, &query.order, places, scratch)?;
-    match query.limit {
-        None => all_rows(alloc, block, query, &keys, places, scratch),
-        Some(_) => first_rows(alloc, block, rows, own, query, &keys, places),
-    }
+    let piece = match query.limit {
+        None => all_rows(alloc, block, query, &keys, places, scratch)?,
+        Some(_) => first_rows(alloc, block, rows, own, query, &keys, places)?,
+    };
+    give_keys_back(keys, scratch);
+    Ok(piece)
 }

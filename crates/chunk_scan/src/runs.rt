@@ -6,19 +6,18 @@ ghost use Rattle.sky_row.specs.Columns.{column_in, objects_at};
 ghost use Rattle.value_rules.specs.Sound.{has_col};
 ghost use Rattle.chunk_scan.specs.Runs.{AreStarts, IsMarked, IsMarkedBy};
 
-use crate::standing::filled;
+use crate::scratch::Scratch;
 use column_block::Block;
 use sky_io::Memory;
 use sky_row::Column;
 use sql_bound::BoundCol;
-use std::alloc::Global;
 
-/// For each row a truth: false only where its key is that of the row before it. Takes memory for a truth a row.
+/// For each row a truth, in a vector of the scratch: false only where its key is that of the row before it.
 pub(crate) fn starts(
-    alloc: Global,
     block: &Block,
     keys: &[BoundCol],
     places: &[u32],
+    scratch: &mut Scratch,
 ) -> Result<Vec<bool>, Memory>
     requires there { All (λ place. place < length block.now.objects) places.now }
     requires sound { IsTrue (list_all (has_col (4 + block.now.width) false) keys.now) }
@@ -26,11 +25,22 @@ pub(crate) fn starts(
     ensures are { IfOk result (λ starts.
         AreStarts keys.now (objects_at block.now.objects places.now) starts.items) }
 {
-    let mut starts = filled(alloc, false, places.len())?;
-    for key in keys {
-        mark(starts.as_mut_slice(), block, key.col, places);
-    }
+    let mut starts = scratch.flags.filled(false, places.len())?;
+    mark_all(starts.as_mut_slice(), block, keys, places);
     Ok(starts)
+}
+
+/// Marks the rows whose key is another than that of the row before.
+fn mark_all(starts: &mut [bool], block: &Block, keys: &[BoundCol], places: &[u32])
+    requires len { length starts.old ≡ length places.now }
+    requires there { All (λ place. place < length block.now.objects) places.now }
+    requires sound { IsTrue (list_all (has_col (4 + block.now.width) false) keys.now) }
+    ensures len { length starts.new ≡ length starts.old }
+    ensures are { AreStarts keys.now (objects_at block.now.objects places.now) starts.new }
+{
+    for key in keys {
+        mark(starts, block, key.col, places);
+    }
 }
 
 /// Marks the rows whose value in a column is another than that of the row before.

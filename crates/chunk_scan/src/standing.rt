@@ -10,18 +10,17 @@ ghost use Rattle.chunk_scan.specs.Standing.{IsNarrowed, IsNarrowedBy, AreDone, h
 
 use crate::early::early;
 use crate::kernel::keep_asked;
+use crate::scratch::Scratch;
 use column_block::Block;
-use column_eval::{Scratch, truths};
+use column_eval::truths;
 use lane_filter::picked;
 use sky_io::Memory;
 use sql_bound::BoundCond;
-use std::alloc::Global;
 
-/// The places, ascending, of the rows of the block that meet all of the conditions. Takes memory for a truth and a place a
-/// row, and for what the evaluator needs.
+/// The places, ascending, of the rows of the block that meet all of the conditions, in a vector of the scratch. It needs a
+/// truth and a place a row, and what the evaluator needs.
 #[tactic(auto, using(crate::proofs::Places::done_at_places, crate::proofs::Places::standing_places, crate::proofs::Places::there_places))]
 pub(crate) fn standing(
-    alloc: Global,
     block: &Block,
     conds: &[BoundCond],
     scratch: &mut Scratch,
@@ -33,40 +32,22 @@ pub(crate) fn standing(
     ensures there { IfOk result (λ places.
         All (λ place. place < length block.now.objects) places.items) }
 {
-    let mut mask = filled(alloc, true, block.len())?;
-    let done = narrow_all(alloc, block, conds, mask.as_mut_slice())?;
-    let mut places = places_in(alloc, mask.as_slice())?;
+    let mut mask = scratch.flags.filled(true, block.len())?;
+    let done = narrow_all(block, conds, mask.as_mut_slice(), scratch)?;
+    let mut places = places_in(mask.as_slice(), scratch)?;
+    scratch.flags.give(mask);
     keep_all(block, conds, done.as_slice(), &mut places, scratch)?;
+    scratch.flags.give(done);
     Ok(places)
-}
-
-/// So many times one flag.
-pub(crate) fn filled(alloc: Global, flag: bool, count: usize) -> Result<Vec<bool>, Memory>
-    ensures { IfOk result (λ list. list.items ≡ replicate count flag) }
-{
-    match vec![in alloc; flag; count] {
-        Ok(list) => Ok(list),
-        Err(_) => Err(Memory),
-    }
-}
-
-/// So many places, all of them 0.
-pub(crate) fn zeros(alloc: Global, count: usize) -> Result<Vec<u32>, Memory>
-    ensures { IfOk result (λ list. list.items ≡ replicate count 0) }
-{
-    match vec![in alloc; 0u32; count] {
-        Ok(list) => Ok(list),
-        Err(_) => Err(Memory),
-    }
 }
 
 /// Lets the kernels clear the mask by each condition that they know, and tells which conditions are done with.
 #[tactic(auto, using(crate::proofs::Narrowing::narrowed_none, crate::proofs::Narrowing::narrowed_more))]
 fn narrow_all(
-    alloc: Global,
     block: &Block,
     conds: &[BoundCond],
     mask: &mut [bool],
+    scratch: &mut Scratch,
 ) -> Result<Vec<bool>, Memory>
     requires all { mask.old ≡ replicate (length block.now.objects) true }
     requires sound { IsTrue (list_all (is_sound_cond (has_col (4 + block.now.width) false))
@@ -76,7 +57,7 @@ fn narrow_all(
     ensures count { IfOk result (λ done. length done.items ≡ length conds.now) }
     ensures len { length mask.new ≡ length mask.old }
 {
-    let mut done = filled(alloc, false, conds.len())?;
+    let mut done = scratch.flags.filled(false, conds.len())?;
     for i in 0..conds.len() {
         done[i] = narrow_by(block, &conds[i], mask);
     }
@@ -100,11 +81,11 @@ fn narrow_by(block: &Block, c: &BoundCond, mask: &mut [bool]) -> bool
 }
 
 /// The places at which the mask is true, ascending.
-fn places_in(alloc: Global, mask: &[bool]) -> Result<Vec<u32>, Memory>
+fn places_in(mask: &[bool], scratch: &mut Scratch) -> Result<Vec<u32>, Memory>
     requires { length mask.now < 2 ^ 32 }
     ensures { IfOk result (λ places. places.items ≡ places_of mask.now) }
 {
-    let mut places = zeros(alloc, mask.len())?;
+    let mut places = scratch.places.filled(0, mask.len())?;
     let count = picked(mask, places.as_mut_slice());
     places.truncate(count);
     Ok(places)
@@ -169,9 +150,9 @@ fn keep_holding(
     ensures { OnOk result (places.new.items
         ≡ filter (holds_at c.now block.now.objects) places.old.items) }
 {
-    let found = truths(block, c, places.as_slice(), scratch)?;
+    let found = truths(block, c, places.as_slice(), &mut scratch.columns)?;
     keep_true(places, found.holds());
-    found.give_back(scratch);
+    found.give_back(&mut scratch.columns);
     Ok(())
 }
 

@@ -7,15 +7,16 @@ ghost use Rattle.value_rules.specs.Sound.{has_col, is_sound_expr};
 ghost use Rattle.chunk_scan.specs.Grouped.{is_sound_total};
 ghost use Rattle.chunk_scan.specs.Parted.{values_on, worth_of};
 
+use crate::scratch::Scratch;
 use answer_rules::ChunkItem;
 use column_block::Block;
-use column_eval::{Scratch, ValueList, values};
+use column_eval::{ValueList, values};
 use sky_io::Memory;
 use sql_bound::BoundExpr;
 use std::alloc::Global;
 
 /// For each of these aggregates the values of its expression on the rows at these places; COUNT(*) has none. Takes memory
-/// for a value a row and aggregate, and for the evaluator.
+/// for a list of them, and where the scratch has no vector with enough room.
 pub(crate) fn worths(
     alloc: Global,
     block: &Block,
@@ -39,9 +40,15 @@ pub(crate) fn worths(
 fn push(worths: &mut Vec<Option<ValueList>>, worth: Option<ValueList>) -> Result<(), Memory>
     ensures { OnOk result (worths.new.items ≡ worths.old.items ++ worth ∷ []) }
 {
-    match worths.push(worth) {
-        Ok(()) => Ok(()),
-        Err(_) => Err(Memory),
+    Ok(worths.push(worth)?)
+}
+
+/// Gives the values back to the scratch. Takes no memory.
+pub(crate) fn give_back(worths: Vec<Option<ValueList>>, scratch: &mut Scratch) {
+    for worth in worths {
+        if let Some(found) = worth {
+            found.give_back(&mut scratch.columns);
+        }
     }
 }
 
@@ -79,5 +86,5 @@ fn of_expr(
     ensures { IfOk result (λ worth. worth
         ≡ Some (values_on e.now (objects_at block.now.objects places.now))) }
 {
-    Ok(Some(values(block, e, places, scratch)?))
+    Ok(Some(values(block, e, places, &mut scratch.columns)?))
 }

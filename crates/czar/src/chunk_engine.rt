@@ -8,7 +8,7 @@ ghost use Rattle.answer_rules.specs.SoundChunks.{IsSoundChunk};
 ghost use Rattle.czar.specs.Running.{IsOpen};
 
 use answer_rules::ChunkQuery;
-use chunk_scan::scan;
+use chunk_scan::{Scratch, scan};
 use chunk_store::Store;
 use near_join::join;
 use partial_merge::Piece;
@@ -31,6 +31,7 @@ fn piece_of<'w>(
     world: &'w Store,
     query: &ChunkQuery,
     chunk: u32,
+    scratch: &mut Scratch,
 ) -> Result<Piece<'w>, Memory>
     requires open { IsOpen world.now.plan world.now.rows query.now.shape chunk }
     requires sound { IsSoundChunk (4 + length world.now.rows.names) query.now }
@@ -38,18 +39,24 @@ fn piece_of<'w>(
 {
     match &query.shape {
         Shape::Pairs { .. } => join(alloc, world, chunk, query),
-        _ => scan(alloc, world, chunk, query),
+        _ => scan(alloc, world, chunk, query, scratch),
     }
 }
 
 impl<'w, 's> Engine<Piece<'w>> for ChunkEngine<'w, 's> {
     ghost use Rattle.czar.specs.Attached.{base_of};
 
+    type Scratch = Scratch;
+
     ghost root = { λ s. base_of s.world.now.plan s.world.now.rows s.queries.now };
 
-    fn piece(&self, q: u32, chunk: u32) -> Result<Piece<'w>, Memory> {
+    fn scratch(&self) -> Scratch {
+        Scratch::new(self.alloc)
+    }
+
+    fn piece(&self, q: u32, chunk: u32, scratch: &mut Scratch) -> Result<Piece<'w>, Memory> {
         match &self.queries[(q - 1) as usize] {
-            Some(query) => piece_of(self.alloc, self.world, query, chunk),
+            Some(query) => piece_of(self.alloc, self.world, query, chunk, scratch),
             None => unreachable!(),
         }
     }

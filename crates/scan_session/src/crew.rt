@@ -25,7 +25,7 @@ use crate::czar::czar;
 use crate::end::{End, Outcome, Planned};
 use scan_board::SharedBoard;
 use scan_core::{Board, Work};
-use scan_worker::{Engine, worker};
+use scan_worker::{Desk, Engine, worker};
 use session_script::Step;
 use sky_io::Gate;
 use std::alloc::Global;
@@ -33,7 +33,7 @@ use std::sync::Wait;
 use std::thread::{Threads, join};
 use turn_lock::Seat;
 
-/// The czar's part alone, with his lists by value.
+/// The czar's part alone, with his lists by value and a desk of his own.
 fn alone<R: Wait, P: Work, E: Engine<P>, G: Gate>(
     alloc: Global,
     rt: &R,
@@ -64,8 +64,9 @@ fn alone<R: Wait, P: Work, E: Engine<P>, G: Gate>(
 {
     let mut plans = plans;
     let mut ends = ends;
+    let mut desk = Desk::new(alloc, engine.scratch());
     let (outcome, seat) = czar(
-        alloc,
+        &mut desk,
         rt,
         board,
         seat,
@@ -93,6 +94,7 @@ pub fn manned<R: Threads + Wait + Sync, P: Work + Send, E: Engine<P> + Sync, G: 
 ) -> (Outcome, Vec<Option<End<P>>>, Seat<Board<P>>)
 where
     P::Root: Send,
+    E::Scratch: Send,
     requires own { seat.turn ≡ board.now }
     requires czar { IsCzar P.asks seat }
     requires engine { E.root engine.now ≡ seat.root.root }

@@ -15,16 +15,15 @@ use crate::end::{End, Outcome, Planned};
 use crate::script::{all_ends, all_lines};
 use scan_board::SharedBoard;
 use scan_core::{Board, Work};
-use scan_worker::Engine;
+use scan_worker::{Desk, Engine};
 use session_script::Step;
 use sky_io::Gate;
-use std::alloc::Global;
 use std::sync::Wait;
 use turn_lock::Seat;
 
 /// The script, and then the ends of all queries.
 fn whole<R: Wait, P: Work, E: Engine<P>, G: Gate>(
-    alloc: Global,
+    desk: &mut Desk<E::Scratch>,
     rt: &R,
     board: &SharedBoard<P>,
     seat: Seat<Board<P>>,
@@ -50,9 +49,9 @@ fn whole<R: Wait, P: Work, E: Engine<P>, G: Gate>(
         → PiecesStand (P.stands seat.root.root) result.1.seen ends.new }
     ensures stays { Stays P.asks seat result.1 }
 {
-    let (outcome, seat) = all_lines(alloc, rt, board, seat, engine, gate, plans, ends, steps);
+    let (outcome, seat) = all_lines(desk, rt, board, seat, engine, gate, plans, ends, steps);
     match outcome {
-        Outcome::Went => all_ends(alloc, rt, board, seat, engine, gate, ends),
+        Outcome::Went => all_ends(desk, rt, board, seat, engine, gate, ends),
         Outcome::Memory => (Outcome::Memory, seat),
         Outcome::Odd => (Outcome::Odd, seat),
     }
@@ -78,7 +77,7 @@ pub fn close<R: Wait, P: Work>(
 
 /// The czar's part of a session: the script, the ends of all queries, and the close, also where memory is wanting.
 pub fn czar<R: Wait, P: Work, E: Engine<P>, G: Gate>(
-    alloc: Global,
+    desk: &mut Desk<E::Scratch>,
     rt: &R,
     board: &SharedBoard<P>,
     seat: Seat<Board<P>>,
@@ -105,6 +104,6 @@ pub fn czar<R: Wait, P: Work, E: Engine<P>, G: Gate>(
     ensures closed { is_closed result.1.seen ≡ true }
     ensures stays { Stays P.asks seat result.1 }
 {
-    let (outcome, seat) = whole(alloc, rt, board, seat, engine, gate, plans, ends, steps);
+    let (outcome, seat) = whole(desk, rt, board, seat, engine, gate, plans, ends, steps);
     (outcome, close(rt, board, seat))
 }

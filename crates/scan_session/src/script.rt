@@ -17,16 +17,15 @@ use crate::end::{End, Outcome, Planned};
 use crate::steps::{cancel, end_of, start};
 use scan_board::SharedBoard;
 use scan_core::{Board, Work};
-use scan_worker::Engine;
+use scan_worker::{Desk, Engine};
 use session_script::Step;
 use sky_io::Gate;
-use std::alloc::Global;
 use std::sync::Wait;
 use turn_lock::Seat;
 
 /// Learns the end of a query, and waits for it where it is not known yet.
 pub fn await_end<R: Wait, P: Work, E: Engine<P>, G: Gate>(
-    alloc: Global,
+    desk: &mut Desk<E::Scratch>,
     rt: &R,
     board: &SharedBoard<P>,
     seat: Seat<Board<P>>,
@@ -53,7 +52,7 @@ pub fn await_end<R: Wait, P: Work, E: Engine<P>, G: Gate>(
     if ends[place].is_some() {
         return (Outcome::Went, seat);
     }
-    let (end, seat) = end_of(alloc, rt, board, seat, engine, gate, q);
+    let (end, seat) = end_of(desk, rt, board, seat, engine, gate, q);
     match end {
         None => (Outcome::Odd, seat),
         Some(end) => {
@@ -89,7 +88,7 @@ fn cancel_line<R: Wait, P: Work>(
 
 /// A query line: attaches the query, where it is planned.
 fn query_line<R: Wait, P: Work, E: Engine<P>, G: Gate>(
-    alloc: Global,
+    desk: &mut Desk<E::Scratch>,
     rt: &R,
     board: &SharedBoard<P>,
     seat: Seat<Board<P>>,
@@ -117,13 +116,13 @@ fn query_line<R: Wait, P: Work, E: Engine<P>, G: Gate>(
     let place = (q - 1) as usize;
     match plans[place].take() {
         None => (Outcome::Went, seat),
-        Some(planned) => start(alloc, rt, board, seat, engine, gate, q, planned),
+        Some(planned) => start(desk, rt, board, seat, engine, gate, q, planned),
     }
 }
 
 /// One line of the script.
 fn line<R: Wait, P: Work, E: Engine<P>, G: Gate>(
-    alloc: Global,
+    desk: &mut Desk<E::Scratch>,
     rt: &R,
     board: &SharedBoard<P>,
     seat: Seat<Board<P>>,
@@ -156,16 +155,16 @@ fn line<R: Wait, P: Work, E: Engine<P>, G: Gate>(
 {
     match step {
         Step::Query { number, span: _ } => {
-            query_line(alloc, rt, board, seat, engine, gate, plans, number)
+            query_line(desk, rt, board, seat, engine, gate, plans, number)
         }
-        Step::Wait { number } => await_end(alloc, rt, board, seat, engine, gate, ends, number),
+        Step::Wait { number } => await_end(desk, rt, board, seat, engine, gate, ends, number),
         Step::Cancel { number } => (Outcome::Went, cancel_line(rt, board, seat, ends, number)),
     }
 }
 
 /// All lines of the script.
 pub fn all_lines<R: Wait, P: Work, E: Engine<P>, G: Gate>(
-    alloc: Global,
+    desk: &mut Desk<E::Scratch>,
     rt: &R,
     board: &SharedBoard<P>,
     seat: Seat<Board<P>>,
@@ -192,7 +191,7 @@ pub fn all_lines<R: Wait, P: Work, E: Engine<P>, G: Gate>(
 {
     let mut seat = seat;
     for step in steps {
-        let (outcome, next) = line(alloc, rt, board, seat, engine, gate, plans, ends, *step);
+        let (outcome, next) = line(desk, rt, board, seat, engine, gate, plans, ends, *step);
         seat = next;
         match outcome {
             Outcome::Went => {}
@@ -205,7 +204,7 @@ pub fn all_lines<R: Wait, P: Work, E: Engine<P>, G: Gate>(
 
 /// The ends of all queries.
 pub fn all_ends<R: Wait, P: Work, E: Engine<P>, G: Gate>(
-    alloc: Global,
+    desk: &mut Desk<E::Scratch>,
     rt: &R,
     board: &SharedBoard<P>,
     seat: Seat<Board<P>>,
@@ -230,7 +229,7 @@ pub fn all_ends<R: Wait, P: Work, E: Engine<P>, G: Gate>(
     let mut seat = seat;
     for place in 0..ends.len() {
         let (outcome, next) = await_end(
-            alloc,
+            desk,
             rt,
             board,
             seat,

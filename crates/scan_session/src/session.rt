@@ -100,6 +100,7 @@ pub fn drive<R: Threads + Wait + Sync, P: Work + Send, E: Engine<P> + Sync, G: G
 ) -> (Result<Vec<End<P>>, Memory>, Seat<Board<P>>)
 where
     P::Root: Send,
+    E::Scratch: Send,
     requires own { seat.turn ≡ board.now }
     requires first { (seat.number ≡ 0) × (seat.seen ≡ []) × (seat.mine ≡ []) × (seat.made ≡ 1) }
     requires ring { seat.root.ring ≤ RING_MOST }

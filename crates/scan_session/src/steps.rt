@@ -21,16 +21,15 @@ ghost use Rattle.scan_session.specs.Goes.{Goes, GoesEnded, GoesTold, GoesTried};
 use crate::end::{End, Outcome, Planned, Told, Tried};
 use scan_board::SharedBoard;
 use scan_core::{Attach, Board, Collect, Work};
-use scan_worker::{Engine, Round, work_once};
+use scan_worker::{Desk, Engine, Round, work_once};
 use sky_io::Gate;
-use std::alloc::Global;
 use std::sync::Wait;
 use std::thread;
 use turn_lock::Seat;
 
 /// Works for once; where nothing is to do, gives the processor away. Takes memory, and waits.
 fn work<R: Wait, P: Work, E: Engine<P>, G: Gate>(
-    alloc: Global,
+    desk: &mut Desk<E::Scratch>,
     rt: &R,
     board: &SharedBoard<P>,
     seat: Seat<Board<P>>,
@@ -44,7 +43,7 @@ fn work<R: Wait, P: Work, E: Engine<P>, G: Gate>(
     ensures known { Knows seat_of result }
     ensures lawful { IsLawful P.asks (board_at seat result.seen) }
 {
-    let (round, seat) = work_once(alloc, rt, board, seat, engine, gate);
+    let (round, seat) = work_once(desk, rt, board, seat, engine, gate);
     if round == Round::Idle {
         thread::yield_now();
     }
@@ -53,7 +52,7 @@ fn work<R: Wait, P: Work, E: Engine<P>, G: Gate>(
 
 /// Attaches a query once; where the board is full, works for once instead. Takes memory, and waits.
 pub fn try_start<R: Wait, P: Work, E: Engine<P>, G: Gate>(
-    alloc: Global,
+    desk: &mut Desk<E::Scratch>,
     rt: &R,
     board: &SharedBoard<P>,
     seat: Seat<Board<P>>,
@@ -81,7 +80,7 @@ pub fn try_start<R: Wait, P: Work, E: Engine<P>, G: Gate>(
         Attach::Attached => (Tried::Attached, seat),
         Attach::Full { chunks, empty } => (
             Tried::Full(Planned { chunks, empty }),
-            work(alloc, rt, board, seat, engine, gate),
+            work(desk, rt, board, seat, engine, gate),
         ),
         Attach::Memory { .. } => (Tried::Memory, seat),
         Attach::Closed { .. } => (Tried::Odd, seat),
@@ -91,7 +90,7 @@ pub fn try_start<R: Wait, P: Work, E: Engine<P>, G: Gate>(
 
 /// Attaches a query, and works while the board is full. Takes memory, and waits.
 pub fn start<R: Wait, P: Work, E: Engine<P>, G: Gate>(
-    alloc: Global,
+    desk: &mut Desk<E::Scratch>,
     rt: &R,
     board: &SharedBoard<P>,
     seat: Seat<Board<P>>,
@@ -115,7 +114,7 @@ pub fn start<R: Wait, P: Work, E: Engine<P>, G: Gate>(
     let mut seat = seat;
     let mut planned = planned;
     for _ in rt.forever() {
-        let (tried, next) = try_start(alloc, rt, board, seat, engine, gate, q, planned);
+        let (tried, next) = try_start(desk, rt, board, seat, engine, gate, q, planned);
         seat = next;
         match tried {
             Tried::Full(back) => planned = back,
@@ -146,7 +145,7 @@ pub fn cancel<R: Wait, P: Work>(
 
 /// Asks for a query's end once; while the query runs, works for once instead. Waits.
 pub fn ask_end<R: Wait, P: Work, E: Engine<P>, G: Gate>(
-    alloc: Global,
+    desk: &mut Desk<E::Scratch>,
     rt: &R,
     board: &SharedBoard<P>,
     seat: Seat<Board<P>>,
@@ -166,7 +165,7 @@ pub fn ask_end<R: Wait, P: Work, E: Engine<P>, G: Gate>(
 {
     let (answer, seat) = board.collect(rt, seat, q);
     match answer {
-        Collect::NotYet => (Told::NotYet, work(alloc, rt, board, seat, engine, gate)),
+        Collect::NotYet => (Told::NotYet, work(desk, rt, board, seat, engine, gate)),
         Collect::Piece(piece) => (Told::Ended(End::Answered(piece)), seat),
         Collect::Cancelled => (Told::Ended(End::Cancelled), seat),
         Collect::Spent => (Told::Ended(End::Spent), seat),
@@ -176,7 +175,7 @@ pub fn ask_end<R: Wait, P: Work, E: Engine<P>, G: Gate>(
 
 /// The end of a query, once it has ended; the czar works meanwhile. None where another seat collected it. Waits.
 pub fn end_of<R: Wait, P: Work, E: Engine<P>, G: Gate>(
-    alloc: Global,
+    desk: &mut Desk<E::Scratch>,
     rt: &R,
     board: &SharedBoard<P>,
     seat: Seat<Board<P>>,
@@ -196,7 +195,7 @@ pub fn end_of<R: Wait, P: Work, E: Engine<P>, G: Gate>(
 {
     let mut seat = seat;
     for _ in rt.forever() {
-        let (told, next) = ask_end(alloc, rt, board, seat, engine, gate, q);
+        let (told, next) = ask_end(desk, rt, board, seat, engine, gate, q);
         seat = next;
         match told {
             Told::NotYet => {}

@@ -57,9 +57,13 @@ struct Marker {
 }
 
 impl Engine<Marks> for Marker {
+    type Scratch = ();
+
     ghost root = { λ engine. engine.root };
 
-    fn piece(&self, q: u32, chunk: u32) -> Result<Marks, Memory> {
+    fn scratch(&self) {}
+
+    fn piece(&self, q: u32, chunk: u32, _scratch: &mut ()) -> Result<Marks, Memory> {
         if q == self.starved {
             return Err(Memory);
         }
@@ -159,6 +163,8 @@ fn session<R: Threads + Wait + Sync, E: Engine<Marks> + Sync, G: Gate + Sync>(
     wants: &[Want],
     workers: u32,
 ) -> Result<Vec<u8>, Fail>
+where
+    E::Scratch: Send,
     requires root { E.root engine.now ≡ 7 }
     requires workers { workers ≤ WORKERS_MOST }
 {

@@ -50,9 +50,13 @@ struct Meets {
 }
 
 impl Engine<Met> for Meets {
+    type Scratch = ();
+
     ghost root = { λ engine. engine.root };
 
-    fn piece(&self, _q: u32, chunk: u32) -> Result<Met, Memory> {
+    fn scratch(&self) {}
+
+    fn piece(&self, _q: u32, chunk: u32, _scratch: &mut ()) -> Result<Met, Memory> {
         let mut chunks = Vec::new(self.alloc);
         chunks.push(chunk)?;
         Ok(Met { chunks })
@@ -231,13 +235,17 @@ struct Starves {
 }
 
 impl Engine<Met> for Starves {
+    type Scratch = ();
+
     ghost root = { λ engine. engine.meets.root };
 
-    fn piece(&self, q: u32, chunk: u32) -> Result<Met, Memory> {
+    fn scratch(&self) {}
+
+    fn piece(&self, q: u32, chunk: u32, scratch: &mut ()) -> Result<Met, Memory> {
         if chunk == 1 {
             return Err(Memory);
         }
-        self.meets.piece(q, chunk)
+        self.meets.piece(q, chunk, scratch)
     }
 }
 

@@ -30,10 +30,10 @@ join-other-requires-after_bounds g t c κs bounds =
     let some : 1 ≤ c.args.workers = search rules in
     let before = c.requires.room in
     let room : seat.made + (c.args.workers - 1) < 4294967295 = omega (arith, made, some, before) in
-    let shared : (x : g.row.R.Denot) → (b : ℕ) → (o : ℕ) → (κ : Lft) → Keyless (g.row.R.shr_at x b o κ) = c.requires-raw.1.1.1.1.1.1.1.1.0.shared in
-    let engines : (x : g.row.E.Denot) → (b : ℕ) → (o : ℕ) → (κ : Lft) → Keyless (g.row.E.shr_at x b o κ) = c.requires-raw.1.1.1.1.1.1.1.1.1.0.shared in
-    let gates : (x : g.row.G.Denot) → (b : ℕ) → (o : ℕ) → (κ : Lft) → Keyless (g.row.G.shr_at x b o κ) = c.requires-raw.1.1.1.1.1.1.1.1.1.1.0.shared in
-    ((record { shared = shared }, (own_other, (engine_other, delivered))), (search rules, ((λ a m. m), ((λ a m. m), ((λ a m. m), ((λ a m. m), ((λ a m. m), (record { shared = shared }, (own, (czar, (engine, (c.requires.script, (c.requires.len, (c.requires.few, (fit, (from_1, (some, (room, (search rules, search rules, record { shared = shared }, record { shared = engines }, record { shared = gates })))))))))))))))))))
+    let shared : (x : g.row.R.Denot) → (b : ℕ) → (o : ℕ) → (κ : Lft) → Keyless (g.row.R.shr_at x b o κ) = c.requires-raw.1.1.1.1.1.1.1.1.1.1.0.shared in
+    let engines : (x : g.row.E.Denot) → (b : ℕ) → (o : ℕ) → (κ : Lft) → Keyless (g.row.E.shr_at x b o κ) = c.requires-raw.1.1.1.1.1.1.1.1.1.1.1.0.shared in
+    let gates : (x : g.row.G.Denot) → (b : ℕ) → (o : ℕ) → (κ : Lft) → Keyless (g.row.G.shr_at x b o κ) = c.requires-raw.1.1.1.1.1.1.1.1.1.1.1.1.0.shared in
+    ((record { shared = shared }, (own_other, (engine_other, delivered))), (search rules, ((λ a m. m), ((λ a m. m), ((λ a m. m), ((λ a m. m), ((λ a m. m), ((λ a m. m), (record { shared = shared }, (own, (czar, (engine, (c.requires.script, (c.requires.len, (c.requires.few, (fit, (from_1, (some, (room, (search rules, search rules, search rules, record { shared = shared }, record { shared = engines }, record { shared = gates }))))))))))))))))))))
 
 pub returns-clause-leaves : goal.returns-clause-leaves
 returns-clause-leaves g t c plan marks ready d =

@@ -1,10 +1,10 @@
 use Rattle.std.proofs.Common.{◌≡◌, length, take}
 use Rattle.sky_row.specs.Columns.{objects_at}
 use Rattle.chunk_scan.specs.Runs.{AreStarts}
-use Rattle.chunk_scan.proofs.runs.starts.Given as goal
+use Rattle.chunk_scan.proofs.runs.mark_all.Given as goal
 
 abbrev pub invariant-loop-key : goal.invariant-loop-key
 invariant-loop-key l = record {
-  len : length l.starts.items ≡ length l.places;
-  are : AreStarts (take l.key-index l.keys) (objects_at l.block.objects l.places) l.starts.items;
+  len : length l.starts ≡ length l.places;
+  are : AreStarts (take l.key-index l.keys) (objects_at l.block.objects l.places) l.starts;
 }
