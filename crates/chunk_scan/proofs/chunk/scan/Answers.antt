@@ -6,7 +6,6 @@ use Rattle.column_block.specs.Blocks.{Stored}
 use Rattle.chunk_store.proofs.ChunkBlocks.{chunk_taken}
 use Rattle.chunk_scan.specs.Lines.{IsPieceOver}
 use Rattle.chunk_scan.specs.Standing.{standing}
-use Rattle.chunk_scan.proofs.Answering.{if_ok}
 use Rattle.chunk_scan.proofs.Found.{block_few, block_is, places_few, rows_len}
 use Rattle.chunk_scan.proofs.Scanned.{scanned}
 use Rattle.chunk_scan.proofs.chunk.scan.Goals as goal
@@ -52,11 +51,10 @@ returns c =
     let places = c.as_slice-2.result.now in
     let same : objects_at c.rows-rows.result.now.objects own ≡ block =
     sym (block_is c.args.store.now.plan c.args.store.now.rows c.rows-rows.result.now c.args.chunk c.block-block.result.now.objects c.chunk-own.result.now c.block-block.ensures.places c.chunk-own.ensures.value c.rows-rows.ensures) in
-    if_ok c.piece_at.result _ _
-    (λ view h. scanned g objects cq c.args.chunk block places view c.know.ensures.plan c.know.ensures.rows c.requires.there c.requires.rows
+    scanned g objects cq c.args.chunk block places c.in_ok-piece.piece c.know.ensures.plan c.know.ensures.rows c.requires.there c.requires.rows
     (c.block-block.ensures.places ∙ chunk_taken g objects c.args.chunk)
     (c.as_slice-2.ensures.value ∙ (c.in_ok-places.ensures.value ∙ ap (λ conds. standing conds block) c.as_slice.ensures))
-    (subst (λ (l : List Obj). IsPieceOver cq (objects_at l places) view) same h)) c.piece_at.ensures
+    (subst (λ (l : List Obj). IsPieceOver cq (objects_at l places) c.in_ok-piece.piece) same c.in_ok-piece.ensures)
 
 pub piece_at-requires-clause-objects : goal.piece_at-requires-clause-objects
 piece_at-requires-clause-objects c =

@@ -2,7 +2,6 @@ use Rattle.std.proofs.Common.{◌<◌, ◌≤◌, arith, ap, length, sym, subst}
 use Rattle.std.specs.Prelude.{All}
 use Rattle.std.specs.List.Sorted.{IsPermutation}
 use Rattle.std.proofs.lemmas.List.Sorted.{All-permutation, length_permutation}
-use Rattle.chunk_scan.proofs.Answering.{if_ok}
 use Rattle.chunk_scan.proofs.Groups.{reordered}
 use Rattle.chunk_scan.proofs.group_piece.by_keys.Goals as goal
 
@@ -17,6 +16,5 @@ group_piece-requires-clause-there c =
 
 pub returns : goal.returns
 returns c =
-    if_ok c.group_piece.result _ _
-    (λ view is. reordered c.args.keys.now c.args.query.now.items c.args.block.now.objects c.args.places.now c.as_slice.result.now view
-    (subst (IsPermutation c.args.places.now) (sym c.as_slice.ensures.value) c.in_ok-order.ensures) is) c.group_piece.ensures
+    reordered c.args.keys.now c.args.query.now.items c.args.block.now.objects c.args.places.now c.as_slice.result.now c.in_ok-piece.piece
+    (subst (IsPermutation c.args.places.now) (sym c.as_slice.ensures.value) c.in_ok-order.ensures) c.in_ok-piece.ensures
