@@ -3,7 +3,6 @@ pub mod Rows
 pub mod Groups
 pub mod Scanned
 pub mod Sounding
-pub mod Answering
 pub mod Places
 pub mod Narrowing
 pub mod Masks
