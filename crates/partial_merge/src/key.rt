@@ -46,12 +46,9 @@ impl Key {
         if values.len() <= SHORT_KEY_MOST {
             return Ok(Key::short(values));
         }
-        match Vec::from_slice(alloc, values) {
-            Ok(values) => Ok(Key {
-                values: Values::Long(values),
-            }),
-            Err(_) => Err(Memory),
-        }
+        Ok(Key {
+            values: Values::Long(Vec::from_slice(alloc, values)?),
+        })
     }
 
     /// The key of at most four values. Takes no memory.

@@ -16,6 +16,7 @@ mod group_table;
 mod heap;
 mod held;
 mod hints;
+mod keeping;
 mod kept;
 pub mod key;
 pub mod limits;

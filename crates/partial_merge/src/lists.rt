@@ -14,10 +14,7 @@ pub(crate) fn room<T>(alloc: Global, count: usize) -> Result<Vec<T>, Memory>
     ensures room { IfOk result (λ list. count ≤ vec_capacity list) }
     ensures none { IfOk result (λ list. vec_len list ≡ 0) }
 {
-    match Vec::with_capacity(alloc, count) {
-        Ok(list) => Ok(list),
-        Err(_) => Err(Memory),
-    }
+    Ok(Vec::with_capacity(alloc, count)?)
 }
 
 /// Makes room for so many more elements.
@@ -25,10 +22,7 @@ pub(crate) fn reserve<T>(list: &mut Vec<T>, more: usize) -> Result<(), Memory>
     ensures same { list.new.items ≡ list.old.items }
     ensures room { OnOk result (vec_len list.new + more ≤ vec_capacity list.new) }
 {
-    match list.reserve(more) {
-        Ok(()) => Ok(()),
-        Err(_) => Err(Memory),
-    }
+    Ok(list.reserve(more)?)
 }
 
 /// Puts the elements behind the others. After `Err` nothing has changed.
@@ -36,10 +30,7 @@ pub(crate) fn append<T: Drop>(list: &mut Vec<T>, mut more: Vec<T>) -> Result<(),
     ensures ok { OnOk result (list.new.items ≡ list.old.items ++ more.items) }
     ensures err { OnErr result (list.new.items ≡ list.old.items) }
 {
-    match list.append(&mut more) {
-        Ok(()) => Ok(()),
-        Err(_) => Err(Memory),
-    }
+    Ok(list.append(&mut more)?)
 }
 
 /// Lets all go but the first so many, where there is a limit.

@@ -26,8 +26,5 @@ pub(crate) fn put_lone(marks: &mut Vec<Mark>, keys: &ColList) -> Result<(), Memo
         from: 0,
         to: 0,
     };
-    match marks.push(lone) {
-        Ok(()) => Ok(()),
-        Err(_) => Err(Memory),
-    }
+    Ok(marks.push(lone)?)
 }

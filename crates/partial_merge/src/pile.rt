@@ -16,11 +16,12 @@ ghost use Rattle.partial_merge.specs.Sharing.{HaveOwnParts};
 
 use crate::group_table::group_table;
 use crate::hints::Hints;
+use crate::keeping::keep_short;
 use crate::key::Key;
 use crate::lists::reserve;
 use crate::lone::put_lone;
 use crate::mark::Mark;
-use crate::settle::{keep_short, part_count, settle};
+use crate::settle::{part_count, settle};
 use crate::table::Table;
 use crate::taking::take_all;
 use crate::tally::Tally;

@@ -42,10 +42,7 @@ fn give(queries: &mut Vec<(u32, ChunkQuery)>, q: u32, query: ChunkQuery) -> Resu
     ensures given { OnOk result (queries.new.items ≡ queries.old.items ++ (q, query) ∷ []) }
     ensures same { OnErr result (queries.new.items ≡ queries.old.items) }
 {
-    match queries.push((q, query)) {
-        Ok(()) => Ok(()),
-        Err(_) => Err(Memory),
-    }
+    Ok(queries.push((q, query))?)
 }
 
 impl<'w> PieceRoot<'w> {

@@ -46,10 +46,7 @@ fn column(cells: &[Cell], item: &MergeItem) -> Value
 pub(crate) fn put(values: &mut Vec<Value>, value: Value) -> Result<(), Memory>
     ensures { OnOk result (values.new.items ≡ values.old.items ++ value ∷ []) }
 {
-    match values.push(value) {
-        Ok(()) => Ok(()),
-        Err(_) => Err(Memory),
-    }
+    Ok(values.push(value)?)
 }
 
 /// Puts the merged items of a row behind the others.

@@ -1,7 +1,7 @@
 use Rattle.std.proofs.Common.{subst, sym}
 use Rattle.partial_merge.specs.Sharing.{HaveOwnParts}
 use Rattle.partial_merge.proofs.Settling.{settled_as, stayed_as}
-use Rattle.partial_merge.proofs.settle.keep_short.Goals as goal
+use Rattle.partial_merge.proofs.keeping.keep_short.Goals as goal
 
 pub returns-in-Ok-clause-same : goal.returns-in-Ok-clause-same
 returns-in-Ok-clause-same c = settled_as c.args.tallies.now.items c.args.marks.now.items c.settle.new.tallies.items c.settle.new.marks.items c.requires.piled c.settle.ensures.piled c.in-Ok.ensures.settled
