@@ -82,7 +82,8 @@ fn near_ones(
     strip.taken(alloc, numbers.as_slice())
 }
 
-/// The numbers, from one up to and without another, of the rows that are near these sides. Takes memory for them.
+/// The numbers, from one up to and without another, of the rows that are near these sides. Takes memory for each row from one
+/// to the other, 4 bytes.
 fn near_numbers(
     alloc: Global,
     strip: &Strip,

@@ -12,7 +12,7 @@ use crate::key::Key;
 use crate::mark::Mark;
 use std::alloc::Global;
 
-/// Of how many hints one is taken.
+/// How many hints are made for each group, at the least.
 const ROOM: usize = 4;
 
 /// By how much a number is stretched before the next value is added: an odd number of 64 bits.
@@ -27,7 +27,8 @@ pub(crate) struct Hints {
     places: Vec<u32>,
 }
 
-/// The number of a key. Keys of one column have numbers that ascend with them, but for the highest bits.
+/// The number of a key. Of a key of one column whose value is from 0 and below 2^29 it is the value, so that such keys lie in
+/// the table in their order.
 fn number(key: &Key) -> u64 {
     let mut number = 0u64;
     for value in key.as_slice() {

@@ -111,8 +111,8 @@ impl<'w> Piece<'w> {
     }
 
     /// The answer: in order, the first of its rows where there is a limit; or the first total of a group that is outside
-    /// ±2^100, by group, then by item. The piece is gone after it. Takes memory for the table, and of groups for their
-    /// order.
+    /// ±2^100, by group, then by item. The piece is gone after it. Takes memory for the table, and of groups for a
+    /// new pile and their order.
     pub fn finish(self, merge: &MergePlan) -> Result<Table, Stop<TotalOut>>
         requires { MayFinish merge.now self }
         ensures ok { IfOk result (λ table. finished merge.now self.entry ≡ Ok table) }
