@@ -86,13 +86,13 @@ def near_pairs(rows):
 # the name, the queries of one measurement, how often they stand in the script, and the milliseconds aimed at
 ALL = "SELECT COUNT(*),SUM(flux),AVG(flux),MIN(flux),MAX(flux) FROM Object"
 LINES = [
-    ("five aggregates of a column", [ALL], 8, 50),
-    ("COUNT, MAX", ["SELECT COUNT(*),MAX(flux) FROM Object"], 8, 10),
+    ("five aggregates of a column", [ALL], 32, 50),
+    ("COUNT, MAX", ["SELECT COUNT(*),MAX(flux) FROM Object"], 32, 10),
     ("64 counts, each with a condition", [f"SELECT COUNT(*) FROM Object WHERE flux>{1000 * k} AND z<{1000000 * k}" for k in range(64)], 1, 200),
-    ("GROUP BY 8 values", ["SELECT kind,COUNT(*) FROM Object GROUP BY kind"], 8, 10),
-    ("GROUP BY 100,000 values, the ten largest", ["SELECT flux,COUNT(*) AS n FROM Object GROUP BY flux ORDER BY n DESC LIMIT 10"], 2, 120),
-    ("a tenth of the rows as text", ["SELECT objectId,flux FROM Object WHERE flux<10000"], 2, 40),
-    ("ORDER BY .. LIMIT 10", ["SELECT objectId,flux FROM Object ORDER BY flux DESC LIMIT 10"], 4, 15),
+    ("GROUP BY 8 values", ["SELECT kind,COUNT(*) FROM Object GROUP BY kind"], 32, 10),
+    ("GROUP BY 100,000 values, the ten largest", ["SELECT flux,COUNT(*) AS n FROM Object GROUP BY flux ORDER BY n DESC LIMIT 10"], 4, 120),
+    ("a tenth of the rows as text", ["SELECT objectId,flux FROM Object WHERE flux<10000"], 8, 40),
+    ("ORDER BY .. LIMIT 10", ["SELECT objectId,flux FROM Object ORDER BY flux DESC LIMIT 10"], 32, 15),
     ("a small cap", ["SELECT objectId FROM Object WHERE area_cap(268435456,0,0,1000000000000)"], 200, 1),
     ("one id", ["SELECT flux FROM Object WHERE objectId=500000"], 200, 1),
     ("pairs within 65,536", [f"SELECT a.objectId,b.objectId FROM Object a,Object b WHERE chord2(a,b)<={REACH * REACH} AND a.objectId<b.objectId"], 1, 150),
