@@ -17,6 +17,8 @@ pub(crate) enum Form {
     Bind(Schema),
     /// As positions of a sky.
     Place(SkyPlan),
+    /// As kernels that are run.
+    Kernel,
 }
 
 // The table with these further columns, where each can be one.
@@ -51,6 +53,8 @@ pub(crate) fn form_of<S: Shelf>(shelf: &mut S, alloc: Global, words: &str) -> Op
         Some(Form::Bind(schema_of(alloc, words)?))
     } else if form == "place" {
         Some(Form::Place(plan_of(shelf, alloc, words.next()?)?))
+    } else if form == "kernel" {
+        Some(Form::Kernel)
     } else {
         None
     }

@@ -4,25 +4,30 @@
 //! - `read`: `query`, or the first fault of the text;
 //! - `print`: the printed text of the query, or the first fault of the text;
 //! - `bind COLUMN ..`: what the text comes to over a table with these further columns, or its first fault there;
-//! - `place SKY`: where the position `x y z` lies by the sky plan of that file, `chunk C sub S near N N ..`.
+//! - `place SKY`: where the position `x y z` lies by the sky plan of that file, `chunk C sub S near N N ..`;
+//! - `kernel`: what so many turns of a kernel come to, from `NAME TURNS`.
 //!
 //! A line before the first of these, a FORM that is none of them and a line that isn't UTF-8 end it with status 1.
 //!
 //! It is for checks from outside, as `scripts/random_queries.py` and `scripts/compare_places.py`, which find the same by
-//! ways of their own.
-//! Below: `sql_reader` and `sql_print` for texts, `sql_bind` for queries, `sky_plan` and `overlap_tables` for positions.
+//! ways of their own, and for `bench/kernels.py`, which measures turns.
+//! Below: `sql_reader` and `sql_print` for texts, `sql_bind` for queries, `sky_plan` and `overlap_tables` for positions,
+//! `lane_filter` and `column_eval` for kernels, over rows of `sky_generate`.
 //! Above: nothing, this is a program.
-//! No rows and no clause: nothing is proved of what it tells.
+//! No rows but the demo's and no clause on what it tells: nothing is proved of that.
 #![tactic(auto)]
 
 mod bound;
+mod evaluated;
 mod form;
+mod kernel;
 mod place;
 mod text;
 mod told;
 
 use crate::bound::put_bound;
 use crate::form::{Form, form_of};
+use crate::kernel::put_run;
 use crate::place::put_place;
 use crate::text::put_text;
 use sky_io::{FolderShelf, OutSink, Put, Shelf, Sink};
@@ -37,6 +42,7 @@ fn put_judged<K: Sink>(sink: &mut K, alloc: Global, form: &Form, line: &[u8]) ->
         Form::Print => put_text(sink, alloc, line, true),
         Form::Bind(schema) => put_bound(sink, alloc, schema, line),
         Form::Place(plan) => put_place(sink, alloc, plan, line),
+        Form::Kernel => put_run(sink, alloc, line),
     };
     match put {
         Put::Failed => Put::Failed,

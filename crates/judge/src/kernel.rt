@@ -1,0 +1,171 @@
+//! A kernel that is run over the same rows as often as a line says, so that a program outside can measure one turn as the
+//! difference of two counts.
+//!
+//! The rows are the first 4,096 that the demo draws from the number 1. Each turn begins anew, and something of each is added
+//! to what is told, so that none can be left out.
+ghost use Rattle.std.specs.Prelude.{◌≡◌, ◌<◌, ◌^◌, All, IfOk, length};
+
+use crate::evaluated::{summed, truths_taken};
+use column_block::Block;
+use lane_filter::{keep, keep_between, keep_between_narrow, keep_narrow, keep_near, picked};
+use sky_generate::rows_of;
+use sky_io::{Memory, Put, Sink};
+use sky_row::Schema;
+use sky_text::{put_int, read_int};
+use sky_vector::Pos;
+use sql_bound::Cmp;
+use std::alloc::Global;
+
+/// How many rows there are.
+const ROWS: u32 = 4096;
+
+/// The number of the column flux, from 0 to 99,999 in each row.
+const FLUX: u32 = 4;
+
+// What is run.
+#[derive(Clone, Copy)]
+enum Kernel {
+    Keep,
+    KeepNarrow,
+    Between,
+    BetweenNarrow,
+    Near(Pos),
+    Picked,
+    Truths,
+    Sum,
+}
+
+// The kernel of a name, where there is one.
+fn kernel_of(name: &[u8]) -> Option<Kernel> {
+    match name {
+        b"keep" => Some(Kernel::Keep),
+        b"keep_narrow" => Some(Kernel::KeepNarrow),
+        b"between" => Some(Kernel::Between),
+        b"between_narrow" => Some(Kernel::BetweenNarrow),
+        b"near" => Pos::new(268435456, 0, 0).map(Kernel::Near),
+        b"picked" => Some(Kernel::Picked),
+        b"truths" => Some(Kernel::Truths),
+        b"sum" => Some(Kernel::Sum),
+        _ => None,
+    }
+}
+
+/// The numbers below the count that the step divides, ascending.
+fn places_below(alloc: Global, count: u32, step: u32) -> Result<Vec<u32>, Memory>
+    requires { 0 < step }
+    ensures { IfOk result (λ places. All (λ place. place < count) places.items) }
+{
+    let mut places = Vec::new(alloc);
+    for place in 0..count {
+        if place % step == 0 {
+            places.push(place)?;
+        }
+    }
+    Ok(places)
+}
+
+// Clears the mask by a kernel that does so.
+fn clear(kernel: Kernel, block: &Block, mask: &mut [bool])
+    requires wide { 0 < block.now.width }
+    requires rows { length mask.old ≡ length block.now.objects }
+    ensures { length mask.new ≡ length mask.old }
+{
+    match kernel {
+        Kernel::Keep => keep(block.further(FLUX).values(), Cmp::Less, 50000, mask),
+        Kernel::KeepNarrow => keep_narrow(block.zs(), Cmp::Less, 0, mask),
+        Kernel::Between => keep_between(block.further(FLUX).values(), 25000, 74999, mask),
+        Kernel::BetweenNarrow => keep_between_narrow(block.zs(), -100000000, 100000000, mask),
+        Kernel::Near(centre) => keep_near(
+            block.xs(),
+            block.ys(),
+            block.zs(),
+            &centre,
+            1 << 57,
+            mask,
+        ),
+        Kernel::Picked | Kernel::Truths | Kernel::Sum => (),
+    }
+}
+
+// How often the row of a turn's number is left by the kernel, of the whole mask.
+fn cleared(alloc: Global, kernel: Kernel, block: &Block, times: u32) -> Result<i128, Memory>
+    requires { 0 < block.now.width }
+{
+    let mut mask = Vec::from_elem(alloc, true, block.len())?;
+    let mut left = 0i128;
+    for turn in 0..times {
+        mask.as_mut_slice().fill(true);
+        clear(kernel, block, mask.as_mut_slice());
+        let is_left = mask.get((turn % ROWS) as usize) == Some(&true);
+        left = left.wrapping_add(i128::from(is_left));
+    }
+    Ok(left)
+}
+
+// How many rows are picked in all turns, of a mask that is true where flux is below 50,000.
+fn picked_in_all(alloc: Global, block: &Block, times: u32) -> Result<i128, Memory>
+    requires wide { 0 < block.now.width }
+    requires few { length block.now.objects < 2 ^ 32 }
+{
+    let mut mask = Vec::from_elem(alloc, true, block.len())?;
+    clear(Kernel::Keep, block, mask.as_mut_slice());
+    let mut places = Vec::from_elem(alloc, 0u32, block.len())?;
+    let mut found = 0i128;
+    for _ in 0..times {
+        let count = picked(mask.as_slice(), places.as_mut_slice());
+        found = found.wrapping_add(count as i128);
+    }
+    Ok(found)
+}
+
+// What the turns of a kernel come to over a block of rows with the schema.
+fn run_over(
+    alloc: Global,
+    kernel: Kernel,
+    schema: &Schema,
+    block: &Block,
+    times: u32,
+) -> Result<Option<i128>, Memory>
+    requires wide { 0 < block.now.width }
+    requires width { block.now.width ≡ length schema.now }
+{
+    let Ok(count) = u32::try_from(block.len()) else {
+        return Ok(None);
+    };
+    let all = places_below(alloc, count, 1)?;
+    let half = places_below(alloc, count, 2)?;
+    match kernel {
+        Kernel::Picked => Ok(Some(picked_in_all(alloc, block, times)?)),
+        Kernel::Truths => truths_taken(alloc, schema, block, all.as_slice(), times),
+        Kernel::Sum => summed(alloc, schema, block, half.as_slice(), times),
+        _ => Ok(Some(cleared(alloc, kernel, block, times)?)),
+    }
+}
+
+// What the turns of a kernel come to.
+fn run(alloc: Global, kernel: Kernel, times: u32) -> Result<Option<i128>, Memory> {
+    let rows = rows_of(alloc, ROWS, 1)?;
+    let places = places_below(alloc, rows.len(), 1)?;
+    let block = Block::build(alloc, &rows, places.as_slice())?;
+    run_over(alloc, kernel, rows.schema(), &block, times)
+}
+
+// The kernel and the count of turns on a line.
+fn asked(line: &[u8]) -> Option<(Kernel, u32)> {
+    let mut words = line.split(|b| *b == b' ');
+    let kernel = kernel_of(words.next()?)?;
+    let times = u32::try_from(read_int(words.next()?)?).ok()?;
+    Some((kernel, times))
+}
+
+/// Writes what the turns of a line's kernel come to.
+pub(crate) fn put_run<K: Sink>(sink: &mut K, alloc: Global, line: &[u8]) -> Put {
+    let Some((kernel, times)) = asked(line) else {
+        return sink.put(b"no kernel");
+    };
+    match run(alloc, kernel, times) {
+        Ok(Some(number)) => put_int(sink, number),
+        Ok(None) => sink.put(b"no kernel"),
+        Err(Memory) => sink.put(b"out of memory"),
+    }
+}
