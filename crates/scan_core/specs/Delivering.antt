@@ -6,6 +6,7 @@ use Rattle.scan_rules.specs.Numbers.{has}
 use Rattle.scan_rules.specs.Queries.{Journal, is_delivered, is_running}
 use Rattle.scan_rules.specs.Delivers.{LosesWithoutPiece, entry_of, query_of}
 use Rattle.scan_rules.specs.Runs.{MayDeliver}
+use Rattle.scan_core.specs.declared.limits.TheConstants.{SLOTS}
 use Rattle.scan_core.specs.declared.slot.Slot.{Slot}
 use Rattle.scan_core.specs.Boards.{BoardState, TaskState, gains}
 use Rattle.scan_core.specs.Changes.{Beside}
@@ -92,7 +93,7 @@ pub record FitAll {R P : Type 0} (stands : R → ℕ → List ℕ → P → Type
 pub record AreTasked (queries : List ℕ) : Type 0 where
   pub ascend : AllPairs (λ a b. a < b) queries
   pub from_1 : (turn : ℕ) → turn < length queries → 1 ≤ query_of queries turn
-  pub to_255 : (turn : ℕ) → turn < length queries → query_of queries turn < 256
+  pub to_255 : (turn : ℕ) → turn < length queries → query_of queries turn < SLOTS
 
 -- each of them is owed a chunk
 pub record AllOwed (slots : List Slot) (queries : List ℕ) : Type 0 where

@@ -8,6 +8,7 @@ use Rattle.scan_rules.specs.Queries.{Journal, is_attached, is_cancelled, is_lost
 use Rattle.scan_rules.specs.Queries.{is_collected, is_closed, is_given, wanted}
 use Rattle.scan_rules.specs.Scan.{needs, place, running_count, offset}
 use Rattle.scan_rules.specs.Runs.{IsRun}
+use Rattle.scan_core.specs.declared.limits.TheConstants.{SLOTS}
 use Rattle.scan_core.specs.declared.slot.Slot.{Slot}
 
 -- the chunks stand in scan order from a place on, the next one last: what stands before a chunk lies farther
@@ -35,7 +36,7 @@ pub record Fits (ring : ℕ) (past : Journal) (q : ℕ) (slot : Slot) : Type 0 w
   pub ordered : IsAhead ring (place ring past) slot.ahead.items
 
 -- the fields of a board are words on its journal, which is a run: its place, how many chunks were taken, whether it is
--- closed, and a slot for each query number below 256. Each list of chunks ascends
+-- closed, and all `SLOTS`. Each list of chunks ascends
 pub record Kept (ring here tickets : ℕ) (closed : Bool) (slots : List Slot) (past : Journal) : Type 0 where
   pub small : ring ≤ RING_MOST
   pub low : here ≤ ring
@@ -43,7 +44,7 @@ pub record Kept (ring here tickets : ℕ) (closed : Bool) (slots : List Slot) (p
   pub stands : here ≡ place ring past
   pub counted : tickets ≡ count_by takes past
   pub closes : closed ≡ is_closed past
-  pub full : length slots ≡ 256
+  pub full : length slots ≡ SLOTS
   pub few : running_count past ≤ RUNNING_MOST
-  pub each : (q : ℕ) (d : Slot) → q < 256 → Fits ring past q (get_or slots q d)
+  pub each : (q : ℕ) (d : Slot) → q < SLOTS → Fits ring past q (get_or slots q d)
   pub ascend : (q : ℕ) → AllPairs (λ a b. a < b) (wanted past q)

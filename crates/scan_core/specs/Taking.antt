@@ -3,6 +3,7 @@ use Rattle.std.specs.Prelude.{◌≡◌, ℕ, ◌<◌, ◌≤◌, ◌==◌, List
 use Rattle.std.specs.Prelude.{length, get_or, Bool, true, false, Option, Some, None, min, filter}
 use Rattle.std.specs.List.{last_or}
 use Rattle.scan_rules.specs.Numbers.{below}
+use Rattle.scan_core.specs.declared.limits.TheConstants.{SLOTS, TAKERS_MOST}
 use Rattle.scan_core.specs.declared.slot.Slot.{Slot}
 use Rattle.scan_core.specs.Changes.{Beside}
 use Rattle.scan_rules.specs.Scan.{offset}
@@ -59,7 +60,7 @@ pub record PoppedAll (c : ℕ) (old new : List Slot) (n : ℕ) : Type 0 where
   pub each : (j : ℕ) (d : Slot) → j < n → Popped c (get_or old j d) (get_or new j d)
   pub other : (j : ℕ) (d : Slot) → (j < n → ⊥) → get_or new j d ≡ get_or old j d
 
--- the queries that need a chunk next have numbers from 1, and are at most 64
+-- the queries that need a chunk next have numbers from 1, and fit into a task
 pub record CanServe (slots : List Slot) (chunk : ℕ) : Type 0 where
-  pub few : (d : Slot) → length (served slots d chunk 256) ≤ 64
-  pub from_1 : (q : ℕ) (d : Slot) → q < 256 → is_next chunk (get_or slots q d) ≡ true → 1 ≤ q
+  pub few : (d : Slot) → length (served slots d chunk SLOTS) ≤ TAKERS_MOST
+  pub from_1 : (q : ℕ) (d : Slot) → q < SLOTS → is_next chunk (get_or slots q d) ≡ true → 1 ≤ q

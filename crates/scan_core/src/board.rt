@@ -46,7 +46,7 @@ pub struct Board<P: Work> {
     /// How many tasks are taken and not delivered.
     flights: u32,
     closed: bool,
-    /// One for each query number below 256; number 0 is no query's.
+    /// One for each query number, and one for 0, which is no query's.
     slots: Vec<Slot>,
     /// The piece of each query, by its number.
     pieces: Vec<Option<P>>,

@@ -3,6 +3,7 @@ ghost use Rattle.std.specs.Prelude.{◌≡◌, ℕ, ◌<◌, ◌≤◌, List, []
 ghost use Rattle.std.specs.Prelude.{Option, Some, None, IfSome};
 ghost use Rattle.std.specs.List.{last_or};
 ghost use Rattle.scan_rules.specs.Numbers.{has};
+ghost use Rattle.scan_core.specs.declared.limits.TheConstants.{SLOTS};
 ghost use Rattle.scan_core.specs.declared.slot.Slot.{Slot};
 ghost use Rattle.scan_core.specs.Slots.{runs};
 ghost use Rattle.scan_core.specs.Changes.{Beside};
@@ -62,9 +63,9 @@ fn hand_in<P: Work>(
     q: u32,
     entry: Option<P>,
 ) -> bool
-    requires full { length slots.now.items ≡ 256 }
-    requires held { length pieces.old.items ≡ 256 }
-    requires low { q < 256 }
+    requires full { length slots.now.items ≡ SLOTS }
+    requires held { length pieces.old.items ≡ SLOTS }
+    requires low { q < SLOTS }
     requires fit { (d : Slot) → runs (get_or slots.now.items q d) ≡ true
         → Fitting P.stands (entry_of pieces.old.items q) entry }
     ensures beside { Beside pieces.old.items pieces.new.items q }
@@ -85,7 +86,7 @@ fn hand_in<P: Work>(
 /// Puts the query into the set where it is lost.
 fn note_lost(lost: &mut QuerySet, q: u32, is_lost: bool)
     requires from_1 { 1 ≤ q }
-    requires to_255 { q < 256 }
+    requires to_255 { q < SLOTS }
     requires above { IfSome (last_or None lost.old) (λ last. last < q) }
     ensures { lost.new ≡ lost.old ++ cond is_lost (q ∷ []) [] }
 {
@@ -101,8 +102,8 @@ pub fn hand_all<P: Work>(
     queries: &[u32],
     entries: Vec<Option<P>>,
 ) -> QuerySet
-    requires full { length slots.now.items ≡ 256 }
-    requires held { length pieces.old.items ≡ 256 }
+    requires full { length slots.now.items ≡ SLOTS }
+    requires held { length pieces.old.items ≡ SLOTS }
     requires tasked { AreTasked queries.now }
     requires fit { FitAll P.stands slots.now.items queries.now entries.items pieces.old.items }
     ensures { HandedIn (Absorbs P.stands) slots.now.items queries.now entries.items
@@ -143,7 +144,7 @@ fn pay_at(slots: &mut Vec<Slot>, q: usize, is_lost: bool)
 
 /// And for all queries of a task.
 pub fn pay_all(slots: &mut Vec<Slot>, queries: &[u32], lost: &QuerySet)
-    requires full { length slots.old.items ≡ 256 }
+    requires full { length slots.old.items ≡ SLOTS }
     requires tasked { AreTasked queries.now }
     requires owed { AllOwed slots.old.items queries.now }
     ensures { PaidAll queries.now lost.now slots.old.items slots.new.items (length queries.now) }

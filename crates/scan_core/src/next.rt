@@ -3,10 +3,12 @@ ghost use Rattle.std.specs.Prelude.{◌≡◌, ℕ, ◌<◌, ◌≤◌, List, []
 ghost use Rattle.std.specs.List.{last_or};
 ghost use Rattle.scan_rules.specs.declared.limits.TheConstants.{RING_MOST};
 ghost use Rattle.scan_rules.specs.Scan.{chunk_at, offset};
+ghost use Rattle.scan_core.specs.declared.limits.TheConstants.{SLOTS, TAKERS_MOST};
 ghost use Rattle.scan_core.specs.declared.slot.Slot.{Slot};
 ghost use Rattle.scan_core.specs.Taking.{next_of, first_step, least_from, is_next, served, CanServe, Popped};
 ghost use Rattle.scan_core.specs.Taking.{PoppedAt, PoppedAll};
 
+use crate::limits::{SLOTS, TAKERS_MOST};
 use crate::slot::Slot;
 use arrayvec::ArrayVec;
 use scan_rules::QuerySet;
@@ -81,8 +83,8 @@ fn is_next(slot: &Slot, chunk: u32) -> bool
 }
 
 /// Appends the query where it needs this chunk next.
-fn add_next(queries: &mut ArrayVec<u32, 64>, slot: &Slot, q: u32, chunk: u32)
-    requires room { is_next chunk slot.now ≡ true → length queries.old.items < 64 }
+fn add_next(queries: &mut ArrayVec<u32, TAKERS_MOST>, slot: &Slot, q: u32, chunk: u32)
+    requires room { is_next chunk slot.now ≡ true → length queries.old.items < TAKERS_MOST }
     ensures { queries.new.items ≡ queries.old.items ++ cond (is_next chunk slot.now) (q ∷ []) [] }
 {
     if is_next(slot, chunk) {
@@ -91,13 +93,13 @@ fn add_next(queries: &mut ArrayVec<u32, 64>, slot: &Slot, q: u32, chunk: u32)
 }
 
 /// The queries that need this chunk next, ascending.
-pub fn takers_at(slots: &Vec<Slot>, chunk: u32) -> ArrayVec<u32, 64>
-    requires full { length slots.now.items ≡ 256 }
+pub fn takers_at(slots: &Vec<Slot>, chunk: u32) -> ArrayVec<u32, TAKERS_MOST>
+    requires full { length slots.now.items ≡ SLOTS }
     requires few { CanServe slots.now.items chunk }
-    ensures { (d : Slot) → result.items ≡ served slots.now.items d chunk 256 }
+    ensures { (d : Slot) → result.items ≡ served slots.now.items d chunk SLOTS }
 {
     let mut queries = ArrayVec::new();
-    for q in 0..256u32 {
+    for q in 0..SLOTS as u32 {
         add_next(&mut queries, &slots[q as usize], q, chunk);
     }
     queries
@@ -106,7 +108,7 @@ pub fn takers_at(slots: &Vec<Slot>, chunk: u32) -> ArrayVec<u32, 64>
 /// Puts the query into the set where it needs this chunk next.
 fn note_next(queries: &mut QuerySet, slot: &Slot, q: u32, chunk: u32)
     requires from_1 { is_next chunk slot.now ≡ true → 1 ≤ q }
-    requires to_255 { q < 256 }
+    requires to_255 { q < SLOTS }
     requires above { IfSome (last_or None queries.old) (λ last. last < q) }
     ensures { queries.new ≡ queries.old ++ cond (is_next chunk slot.now) (q ∷ []) [] }
 {
@@ -117,12 +119,12 @@ fn note_next(queries: &mut QuerySet, slot: &Slot, q: u32, chunk: u32)
 
 /// The same queries as a set.
 pub fn takers_set(slots: &Vec<Slot>, chunk: u32) -> QuerySet
-    requires full { length slots.now.items ≡ 256 }
+    requires full { length slots.now.items ≡ SLOTS }
     requires few { CanServe slots.now.items chunk }
-    ensures { (d : Slot) → result ≡ served slots.now.items d chunk 256 }
+    ensures { (d : Slot) → result ≡ served slots.now.items d chunk SLOTS }
 {
     let mut queries = QuerySet::new();
-    for q in 0..256u32 {
+    for q in 0..SLOTS as u32 {
         note_next(&mut queries, &slots[q as usize], q, chunk);
     }
     queries
@@ -148,10 +150,10 @@ fn pop_at(slots: &mut Vec<Slot>, q: usize, chunk: u32)
 
 /// And for each query that needs the chunk next.
 pub fn pop_all(slots: &mut Vec<Slot>, chunk: u32)
-    requires { length slots.old.items ≡ 256 }
-    ensures { PoppedAll chunk slots.old.items slots.new.items 256 }
+    requires { length slots.old.items ≡ SLOTS }
+    ensures { PoppedAll chunk slots.old.items slots.new.items SLOTS }
 {
-    for q in 0..256usize {
+    for q in 0..SLOTS {
         pop_at(slots, q, chunk);
     }
 }

@@ -1,9 +1,11 @@
 //! The pieces of a board, one a query, by its number.
 ghost use Rattle.std.specs.Prelude.{◌≡◌, ◌<◌, ◌+◌, length, get_or, false, Option, Some, IsSome, IfOk};
+ghost use Rattle.scan_core.specs.declared.limits.TheConstants.{SLOTS};
 ghost use Rattle.scan_core.specs.Changes.{Beside};
 ghost use Rattle.scan_core.specs.Answers.{EndsAs};
 
 use crate::answers::Collect;
+use crate::limits::SLOTS;
 use crate::work::Work;
 use sky_io::Memory;
 use std::alloc::Global;
@@ -50,10 +52,10 @@ fn push_none<P: Work>(pieces: &mut Vec<Option<P>>) -> Result<(), Memory>
 
 /// The pieces of a new board, none. Takes memory.
 pub fn no_pieces<P: Work>(alloc: Global) -> Result<Vec<Option<P>>, Memory>
-    ensures { IfOk result (λ pieces. length pieces.items ≡ 256) }
+    ensures { IfOk result (λ pieces. length pieces.items ≡ SLOTS) }
 {
     let mut pieces = Vec::new(alloc);
-    for turn in 0..256usize {
+    for turn in 0..SLOTS {
         push_none(&mut pieces)?;
     }
     Ok(pieces)

@@ -1,20 +1,22 @@
 //! The slots of a board: what they say of a query, and what each call changes in them.
 ghost use Rattle.std.specs.Prelude.{◌≡◌, ◌<◌, ◌≤◌, [], ◌∷◌, ◌++◌, length, get_or, false, cond, IfOk};
+ghost use Rattle.scan_core.specs.declared.limits.TheConstants.{SLOTS};
 ghost use Rattle.scan_core.specs.declared.slot.Slot.{Slot};
 ghost use Rattle.scan_core.specs.Slots.{runs, running_below, waits};
 ghost use Rattle.scan_core.specs.Changes.{AreBlank, CollectedAt, EnteredAt, IsBlank, StoppedAt};
 
+use crate::limits::SLOTS;
 use crate::slot::Slot;
 use sky_io::Memory;
 use std::alloc::Global;
 
 /// Whether the query runs. One that has no slot does not.
 pub fn runs_at(slots: &Vec<Slot>, q: u32) -> bool
-    requires full { length slots.now.items ≡ 256 }
-    ensures known { q < 256 → (d : Slot) → result ≡ runs (get_or slots.now.items q d) }
-    ensures beyond { 256 ≤ q → result ≡ false }
+    requires full { length slots.now.items ≡ SLOTS }
+    ensures known { q < SLOTS → (d : Slot) → result ≡ runs (get_or slots.now.items q d) }
+    ensures beyond { SLOTS ≤ q → result ≡ false }
 {
-    if q >= 256 {
+    if q >= SLOTS as u32 {
         return false;
     }
     let slot = &slots[q as usize];
@@ -23,11 +25,11 @@ pub fn runs_at(slots: &Vec<Slot>, q: u32) -> bool
 
 /// Whether the query was attached and not collected. One that has no slot was not.
 pub fn waits_at(slots: &Vec<Slot>, q: u32) -> bool
-    requires full { length slots.now.items ≡ 256 }
-    ensures known { q < 256 → (d : Slot) → result ≡ waits (get_or slots.now.items q d) }
-    ensures beyond { 256 ≤ q → result ≡ false }
+    requires full { length slots.now.items ≡ SLOTS }
+    ensures known { q < SLOTS → (d : Slot) → result ≡ waits (get_or slots.now.items q d) }
+    ensures beyond { SLOTS ≤ q → result ≡ false }
 {
-    if q >= 256 {
+    if q >= SLOTS as u32 {
         return false;
     }
     let slot = &slots[q as usize];
@@ -82,8 +84,8 @@ pub fn attached_at(slots: &Vec<Slot>, q: usize) -> bool
 
 /// 1 where the query runs, else 0.
 fn count_at(slots: &Vec<Slot>, q: u32) -> u32
-    requires full { length slots.now.items ≡ 256 }
-    requires low { q < 256 }
+    requires full { length slots.now.items ≡ SLOTS }
+    requires low { q < SLOTS }
     ensures count { (d : Slot) → result ≡ cond (runs (get_or slots.now.items q d)) 1 0 }
     ensures one { result ≤ 1 }
 {
@@ -92,11 +94,11 @@ fn count_at(slots: &Vec<Slot>, q: u32) -> u32
 
 /// How many queries run.
 pub fn running_in(slots: &Vec<Slot>) -> u32
-    requires full { length slots.now.items ≡ 256 }
-    ensures { (d : Slot) → result ≡ running_below slots.now.items d 256 }
+    requires full { length slots.now.items ≡ SLOTS }
+    ensures { (d : Slot) → result ≡ running_below slots.now.items d SLOTS }
 {
     let mut count = 0u32;
-    for q in 0..256u32 {
+    for q in 0..SLOTS as u32 {
         count += count_at(slots, q);
     }
     count
@@ -131,10 +133,10 @@ fn push_blank(alloc: Global, slots: &mut Vec<Slot>) -> Result<(), Memory>
 
 /// The slots of a new board. Takes memory.
 pub fn blank_slots(alloc: Global) -> Result<Vec<Slot>, Memory>
-    ensures { IfOk result (λ slots. AreBlank slots.items 256) }
+    ensures { IfOk result (λ slots. AreBlank slots.items SLOTS) }
 {
     let mut slots = Vec::new(alloc);
-    for turn in 0..256usize {
+    for turn in 0..SLOTS {
         push_blank(alloc, &mut slots)?;
     }
     Ok(slots)

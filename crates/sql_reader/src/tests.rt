@@ -6,7 +6,7 @@ use std::alloc::{AllocError, Global};
 use std::test::Fail;
 use text_rules::limits::QUERY_TEXT_MOST;
 
-// Why the text is not read. A text that is too long counts as want of memory, which no row asks for.
+// Why the text is not read. `read` takes no text that is too long, and no row is one: the first answer is never given.
 fn stop_of(alloc: Global, text: &[u8]) -> Option<Stop<SqlFault>> {
     if text.len() > QUERY_TEXT_MOST {
         return Some(Stop::Memory);

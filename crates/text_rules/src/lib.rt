@@ -1,4 +1,4 @@
-//! What the numbers, the lines and the words of a text are: definitions that other crates' contracts cite.
+//! What the numbers, the lines, the words and the readings of a text are: definitions that other crates' contracts cite.
 //!
 //! Callers see texts as lists of bytes, numbers as whole numbers (`specs/Numbers.antt`), lines as their numbers and texts
 //! (`specs/Lines.antt`), words by their bytes (`specs/Words.antt`), and what is read part by part (`specs/Readings.antt`).
