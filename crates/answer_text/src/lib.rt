@@ -32,6 +32,3 @@ pub use explained::{Explained, put_explain};
 pub use refused::put_refusal;
 pub use report::put_report;
 pub use shown::{Shown, put_table};
-
-#[cfg(test)]
-mod tests;

@@ -18,6 +18,3 @@ mod radius;
 pub use answer_rules::Radius;
 pub use choice::plan;
 pub use radius::radius_ok;
-
-#[cfg(test)]
-mod tests;

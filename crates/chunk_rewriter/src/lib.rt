@@ -14,6 +14,3 @@ mod query;
 
 pub use cut::rewrite;
 pub use query::copy_of;
-
-#[cfg(test)]
-mod tests;

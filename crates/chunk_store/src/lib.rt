@@ -18,8 +18,3 @@ mod subchunk;
 
 pub use lists::Lists;
 pub use store::Store;
-
-#[cfg(test)]
-mod subchunk_tests;
-#[cfg(test)]
-mod tests;

@@ -21,6 +21,3 @@ pub use area::area_holds;
 pub use cond::{holds, meets, truth};
 pub use expr::value;
 pub use key::value_on_key;
-
-#[cfg(test)]
-mod tests;

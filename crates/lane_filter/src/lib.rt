@@ -16,6 +16,3 @@ pub use near::keep_near;
 pub use pick::{keep_present, picked};
 pub use range::{keep_between, keep_between_narrow};
 pub use sql_tree::Cmp;
-
-#[cfg(test)]
-mod tests;

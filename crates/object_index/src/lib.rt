@@ -11,6 +11,3 @@ pub mod place;
 
 pub use index::Index;
 pub use place::Place;
-
-#[cfg(test)]
-mod tests;

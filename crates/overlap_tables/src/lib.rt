@@ -17,6 +17,3 @@ mod wedges;
 pub use chunks::{near_chunks, push_near_chunks, push_near_others};
 pub use held::is_in;
 pub use near::{in_near, in_near_sub, is_near};
-
-#[cfg(test)]
-mod tests;

@@ -50,16 +50,3 @@ impl ChunkSet {
         self.chunks.as_slice()
     }
 }
-
-#[cfg(test)]
-mod tests {
-    use super::*;
-
-    #[test]
-    fn chunks_are_pushed_where_memory_is_ample(rt: HostRuntime) {
-        let mut chunks = ChunkSet::new(rt.alloc());
-        assert_eq!(rt; chunks.push(0), Ok(()));
-        assert_eq!(rt; chunks.push(16383), Ok(()));
-        assert_eq!(rt; chunks.as_slice(), [0, 16383].as_slice());
-    }
-}

@@ -12,8 +12,6 @@ pub mod laws;
 mod script;
 pub mod session;
 mod steps;
-#[cfg(test)]
-mod tests;
 
 pub use end::{End, Planned};
 pub use session::drive;

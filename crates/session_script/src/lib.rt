@@ -12,8 +12,6 @@ pub mod laws;
 mod saying;
 mod script;
 mod step;
-#[cfg(test)]
-mod tests;
 
 pub use fault::ScriptFault;
 pub use script::Script;

@@ -13,6 +13,3 @@ mod texts;
 
 pub use rows::rows_of;
 pub use texts::{demo_script, demo_sky};
-
-#[cfg(test)]
-mod tests;

@@ -18,6 +18,3 @@ pub use region::Region;
 pub use sky_rules::SkyFault;
 pub use stripe::Stripe;
 pub use sub_place::SubPlace;
-
-#[cfg(test)]
-mod tests;

@@ -14,8 +14,6 @@ mod lines;
 mod numbers;
 mod said;
 mod stripes;
-#[cfg(test)]
-mod tests;
 
 use crate::plan::SkyPlan;
 use crate::reading::lines::PlanLines;

@@ -16,6 +16,3 @@ pub use lines::{Line, Lines, is_note};
 pub use number::{read_int, read_natural, read_whole};
 pub use pieces::Pieces;
 pub use put::{put_count, put_int, put_natural};
-
-#[cfg(test)]
-mod tests;

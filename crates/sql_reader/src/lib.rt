@@ -13,8 +13,6 @@ mod items;
 mod preds;
 mod query;
 mod skip;
-#[cfg(test)]
-mod tests;
 
 pub use query::read;
 pub use sql_rules::SqlFault;

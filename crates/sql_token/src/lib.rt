@@ -15,8 +15,6 @@ pub mod laws;
 pub mod limits;
 mod scan;
 mod sign;
-#[cfg(test)]
-mod tests;
 mod token;
 mod tokens;
 

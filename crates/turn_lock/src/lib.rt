@@ -21,8 +21,6 @@ mod lends;
 mod pass;
 mod plays;
 mod seat;
-#[cfg(test)]
-mod tests;
 mod turn;
 mod view;
 

@@ -1,4 +1,0 @@
-use Rattle.scan_core.proofs.tests.finish_late_query.Goals as goal
-
-pub deliver-requires : goal.deliver-requires
-deliver-requires g c = record { flight = c.take-2.ensures.flying 1 c.in-Task.third c.in-Task.ensures.flies }
