@@ -32,6 +32,15 @@ impl ChunkSet {
         }
     }
 
+    /// The same chunks once more. Takes memory.
+    pub fn copy(&self, alloc: Global) -> Result<ChunkSet, Memory>
+        ensures { IfOk result (λ copy. copy ≡ self.now) }
+    {
+        let mut chunks = Vec::new(alloc);
+        chunks.extend_from_slice(self.chunks.as_slice())?;
+        Ok(ChunkSet { chunks })
+    }
+
     /// Appends a chunk above the last one. Takes memory; after `Err` the set is unchanged.
     #[tactic(auto, using(crate::proofs::ChunkSets::ascending_push))]
     pub fn push(&mut self, c: u32) -> Result<(), Memory>
@@ -54,12 +63,16 @@ impl ChunkSet {
 #[cfg(test)]
 mod tests {
     use super::*;
+    use std::test::Fail;
 
     #[test]
-    fn chunks_are_pushed_where_memory_is_ample(rt: HostRuntime) {
+    fn chunks_are_pushed_and_copied_where_memory_is_ample(rt: HostRuntime) -> Result<(), Fail> {
         let mut chunks = ChunkSet::new(rt.alloc());
         assert_eq!(rt; chunks.push(0), Ok(()));
         assert_eq!(rt; chunks.push(16383), Ok(()));
         assert_eq!(rt; chunks.as_slice(), [0, 16383].as_slice());
+        let copy = chunks.copy(rt.alloc())?;
+        assert_eq!(rt; copy.as_slice(), [0, 16383].as_slice());
+        Ok(())
     }
 }
