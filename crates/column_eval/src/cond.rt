@@ -29,7 +29,8 @@ pub fn truths(
     scratch: &mut Scratch,
 ) -> Result<TruthList, Memory>
     requires there { All (λ place. place < length block.now.objects) picked.now }
-    requires sound { IsTrue (is_sound_cond (has_col (FIRST_COLUMNS + block.now.width) false) c.now) }
+    requires sound { IsTrue
+        (is_sound_cond (has_col (FIRST_COLUMNS + block.now.width) false) c.now) }
     ensures { IfOk result (λ found. found
         ≡ map (λ o. truth_of c.now (row o)) (objects_at block.now.objects picked.now)) }
 {

@@ -28,7 +28,8 @@ pub fn values(
     scratch: &mut Scratch,
 ) -> Result<ValueList, Memory>
     requires there { All (λ place. place < length block.now.objects) picked.now }
-    requires sound { IsTrue (is_sound_expr (has_col (FIRST_COLUMNS + block.now.width) false) e.now) }
+    requires sound { IsTrue
+        (is_sound_expr (has_col (FIRST_COLUMNS + block.now.width) false) e.now) }
     ensures { IfOk result (λ found. found
         ≡ map (λ o. value_of e.now (row o)) (objects_at block.now.objects picked.now)) }
 {
