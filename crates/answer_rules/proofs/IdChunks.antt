@@ -13,7 +13,7 @@ use Rattle.sky_rules.specs.Partition.{Partition, chunk_count}
 use Rattle.sky_rules.specs.Bounds.{in_chunk}
 use Rattle.value_rules.specs.Truth.{is_one_of}
 use Rattle.answer_rules.specs.Coverage.{AreInTheSky}
-use Rattle.answer_rules.specs.Picks.{chunk_at, is_there_among}
+use Rattle.answer_rules.specs.Picks.{chunk_holding, is_there_among}
 use Rattle.answer_rules.specs.Plans.{chunk_of_id}
 use Rattle.answer_rules.specs.PlanLaws.{IdsByTheirChunks}
 use Rattle.answer_rules.proofs.Chunks.{lies_in_one}
@@ -40,7 +40,7 @@ rest_ascend o rows up i j d less within = up (suc i) (suc j) d (omega (arith, le
 
 -- the row that there may be lies in the chunk
 abbrev is_held : Partition → ℕ → Option Obj → Bool
-is_held g c o = is_there_among (c ∷ []) (option_and_then (λ o. chunk_at g o.at) o)
+is_held g c o = is_there_among (c ∷ []) (option_and_then (λ o. chunk_holding g o.at) o)
 
 found_step : (g : Partition) (c : ℕ) (o : Obj) (b holds later : Bool) (rest : Option Obj) → is_held g c (Some o) ≡ holds → (b ≡ true → later ≡ false)
     → later ≡ is_held g c rest → ((b && holds) || later) ≡ is_held g c (cond b (Some o) rest)

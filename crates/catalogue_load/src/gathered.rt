@@ -8,7 +8,7 @@ ghost use Rattle.catalogue_load.specs.Judged.{faults_alone};
 ghost use Rattle.catalogue_load.specs.Parts.{first_of};
 ghost use Rattle.catalogue_load.specs.Repeats.{IsFirstFault, IsRepeat, ids_in};
 ghost use Rattle.text_rules.specs.declared.limits.TheConstants.{TEXT_MOST};
-ghost use Rattle.table_rules.specs.declared.limits.TheConstants.{COLUMNS_MOST, ROWS_MOST};
+ghost use Rattle.table_rules.specs.declared.limits.TheConstants.{COLUMNS_MOST, FIRST_COLUMNS, ROWS_MOST};
 
 use crate::order::{first_fault, in_order};
 use crate::row::read_row;
@@ -28,13 +28,13 @@ fn next_row(
     count: usize,
     fields: &ByteRecord,
 ) -> Result<Row, Stop<LoadFault>>
-    requires four { 4 ≤ width }
+    requires four { FIRST_COLUMNS ≤ width }
     requires few { width ≤ COLUMNS_MOST }
     requires small { length (fields_of fields.now) ≤ TEXT_MOST + 1 }
     ensures room { OnOk result (count < ROWS_MOST) }
     ensures none { OnOk result (faults_alone width count (fields_of fields.now) ≡ []) }
     ensures ok { IfOk result (λ row. row ≡ row_of (fields_of fields.now)) }
-    ensures wide { IfOk result (λ row. 4 + length row.further ≡ width) }
+    ensures wide { IfOk result (λ row. FIRST_COLUMNS + length row.further ≡ width) }
     ensures bad { IfErr result (λ stop. IfBad stop (λ fault.
         first_of (faults_alone width count (fields_of fields.now)) ≡ Some fault)) }
 {
@@ -78,12 +78,12 @@ impl Gathered {
         requires small { length (fields_of fields.now) ≤ TEXT_MOST + 1 }
         ensures names { self.new.names ≡ self.old.names }
         ensures none { OnOk result (
-            faults_alone (4 + length self.old.names) (length self.old.objects) (fields_of fields.now) ≡ []) }
+            faults_alone (FIRST_COLUMNS + length self.old.names) (length self.old.objects) (fields_of fields.now) ≡ []) }
         ensures ok { OnOk result (self.new.objects
             ≡ self.old.objects ++ row_of (fields_of fields.now) ∷ []) }
         ensures same { OnErr result (self.new.objects ≡ self.old.objects) }
         ensures bad { IfErr result (λ stop. IfBad stop (λ fault. first_of (faults_alone
-            (4 + length self.old.names) (length self.old.objects) (fields_of fields.now)) ≡ Some fault)) }
+            (FIRST_COLUMNS + length self.old.names) (length self.old.objects) (fields_of fields.now)) ≡ Some fault)) }
     {
         let row = next_row(
             &mut self.cells,

@@ -7,7 +7,7 @@ ghost use Rattle.catalogue_load.specs.Catalogue.{catalogue_of, catalogue_with};
 ghost use Rattle.catalogue_load.specs.Judged.{HasRead};
 ghost use Rattle.catalogue_load.specs.Standing.{HasLeft, StillGives};
 ghost use Rattle.text_rules.specs.declared.limits.TheConstants.{TEXT_MOST};
-ghost use Rattle.table_rules.specs.declared.limits.TheConstants.{FURTHER_COLUMNS_MOST};
+ghost use Rattle.table_rules.specs.declared.limits.TheConstants.{FIRST_COLUMNS, FURTHER_COLUMNS_MOST};
 
 use crate::gathered::Gathered;
 use crate::header::read_header;
@@ -29,9 +29,9 @@ fn read_rest(
     requires gives { HasLeft reader }
     ensures names { gathered.new.names ≡ gathered.old.names }
     ensures ok { OnOk result (
-        HasRead (4 + length gathered.old.names) reader.entry gathered.new.objects None) }
+        HasRead (FIRST_COLUMNS + length gathered.old.names) reader.entry gathered.new.objects None) }
     ensures bad { IfErr result (λ stop. IfBad stop (λ fault.
-        HasRead (4 + length gathered.old.names) reader.entry gathered.new.objects (Some fault))) }
+        HasRead (FIRST_COLUMNS + length gathered.old.names) reader.entry gathered.new.objects (Some fault))) }
 {
     for turn in 0..u64::MAX {
         let Ok(found) = read_next(&mut reader, &mut fields) else {
@@ -57,10 +57,10 @@ fn rows_under(
     requires few { length schema ≤ FURTHER_COLUMNS_MOST }
     requires gives { HasLeft reader }
     ensures ok { IfOk result (λ rows. (rest : List (List (List ℕ))) → StillGives reader.entry rest
-        → judged (data_faults (4 + length schema) rest) (catalogue_with schema rest) ≡ Ok rows) }
+        → judged (data_faults (FIRST_COLUMNS + length schema) rest) (catalogue_with schema rest) ≡ Ok rows) }
     ensures bad { IfErr result (λ stop. IfBad stop (λ fault.
         (rest : List (List (List ℕ))) → StillGives reader.entry rest
-        → judged (data_faults (4 + length schema) rest) (catalogue_with schema rest) ≡ Err fault)) }
+        → judged (data_faults (FIRST_COLUMNS + length schema) rest) (catalogue_with schema rest) ≡ Err fault)) }
 {
     let Ok(mut gathered) = Gathered::new(alloc, schema) else {
         return Err(Stop::Memory);

@@ -6,7 +6,7 @@ use Rattle.std.proofs.lemmas.Bool.{and_parts}
 use Rattle.std.proofs.lemmas.List.{get_or-map, length-map}
 use Rattle.std.proofs.lemmas.List.Elements.{All-from_recursion, recursion_from_All}
 use Rattle.table_rules.specs.Objects.{Obj, IsRow}
-use Rattle.sky_row.specs.Columns.{no_row, objects_at}
+use Rattle.sky_row.specs.Columns.{cells_in, no_row, objects_at}
 use Rattle.sql_bound.specs.declared.query.Shape.TheVariants.{Rows}
 use Rattle.value_rules.specs.Values.{row, value_of}
 use Rattle.answer_rules.specs.declared.rewritten.ChunkItem.{ChunkItem}
@@ -19,7 +19,7 @@ use Rattle.answer_rules.specs.SoundChunks.{is_sound_chunk_order, is_sound_part}
 use Rattle.column_eval.proofs.Reading.{rows_there}
 use Rattle.partial_merge.specs.declared.rank.Rank.{Rank}
 use Rattle.partial_merge.specs.Bags.{out_row as ranked}
-use Rattle.chunk_scan.specs.Computed.{AreReady, cells_in, item_on, key_in, keys_on, rank_by}
+use Rattle.chunk_scan.specs.Computed.{AreReady, item_on, key_in, keys_on, rank_by}
 use Rattle.chunk_scan.specs.Parted.{IsReady}
 use Rattle.chunk_scan.proofs.Sizing.{ready_values}
 

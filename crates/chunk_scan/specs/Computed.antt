@@ -23,10 +23,6 @@ key_in (Some values) i = get_or values i None
 abbrev pub item_on : List Obj → ChunkItem → List (Option ℤ)
 item_on objects item = map (λ o. chunk_value (row o) item) objects
 
--- the value of each column at a place
-abbrev pub cells_in : List (List (Option ℤ)) → ℕ → List (Option ℤ)
-cells_in columns i = map (λ column. get_or column i None) columns
-
 -- each column has a value at the place, and none that is too large
 abbrev pub AreReady : ℕ → List (List (Option ℤ)) → Type 0
 AreReady i columns = All (λ column. IsReady (i + 1) (Some column)) columns

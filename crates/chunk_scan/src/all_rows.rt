@@ -1,12 +1,12 @@
 //! The piece of a chunk query of rows without a LIMIT: each row is kept.
 
 ghost use Rattle.std.specs.Prelude.{◌≡◌, ◌+◌, ◌<◌, All, IfOk, OnOk, length};
-ghost use Rattle.sky_row.specs.Columns.{objects_at};
+ghost use Rattle.sky_row.specs.Columns.{cells_in, objects_at};
 ghost use Rattle.sql_bound.specs.declared.query.Shape.TheVariants.{Rows as OfRows};
 ghost use Rattle.answer_rules.specs.SoundChunks.{IsSoundChunk};
 ghost use Rattle.partial_merge.specs.Bags.{out_row};
 ghost use Rattle.partial_merge.specs.Joining.{IsOfRows, TakesRow};
-ghost use Rattle.chunk_scan.specs.Computed.{AreReady, cells_in, keys_on};
+ghost use Rattle.chunk_scan.specs.Computed.{AreReady, keys_on};
 ghost use Rattle.chunk_scan.specs.Lines.{IsOfRowsOver};
 
 use crate::columns::{columns, fill_at, give_back, rank_at};

@@ -2,11 +2,11 @@
 
 ghost use Rattle.std.specs.Prelude.{◌≡◌, ◌+◌, ◌++◌, ◌<◌, ◌≤◌, ◌∷◌, [], All, IfOk, IsTrue, None, OnOk, Some, false, get_or, length, map, nat_abs, pos};
 ghost use Rattle.std.specs.List.{list_all};
-ghost use Rattle.sky_row.specs.Columns.{objects_at};
+ghost use Rattle.sky_row.specs.Columns.{cells_in, objects_at};
 ghost use Rattle.sql_bound.specs.declared.query.Shape.TheVariants.{Rows};
 ghost use Rattle.value_rules.specs.Widths.{IsOfSize, most};
 ghost use Rattle.answer_rules.specs.SoundChunks.{is_sound_chunk_order, is_sound_part};
-ghost use Rattle.chunk_scan.specs.Computed.{AreReady, cells_in, item_on, key_in, keys_on, rank_by};
+ghost use Rattle.chunk_scan.specs.Computed.{AreReady, item_on, key_in, keys_on, rank_by};
 ghost use Rattle.chunk_scan.specs.Parted.{IsReady};
 
 use crate::line::{push, rank_of};

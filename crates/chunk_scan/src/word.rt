@@ -3,7 +3,7 @@
 //! Rows of one key have one number. Rows of two keys may have one number, too: where a key ends is told by their values.
 
 ghost use Rattle.std.specs.Prelude.{◌≡◌, ◌<◌, All, length, map};
-ghost use Rattle.chunk_scan.specs.Words.{place_in};
+ghost use Rattle.sky_row.specs.Keys.{place_in};
 ghost use Rattle.table_rules.specs.declared.limits.TheConstants.{ROWS_MOST};
 
 use table_rules::limits::ROWS_MOST;

@@ -2,12 +2,14 @@
 ghost use Rattle.std.specs.Prelude.{◌≡◌, ◌+◌, ◌<◌, ◌≤◌, length, map, All, IfOk};
 ghost use Rattle.sky_vector.specs.Points.{IsWithin};
 ghost use Rattle.table_rules.specs.Objects.{IsRow};
+ghost use Rattle.table_rules.specs.declared.limits.TheConstants.{FIRST_COLUMNS};
 ghost use Rattle.sky_row.specs.Columns.{column_in, objects_at};
 
 use sky_io::Memory;
 use sky_row::{Column, Lists, Rows};
 use std::alloc::Global;
 use std::marker::Model;
+use table_rules::limits::FIRST_COLUMNS;
 
 /// The ids, the parts of the positions and the further columns of some rows.
 #[derive(Drop)]
@@ -81,12 +83,12 @@ impl Block {
         self.lists.zs()
     }
 
-    /// A further column by its number among all columns, so from 4: its numbers, and which rows have a value. Takes no memory.
+    /// A further column by its number among all columns, so from `FIRST_COLUMNS`: its numbers, and which rows have a value. Takes no memory.
     pub fn further(&self, col: u32) -> &Column
-        requires first { 4 ≤ col }
-        requires last { col < 4 + self.now.width }
+        requires first { FIRST_COLUMNS ≤ col }
+        requires last { col < FIRST_COLUMNS + self.now.width }
         ensures { result.now ≡ column_in self.now.objects col }
     {
-        self.lists.further((col - 4) as usize)
+        self.lists.further(col as usize - FIRST_COLUMNS)
     }
 }

@@ -2,6 +2,7 @@
 ghost use Rattle.std.specs.Prelude.{◌≡◌, ◌+◌, ◌<◌, false, IfOk, IsTrue, All, length, map};
 ghost use Rattle.sky_row.specs.Columns.{objects_at};
 ghost use Rattle.table_rules.specs.Objects.{IsRow};
+ghost use Rattle.table_rules.specs.declared.limits.TheConstants.{FIRST_COLUMNS};
 ghost use Rattle.value_rules.specs.Formulas.{formula_of, formula_of_all, formula_of_any, formula_of_pred};
 ghost use Rattle.value_rules.specs.Sound.{has_col, is_sound_cond};
 ghost use Rattle.value_rules.specs.Truth.{truth_of};
@@ -28,7 +29,8 @@ pub fn truths(
     scratch: &mut Scratch,
 ) -> Result<TruthList, Memory>
     requires there { All (λ place. place < length block.now.objects) picked.now }
-    requires sound { IsTrue (is_sound_cond (has_col (4 + block.now.width) false) c.now) }
+    requires sound { IsTrue
+        (is_sound_cond (has_col (FIRST_COLUMNS + block.now.width) false) c.now) }
     ensures { IfOk result (λ found. found
         ≡ map (λ o. truth_of c.now (row o)) (objects_at block.now.objects picked.now)) }
 {

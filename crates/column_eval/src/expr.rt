@@ -2,6 +2,7 @@
 ghost use Rattle.std.specs.Prelude.{◌≡◌, ◌+◌, ◌*◌, ◌<◌, ◌*ℤ◌, false, IfOk, IsTrue, All, length, map};
 ghost use Rattle.sky_row.specs.Columns.{objects_at};
 ghost use Rattle.table_rules.specs.Objects.{IsRow};
+ghost use Rattle.table_rules.specs.declared.limits.TheConstants.{FIRST_COLUMNS};
 ghost use Rattle.value_rules.specs.Sound.{has_col, is_sound_expr};
 ghost use Rattle.value_rules.specs.Terms.{Column, Number, term_of, term_of_atom, term_of_factor, term_of_prod};
 ghost use Rattle.value_rules.specs.Values.{row, value_of};
@@ -27,7 +28,8 @@ pub fn values(
     scratch: &mut Scratch,
 ) -> Result<ValueList, Memory>
     requires there { All (λ place. place < length block.now.objects) picked.now }
-    requires sound { IsTrue (is_sound_expr (has_col (4 + block.now.width) false) e.now) }
+    requires sound { IsTrue
+        (is_sound_expr (has_col (FIRST_COLUMNS + block.now.width) false) e.now) }
     ensures { IfOk result (λ found. found
         ≡ map (λ o. value_of e.now (row o)) (objects_at block.now.objects picked.now)) }
 {

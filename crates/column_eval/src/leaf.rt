@@ -3,7 +3,7 @@ ghost use Rattle.std.specs.Prelude.{◌≡◌, ◌+◌, ◌<◌, ◌≤◌, [], 
 ghost use Rattle.column_eval.specs.Lanes.{IsRead, IsRepeated};
 ghost use Rattle.sky_row.specs.Columns.{IsGathered, column_in};
 ghost use Rattle.table_rules.specs.Objects.{column_bound};
-ghost use Rattle.table_rules.specs.declared.limits.TheConstants.{FURTHER_MOST};
+ghost use Rattle.table_rules.specs.declared.limits.TheConstants.{FIRST_COLUMNS, FURTHER_MOST};
 
 use crate::lane::Lane;
 use crate::numbers::Numbers;
@@ -35,7 +35,7 @@ pub(crate) fn read(
     scratch: &mut Scratch,
 ) -> Result<Lane, Memory>
     requires there { All (λ place. place < length block.now.objects) places.now }
-    requires col { col < 4 + block.now.width }
+    requires col { col < FIRST_COLUMNS + block.now.width }
     ensures { IfOk result (λ lane. IsRead (column_in block.now.objects col) places.now
         (nat_abs (column_bound col)) lane) }
 {

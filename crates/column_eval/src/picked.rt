@@ -1,5 +1,6 @@
 //! The rows of a block at picked places.
 ghost use Rattle.std.specs.Prelude.{◌≡◌, ◌+◌, ◌<◌, ◌≤◌, [], false, length, get_or, All, IfOk, vec_capacity};
+ghost use Rattle.table_rules.specs.declared.limits.TheConstants.{FIRST_COLUMNS};
 ghost use Rattle.sky_row.specs.Columns.{no_row, objects_at};
 ghost use Rattle.value_rules.specs.Areas.{area_holds};
 ghost use Rattle.value_rules.specs.Terms.{Column};
@@ -58,7 +59,7 @@ impl<'a> Picked<'a> {
 
     /// A column of the rows by its number. Takes memory for it.
     pub(crate) fn read(&self, col: u32, scratch: &mut Scratch) -> Result<Lane, Memory>
-        requires { col < 4 + self.now.width }
+        requires { col < FIRST_COLUMNS + self.now.width }
         ensures { IfOk result (IsLane self.now.objects
             (Column (record { second = false; col = col }))) }
     {

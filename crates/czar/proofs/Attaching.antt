@@ -1,11 +1,8 @@
 -- The root of a session's pieces and what is attached, from the plans of its queries.
 use Rattle.std.proofs.Common.{◌≡◌, ◌≢◌, ◌∙◌, sym, ap, refl, subst, ℕ, zero, suc, ◌+◌, ◌<◌, ◌≤◌, ◌==◌, arith, Bool, true, false, cond, List, [], ◌∷◌, ◌++◌, All, AllPairs, length, map, take, get_or, append-nil, eq-eqb, ne_eqb, eqb-true, None, Some, Option, option_map, slice_get, find, Result, Ok, Err}
 use Rattle.std.specs.Prelude.{OnOk}
-use Rattle.std.specs.Option.{IfSome}
-use Rattle.std.specs.List.{last_or}
-use Rattle.std.proofs.lemmas.List.{get_or_default, get_or-take, length-take, take_more}
+use Rattle.std.proofs.lemmas.List.{length-take, take_more}
 use Rattle.std.proofs.lemmas.Option.{slice_get-map}
-use Rattle.scan_rules.proofs.ChunkSets.{last_below}
 use Rattle.table_rules.specs.Objects.{Catalogue, IsCatalogue}
 use Rattle.sky_rules.specs.Limits.{IsSky}
 use Rattle.sky_rules.specs.Partition.{Partition}
@@ -18,23 +15,6 @@ use Rattle.sql_tree.specs.declared.query.Query.{Query}
 use Rattle.czar.specs.Attached.{base_of, chunk_query, numbered_from, with_next, IsSoundIfThere}
 use Rattle.czar.specs.declared.plan.Plan.{Plan}
 use Rattle.czar.specs.declared.plan.Plan.TheVariants.{Planned}
-
--- ---- chunks are copied
-
--- in a list that ascends the next one is above the last of those before
-pub copied_above : (xs copy : List ℕ) (i e : ℕ) → copy ≡ take i xs → AllPairs (λ a b. a < b) xs → i < length xs
-    → IfSome (last_or None copy) (λ last. last < get_or xs i e)
-copied_above xs copy i e is up low =
-    subst (λ (l : List ℕ). IfSome (last_or None l) (λ last. last < get_or xs i e)) (sym is)
-    (last_below (take i xs) (get_or xs i e) below)
-  where
-    below : All (λ y. y < get_or xs i e) (take i xs)
-    below k d within =
-        let before : k < i = omega (arith, within, length-take i xs) in
-        let rise : get_or xs k d < get_or xs i d = up k i d (omega (arith, before)) (omega (arith, low)) in
-        let there = get_or_default xs i d e low in
-        let here = get_or-take i xs k d before in
-        omega (arith, rise, there, here)
 
 -- ---- the chunk queries with their numbers
 

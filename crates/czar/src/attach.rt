@@ -1,7 +1,7 @@
 //! What a session attaches for the queries of a script, and the board that it is attached to.
 
 ghost use Rattle.std.specs.Prelude.{◌≡◌, ◌+◌, ◌<◌, ◌≤◌, ◌++◌, ◌∷◌, []};
-ghost use Rattle.std.specs.Prelude.{All, AllPairs, IfOk, OnOk, length, map, take};
+ghost use Rattle.std.specs.Prelude.{All, IfOk, OnOk, length, map, take};
 ghost use Rattle.sky_rules.specs.Partition.{chunk_count};
 ghost use Rattle.scan_rules.specs.declared.limits.TheConstants.{QUERY_MOST};
 ghost use Rattle.answer_rules.specs.Bases.{columns_in};
@@ -13,22 +13,10 @@ use answer_rules::ChunkQuery;
 use chunk_rewriter::copy_of;
 use chunk_store::Store;
 use partial_merge::{Piece, PieceRoot};
-use scan_board::{Board, ChunkSet, Seat, SharedBoard};
+use scan_board::{Board, Seat, SharedBoard};
 use scan_session::Planned;
 use sky_io::Memory;
 use std::alloc::Global;
-
-/// A list of the same chunks.
-fn copied(alloc: Global, chunks: &[u32]) -> Result<ChunkSet, Memory>
-    requires { AllPairs (λ a b. a < b) chunks.now }
-    ensures { IfOk result (λ copy. copy ≡ chunks.now) }
-{
-    let mut copy = ChunkSet::new(alloc);
-    for chunk in chunks {
-        copy.push(*chunk)?;
-    }
-    Ok(copy)
-}
 
 /// What is attached for a query: nothing where it is refused.
 fn attached_by<'w>(alloc: Global, plan: &Plan) -> Result<Option<Planned<Piece<'w>>>, Memory>
@@ -39,7 +27,7 @@ fn attached_by<'w>(alloc: Global, plan: &Plan) -> Result<Option<Planned<Piece<'w
             head: _,
             query,
             chunks,
-        } => match copied(alloc, chunks.as_slice()) {
+        } => match chunks.copy(alloc) {
             Ok(chunks) => Ok(Some(Planned {
                 chunks,
                 empty: Piece::empty(alloc, &query.chunk),

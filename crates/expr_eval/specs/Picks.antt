@@ -2,6 +2,7 @@
 use Rattle.std.specs.Prelude.{◌≡◌, ◌+◌, ℤ, Bool, length, Option, is_some, IfSome, IsTrue, option_copied}
 use Rattle.std.specs.Borrow.{Bor}
 use Rattle.table_rules.specs.Objects.{Obj}
+use Rattle.table_rules.specs.declared.limits.TheConstants.{FIRST_COLUMNS}
 use Rattle.sql_bound.specs.declared.expr.BoundCol.{BoundCol}
 use Rattle.value_rules.specs.Formulas.{Formula}
 use Rattle.value_rules.specs.Laws.{IsWithinBounds}
@@ -16,7 +17,7 @@ pick_of first second = record { first = first; second = option_copied second }
 
 -- the column is one of the table, and one of the second row only where a pair is looked at
 abbrev pub is_there : Pick → BoundCol → Bool
-is_there p = has_col (4 + length p.first.further) (is_some p.second)
+is_there p = has_col (FIRST_COLUMNS + length p.first.further) (is_some p.second)
 
 -- the second row of a pair has as many further values as the first
 abbrev pub AreOfOneTable : Pick → Type 0

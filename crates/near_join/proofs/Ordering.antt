@@ -11,7 +11,8 @@ use Rattle.std.proofs.lemmas.Int.{ints}
 use Rattle.sky_vector.specs.Points.{IsWithin}
 use Rattle.sky_vector.specs.declared.limits.TheConstants.{PART_MOST}
 use Rattle.table_rules.specs.declared.limits.TheConstants.{ROWS_MOST}
-use Rattle.near_join.specs.Strips.{height_in, place_in, word, words_of}
+use Rattle.sky_row.specs.Keys.{place_in}
+use Rattle.near_join.specs.Strips.{height_in, word, words_of}
 use Rattle.near_join.specs.Windows.{Ascend}
 
 place_of_word : (z : ℤ) (place : ℕ) → place < ROWS_MOST → place_in (word z place) ≡ place

@@ -1,5 +1,5 @@
 -- Rows by their places in ascending height, with the parts of their positions side by side.
-use Rattle.std.specs.Prelude.{◌≡◌, ℕ, ◌+◌, ◌*◌, ◌%◌, ◌<◌, ℤ, pos, ◌+ℤ◌, unsigned_abs, Bool, ◌||◌, List, length, map, get_or, All}
+use Rattle.std.specs.Prelude.{◌≡◌, ℕ, ◌+◌, ◌*◌, ◌<◌, ℤ, pos, ◌+ℤ◌, unsigned_abs, Bool, ◌||◌, List, length, map, get_or, All}
 use Rattle.std.specs.List.{filter}
 use Rattle.std.specs.List.Sorted.{IsPermutation}
 use Rattle.sky_vector.specs.Points.{IsWithin, Point}
@@ -55,10 +55,6 @@ height_in zs place = get_or zs place (pos 0)
 -- a height with a place, which is below the most rows, as one number: the height from 0, and behind it room for a place
 abbrev pub word : ℤ → ℕ → ℕ
 word z place = unsigned_abs (z +ℤ pos PART_MOST) * ROWS_MOST + place
-
--- the place in a word
-abbrev pub place_in : ℕ → ℕ
-place_in w = w % ROWS_MOST
 
 -- the words of the heights at these places
 abbrev pub words_of : List ℤ → List ℕ → List ℕ

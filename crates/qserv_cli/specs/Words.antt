@@ -8,6 +8,7 @@ use Rattle.text_rules.specs.Numbers.{natural}
 use Rattle.table_rules.specs.declared.limits.TheConstants.{ROWS_MOST}
 use Rattle.demo_rules.specs.declared.limits.TheConstants.{SEED_MOST}
 use Rattle.session_rules.specs.declared.limits.TheConstants.{WORKERS_MOST}
+use Rattle.qserv_cli.specs.declared.limits.TheConstants.{WORD_DIGITS_MOST}
 use Rattle.qserv_cli.specs.declared.task.Task.{Task}
 use Rattle.qserv_cli.specs.declared.task.Task.TheVariants.{Answer, Explain}
 
@@ -49,7 +50,7 @@ number_between least most (Some n) = if nat_le least n && nat_le n most then Som
 
 -- the number of workers that a word gives: 1 to 10 digits, of value 0 to 16
 abbrev pub workers_by : List ℕ → Option ℕ
-workers_by word = number_between 0 WORKERS_MOST (natural 10 word)
+workers_by word = number_between 0 WORKERS_MOST (natural WORD_DIGITS_MOST word)
 
 -- the answers of the named script, where the number of workers is there
 abbrev pub query_of : (sky catalogue script : List ℕ) (workers : Option ℕ) → Option Form
@@ -66,8 +67,8 @@ demo_of None seed workers = None
 -- the demo of a count up to 2^22, a seed from 1 to 2^31 - 2 and a number of workers, of 1 to 10 digits each
 abbrev pub demo_by : (count seed workers : List ℕ) → Option Form
 demo_by count seed workers =
-    demo_of (number_between 0 ROWS_MOST (natural 10 count)) (number_between 1 SEED_MOST (natural 10 seed))
-    (workers_by workers)
+    demo_of (number_between 0 ROWS_MOST (natural WORD_DIGITS_MOST count))
+    (number_between 1 SEED_MOST (natural WORD_DIGITS_MOST seed)) (workers_by workers)
 
 -- the form of four words, by the first
 abbrev pub form_of_four : (word second third fourth : List ℕ) → Option Form

@@ -15,6 +15,7 @@ mod demo_tests;
 mod ends;
 mod fault_lines;
 mod inputs;
+mod limits;
 mod outcome;
 mod script_lines;
 #[cfg(test)]

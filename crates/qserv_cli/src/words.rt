@@ -1,9 +1,11 @@
 //! The forms of the command line.
 ghost use Rattle.std.specs.Prelude.{◌≡◌, ◌≤◌, ◌^◌, [], ◌∷◌, None, Some, IfNone, IfSome};
 ghost use Rattle.text_rules.specs.Numbers.{natural};
+ghost use Rattle.qserv_cli.specs.declared.limits.TheConstants.{WORD_DIGITS_MOST};
 ghost use Rattle.qserv_cli.specs.Words.{bytes_of, demo_by, form_of, form_of_four, number_between};
 ghost use Rattle.qserv_cli.specs.WordForms.{IsWithin, asked_by};
 
+use crate::limits::WORD_DIGITS_MOST;
 use crate::task::Task;
 use demo_rules::limits::SEED_MOST;
 use session_rules::limits::WORKERS_MOST;
@@ -103,13 +105,13 @@ fn read_demo<'a>(count: &[u8], seed: &[u8], workers: &[u8]) -> Option<Form<'a>>
     })
 }
 
-// The word is a number of 1 to 10 digits that lies between two others.
+// The word is a number in few enough digits, and lies between two others.
 fn read_between(word: &[u8], least: u32, most: u32) -> Option<u32>
-    ensures number { result ≡ number_between least most (natural 10 word.now) }
+    ensures number { result ≡ number_between least most (natural WORD_DIGITS_MOST word.now) }
     ensures from { IfSome result (λ n. least ≤ n) }
     ensures to { IfSome result (λ n. n ≤ most) }
 {
-    let n = read_natural(word, 10)?;
+    let n = read_natural(word, WORD_DIGITS_MOST)?;
     if n < u64::from(least) || u64::from(most) < n {
         return None;
     }

@@ -10,7 +10,7 @@ ghost use Rattle.scan_rules.specs.declared.limits.TheConstants.{QUERY_MOST};
 ghost use Rattle.scan_rules.specs.Lines.{seat_of};
 ghost use Rattle.scan_core.specs.Answers.{AnswersAttach, AnswersTake, AnswersCollect, IfTask};
 ghost use Rattle.scan_core.specs.Delivering.{DeliversTask, PiecesFit};
-ghost use Rattle.turn_lock.specs.Seats.{Knows, first_seat, joined, next_seat, one_more_made};
+ghost use Rattle.turn_lock.specs.Seats.{Knows, first_seat, joined_with, next_seat, one_more_made};
 ghost use Rattle.scan_core.specs.Boards.{IsLawful};
 ghost use Rattle.scan_board.specs.Calls.{AnswersCancel, AnswersClose, Called, HasTask};
 ghost use Rattle.scan_board.specs.Calls.{IsAskedFor, IsOwed};
@@ -167,7 +167,7 @@ impl<P: Work> SharedBoard<P> {
     pub fn join(&self, seat: &mut Seat<Board<P>>, other: Seat<Board<P>>)
         requires own { (seat.old.turn ≡ self.now) × (other.turn ≡ self.now) }
         requires not_first { other.number ≢ 0 }
-        ensures joined { seat.new ≡ joined seat.old other }
+        ensures joined { seat.new ≡ joined_with seat.old other }
         ensures own_seen { IsPrefix seat.old.seen seat.new.seen }
         ensures other_seen { IsPrefix other.seen seat.new.seen }
         ensures known { Knows seat_of seat.new }

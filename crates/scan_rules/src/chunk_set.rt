@@ -32,6 +32,15 @@ impl ChunkSet {
         }
     }
 
+    /// The same chunks once more. Takes memory.
+    pub fn copy(&self, alloc: Global) -> Result<ChunkSet, Memory>
+        ensures { IfOk result (λ copy. copy ≡ self.now) }
+    {
+        let mut chunks = Vec::new(alloc);
+        chunks.extend_from_slice(self.chunks.as_slice())?;
+        Ok(ChunkSet { chunks })
+    }
+
     /// Appends a chunk above the last one. Takes memory; after `Err` the set is unchanged.
     #[tactic(auto, using(crate::proofs::ChunkSets::ascending_push))]
     pub fn push(&mut self, c: u32) -> Result<(), Memory>

@@ -5,7 +5,7 @@ use Rattle.std.proofs.lemmas.Bool.{cases_Bool, cond-true, cond-false, false≢tr
 use Rattle.std.proofs.lemmas.List.Elements.{Contains-append_left, Contains-append_right}
 use mathlib.Core.List.{IsPrefix}
 use Rattle.turn_lock.specs.Pasts.{longer}
-use Rattle.turn_lock.specs.Seats.{Knows, joined, next_seat, one_more_made}
+use Rattle.turn_lock.specs.Seats.{Knows, joined_with, next_seat, one_more_made}
 use Rattle.scan_rules.specs.Lines.{seat_of, closes}
 use Rattle.scan_rules.specs.Queries.{Journal, QueryState, is_closed}
 use Rattle.scan_rules.proofs.Lists.{any_stays}
@@ -69,7 +69,7 @@ module _ {R : Type 0} (asks : R → ℕ → ℕ → Type 0) where
 
   -- one worker more: its seat was split off first, and is joined last
   pub manned_more : (old other mid work new : BoardSeat R) → other ≡ next_seat old → Worked other work → IsLawful asks (board_at other work.seen)
-      → Manned asks (one_more_made old) mid → new ≡ joined mid work → IsPrefix mid.seen new.seen → Knows seat_of new → Manned asks old new
+      → Manned asks (one_more_made old) mid → new ≡ joined_with mid work → IsPrefix mid.seen new.seen → Knows seat_of new → Manned asks old new
   manned_more old other mid work new o w lawful m e later knows =
       let root : work.root ≡ old.root = ap (λ (s : BoardSeat R). s.root) w.same ∙ ap (λ (s : BoardSeat R). s.root) o in
       let root_other : other.root ≡ old.root = ap (λ (s : BoardSeat R). s.root) o in
@@ -117,7 +117,7 @@ module _ {R : Type 0} (asks : R → ℕ → ℕ → Type 0) where
   pub own_same : (old new mid : BoardSeat R) → mid.number ≡ 0 → new.number ≡ 0 → new.mine ≡ mid.mine → Knows seat_of mid → Knows seat_of new → of_seat 0 new.seen ≡ of_seat 0 mid.seen
   own_same old new mid z y e k l = subst (λ n. of_seat n new.seen ≡ new.mine) y l.mine ∙ (e ∙ sym (subst (λ n. of_seat n mid.seen ≡ mid.mine) z k.mine))
 
-  pub leaves_joined : (plan : Plans) (steps : List Step) (ends : ℕ → Option QueryState) (r : Outcome) (old mid work new : BoardSeat R) → mid.number ≡ 0 → Knows seat_of mid → new ≡ joined mid work → IsPrefix mid.seen new.seen → Knows seat_of new
+  pub leaves_joined : (plan : Plans) (steps : List Step) (ends : ℕ → Option QueryState) (r : Outcome) (old mid work new : BoardSeat R) → mid.number ≡ 0 → Knows seat_of mid → new ≡ joined_with mid work → IsPrefix mid.seen new.seen → Knows seat_of new
       → Leaves plan steps mid.seen ends r → Leaves plan steps new.seen ends r
   leaves_joined plan steps ends r old mid work new z k e later l leaves =
       let own : of_seat 0 new.seen ≡ of_seat 0 mid.seen = own_same old new mid z (ap (λ (s : BoardSeat R). s.number) e ∙ z) (ap (λ (s : BoardSeat R). s.mine) e) k l in
@@ -133,7 +133,7 @@ module _ {R : Type 0} (asks : R → ℕ → ℕ → Type 0) where
   }
 
   -- so many seats were made
-  pub made_more : (workers : ℕ) (old mid work new : BoardSeat R) → 1 ≤ workers → mid.made ≡ (one_more_made old).made + (workers - 1) → new ≡ joined mid work → new.made ≡ old.made + workers
+  pub made_more : (workers : ℕ) (old mid work new : BoardSeat R) → 1 ≤ workers → mid.made ≡ (one_more_made old).made + (workers - 1) → new ≡ joined_with mid work → new.made ≡ old.made + workers
   made_more workers old mid work new some made e =
       let same : new.made ≡ mid.made = ap (λ (s : BoardSeat R). s.made) e in
       let split : mid.made ≡ (old.made + 1) + (workers - 1) = made in

@@ -1,12 +1,16 @@
 //! Sets of chunks and of queries: that pushes succeed with memory left, and the ends of a set's words by hand.
 use scan_rules::{ChunkSet, QuerySet};
+use std::test::Fail;
 
 #[test]
-fn chunks_are_pushed_where_memory_is_ample(rt: HostRuntime) {
+fn chunks_are_pushed_and_copied_where_memory_is_ample(rt: HostRuntime) -> Result<(), Fail> {
     let mut chunks = ChunkSet::new(rt.alloc());
     assert_eq!(rt; chunks.push(0), Ok(()));
     assert_eq!(rt; chunks.push(16383), Ok(()));
     assert_eq!(rt; chunks.as_slice(), [0, 16383].as_slice());
+    let copy = chunks.copy(rt.alloc())?;
+    assert_eq!(rt; copy.as_slice(), [0, 16383].as_slice());
+    Ok(())
 }
 
 #[test]

@@ -5,6 +5,7 @@ use Rattle.std.specs.List.{starts_with}
 use Rattle.text_rules.specs.Lines.{Line, is_note}
 use Rattle.text_rules.specs.Numbers.{natural}
 use Rattle.sql_token.specs.declared.token.Span.{Span}
+use Rattle.session_script.specs.declared.limits.TheConstants.{QUERY_DIGITS_MOST}
 use Rattle.session_script.specs.declared.step.Step.{Step}
 use Rattle.session_script.specs.declared.step.Step.TheVariants as step
 use Rattle.text_rules.specs.declared.limits.TheConstants.{QUERIES_MOST, QUERY_TEXT_MOST}
@@ -15,10 +16,10 @@ use Rattle.session_script.specs.declared.fault.ScriptFault.{ScriptFault}
 use Rattle.session_script.specs.declared.fault.ScriptFault.TheVariants as fault
 use Rattle.session_script.specs.Places.{placed_lines}
 
--- the number of 1 to 9 digits that is all that stands behind a word at the front
+-- the number that is all that stands behind a word at the front, in few enough digits
 abbrev pub number_behind : (word text : List ℕ) → Option ℕ
 number_behind word text =
-    if starts_with nat_eq text word then natural 9 (drop (length word) text) else None
+    if starts_with nat_eq text word then natural QUERY_DIGITS_MOST (drop (length word) text) else None
 
 -- of the other lines, one that begins with `wait ` and a number is a wait, and any other is a query
 abbrev pub wait_or_query : Option ℕ → Saying

@@ -9,6 +9,7 @@ pub mod examples;
 mod fault;
 mod judge;
 pub mod laws;
+pub mod limits;
 mod saying;
 mod script;
 mod step;

@@ -1,8 +1,10 @@
 //! What a line of a script says.
 ghost use Rattle.std.specs.Prelude.{◌≡◌};
 ghost use Rattle.text_rules.specs.Numbers.{natural};
+ghost use Rattle.session_script.specs.declared.limits.TheConstants.{QUERY_DIGITS_MOST};
 ghost use Rattle.session_script.specs.Scripts.{number_behind, said_by};
 
+use crate::limits::QUERY_DIGITS_MOST;
 use sky_text::{is_note, read_natural};
 
 /// What a line says, whatever stands before it.
@@ -18,12 +20,12 @@ pub(crate) enum Saying {
     Asks,
 }
 
-// The number of 1 to 9 digits.
+// The number of a query, in few enough digits.
 #[tactic(auto, using(crate::proofs::NineDigits::natural_small))]
 fn query_number(text: &[u8]) -> Option<u32>
-    ensures { result ≡ natural 9 text.now }
+    ensures { result ≡ natural QUERY_DIGITS_MOST text.now }
 {
-    let n = read_natural(text, 9)?;
+    let n = read_natural(text, QUERY_DIGITS_MOST)?;
     Some(n as u32)
 }
 

@@ -1,6 +1,6 @@
 //! Where an object stands: at the height of its first draw, in the direction to which the next two make it lean.
 
-ghost use Rattle.std.specs.Prelude.{◌≡◌, ◌+ℤ◌, ◌-ℤ◌, ◌*ℤ◌, ◌<◌, ◌≤◌, ◌^◌, IsTrue, ◌&&◌};
+ghost use Rattle.std.specs.Prelude.{◌≡◌, ◌+ℤ◌, ◌-ℤ◌, ◌*ℤ◌, ◌*◌, ◌<◌, ◌≤◌, ◌^◌, IsTrue, ◌&&◌};
 ghost use Rattle.std.specs.Prelude.{nat_abs, pos, unsigned_abs};
 ghost use Rattle.demo_rules.specs.DemoRows.{cut_quotient, kept_point, leaning_point, on_meridian};
 ghost use Rattle.demo_rules.specs.declared.limits.TheConstants.{MODULUS};
@@ -8,6 +8,7 @@ ghost use Rattle.sky_generate.specs.Places.{StandsBy, height_by, lean_by};
 ghost use Rattle.sky_vector.specs.Points.{is_admissible, is_coordinate, square};
 ghost use Rattle.sky_vector.specs.Pos.{point};
 ghost use Rattle.sky_vector.specs.Roots.{IsRoot};
+ghost use Rattle.sky_vector.specs.declared.limits.TheConstants.{RADIUS};
 
 use demo_rules::limits::{HEIGHTS, LEAN_MIDDLE};
 use sky_vector::limits::{COORDINATE_MOST, RADIUS};
@@ -26,10 +27,10 @@ pub(crate) fn place(height: u64, lean_x: u64, lean_y: u64) -> Pos
     leaning(z, u, v, from_axis(z), length_of(u, v))
 }
 
-/// The height that a draw gives, at most 2^28 up or down.
+/// The height that a draw gives, at most the radius up or down.
 fn height_by(draw: u64) -> i64
     ensures value { result ≡ height_by draw }
-    ensures size { unsigned_abs result ≤ 2 ^ 28 }
+    ensures size { unsigned_abs result ≤ RADIUS }
 {
     (draw % HEIGHTS) as i64 - RADIUS as i64
 }
@@ -43,14 +44,14 @@ fn lean_by(draw: u64) -> i64
     draw as i64 - LEAN_MIDDLE as i64
 }
 
-/// How far from the axis the sphere is at this height, at most 2^28.
+/// How far from the axis the sphere is at this height, at most the radius.
 #[tactic(auto, using(crate::proofs::Roots::below_the_sphere, crate::proofs::Roots::root_is_short))]
 fn from_axis(z: i64) -> u64
-    requires { unsigned_abs z ≤ 2 ^ 28 }
-    ensures root { IsRoot (nat_abs (pos (2 ^ 56) -ℤ square z)) result }
-    ensures size { result ≤ 2 ^ 28 }
+    requires { unsigned_abs z ≤ RADIUS }
+    ensures root { IsRoot (nat_abs (pos (RADIUS * RADIUS) -ℤ square z)) result }
+    ensures size { result ≤ RADIUS }
 {
-    isqrt((1 << 56) - height_squared(z))
+    isqrt(RADIUS * RADIUS - height_squared(z))
 }
 
 /// How long the direction (u, v) is.
@@ -63,11 +64,11 @@ fn length_of(u: i64, v: i64) -> u64
     isqrt(lean_squared(u) + lean_squared(v))
 }
 
-/// The square of a height, at most 2^56.
+/// The square of a height, at most that of the radius.
 fn height_squared(z: i64) -> u64
-    requires { unsigned_abs z ≤ 2 ^ 28 }
+    requires { unsigned_abs z ≤ RADIUS }
     ensures value { pos result ≡ square z }
-    ensures most { result ≤ 2 ^ 56 }
+    ensures most { result ≤ RADIUS * RADIUS }
 {
     let size = z.unsigned_abs();
     size * size
@@ -87,7 +88,7 @@ fn lean_squared(lean: i64) -> u64
 fn leaning(z: i64, u: i64, v: i64, from_axis: u64, long: u64) -> Pos
     requires u_size { unsigned_abs u ≤ 2 ^ 30 }
     requires v_size { unsigned_abs v ≤ 2 ^ 30 }
-    requires far { from_axis ≤ 2 ^ 28 }
+    requires far { from_axis ≤ RADIUS }
     ensures { point result ≡ leaning_point z u v from_axis long }
 {
     if long == 0 {
@@ -103,7 +104,7 @@ fn leaning(z: i64, u: i64, v: i64, from_axis: u64, long: u64) -> Pos
 /// The product of how far an object leans and how far from the axis it stands.
 fn stretched(lean: i64, by: u64) -> i64
     requires lean_size { unsigned_abs lean ≤ 2 ^ 30 }
-    requires by_size { by ≤ 2 ^ 28 }
+    requires by_size { by ≤ RADIUS }
     ensures value { result ≡ lean *ℤ pos by }
     ensures size { unsigned_abs result ≤ 2 ^ 58 }
 {

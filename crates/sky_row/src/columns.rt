@@ -7,7 +7,7 @@ ghost use Rattle.sky_vector.specs.Points.{IsWithin, is_admissible};
 ghost use Rattle.sky_vector.specs.Pos.{point};
 ghost use Rattle.table_rules.specs.Objects.{IsRow};
 ghost use Rattle.sky_row.specs.Columns.{AreListed, AreRows, column_in, no_row, objects_at, objects_of};
-ghost use Rattle.table_rules.specs.declared.limits.TheConstants.{ROWS_MOST};
+ghost use Rattle.table_rules.specs.declared.limits.TheConstants.{FIRST_COLUMNS, ROWS_MOST};
 
 use crate::column::Column;
 use crate::lists::Lists;
@@ -17,6 +17,7 @@ use sky_io::Memory;
 use sky_vector::Pos;
 use std::alloc::Global;
 use std::marker::Model;
+use table_rules::limits::FIRST_COLUMNS;
 
 /// Rows in any order, each with a value for each further column.
 #[derive(Drop)]
@@ -42,7 +43,7 @@ impl Columns {
     pub fn new(alloc: Global, schema: Schema) -> Result<Columns, Memory>
         ensures { IfOk result (λ columns. columns ≡ record { names = schema; objects = [] }) }
     {
-        let lists = Lists::new(alloc, schema.width() - 4)?;
+        let lists = Lists::new(alloc, schema.width() - FIRST_COLUMNS as u32)?;
         Ok(Columns { schema, lists })
     }
 
@@ -131,13 +132,13 @@ impl Columns {
         self.lists.zs()
     }
 
-    /// A further column by its number among all columns, so from 4. Takes no memory.
+    /// A further column by its number among all columns, so from `FIRST_COLUMNS`. Takes no memory.
     pub fn further(&self, col: u32) -> &Column
-        requires first { 4 ≤ col }
-        requires last { col < 4 + length self.now.names }
+        requires first { FIRST_COLUMNS ≤ col }
+        requires last { col < FIRST_COLUMNS + length self.now.names }
         ensures { result.now ≡ column_in self.now.objects col }
     {
-        self.lists.further((col - 4) as usize)
+        self.lists.further(col as usize - FIRST_COLUMNS)
     }
 
     /// The rows at these places, counted from 0, in the order of the places. Takes memory for each column once.

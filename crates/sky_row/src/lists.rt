@@ -16,6 +16,7 @@ use sky_io::Memory;
 use sky_vector::Pos;
 use std::alloc::Global;
 use std::marker::Model;
+use table_rules::limits::FIRST_COLUMNS;
 
 /// The ids of rows, the parts of their positions, and their further columns.
 #[derive(Drop)]
@@ -282,7 +283,7 @@ fn push_cell(column: &mut Column, row: &Row, k: u32) -> Result<(), Memory>
     ensures ok { OnOk result (column.new ≡ column.old ++ get_or row.now.further k None ∷ []) }
     ensures front { IsFront column.old column.new }
 {
-    column.push(row.value(4 + k))
+    column.push(row.value(FIRST_COLUMNS as u32 + k))
 }
 
 /// Cuts columns behind so many rows.

@@ -4,16 +4,16 @@
 pub const RADIUS: u64 = 1 << 28;
 
 /// The least length of an admissible position: 16 less than the radius.
-pub const LENGTH_LEAST: u64 = 268435440;
+pub const LENGTH_LEAST: u64 = RADIUS - 16;
 
 /// The largest length of an admissible position: 16 more than the radius.
-pub const LENGTH_MOST: u64 = 268435472;
+pub const LENGTH_MOST: u64 = RADIUS + 16;
 
 /// The largest size of a coordinate of an admissible position: a whole length along one axis.
 pub const COORDINATE_MOST: u64 = LENGTH_MOST;
 
 /// The largest size of a part of any point or direction: twice the radius.
-pub const PART_MOST: u64 = 1 << 29;
+pub const PART_MOST: u64 = 2 * RADIUS;
 
 /// The largest n that a test of squared distances may name, in squared grid units: above the squared chord of any two
 /// points whose parts are within `PART_MOST`.

@@ -6,7 +6,8 @@ use Rattle.std.specs.List.{list_all}
 use Rattle.std.specs.List.Sorted.{IsPermutation}
 use Rattle.sky_vector.specs.Points.{Point, is_admissible}
 use Rattle.sky_vector.specs.declared.limits.TheConstants.{COORDINATE_MOST}
-use Rattle.table_rules.specs.declared.limits.TheConstants.{FURTHER_COLUMNS_MOST, FURTHER_MOST, ID_MOST, ROWS_MOST}
+use Rattle.table_rules.specs.declared.limits.TheConstants.{FIRST_COLUMNS, FURTHER_COLUMNS_MOST, FURTHER_MOST}
+use Rattle.table_rules.specs.declared.limits.TheConstants.{ID_MOST, ROWS_MOST}
 
 -- A row: its id, its position, and its further values, of which None is NULL.
 pub record Obj : Type 0 where
@@ -26,7 +27,7 @@ cell o col =
     else if col == 1 then Some o.at.x
     else if col == 2 then Some o.at.y
     else if col == 3 then Some o.at.z
-    else unwrap_or (slice_get o.further (col - 4)) None
+    else unwrap_or (slice_get o.further (col - FIRST_COLUMNS)) None
 
 -- the largest size of a value in a column
 abbrev pub column_bound : ℕ → ℤ

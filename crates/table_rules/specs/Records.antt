@@ -12,7 +12,7 @@ use Rattle.sky_vector.specs.Points.{is_admissible}
 use Rattle.table_rules.specs.Objects.{Obj, Catalogue, column_bound}
 use Rattle.table_rules.specs.Names.{first_names, can_follow}
 use Rattle.table_rules.specs.Ordered.{by_id, has_id}
-use Rattle.table_rules.specs.declared.limits.TheConstants.{ROWS_MOST}
+use Rattle.table_rules.specs.declared.limits.TheConstants.{FIRST_COLUMNS, ROWS_MOST}
 use Rattle.table_rules.specs.declared.fault.LoadFault.{LoadFault}
 use Rattle.table_rules.specs.declared.fault.LoadFault.TheVariants.{Header, FieldCount, Number, Range, Length, Repeated, TooManyRows}
 
@@ -28,13 +28,13 @@ field_in fields col = get_or fields col []
 -- before it
 abbrev pub is_right : List (List ℕ) → ℕ → Bool
 is_right header col =
-    if nat_lt col 4 then bytes_eq (field_in header col) (field_in first_names col)
+    if nat_lt col FIRST_COLUMNS then bytes_eq (field_in header col) (field_in first_names col)
     else can_follow (take col header) (field_in header col)
 
 -- the faults of a header: one for each of its fields, and for each of the first four, that isn't right
 abbrev pub header_faults : List (List ℕ) → List LoadFault
 header_faults header =
-    flat_map (λ col. unless (is_right header col) (Header (col + 1))) (range_with_len 0 (max 4 (length header)))
+    flat_map (λ col. unless (is_right header col) (Header (col + 1))) (range_with_len 0 (max FIRST_COLUMNS (length header)))
 
 -- the least value in a column
 abbrev pub column_least : ℕ → ℤ
@@ -51,7 +51,7 @@ number_faults row col (Some z) = unless (is_in_range col z) (Range row (col + 1)
 
 -- the field is NULL: it is an empty one of a further column
 abbrev pub is_null : ℕ → List ℕ → Bool
-is_null col field = nat_le 4 col && (length field == 0)
+is_null col field = nat_le FIRST_COLUMNS col && (length field == 0)
 
 -- the fault of a field
 abbrev pub field_faults : ℕ → ℕ → List ℕ → List LoadFault
@@ -66,7 +66,7 @@ abbrev pub row_of : List (List ℕ) → Obj
 row_of fields = record {
   id = number_in fields 0;
   at = record { x = number_in fields 1; y = number_in fields 2; z = number_in fields 3 };
-  further = map int_of (drop 4 fields);
+  further = map int_of (drop FIRST_COLUMNS fields);
 }
 
 -- the faults of a record by itself, in the order in which they are judged, where the header has so many fields
@@ -90,7 +90,7 @@ data_faults width rows =
 
 -- the catalogue of a header and its data rows
 abbrev pub catalogue_under : List (List ℕ) → List (List (List ℕ)) → Catalogue
-catalogue_under header rows = record { names = drop 4 header; objects = by_id (map row_of rows) }
+catalogue_under header rows = record { names = drop FIRST_COLUMNS header; objects = by_id (map row_of rows) }
 
 -- the catalogue that all the records of a text are, or their first fault
 abbrev pub catalogue_of_records : List (List (List ℕ)) → Result Catalogue LoadFault

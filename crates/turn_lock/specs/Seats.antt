@@ -43,5 +43,5 @@ abbrev pub next_seat : {R E : Type 0} → Seated R E → Seated R E
 next_seat seat = record seat { number = seat.made; mine = []; ended = []; made = 0 }
 
 -- the seat once another has ended in it
-abbrev pub joined : {R E : Type 0} → Seated R E → Seated R E → Seated R E
-joined seat other = record seat { seen = longer seat.seen other.seen; ended = seat.ended ++ (other.number, other.mine) ∷ other.ended }
+abbrev pub joined_with : {R E : Type 0} → Seated R E → Seated R E → Seated R E
+joined_with seat other = record seat { seen = longer seat.seen other.seen; ended = seat.ended ++ (other.number, other.mine) ∷ other.ended }

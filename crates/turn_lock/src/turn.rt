@@ -1,7 +1,7 @@
 //! The turn: who enters takes the value out, and who leaves puts it back.
 ghost use Rattle.std.specs.Prelude.{◌≡◌, ◌≢◌, ◌-◌, ◌%◌, ◌<◌, ◌^◌, [], true, IfSome, IfNone, IfOk};
 ghost use mathlib.Core.List.{IsPrefix};
-ghost use Rattle.turn_lock.specs.Seats.{Knows, first_seat, having_seen, joined, next_seat};
+ghost use Rattle.turn_lock.specs.Seats.{Knows, first_seat, having_seen, joined_with, next_seat};
 ghost use Rattle.turn_lock.specs.Seats.{one_more_made};
 ghost use Rattle.turn_lock.specs.Steps.{TookOut};
 
@@ -144,7 +144,7 @@ impl<T: Lineage> Turn<T> {
     pub fn join(&self, seat: &mut Seat<T>, other: Seat<T>)
         requires own { (seat.old.turn ≡ self.now) × (other.turn ≡ self.now) }
         requires not_first { other.number ≢ 0 }
-        ensures joined { seat.new ≡ joined seat.old other }
+        ensures joined { seat.new ≡ joined_with seat.old other }
         ensures own_seen { IsPrefix seat.old.seen seat.new.seen }
         ensures other_seen { IsPrefix other.seen seat.new.seen }
         ensures known { Knows T.seat_of seat.new }

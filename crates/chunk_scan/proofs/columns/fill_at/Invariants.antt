@@ -1,5 +1,5 @@
 use Rattle.std.proofs.Common.{◌≡◌, take}
-use Rattle.chunk_scan.specs.Computed.{cells_in}
+use Rattle.sky_row.specs.Columns.{cells_in}
 use Rattle.chunk_scan.proofs.columns.fill_at.Given as goal
 
 abbrev pub invariant-loop-column : goal.invariant-loop-column

@@ -1,5 +1,5 @@
 use Rattle.std.proofs.Common.{◌≡◌, ◌<◌, ℕ, get_or, length}
-use Rattle.chunk_scan.specs.Words.{place_in}
+use Rattle.sky_row.specs.Keys.{place_in}
 use Rattle.chunk_scan.proofs.word.put_places.Given as goal
 
 abbrev pub invariant-loop-j : goal.invariant-loop-j
