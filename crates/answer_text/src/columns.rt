@@ -6,6 +6,7 @@ ghost use Rattle.sql_rules.specs.PrintedExprs.{behind_each};
 ghost use Rattle.bind_rules.specs.Columns.{qualifier};
 ghost use Rattle.transcript_rules.specs.Tables.{by_commas, star_columns};
 ghost use Rattle.answer_text.specs.Parted.{columns_from, dotted};
+ghost use Rattle.table_rules.specs.declared.limits.TheConstants.{FIRST_COLUMNS};
 
 use bind_checks::qualifier;
 use sky_io::{Put, Sink};
@@ -52,7 +53,7 @@ fn put_columns_from<K: Sink>(
     dot: &[u8],
     from: u32,
 ) -> Put
-    requires { from ≤ 4 + length schema.now }
+    requires { from ≤ FIRST_COLUMNS + length schema.now }
     ensures { Wrote (K.state sink.old) (K.state sink.new)
         (behind_each (codes ",") (columns_from side.now dot.now schema.now from)) result }
 {

@@ -3,6 +3,7 @@ ghost use Rattle.std.specs.Prelude.{◌≡◌, ◌<◌, ◌≤◌, ◌+◌, fals
 ghost use Rattle.text_rules.specs.declared.limits.TheConstants.{QUERY_TEXT_MOST};
 ghost use Rattle.value_rules.specs.Sound.{has_col, is_sound_cond, is_sound_expr, IsSound};
 ghost use Rattle.bind_rules.specs.Laws.{HasCounts};
+ghost use Rattle.table_rules.specs.declared.limits.TheConstants.{FIRST_COLUMNS};
 
 use column_block::Block;
 use column_eval::{Scratch, ValueList, truths, values};
@@ -17,7 +18,7 @@ use std::alloc::Global;
 // A query over the schema, where it fits it and there is memory.
 fn bound_over(alloc: Global, schema: &Schema, query: &Query) -> Option<Bound>
     requires { HasCounts query.now }
-    ensures { IfSome result (IsSound (4 + length schema.now)) }
+    ensures { IfSome result (IsSound (FIRST_COLUMNS + length schema.now)) }
 {
     match bind(alloc, query, schema) {
         Ok(bound) => Some(bound),
@@ -28,7 +29,7 @@ fn bound_over(alloc: Global, schema: &Schema, query: &Query) -> Option<Bound>
 // A text as a query over the schema, where it is one that fits it and there is memory.
 fn bound_by(alloc: Global, schema: &Schema, text: &[u8]) -> Option<Bound>
     requires { length text.now ≤ QUERY_TEXT_MOST }
-    ensures { IfSome result (IsSound (4 + length schema.now)) }
+    ensures { IfSome result (IsSound (FIRST_COLUMNS + length schema.now)) }
 {
     match read(alloc, text) {
         Ok(query) => bound_over(alloc, schema, &query),
@@ -45,7 +46,8 @@ fn true_turns(
     times: u32,
 ) -> Result<i128, Memory>
     requires there { All (λ place. place < length block.now.objects) places.now }
-    requires sound { IsTrue (is_sound_cond (has_col (4 + block.now.width) false) c.now) }
+    requires sound { IsTrue (is_sound_cond (has_col (FIRST_COLUMNS + block.now.width) false)
+        c.now) }
 {
     let mut scratch = Scratch::new(alloc);
     let mut found = 0i128;
@@ -96,7 +98,8 @@ fn sum_of_turns(
     times: u32,
 ) -> Result<i128, Memory>
     requires there { All (λ place. place < length block.now.objects) places.now }
-    requires sound { IsTrue (is_sound_expr (has_col (4 + block.now.width) false) e.now) }
+    requires sound { IsTrue (is_sound_expr (has_col (FIRST_COLUMNS + block.now.width) false)
+        e.now) }
 {
     let mut scratch = Scratch::new(alloc);
     let mut found = 0i128;

@@ -15,6 +15,7 @@ ghost use Rattle.near_join.specs.Rising.{Rises};
 ghost use Rattle.near_join.specs.Sound.{IsSoundLine};
 ghost use Rattle.near_join.specs.Strips.{IsChunkStrip, IsWhole};
 ghost use Rattle.near_join.specs.Walk.{joins, sub_pairs};
+ghost use Rattle.table_rules.specs.declared.limits.TheConstants.{FIRST_COLUMNS};
 
 use crate::pairs::push_swept;
 use crate::reach::Reach;
@@ -38,7 +39,7 @@ pub fn join<'w>(
     requires there { chunk < chunk_count store.now.plan }
     requires pairs { is_paired query.now.shape ≡ true }
     requires reach { Reaches store.now.plan query.now.shape chunk }
-    requires sound { IsSoundChunk (4 + length store.now.rows.names) query.now }
+    requires sound { IsSoundChunk (FIRST_COLUMNS + length store.now.rows.names) query.now }
     ensures { IfOk result (λ piece. PieceFor store.now.plan store.now.rows.objects query.now
         (chunk ∷ []) piece) }
 {
@@ -138,7 +139,8 @@ fn push_sub(
         lists ≡ sub_lists store.now.plan store.now.rows.objects chunk) }
     requires strip { IsChunkStrip store.now.plan store.now.rows.objects chunk strip.now }
     requires rises { IsTrue reach.now.rises → Rises query.now.conds }
-    requires sound { IsSoundLine (has_col (4 + length store.now.rows.names) true) query.now }
+    requires sound { IsSoundLine (has_col (FIRST_COLUMNS + length store.now.rows.names) true)
+        query.now }
     ensures { OnOk result (Gains query.now (sub_pairs store.now.plan store.now.rows.objects
         (joins reach.now.limit query.now.conds) chunk sub) piece.old piece.new) }
 {
@@ -171,7 +173,8 @@ fn push_near(
     requires rows { AreInTheSky store.now.rows.objects }
     requires strip { IsChunkStrip store.now.plan store.now.rows.objects chunk strip.now }
     requires rises { IsTrue reach.now.rises → Rises query.now.conds }
-    requires sound { IsSoundLine (has_col (4 + length store.now.rows.names) true) query.now }
+    requires sound { IsSoundLine (has_col (FIRST_COLUMNS + length store.now.rows.names) true)
+        query.now }
     ensures { OnOk result (Gains query.now (sub_pairs store.now.plan store.now.rows.objects
         (joins reach.now.limit query.now.conds) chunk sub) piece.old piece.new) }
 {

@@ -10,6 +10,7 @@ ghost use Rattle.answer_rules.specs.Rows.{out_row};
 ghost use Rattle.partial_merge.specs.Bags.{out_row as ranked};
 ghost use Rattle.near_join.specs.Gains.{with_cells};
 ghost use Rattle.near_join.specs.Sound.{IsSoundLine, is_sound_item, is_sound_key};
+ghost use Rattle.table_rules.specs.declared.limits.TheConstants.{FIRST_COLUMNS};
 
 use answer_rules::{ChunkItem, ChunkOrder, ChunkQuery};
 use expr_eval::value;
@@ -21,7 +22,8 @@ use sky_vector::Num;
 /// The place of the pair in the order of the chunk query. Takes no memory.
 pub(crate) fn rank_of(query: &ChunkQuery, first: &Row, second: &Row) -> Rank
     requires wide { length second.now.further ≡ length first.now.further }
-    requires sound { IsSoundLine (has_col (4 + length first.now.further) true) query.now }
+    requires sound { IsSoundLine (has_col (FIRST_COLUMNS + length first.now.further) true)
+        query.now }
     ensures { ranked result []
         ≡ with_cells [] (out_row (chunk_lines query.now) (pair first.now second.now)) }
 {
@@ -43,7 +45,8 @@ pub(crate) fn fill(
     second: &Row,
 ) -> Result<(), Memory>
     requires wide { length second.now.further ≡ length first.now.further }
-    requires sound { IsTrue (list_all (is_sound_item (has_col (4 + length first.now.further) true))
+    requires sound { IsTrue (list_all
+        (is_sound_item (has_col (FIRST_COLUMNS + length first.now.further) true))
         items.now) }
     ensures { OnOk result (values.new.items
         ≡ map (chunk_value (pair first.now second.now)) items.now) }
@@ -58,7 +61,8 @@ pub(crate) fn fill(
 /// The value of an item; an aggregate has none on a pair.
 fn cell(item: &ChunkItem, first: &Row, second: &Row) -> Option<Num>
     requires wide { length second.now.further ≡ length first.now.further }
-    requires sound { IsTrue (is_sound_item (has_col (4 + length first.now.further) true) item.now) }
+    requires sound { IsTrue (is_sound_item (has_col (FIRST_COLUMNS + length first.now.further) true)
+        item.now) }
     ensures { result ≡ chunk_value (pair first.now second.now) item.now }
 {
     match item {
@@ -80,7 +84,8 @@ fn is_down(order: &Option<ChunkOrder>) -> bool
 /// The value that the order goes by.
 fn key(order: &Option<ChunkOrder>, first: &Row, second: &Row) -> Option<Num>
     requires wide { length second.now.further ≡ length first.now.further }
-    requires sound { IsTrue (is_sound_key (has_col (4 + length first.now.further) true) order.now) }
+    requires sound { IsTrue (is_sound_key (has_col (FIRST_COLUMNS + length first.now.further) true)
+        order.now) }
     ensures { result ≡ chunk_key order.now (pair first.now second.now) }
 {
     match order {

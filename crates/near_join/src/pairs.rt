@@ -13,6 +13,7 @@ ghost use Rattle.near_join.specs.Rising.{Rises};
 ghost use Rattle.near_join.specs.Sound.{IsSoundLine};
 ghost use Rattle.near_join.specs.Strips.{IsListed, IsWhole, is_close, object_at};
 ghost use Rattle.near_join.specs.Windows.{Ascend};
+ghost use Rattle.table_rules.specs.declared.limits.TheConstants.{FIRST_COLUMNS};
 
 use crate::heights::is_above;
 use crate::reach::Reach;
@@ -42,7 +43,7 @@ pub(crate) fn push_swept(
     requires whole { IsWhole near.now }
     requires ascend { Ascend near.now.zs }
     requires rises { IsTrue reach.now.rises → Rises query.now.conds }
-    requires sound { IsSoundLine (has_col (4 + length rows.now.names) true) query.now }
+    requires sound { IsSoundLine (has_col (FIRST_COLUMNS + length rows.now.names) true) query.now }
     ensures { OnOk result (Gains query.now (swept_pairs query.now reach.now.limit
         (objects_at rows.now.objects near.now.places)
         (held_rows (bounds_shown region.now) (objects_at rows.now.objects near.now.places)))
@@ -74,7 +75,7 @@ fn push_upwards(
     requires ascend { Ascend near.now.zs }
     requires there { i < length near.now.places }
     requires rises { IsTrue reach.now.rises → Rises query.now.conds }
-    requires sound { IsSoundLine (has_col (4 + length rows.now.names) true) query.now }
+    requires sound { IsSoundLine (has_col (FIRST_COLUMNS + length rows.now.names) true) query.now }
     ensures { OnOk result (Gains query.now (upward_pairs query.now reach.now.limit
         (bounds_shown region.now) (object_at rows.now.objects (get_or near.now.places i 0))
         (objects_at rows.now.objects (drop (i + 1) near.now.places))) piece.old piece.new) }

@@ -15,6 +15,7 @@ ghost use Rattle.near_join.specs.Rising.{Rises, is_upward};
 ghost use Rattle.near_join.specs.Sound.{IsSoundLine};
 ghost use Rattle.near_join.specs.Strips.{is_close, object_at};
 ghost use Rattle.near_join.specs.Walk.{is_near};
+ghost use Rattle.table_rules.specs.declared.limits.TheConstants.{FIRST_COLUMNS};
 
 use crate::line::{fill, rank_of};
 use crate::reach::Reach;
@@ -43,7 +44,7 @@ pub(crate) fn push_found(
     requires found { All (λ p. p < length rows.now.objects) found.now }
     requires near { All (λ p. is_close rows.now.objects reach.now.limit place p ≡ true) found.now }
     requires rises { IsTrue reach.now.rises → Rises query.now.conds }
-    requires sound { IsSoundLine (has_col (4 + length rows.now.names) true) query.now }
+    requires sound { IsSoundLine (has_col (FIRST_COLUMNS + length rows.now.names) true) query.now }
     ensures { OnOk result (Gains query.now (upward_pairs query.now reach.now.limit
         (bounds_shown region.now) (object_at rows.now.objects place)
         (objects_at rows.now.objects found.now)) piece.old piece.new) }
@@ -64,7 +65,7 @@ fn push_itself(
 ) -> Result<(), Memory>
     requires of_rows { IsOfRows piece.old }
     requires rises { IsTrue reach.now.rises → Rises query.now.conds }
-    requires sound { IsSoundLine (has_col (4 + length row.now.further) true) query.now }
+    requires sound { IsSoundLine (has_col (FIRST_COLUMNS + length row.now.further) true) query.now }
     ensures { OnOk result (Gains query.now (held_pair query.now reach.now.limit
         (bounds_shown region.now) row.now row.now) piece.old piece.new) }
 {
@@ -99,7 +100,7 @@ fn push_others(
     requires near { All (λ p. is_near reach.now.limit row.now (object_at rows.now.objects p) ≡ true)
         found.now }
     requires rises { IsTrue reach.now.rises → Rises query.now.conds }
-    requires sound { IsSoundLine (has_col (4 + length rows.now.names) true) query.now }
+    requires sound { IsSoundLine (has_col (FIRST_COLUMNS + length rows.now.names) true) query.now }
     ensures { OnOk result (Gains query.now (flat_map
         (both_ways query.now reach.now.limit (bounds_shown region.now) row.now)
         (objects_at rows.now.objects found.now)) piece.old piece.new) }
@@ -126,7 +127,7 @@ fn push_other(
     requires there { place < length rows.now.objects }
     requires near { is_near reach.now.limit row.now (object_at rows.now.objects place) ≡ true }
     requires rises { IsTrue reach.now.rises → Rises query.now.conds }
-    requires sound { IsSoundLine (has_col (4 + length rows.now.names) true) query.now }
+    requires sound { IsSoundLine (has_col (FIRST_COLUMNS + length rows.now.names) true) query.now }
     ensures { OnOk result (Gains query.now
         (both_ways query.now reach.now.limit (bounds_shown region.now) row.now
         (object_at rows.now.objects place)) piece.old piece.new) }
@@ -148,7 +149,7 @@ fn push_both(
     requires wide { length b.now.further ≡ length a.now.further }
     requires near { is_near reach.now.limit a.now b.now ≡ true }
     requires rises { IsTrue reach.now.rises → Rises query.now.conds }
-    requires sound { IsSoundLine (has_col (4 + length a.now.further) true) query.now }
+    requires sound { IsSoundLine (has_col (FIRST_COLUMNS + length a.now.further) true) query.now }
     ensures { OnOk result (Gains query.now
         (both_ways query.now reach.now.limit (bounds_shown region.now) a.now b.now)
         piece.old piece.new) }
@@ -172,7 +173,8 @@ fn push_way(
     requires wide { length second.now.further ≡ length first.now.further }
     requires near { is_near reach.now.limit first.now second.now ≡ true }
     requires rises { IsTrue reach.now.rises → Rises query.now.conds }
-    requires sound { IsSoundLine (has_col (4 + length first.now.further) true) query.now }
+    requires sound { IsSoundLine (has_col (FIRST_COLUMNS + length first.now.further) true)
+        query.now }
     ensures { OnOk result (Gains query.now (held_pair query.now reach.now.limit
         (bounds_shown region.now) first.now second.now) piece.old piece.new) }
 {
@@ -208,7 +210,8 @@ fn push_if_met(
 ) -> Result<(), Memory>
     requires of_rows { IsOfRows piece.old }
     requires wide { length second.now.further ≡ length first.now.further }
-    requires sound { IsSoundLine (has_col (4 + length first.now.further) true) query.now }
+    requires sound { IsSoundLine (has_col (FIRST_COLUMNS + length first.now.further) true)
+        query.now }
     ensures { OnOk result (Gains query.now
         (if meets query.now.conds (pair first.now second.now) then pair first.now second.now ∷ []
         else []) piece.old piece.new) }
@@ -230,7 +233,8 @@ fn push_pair(
 ) -> Result<(), Memory>
     requires of_rows { IsOfRows piece.old }
     requires wide { length second.now.further ≡ length first.now.further }
-    requires sound { IsSoundLine (has_col (4 + length first.now.further) true) query.now }
+    requires sound { IsSoundLine (has_col (FIRST_COLUMNS + length first.now.further) true)
+        query.now }
     ensures { OnOk result (Gains query.now (pair first.now second.now ∷ []) piece.old piece.new) }
 {
     fill(values, query.items.as_slice(), first, second)?;
