@@ -1,4 +1,4 @@
--- Bound queries of worked examples: those of the demo.
+-- The demo's queries as they are bound.
 use Rattle.std.specs.Prelude.{pos, negsuc, true, false, [], ◌∷◌, Some, None}
 use Rattle.sql_bound.specs.Trees.{cond_of}
 use Rattle.sql_bound.specs.declared.area.AreaTest.TheVariants.{Band}
@@ -11,7 +11,6 @@ use Rattle.sql_bound.specs.declared.query.Shape.TheVariants.{Rows, Pairs}
 use Rattle.value_rules.specs.Examples.{number}
 use Rattle.answer_rules.specs.Examples.{column, first_col, second_col, grouped}
 use Rattle.answer_rules.specs.Queries.{once}
-use Rattle.transcript_examples.proofs.RowQueries.{id_and_flux}
 
 -- SELECT COUNT(*),SUM(flux),AVG(flux),MIN(z),MAX(z) FROM Object
 abbrev pub demo_totals : Bound
@@ -30,7 +29,7 @@ demo_kinds =
 abbrev pub demo_belt : Bound
 demo_belt = record {
   shape = Rows;
-  items = id_and_flux;
+  items = item.Plain (column (first_col 0)) ∷ item.Plain (column (first_col 4)) ∷ [];
   conds = cond_of false (pred.Area (Band (negsuc 999999) (pos 1000000))) ∷ [];
   areas = Band (negsuc 999999) (pos 1000000) ∷ [];
   ids = [];

@@ -1,4 +1,4 @@
--- The queries of the demo as they are read and bound: their texts, their trees, and what the trees are bound to.
+-- The demo's queries as they are read: their texts, their trees, and what the trees are bound to.
 use Rattle.std.proofs.Common.{refl, ℕ, List, None, Ok, Some, [], codes, false, pos, true, ◌++◌, ◌∷◌, ◌≡◌}
 use Rattle.sql_token.specs.Keywords.{keyword_of}
 use Rattle.sql_token.specs.Tokens.{tokens_from, too_deep}
@@ -20,7 +20,6 @@ use Rattle.bind_rules.specs.Bounds.{bound_expr}
 use Rattle.bind_rules.specs.IdTests.{lone_of}
 use Rattle.bind_rules.specs.Binding.{bound_query, bound_of}
 use Rattle.sql_bound.specs.Trees.{factor, product, sum, cond_of}
-use Rattle.std.specs.Fmt.{digits}
 use Rattle.sql_tree.specs.declared.query.Query.{Query}
 use Rattle.sql_tree.specs.declared.cond.AreaKind.TheVariants as area
 use Rattle.sql_tree.specs.declared.cond.Cmp.TheVariants as cmp
@@ -30,9 +29,8 @@ use Rattle.sql_tree.specs.declared.query.ItemKind.TheVariants as what
 use Rattle.sql_rules.specs.Examples.{name, alone}
 use Rattle.transcript_rules.specs.Written.{col, own, item, items, table, called, says, each, some_of, int, ints, by}
 use Rattle.transcript_rules.specs.Written.{query}
-use Rattle.transcript_rules.specs.Tables.{headings}
-use Rattle.transcript_rules.proofs.Reading.{columns, sums, conditions, by_compare, by_area, by_chord, printed_columns}
-use Rattle.transcript_examples.proofs.DemoQueries.{demo_totals, demo_kinds, demo_belt, demo_pairs}
+use Rattle.transcript_rules.proofs.Reading.{columns, sums, conditions, by_compare, by_area, by_chord}
+use Rattle.demo_answers.proofs.DemoQueries.{demo_totals, demo_kinds, demo_belt, demo_pairs}
 
 -- the further columns of the demo's catalogue
 abbrev pub demo_names : List (List ℕ)
@@ -62,11 +60,6 @@ unfolding columns_of width_of unknown_name not_grouped join_form area_form too_w
     bound_query bound_of factor product sum
 bound_totals = simp columns
 
-pub headed_totals : headings demo_names tree_totals ≡ codes "COUNT(*)" ∷ codes "SUM(flux)" ∷ codes "AVG(flux)"
-    ∷ codes "MIN(z)" ∷ codes "MAX(z)" ∷ []
-unfolding headings digits
-headed_totals = simp printed_columns
-
 -- ---- the kinds of the northern half
 
 abbrev pub text_kinds : List ℕ
@@ -93,10 +86,6 @@ pub bound_kinds : bound_of demo_names tree_kinds ≡ Ok demo_kinds
 unfolding columns_of mentions_of_cond width_of exprs_of unknown_name not_grouped join_form area_form too_wide
     order_name bind_fault bound_expr lone_of bound_query bound_of factor product sum cond_of
 bound_kinds = simp (columns, sums, conditions, by_compare)
-
-pub headed_kinds : headings demo_names tree_kinds ≡ codes "kind" ∷ codes "COUNT(*)" ∷ codes "MAX(flux)" ∷ []
-unfolding headings digits
-headed_kinds = simp printed_columns
 
 -- ---- the brightest of a band
 
@@ -125,10 +114,6 @@ pub bound_belt : bound_of demo_names tree_belt ≡ Ok demo_belt
 unfolding columns_of mentions_of_cond width_of exprs_of unknown_name not_grouped join_form area_form too_wide
     order_name bind_fault bound_expr lone_of bound_query bound_of factor product sum cond_of
 bound_belt = simp (columns, conditions, by_area)
-
-pub headed_belt : headings demo_names tree_belt ≡ codes "objectId" ∷ codes "flux" ∷ []
-unfolding headings digits
-headed_belt = simp printed_columns
 
 -- ---- five near pairs
 
@@ -161,7 +146,3 @@ pub bound_pairs : bound_of demo_names tree_pairs ≡ Ok demo_pairs
 unfolding columns_of mentions_of_cond width_of exprs_of unknown_name not_grouped join_form area_form too_wide
     order_name bind_fault bound_expr lone_of bound_query bound_of factor product sum cond_of
 bound_pairs = simp (columns, conditions, by_compare, by_chord)
-
-pub headed_pairs : headings demo_names tree_pairs ≡ codes "a.objectId" ∷ codes "b.objectId" ∷ []
-unfolding headings digits
-headed_pairs = simp printed_columns

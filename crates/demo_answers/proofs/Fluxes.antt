@@ -22,7 +22,7 @@ use Rattle.transcript_rules.specs.Refusals.{total_by}
 use Rattle.demo_rules.specs.declared.limits.TheConstants.{FLUXES}
 use Rattle.demo_rules.specs.Draws.{draw_of}
 use Rattle.demo_rules.specs.DemoRows.{IsDemoCatalogue, IsDemoObject}
-use Rattle.transcript_examples.proofs.DemoQueries.{demo_totals, demo_kinds, demo_belt, demo_pairs}
+use Rattle.demo_answers.proofs.DemoQueries.{demo_totals, demo_kinds, demo_belt, demo_pairs}
 
 -- ---- the flux of a row
 

@@ -1,3 +1,5 @@
+pub mod DemoQueries
+pub mod DemoReads
 mod Fluxes
 mod Overlap
 mod Queries

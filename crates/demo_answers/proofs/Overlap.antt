@@ -8,7 +8,7 @@ use Rattle.sky_rules.specs.Partition.{overlap_at}
 use Rattle.answer_rules.specs.Plans.{above_radius, is_needed, overlap_of, plan_of, radius_refusal}
 use Rattle.answer_rules.proofs.Apart.{each_filter}
 use Rattle.demo_laws.specs.DemoInput.{demo_plan}
-use Rattle.transcript_examples.proofs.DemoQueries.{demo_totals, demo_kinds, demo_belt, demo_pairs}
+use Rattle.demo_answers.proofs.DemoQueries.{demo_totals, demo_kinds, demo_belt, demo_pairs}
 
 -- ---- the overlap radius of each chunk
 

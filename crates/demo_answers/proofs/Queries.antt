@@ -16,11 +16,11 @@ use Rattle.session_script.specs.Views.{query_lines}
 use Rattle.transcript_rules.specs.Refusals.{refusal_of, total_by, total_refusal, total_refusal_by, understood}
 use Rattle.transcript_rules.proofs.Steps.{early_known, understood_by}
 use Rattle.demo_laws.specs.DemoInput.{demo_plan}
-use Rattle.transcript_examples.proofs.DemoQueries.{demo_totals, demo_kinds, demo_belt, demo_pairs}
-use Rattle.transcript_examples.proofs.DemoReads.{demo_names, text_totals, tree_totals, read_totals, bound_totals}
-use Rattle.transcript_examples.proofs.DemoReads.{text_kinds, tree_kinds, read_kinds, bound_kinds}
-use Rattle.transcript_examples.proofs.DemoReads.{text_belt, tree_belt, read_belt, bound_belt}
-use Rattle.transcript_examples.proofs.DemoReads.{text_pairs, tree_pairs, read_pairs, bound_pairs}
+use Rattle.demo_answers.proofs.DemoQueries.{demo_totals, demo_kinds, demo_belt, demo_pairs}
+use Rattle.demo_answers.proofs.DemoReads.{demo_names, text_totals, tree_totals, read_totals, bound_totals}
+use Rattle.demo_answers.proofs.DemoReads.{text_kinds, tree_kinds, read_kinds, bound_kinds}
+use Rattle.demo_answers.proofs.DemoReads.{text_belt, tree_belt, read_belt, bound_belt}
+use Rattle.demo_answers.proofs.DemoReads.{text_pairs, tree_pairs, read_pairs, bound_pairs}
 use Rattle.demo_answers.specs.Laws.{DemoIsAnswered, demo_read}
 use Rattle.demo_answers.proofs.Fluxes.{totals_have_an_answer, kinds_have_an_answer, belt_has_an_answer, pairs_have_an_answer}
 use Rattle.demo_answers.proofs.Overlap.{totals_are_near, kinds_are_near, belt_is_near, pairs_are_near}

@@ -1,5 +1,4 @@
 pub mod Deep
-pub mod DemoQueries
-pub mod DemoReads
+pub mod DemoHeadings
 pub mod GroupQueries
 pub mod RowQueries

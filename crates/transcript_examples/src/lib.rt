@@ -3,7 +3,8 @@
 //!
 //! The worked sky and its catalogues stand in one file (`specs/Worked.antt`), the demo's in another
 //! (`specs/DemoWorld.antt`).
-//! Below: `transcript_rules`, whose definitions are worked out here. Above: nothing, so that no program waits for them.
+//! Below: `transcript_rules`, whose definitions are worked out here, and `demo_answers` for the demo's queries as they are read
+//! and bound. Above: nothing, so that no program waits for them.
 #![tactic(auto)]
 
 pub mod demo;

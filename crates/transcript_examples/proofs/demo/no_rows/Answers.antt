@@ -8,11 +8,12 @@ use Rattle.transcript_rules.specs.Tables.{table_lines}
 use Rattle.transcript_rules.proofs.Steps.{understood_by, answered_by}
 use Rattle.demo_laws.specs.DemoInput.{demo_plan}
 use Rattle.transcript_examples.specs.DemoWorld.{demo_header}
-use Rattle.transcript_examples.proofs.DemoQueries.{demo_totals, demo_kinds, demo_belt, demo_pairs}
-use Rattle.transcript_examples.proofs.DemoReads.{text_totals, tree_totals, read_totals, bound_totals, headed_totals}
-use Rattle.transcript_examples.proofs.DemoReads.{text_kinds, tree_kinds, read_kinds, bound_kinds, headed_kinds}
-use Rattle.transcript_examples.proofs.DemoReads.{text_belt, tree_belt, read_belt, bound_belt, headed_belt}
-use Rattle.transcript_examples.proofs.DemoReads.{text_pairs, tree_pairs, read_pairs, bound_pairs, headed_pairs}
+use Rattle.demo_answers.proofs.DemoQueries.{demo_totals, demo_kinds, demo_belt, demo_pairs}
+use Rattle.demo_answers.proofs.DemoReads.{text_totals, tree_totals, read_totals, bound_totals}
+use Rattle.demo_answers.proofs.DemoReads.{text_kinds, tree_kinds, read_kinds, bound_kinds}
+use Rattle.demo_answers.proofs.DemoReads.{text_belt, tree_belt, read_belt, bound_belt}
+use Rattle.demo_answers.proofs.DemoReads.{text_pairs, tree_pairs, read_pairs, bound_pairs}
+use Rattle.transcript_examples.proofs.DemoHeadings.{headed_totals, headed_kinds, headed_belt, headed_pairs}
 use Rattle.transcript_examples.proofs.demo.no_rows.Goals as goal
 
 answered_totals : flat_answer demo_header.objects demo_totals ≡ Ok nothing_counted

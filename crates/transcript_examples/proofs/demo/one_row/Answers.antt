@@ -9,11 +9,12 @@ use Rattle.transcript_rules.proofs.Steps.{understood_by, answered_by}
 use Rattle.answer_rules.specs.declared.value.Value.TheVariants.{Whole, Fixed4}
 use Rattle.demo_laws.specs.DemoInput.{demo_plan}
 use Rattle.transcript_examples.specs.DemoWorld.{demo_row}
-use Rattle.transcript_examples.proofs.DemoQueries.{demo_totals, demo_kinds, demo_belt, demo_pairs}
-use Rattle.transcript_examples.proofs.DemoReads.{text_totals, tree_totals, read_totals, bound_totals, headed_totals}
-use Rattle.transcript_examples.proofs.DemoReads.{text_kinds, tree_kinds, read_kinds, bound_kinds, headed_kinds}
-use Rattle.transcript_examples.proofs.DemoReads.{text_belt, tree_belt, read_belt, bound_belt, headed_belt}
-use Rattle.transcript_examples.proofs.DemoReads.{text_pairs, tree_pairs, read_pairs, bound_pairs, headed_pairs}
+use Rattle.demo_answers.proofs.DemoQueries.{demo_totals, demo_kinds, demo_belt, demo_pairs}
+use Rattle.demo_answers.proofs.DemoReads.{text_totals, tree_totals, read_totals, bound_totals}
+use Rattle.demo_answers.proofs.DemoReads.{text_kinds, tree_kinds, read_kinds, bound_kinds}
+use Rattle.demo_answers.proofs.DemoReads.{text_belt, tree_belt, read_belt, bound_belt}
+use Rattle.demo_answers.proofs.DemoReads.{text_pairs, tree_pairs, read_pairs, bound_pairs}
+use Rattle.transcript_examples.proofs.DemoHeadings.{headed_totals, headed_kinds, headed_belt, headed_pairs}
 use Rattle.transcript_examples.proofs.demo.one_row.Goals as goal
 
 answered_totals : flat_answer demo_row.objects demo_totals ≡ Ok ((Whole (pos 1) ∷ Whole (pos 20637) ∷ Fixed4 (pos
