@@ -1,7 +1,8 @@
 //! Which of the chunks that hold a row a query needs.
 
-ghost use Rattle.std.specs.Prelude.{◌≡◌, ◌<◌, All, AllPairs, IfOk, filter};
+ghost use Rattle.std.specs.Prelude.{◌≡◌, ◌<◌, [], All, AllPairs, IfOk, List, filter};
 ghost use Rattle.std.specs.List.{list_all};
+ghost use Rattle.table_rules.specs.Objects.{Obj};
 ghost use Rattle.sky_rules.specs.Partition.{chunk_count};
 ghost use Rattle.sky_rules.specs.Bounds.{bounds_of};
 ghost use Rattle.chunk_rules.specs.Filled.{filled_chunks};
@@ -14,7 +15,6 @@ use object_index::Index;
 use scan_rules::ChunkSet;
 use sky_io::Memory;
 use sky_plan::SkyPlan;
-use sky_row::Rows;
 use sql_bound::{AreaTest, Bound};
 use std::alloc::Global;
 
@@ -24,17 +24,36 @@ pub fn plan(
     alloc: Global,
     bound: &Bound,
     sky: &SkyPlan,
-    rows: &Rows,
+    index: &Index<'_>,
     filled: &[u32],
 ) -> Result<ChunkSet, Memory>
+    requires over { index.now.plan ≡ sky.now }
     requires there { All (λ c. c < chunk_count sky.now) filled.now }
     requires ascend { AllPairs (λ a b. a < b) filled.now }
-    ensures plan { IfOk result (λ chunks. filled.now ≡ filled_chunks sky.now rows.now.objects
-        → chunks ≡ plan_of sky.now rows.now.objects bound.now) }
+    ensures plan { IfOk result (λ chunks. filled.now ≡ filled_chunks sky.now index.now.rows
+        → chunks ≡ plan_of sky.now index.now.rows bound.now) }
     ensures there { IfOk result (λ chunks. All (λ c. c < chunk_count sky.now) chunks) }
 {
     let chunks = in_areas(alloc, sky, bound.areas.as_slice(), filled)?;
-    with_ids(alloc, &Index::new(sky, rows), bound.ids.as_slice(), chunks)
+    with_ids(alloc, index, bound.ids.as_slice(), chunks)
+}
+
+/// The chunks that a query without id tests needs, of those that hold a row: no index is asked for them. Takes memory for
+/// the chunks.
+pub fn plan_by_areas(
+    alloc: Global,
+    bound: &Bound,
+    sky: &SkyPlan,
+    filled: &[u32],
+) -> Result<ChunkSet, Memory>
+    requires none { bound.now.ids ≡ [] }
+    requires there { All (λ c. c < chunk_count sky.now) filled.now }
+    requires ascend { AllPairs (λ a b. a < b) filled.now }
+    ensures plan { IfOk result (λ chunks. (rows : List Obj)
+        → filled.now ≡ filled_chunks sky.now rows → chunks ≡ plan_of sky.now rows bound.now) }
+    ensures there { IfOk result (λ chunks. All (λ c. c < chunk_count sky.now) chunks) }
+{
+    in_areas(alloc, sky, bound.areas.as_slice(), filled)
 }
 
 /// Those of the chunks that each of the areas may have a point in.

@@ -2,9 +2,9 @@
 //!
 //! Callers see a script's plans as `ArePlans` (`specs/Plans.antt`) and its ends as `EndsShow` (`specs/Ends.antt`): an answer
 //! is that of the flat table, in which nothing is said of chunks.
-//! Below: `sql_reader` and `sql_bind` for what a query is, `area_analyser` for its chunks, `chunk_rewriter` for its two
-//! halves, `scan_session` for the session over a shared board, `chunk_scan` and `near_join` for a chunk's work,
-//! `partial_merge` for the merge, `answer_text` for its text. Above: the program's top call.
+//! Below: `sql_reader` and `sql_bind` for what a query is, `area_analyser` over an `object_index` for its chunks,
+//! `chunk_rewriter` for its two halves, `scan_session` for the session over a shared board, `chunk_scan` and `near_join` for a
+//! chunk's work, `partial_merge` for the merge, `answer_text` for its text. Above: the program's top call.
 //! No file: texts are slices that the caller holds. Threads come from the caller.
 #![tactic(auto)]
 

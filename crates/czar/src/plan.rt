@@ -10,9 +10,10 @@ ghost use Rattle.czar.specs.Plans.{ArePlans, IsCutOf, IsPlanBy, IsPlanOf, PlanFo
 
 use crate::understanding::{Understanding, understand};
 use answer_rules::Rewritten;
-use area_analyser::{plan, radius_ok};
+use area_analyser::{plan, plan_by_areas, radius_ok};
 use chunk_rewriter::rewrite;
 use chunk_store::Store;
+use object_index::Index;
 use scan_rules::ChunkSet;
 use session_script::Script;
 use session_script::laws::query_lines_are_query_texts;
@@ -105,13 +106,18 @@ fn plan_known(alloc: Global, world: &Store, tree: Query, bound: &Bound) -> Resul
     }
 }
 
-/// The chunks that the query needs.
+/// The chunks that the query needs. Where it has id tests, it takes memory for an index of the ids.
 fn chunks_of(alloc: Global, world: &Store, bound: &Bound) -> Result<ChunkSet, Memory>
     ensures plan { IfOk result (λ chunks.
         chunks ≡ plan_of world.now.plan world.now.rows.objects bound.now) }
     ensures there { IfOk result (λ chunks. All (λ c. c < chunk_count world.now.plan) chunks) }
 {
-    plan(alloc, bound, world.plan(), world.rows(), world.filled())
+    if bound.ids.as_slice().is_empty() {
+        plan_by_areas(alloc, bound, world.plan(), world.filled())
+    } else {
+        let index = Index::build(alloc, world.plan(), world.rows())?;
+        plan(alloc, bound, world.plan(), &index, world.filled())
+    }
 }
 
 /// The plan of those that need these chunks: they are refused where the overlap of these does not allow them.

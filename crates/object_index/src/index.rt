@@ -1,5 +1,5 @@
-//! An index of the rows of a catalogue by their ids: the ids ascend, so one is found by bisection.
-ghost use Rattle.std.specs.Prelude.{◌≡◌, ◌<◌, false, get_or, length, IfNone, IfSome, IsTrue};
+//! An index of the rows of a catalogue by their ids, which finds one by the first ids of granules of rows.
+ghost use Rattle.std.specs.Prelude.{◌≡◌, ◌<◌, false, get_or, length, IfNone, IfOk, IfSome, IsTrue};
 ghost use Rattle.sky_rules.specs.Partition.{chunk_count};
 ghost use Rattle.sky_rules.specs.Bounds.{in_chunk};
 ghost use Rattle.sky_row.specs.Columns.{no_row};
@@ -7,9 +7,13 @@ ghost use Rattle.sky_plan.specs.Places.{IsOnlyChunk};
 ghost use Rattle.table_rules.specs.Ordered.{has_id};
 ghost use Rattle.object_index.specs.Indexes.{IsPlaceOf, IsRowOf};
 
+use crate::granules::{first_rows, row_with};
 use crate::place::Place;
+use indexmap::IndexMap;
+use sky_io::Memory;
 use sky_plan::SkyPlan;
 use sky_row::Rows;
+use std::alloc::Global;
 use std::marker::Model;
 
 /// A plan of the sky and the rows of a catalogue, which are asked for the places of ids.
@@ -17,22 +21,31 @@ use std::marker::Model;
 pub struct Index<'w> {
     plan: &'w SkyPlan,
     rows: &'w Rows,
+    /// Of each granule of the rows, in their order, the id and the number of the first row.
+    firsts: IndexMap<i64, u32>,
 }
 
 impl<'w> Model for Index<'w> {
+    ghost use Rattle.std.specs.Prelude.{map};
     ghost use Rattle.object_index.specs.Indexes.{Indexed};
+    ghost use Rattle.object_index.specs.Granules.{IsSparse};
 
     ghost Value = { Indexed };
 
     ghost view = { λ x. record { plan = x.plan.now; rows = x.rows.now.objects } };
+
+    ghost invariant = { λ x. IsSparse (map (λ o. o.id) x.rows.now.objects) x.firsts.entries };
 }
 
 impl<'w> Index<'w> {
-    /// The index of the rows over the plan. Takes no memory, and looks at no row.
-    pub fn new(plan: &'w SkyPlan, rows: &'w Rows) -> Index<'w>
-        ensures { result ≡ record { plan = plan.now; rows = rows.now.objects } }
+    /// The index of the rows over the plan. Takes memory for an entry a granule of rows, and looks at no other row.
+    pub fn build(alloc: Global, plan: &'w SkyPlan, rows: &'w Rows) -> Result<Index<'w>, Memory>
+        ensures { IfOk result (λ index.
+            index ≡ record { plan = plan.now; rows = rows.now.objects }) }
     {
-        Index { plan, rows }
+        let _count = rows.len();
+        let firsts = first_rows(alloc, rows.ids())?;
+        Ok(Index { plan, rows, firsts })
     }
 
     /// The plan of the sky. Takes no memory.
@@ -48,7 +61,7 @@ impl<'w> Index<'w> {
             IsPlaceOf self.now.plan self.now.rows id place.chunk place.row) }
         ensures none { IfNone result (has_id self.now.rows id ≡ false) }
     {
-        match row_of(self.rows, id) {
+        match self.row_of(id) {
             Some(row) => Some(self.place_of(row)),
             None => None,
         }
@@ -70,18 +83,15 @@ impl<'w> Index<'w> {
             row,
         }
     }
-}
 
-/// The number of the row with the id, or `None` where no row has it.
-fn row_of(rows: &Rows, id: i64) -> Option<u32>
-    ensures low { IfSome result (λ row. row < length rows.now.objects) }
-    ensures found { IfSome result (λ row.
-        IsRowOf rows.now.objects id row (get_or rows.now.objects row no_row)) }
-    ensures none { IfNone result (has_id rows.now.objects id ≡ false) }
-{
-    let _count = rows.len();
-    match rows.ids().binary_search(&id) {
-        Ok(row) => Some(row as u32),
-        Err(_) => None,
+    /// The number of the row with the id, or `None` where no row has it.
+    fn row_of(&self, id: i64) -> Option<u32>
+        ensures low { IfSome result (λ row. row < length self.now.rows) }
+        ensures found { IfSome result (λ row.
+            IsRowOf self.now.rows id row (get_or self.now.rows row no_row)) }
+        ensures none { IfNone result (has_id self.now.rows id ≡ false) }
+    {
+        let _count = self.rows.len();
+        row_with(self.rows.ids(), &self.firsts, id)
     }
 }

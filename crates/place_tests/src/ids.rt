@@ -28,7 +28,7 @@ fn row(id: u32, x: i64, y: i64, z: i64) -> Option<Row>
 fn put(columns: &mut Columns, row: &Row) -> Result<(), Memory>
     requires { length row.now.further ≡ 0 }
 {
-    if columns.schema().width() == 4 && columns.len() < 1000 {
+    if columns.schema().width() == 4 && columns.len() < 10000 {
         columns.push(row)?;
     }
     Ok(())
@@ -67,7 +67,7 @@ fn each_id_has_its_place_and_others_have_none(rt: HostRuntime) -> Result<(), Fai
     let Some(rows) = six_rows(alloc)? else {
         panic!(rt; "no rows");
     };
-    let index = Index::new(&plan, &rows);
+    let index = Index::build(alloc, &plan, &rows)?;
     for (id, place) in [
         (1, Some(Place { chunk: 4, row: 0 })),
         (2, Some(Place { chunk: 4, row: 1 })),
@@ -82,6 +82,91 @@ fn each_id_has_its_place_and_others_have_none(rt: HostRuntime) -> Result<(), Fai
         (9223372036854775807, None),
         (-1, None),
         (-50, None),
+    ] {
+        assert_eq!(rt; index.place(id), place, "{id}");
+    }
+    Ok(())
+}
+
+// Two granules and one row, of which the row with the number n has the id 10 + 3 n, and lies in chunk 0 where n is even, else
+// in chunk 4.
+fn rows_of_three_granules(alloc: Global) -> Result<Option<Rows>, Fail> {
+    let mut columns = Columns::new(alloc, Schema::new(alloc))?;
+    for number in 0..8193 {
+        let Some(row) = row(
+            10 + 3 * number,
+            268435456,
+            0,
+            if number % 2 == 0 { -1 } else { 1 },
+        ) else {
+            return Ok(None);
+        };
+        put(&mut columns, &row)?;
+    }
+    Ok(Rows::in_order(alloc, columns)?)
+}
+
+#[test]
+fn ids_at_the_ends_of_granules_have_their_places(rt: HostRuntime) -> Result<(), Fail> {
+    let alloc = rt.alloc();
+    let plan = SkyPlan::read(alloc, SKY)?;
+    let Some(rows) = rows_of_three_granules(alloc)? else {
+        panic!(rt; "no rows");
+    };
+    let index = Index::build(alloc, &plan, &rows)?;
+    for (id, place) in [
+        (9, None),
+        (10, Some(Place { chunk: 0, row: 0 })),
+        (11, None),
+        (13, Some(Place { chunk: 4, row: 1 })),
+        (
+            12292,
+            Some(Place {
+                chunk: 0,
+                row: 4094,
+            }),
+        ),
+        (
+            12295,
+            Some(Place {
+                chunk: 4,
+                row: 4095,
+            }),
+        ),
+        (12296, None),
+        (12297, None),
+        (
+            12298,
+            Some(Place {
+                chunk: 0,
+                row: 4096,
+            }),
+        ),
+        (12299, None),
+        (
+            12301,
+            Some(Place {
+                chunk: 4,
+                row: 4097,
+            }),
+        ),
+        (
+            24583,
+            Some(Place {
+                chunk: 4,
+                row: 8191,
+            }),
+        ),
+        (24585, None),
+        (
+            24586,
+            Some(Place {
+                chunk: 0,
+                row: 8192,
+            }),
+        ),
+        (24587, None),
+        (24589, None),
     ] {
         assert_eq!(rt; index.place(id), place, "{id}");
     }
@@ -107,8 +192,8 @@ fn of_one_row_its_id_is_found_and_of_none_no_id(rt: HostRuntime) -> Result<(), F
         (8, None),
         (-7, None),
     ] {
-        assert_eq!(rt; Index::new(&plan, &one).place(id), place, "{id}");
-        assert_eq!(rt; Index::new(&plan, &none).place(id), None, "{id}");
+        assert_eq!(rt; Index::build(alloc, &plan, &one)?.place(id), place, "{id}");
+        assert_eq!(rt; Index::build(alloc, &plan, &none)?.place(id), None, "{id}");
     }
     Ok(())
 }

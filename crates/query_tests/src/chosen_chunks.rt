@@ -3,7 +3,12 @@
 ghost use Rattle.std.specs.Prelude.{◌≡◌, ◌<◌, All, length, IfOk, IfSome};
 ghost use Rattle.sky_rules.specs.Partition.{chunk_count};
 
+<<<<<<< HEAD:crates/query_tests/src/chosen_chunks.rt
 use area_analyser::{Radius, plan, radius_ok};
+=======
+use crate::{Radius, plan, plan_by_areas, radius_ok};
+use object_index::Index;
+>>>>>>> f0161b996c5ececcf14ba352b235bf9cf8fb017b:crates/area_analyser/src/tests.rt
 use scan_rules::ChunkSet;
 use sky_io::Memory;
 use sky_plan::SkyPlan;
@@ -103,7 +108,16 @@ fn planned(
     if sky.chunks() != 8 {
         return Ok(None);
     }
-    Ok(Some(plan(alloc, bound, sky, rows, [0, 4, 7].as_slice())?))
+    let index = Index::build(alloc, sky, rows)?;
+    Ok(Some(plan(alloc, bound, sky, &index, [0, 4, 7].as_slice())?))
+}
+
+// The same for a query without id tests, which needs no index.
+fn planned_by_areas(alloc: Global, bound: &Bound, sky: &SkyPlan) -> Result<Option<ChunkSet>, Fail> {
+    if sky.chunks() != 8 || !bound.ids.as_slice().is_empty() {
+        return Ok(None);
+    }
+    Ok(Some(plan_by_areas(alloc, bound, sky, [0, 4, 7].as_slice())?))
 }
 
 // The rows in an area.
@@ -156,10 +170,15 @@ fn an_area_takes_the_chunks_that_it_touches(rt: HostRuntime) -> Result<(), Fail>
         let Some(area) = area else {
             panic!(rt; "no area {number}");
         };
-        let Some(chunks) = planned(alloc, &within(alloc, area)?, &sky, &rows)? else {
+        let bound = within(alloc, area)?;
+        let (Some(chunks), Some(by_areas)) = (
+            planned(alloc, &bound, &sky, &rows)?,
+            planned_by_areas(alloc, &bound, &sky)?,
+        ) else {
             panic!(rt; "no chunks");
         };
         assert_eq!(rt; chunks.as_slice(), want, "area {number}");
+        assert_eq!(rt; by_areas.as_slice(), want, "area {number} with no index");
     }
     Ok(())
 }
