@@ -3,12 +3,8 @@
 ghost use Rattle.std.specs.Prelude.{◌≡◌, ◌<◌, All, length, IfOk, IfSome};
 ghost use Rattle.sky_rules.specs.Partition.{chunk_count};
 
-<<<<<<< HEAD:crates/query_tests/src/chosen_chunks.rt
-use area_analyser::{Radius, plan, radius_ok};
-=======
-use crate::{Radius, plan, plan_by_areas, radius_ok};
+use area_analyser::{Radius, plan, plan_by_areas, radius_ok};
 use object_index::Index;
->>>>>>> f0161b996c5ececcf14ba352b235bf9cf8fb017b:crates/area_analyser/src/tests.rt
 use scan_rules::ChunkSet;
 use sky_io::Memory;
 use sky_plan::SkyPlan;
