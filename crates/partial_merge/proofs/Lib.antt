@@ -17,3 +17,4 @@ pub mod Repacking
 pub mod Owning
 pub mod Increasing
 pub mod Gaining
+pub mod Plains

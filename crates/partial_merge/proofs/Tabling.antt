@@ -55,7 +55,7 @@ flat_short f h (x ∷ xs) = each-append IsShort (f x) (flat_map f xs) (h x) (fla
 
 -- ---- rows of a bag
 
-map_map : {A B C : Type 0} (f : A → B) (h : B → C) (xs : List A) → map h (map f xs) ≡ map (λ a. h (f a)) xs
+pub map_map : {A B C : Type 0} (f : A → B) (h : B → C) (xs : List A) → map h (map f xs) ≡ map (λ a. h (f a)) xs
 map_map f h [] = refl
 map_map f h (x ∷ xs) = ap (λ l. h (f x) ∷ l) (map_map f h xs)
 
@@ -72,7 +72,7 @@ column_short cells (Min n) = tt
 column_short cells (Max n) = tt
 column_short cells (Avg n count) = tt
 
-columns_short : (cells : List (Option ℤ)) (items : List MergeItem) → Each IsShort (map (column_value cells) items)
+pub columns_short : (cells : List (Option ℤ)) (items : List MergeItem) → Each IsShort (map (column_value cells) items)
 columns_short cells [] = tt
 columns_short cells (i ∷ items) = (column_short cells i, columns_short cells items)
 

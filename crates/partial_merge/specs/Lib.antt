@@ -1,6 +1,7 @@
 pub mod Cells
 pub mod KeyValues
 pub mod Rows
+pub mod Plains
 pub mod Views
 pub mod Bags
 pub mod Tables

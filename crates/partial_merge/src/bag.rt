@@ -13,12 +13,11 @@ ghost use Rattle.answer_rules.specs.Ranks.{row_order};
 ghost use Rattle.partial_merge.specs.Bags.{IsKept, out_row, pushed_in, ranks_in, rows_in};
 
 use crate::cell::Cell;
-use crate::kept::{Kept, count, into_ranks, is_too_late, join, none_kept, put};
-use crate::lists::{cut, reserve};
+use crate::kept::{Kept, count, is_too_late, join, none_kept, put};
+use crate::kept_table::kept_table;
+use crate::lists::reserve;
 use crate::packing::keep_small;
 use crate::rank::Rank;
-use crate::ranked::Ranked;
-use crate::row_table::row_table;
 use crate::table::Table;
 use answer_rules::MergePlan;
 use sky_io::Memory;
@@ -217,14 +216,6 @@ impl Bag {
             cells,
             packed: _,
         } = self;
-        let mut rows = into_ranks(kept);
-        rows.sort_unstable();
-        cut(&mut rows, merge.limit);
-        row_table(
-            alloc,
-            rows.as_slice(),
-            cells.as_slice(),
-            merge.items.as_slice(),
-        )
+        kept_table(alloc, kept, cells.as_slice(), merge)
     }
 }

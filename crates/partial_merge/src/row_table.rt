@@ -1,13 +1,15 @@
 //! The table of rows that are in order.
 
-ghost use Rattle.std.specs.Prelude.{◌≡◌, ◌+◌, ◌*◌, ◌≤◌, ◌++◌, ◌∷◌, [], All, length, map, IfOk, OnOk, OnErr, None, unwrap_or, slice_get};
+ghost use Rattle.std.specs.Prelude.{◌≡◌, ◌+◌, ◌*◌, ◌≤◌, ◌++◌, ◌∷◌, [], All, length, map, IfOk, OnOk, OnErr, None, unwrap_or, slice_get, slice_range};
 ghost use Rattle.std.specs.List.{flat_map};
 ghost use Rattle.answer_rules.specs.Finish.{column_value};
 ghost use Rattle.answer_rules.specs.Rows.{shown};
+ghost use Rattle.partial_merge.specs.Plains.{full, plain_values};
 ghost use Rattle.partial_merge.specs.Rows.{IsIn, row_of, row_values};
 ghost use Rattle.partial_merge.specs.Tables.{IsShort};
 
 use crate::cell::Cell;
+use crate::plain::Plain;
 use crate::ranked::Ranked;
 use crate::table::Table;
 use answer_rules::{MergeItem, Value};
@@ -84,6 +86,49 @@ fn row_values(
         put_row(&mut values, cells_of(cells, row), items)?;
     }
     Ok(values)
+}
+
+/// So many of the values, from this place.
+fn part(cells: &[Cell], from: usize, width: usize) -> &[Cell]
+    requires { from + width ≤ length cells.now }
+    ensures { result.now ≡ slice_range cells.now from (from + width) }
+{
+    &cells[from..from + width]
+}
+
+/// The values of plain rows, of which each has so many.
+fn plain_values(
+    alloc: Global,
+    plain: &[Plain],
+    width: usize,
+    cells: &[Cell],
+    items: &[MergeItem],
+) -> Result<Vec<Value>, Memory>
+    requires { All (λ p. IsIn (length cells.now) (full width p)) plain.now }
+    ensures { IfOk result (λ values. values.items
+        ≡ flat_map (plain_values cells.now items.now width) plain.now) }
+{
+    let mut values = Vec::new(alloc);
+    for row in plain {
+        put_row(&mut values, part(cells, row.from, width), items)?;
+    }
+    Ok(values)
+}
+
+/// The table of these plain rows, of which each has so many values. Takes memory for it.
+pub(crate) fn plain_table(
+    alloc: Global,
+    plain: &[Plain],
+    width: usize,
+    cells: &[Cell],
+    items: &[MergeItem],
+) -> Result<Table, Memory>
+    requires { All (λ p. IsIn (length cells.now) (full width p)) plain.now }
+    ensures { IfOk result (λ table. table ≡ map (λ r. map (column_value r.cells) items.now)
+        (map (row_of cells.now) (map (full width) plain.now))) }
+{
+    let values = plain_values(alloc, plain, width, cells, items)?;
+    Ok(Table::of(values, items.len(), plain.len()))
 }
 
 /// The table of these rows. Takes memory for it.

@@ -1,0 +1,56 @@
+-- Rows of a bag without a limit: those without an order key, of which each has as many values, and the others.
+use Rattle.std.specs.Prelude.{◌≡◌, ℕ, ℤ, Option, pos, ◌+◌, ◌-◌, ◌≤◌, ◌++◌, List, map, vec_len, vec_capacity}
+use Rattle.std.specs.declared.cmp.Ordering.{Ordering}
+use Rattle.std.specs.Ordering.{int_cmp, on, then_cmp}
+use Rattle.answer_rules.specs.declared.rewritten.MergeItem.{MergeItem}
+use Rattle.answer_rules.specs.declared.value.Value.{Value}
+use Rattle.partial_merge.specs.declared.lot.Lot.{Lot}
+use Rattle.partial_merge.specs.declared.plain.Plain.{Plain}
+use Rattle.partial_merge.specs.declared.ranked.Ranked.{Ranked}
+use Rattle.partial_merge.specs.Rows.{row_values}
+
+-- the row, with so many values
+abbrev pub full : ℕ → Plain → Ranked
+full width p = record {
+  class = 0;
+  value = pos 0;
+  first = p.first;
+  second = p.second;
+  from = p.from;
+  to = p.from + width;
+}
+
+-- the row, its values to be counted elsewhere
+abbrev pub plain_of : Ranked → Plain
+plain_of r = record { first = r.first; second = r.second; from = r.from }
+
+-- such rows go by their ids
+abbrev pub plain_order : Plain → Plain → Ordering
+plain_order = then_cmp (on (λ p. p.first) int_cmp) (on (λ p. p.second) int_cmp)
+
+-- all rows
+abbrev pub all_of : Lot → List Ranked
+all_of l = map (full l.width) l.plain.items ++ l.rows.items
+
+-- The row has no order key, and as many values as those of its kind that are there.
+pub record IsPlainIn (l : Lot) (r : Ranked) : Type 0 where
+  pub class : r.class ≡ 0
+  pub value : r.value ≡ pos 0
+  pub order : r.from ≤ r.to
+  pub wide : map (full (r.to - r.from)) l.plain.items ≡ map (full l.width) l.plain.items
+
+-- There is room for so many more of either kind.
+pub record HasRoom (l : Lot) (n : ℕ) : Type 0 where
+  pub plain : vec_len l.plain + n ≤ vec_capacity l.plain
+  pub rows : vec_len l.rows + n ≤ vec_capacity l.rows
+
+-- There is room for at most one less than there was.
+pub record TakesOne (old new : Lot) : Type 0 where
+  pub plain : vec_len new.plain ≤ vec_len old.plain + 1
+  pub plain_room : vec_capacity new.plain ≡ vec_capacity old.plain
+  pub rows : vec_len new.rows ≤ vec_len old.rows + 1
+  pub rows_room : vec_capacity new.rows ≡ vec_capacity old.rows
+
+-- the merged items of a plain row
+abbrev pub plain_values : List (Option ℤ) → List MergeItem → ℕ → Plain → List Value
+plain_values cells items width p = row_values cells items (full width p)

@@ -1,0 +1,166 @@
+//! All rows of a bag without a limit. Most queries that list millions of rows ask for no order of their own: a row then has
+//! its place by its ids alone, and is kept in a short record, which is what is sorted at the end.
+
+ghost use Rattle.std.specs.Prelude.{◌≡◌, ◌≤◌, ◌+◌, ◌-◌, ◌^◌, ◌++◌, ◌∷◌, [], pos, All, IsPermutation, length, map, None, OnErr, OnOk, vec_capacity, vec_len};
+ghost use Rattle.std.specs.Bool.{OnTrue};
+ghost use Rattle.answer_rules.specs.Keeps.{KeepsFirst};
+ghost use Rattle.answer_rules.specs.Ranks.{row_order};
+ghost use Rattle.partial_merge.specs.Plains.{all_of, full, HasRoom, IsPlainIn, TakesOne};
+ghost use Rattle.partial_merge.specs.Rows.{IsIn, moved, rank_order, row_of};
+
+use crate::cell::Cell;
+use crate::lists::{append, reserve};
+use crate::plain::Plain;
+use crate::ranked::Ranked;
+use sky_io::Memory;
+use std::alloc::Global;
+
+/// The rows without an order key that have `width` values, and all others, each in any order.
+#[derive(Drop)]
+pub(crate) struct Lot {
+    pub(crate) plain: Vec<Plain>,
+    pub(crate) width: usize,
+    pub(crate) rows: Vec<Ranked>,
+}
+
+/// Whether the row has no order key.
+fn is_unordered(row: &Ranked) -> bool
+    ensures class { OnTrue result (row.now.class ≡ 0) }
+    ensures value { OnTrue result (row.now.value ≡ pos 0) }
+{
+    row.class == 0 && row.value == 0
+}
+
+impl Lot {
+    /// No rows. Takes no memory.
+    pub(crate) fn new(alloc: Global) -> Lot
+        ensures { all_of result ≡ [] }
+    {
+        Lot {
+            plain: Vec::new(alloc),
+            width: 0,
+            rows: Vec::new(alloc),
+        }
+    }
+
+    /// How many rows there are.
+    pub(crate) fn len(&self) -> usize
+        ensures { result ≡ length (all_of self.now) }
+    {
+        self.plain.len() + self.rows.len()
+    }
+
+    /// Whether each of the plain rows has so many values.
+    fn is_wide(&self, width: usize) -> bool
+        ensures { OnTrue result (map (full width) self.now.plain.items
+            ≡ map (full self.now.width) self.now.plain.items) }
+    {
+        self.plain.is_empty() || self.width == width
+    }
+
+    /// Whether the row can be one of the plain ones.
+    fn is_plain(&self, row: &Ranked) -> bool
+        ensures { OnTrue result (IsPlainIn self.now row.now) }
+    {
+        is_unordered(row) && row.from <= row.to && self.is_wide(row.to - row.from)
+    }
+
+    /// Makes room for so many more rows of either kind. After `Err` nothing has changed.
+    fn make_room(&mut self, more: usize) -> Result<(), Memory>
+        ensures same { all_of self.new ≡ all_of self.old }
+        ensures room { OnOk result (HasRoom self.new more) }
+    {
+        reserve(&mut self.plain, more)?;
+        reserve(&mut self.rows, more)
+    }
+
+    /// Puts the row among the plain ones. Takes no memory.
+    fn put_plain(&mut self, row: &Ranked)
+        requires plain { IsPlainIn self.old row.now }
+        requires room { HasRoom self.old 1 }
+        ensures put { IsPermutation (all_of self.old ++ row.now ∷ []) (all_of self.new) }
+        ensures takes { TakesOne self.old self.new }
+    {
+        self.width = row.to - row.from;
+        self.plain.push_reserved(Plain::of(row));
+    }
+
+    /// Puts the row among the others. Takes no memory.
+    fn put_reserved(&mut self, row: Ranked)
+        requires room { HasRoom self.old 1 }
+        ensures put { IsPermutation (all_of self.old ++ row ∷ []) (all_of self.new) }
+        ensures takes { TakesOne self.old self.new }
+    {
+        if self.is_plain(&row) {
+            self.put_plain(&row);
+            return;
+        }
+        self.rows.push_reserved(row);
+    }
+
+    /// Puts the row among the others. After `Err` nothing has changed.
+    pub(crate) fn put(&mut self, row: Ranked) -> Result<(), Memory>
+        ensures kept { OnOk result (KeepsFirst rank_order None (all_of self.old ++ row ∷ [])
+            (all_of self.new)) }
+        ensures same { OnErr result (all_of self.new ≡ all_of self.old) }
+    {
+        self.make_room(1)?;
+        self.put_reserved(row);
+        Ok(())
+    }
+}
+
+/// Puts plain rows of so many values among the others, their values so much farther behind. Takes no memory.
+fn put_plains(lot: &mut Lot, others: &[Plain], width: usize, by: usize, count: usize)
+    requires room { HasRoom lot.old (length others.now) }
+    requires there { All (λ p. IsIn count (full width p)) others.now }
+    requires fits { by + count ≤ 2 ^ 64 - 1 }
+    ensures put { IsPermutation (all_of lot.old ++ map (λ p. moved by (full width p)) others.now)
+        (all_of lot.new) }
+    ensures plain { vec_len lot.new.plain + vec_capacity lot.old.plain
+        ≤ vec_len lot.old.plain + vec_capacity lot.new.plain + length others.now }
+    ensures rows { vec_len lot.new.rows + vec_capacity lot.old.rows
+        ≤ vec_len lot.old.rows + vec_capacity lot.new.rows + length others.now }
+{
+    for other in others {
+        lot.put_reserved(other.full(width).moved(by));
+    }
+}
+
+/// Puts rows among the others, their values so much farther behind. Takes no memory.
+fn put_rows(lot: &mut Lot, others: &[Ranked], by: usize, count: usize)
+    requires room { HasRoom lot.old (length others.now) }
+    requires there { All (IsIn count) others.now }
+    requires fits { by + count ≤ 2 ^ 64 - 1 }
+    ensures put { IsPermutation (all_of lot.old ++ map (moved by) others.now) (all_of lot.new) }
+{
+    for other in others {
+        lot.put_reserved(other.moved(by));
+    }
+}
+
+/// Takes in all of the other rows, whose values go behind these. After `Err` nothing has changed.
+pub(crate) fn join_all(
+    lot: &mut Lot,
+    cells: &mut Vec<Cell>,
+    others: &Lot,
+    more: Vec<Cell>,
+) -> Result<(), Memory>
+    requires mine { All (IsIn (length cells.old.items)) (all_of lot.old) }
+    requires theirs { All (IsIn (length more.items)) (all_of others.now) }
+    ensures joined { OnOk result (KeepsFirst row_order None
+        (map (row_of cells.old.items) (all_of lot.old)
+        ++ map (row_of more.items) (all_of others.now))
+        (map (row_of cells.new.items) (all_of lot.new))) }
+    ensures there { All (IsIn (length cells.new.items)) (all_of lot.new) }
+    ensures rows { OnErr result (all_of lot.new ≡ all_of lot.old) }
+    ensures cells { OnErr result (cells.new.items ≡ cells.old.items) }
+{
+    let by = cells.len();
+    let count = more.len();
+    lot.make_room(others.len())?;
+    append(cells, more)?;
+    put_plains(lot, others.plain.as_slice(), others.width, by, count);
+    put_rows(lot, others.rows.as_slice(), by, count);
+    Ok(())
+}

@@ -1,0 +1,89 @@
+//! A row of a bag that has no order key, and as many values as the others of its kind.
+
+ghost use Rattle.std.specs.Prelude.{◌≡◌, ◌+◌, ◌-◌, ◌≤◌, ◌^◌};
+ghost use Rattle.std.proofs.Common.{rules};
+ghost use Rattle.std.specs.Cmp.{partial_order_from_own_ties};
+ghost use Rattle.std.specs.Cmp.Rules.{comparing};
+ghost use Rattle.std.specs.Ordering.{int_cmp, on, then_cmp, as_partial_cmp, eq_by_cmp};
+ghost use Rattle.partial_merge.specs.Plains.{full, plain_of};
+
+use crate::ranked::Ranked;
+use std::cmp::Ordering;
+
+/// The ids of a row, by which alone it has its place in the order, and where its values begin: 24 bytes.
+#[derive(Clone, Copy, Drop)]
+pub(crate) struct Plain {
+    pub(crate) first: i64,
+    pub(crate) second: i64,
+    pub(crate) from: usize,
+}
+
+impl Plain {
+    /// The row, whose values have to be as many as those of its kind.
+    pub(crate) fn of(row: &Ranked) -> Plain
+        ensures { result ≡ plain_of row.now }
+    {
+        Plain {
+            first: row.first,
+            second: row.second,
+            from: row.from,
+        }
+    }
+
+    /// The row, with so many values.
+    pub(crate) fn full(&self, width: usize) -> Ranked
+        requires { self.now.from + width ≤ 2 ^ 64 - 1 }
+        ensures { result ≡ full width self.now }
+    {
+        Ranked {
+            class: 0,
+            value: 0,
+            first: self.first,
+            second: self.second,
+            from: self.from,
+            to: self.from + width,
+        }
+    }
+}
+
+impl Ord for Plain {
+    ghost cmp = { then_cmp (on (λ p. p.first) int_cmp) (on (λ p. p.second) int_cmp) };
+
+    ghost total = { Prim.search (comparing, rules) depth 9 };
+
+    ghost matches_partial_cmp = { Prim.search (comparing, rules) depth 9 };
+
+    ghost matches_eq = { Prim.search (comparing, rules) depth 9 };
+
+    fn cmp(&self, other: &Plain) -> Ordering {
+        self.first
+            .cmp(&other.first)
+            .then(self.second.cmp(&other.second))
+    }
+}
+
+impl PartialOrd for Plain {
+    ghost partial_cmp = { as_partial_cmp
+        (then_cmp (on (λ p. p.first) int_cmp) (on (λ p. p.second) int_cmp)) };
+
+    ghost laws = { partial_order_from_own_ties (Prim.search (comparing, rules) depth 9)
+        (Prim.search (comparing, rules) depth 9) };
+
+    fn partial_cmp(&self, other: &Plain) -> Option<Ordering> {
+        Some(self.cmp(other))
+    }
+}
+
+impl Eq for Plain {
+    ghost laws = { Prim.search (comparing, rules) depth 9 };
+}
+
+impl PartialEq for Plain {
+    ghost eq = { eq_by_cmp (then_cmp (on (λ p. p.first) int_cmp) (on (λ p. p.second) int_cmp)) };
+
+    ghost laws = { Prim.search (comparing, rules) depth 9 };
+
+    fn eq(&self, other: &Plain) -> bool {
+        self.cmp(other) == Ordering::Equal
+    }
+}
