@@ -1,9 +1,9 @@
 -- Of the filled chunks, those that pass the area tests and have an id of each id test are the plan.
-use Rattle.std.proofs.Common.{◌≡◌, ℕ, ◌<◌, ℤ, Bool, true, false, ◌&&◌, List, [], filter, refl, sym, ap, ◌∙◌, arith}
+use Rattle.std.proofs.Common.{◌≡◌, ℕ, ℤ, Bool, true, false, ◌&&◌, List, [], filter, refl, sym, ap, ◌∙◌}
 use Rattle.std.specs.List.{list_all}
 use Rattle.std.specs.Prelude.{Result, Ok, Err, IfOk}
 use Rattle.table_rules.specs.Objects.{Obj}
-use Rattle.sky_rules.specs.Partition.{Partition, chunk_count}
+use Rattle.sky_rules.specs.Partition.{Partition}
 use Rattle.sky_rules.specs.Bounds.{bounds_of}
 use Rattle.sql_bound.specs.declared.area.AreaTest.{AreaTest}
 use Rattle.sql_bound.specs.declared.query.Bound.{Bound}

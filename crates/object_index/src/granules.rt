@@ -2,7 +2,7 @@
 //!
 //! An id lies in the last granule that begins no higher than the id. So it is looked for among the first ids, which are few,
 //! and then among the ids of one granule.
-ghost use Rattle.std.specs.Prelude.{◌≡◌, ◌+◌, ◌<◌, ◌≤◌, ◌<ℤ◌, ℤ, List, AllPairs, IfNone, IfOk, IfSome, false, length};
+ghost use Rattle.std.specs.Prelude.{◌≡◌, ◌≤◌, ◌<ℤ◌, AllPairs, IfNone, IfOk, IfSome, false, length};
 ghost use Rattle.std.specs.List.{list_any};
 ghost use Rattle.std.specs.Ordering.{int_eq};
 ghost use Rattle.table_rules.specs.declared.limits.TheConstants.{ROWS_MOST};

@@ -1,4 +1,4 @@
-use Rattle.std.proofs.Common.{◌≡◌, ◌<◌, ◌∙◌, All, List, ap, filter, subst, sym, ℕ}
+use Rattle.std.proofs.Common.{◌<◌, ◌∙◌, All, ap, filter, subst, sym}
 use Rattle.std.specs.List.{list_all}
 use Rattle.sky_rules.specs.Partition.{Partition, chunk_count}
 use Rattle.sky_rules.specs.Bounds.{bounds_of}
