@@ -13,6 +13,8 @@ mod script;
 pub mod session;
 mod steps;
 #[cfg(test)]
+mod team_tests;
+#[cfg(test)]
 mod tests;
 
 pub use end::{End, Planned};

@@ -82,8 +82,10 @@ impl<'e, P: Work, E: Engine<P>, W: Promised<P>> Team<'e, P, E, W> {
     #[tactic(auto, using(crate::proofs::Making::made_put))]
     fn make(&self, task: &Task, turn: usize, scratch: &mut E::Scratch, pieces: &mut [Option<P>])
         requires asked { All (λ q. P.asks (E.root self.now) q task.now.chunk) task.now.queries }
-        requires made { AreMade (P.stands (E.root self.now)) task.now.chunk task.now.queries pieces.old }
-        ensures made { AreMade (P.stands (E.root self.now)) task.now.chunk task.now.queries pieces.new }
+        requires made { AreMade (P.stands (E.root self.now))
+            task.now.chunk task.now.queries pieces.old }
+        ensures made { AreMade (P.stands (E.root self.now))
+            task.now.chunk task.now.queries pieces.new }
     {
         let queries = task.queries();
         if turn < queries.len() {
@@ -95,8 +97,10 @@ impl<'e, P: Work, E: Engine<P>, W: Promised<P>> Team<'e, P, E, W> {
     /// Puts a piece that another made in its place.
     #[tactic(auto, using(crate::proofs::Making::made_put))]
     fn fetch(&self, task: &Task, made: Made<P, W>, pieces: &mut [Option<P>])
-        requires made { AreMade (P.stands (E.root self.now)) task.now.chunk task.now.queries pieces.old }
-        ensures made { AreMade (P.stands (E.root self.now)) task.now.chunk task.now.queries pieces.new }
+        requires made { AreMade (P.stands (E.root self.now))
+            task.now.chunk task.now.queries pieces.old }
+        ensures made { AreMade (P.stands (E.root self.now))
+            task.now.chunk task.now.queries pieces.new }
     {
         // the engine tells what is promised
         let _ = &self.engine;
@@ -122,8 +126,10 @@ impl<'e, P: Work, E: Engine<P>, W: Promised<P>> Team<'e, P, E, W> {
         pieces: &mut [Option<P>],
     ) -> bool
         requires asked { All (λ q. P.asks (E.root self.now) q task.now.chunk) task.now.queries }
-        requires made { AreMade (P.stands (E.root self.now)) task.now.chunk task.now.queries pieces.old }
-        ensures made { AreMade (P.stands (E.root self.now)) task.now.chunk task.now.queries pieces.new }
+        requires made { AreMade (P.stands (E.root self.now))
+            task.now.chunk task.now.queries pieces.old }
+        ensures made { AreMade (P.stands (E.root self.now))
+            task.now.chunk task.now.queries pieces.new }
     {
         match next {
             Next::Begin(turn) => self.make(task, turn, scratch, pieces),
@@ -144,8 +150,10 @@ impl<'e, P: Work, E: Engine<P>, W: Promised<P>> Team<'e, P, E, W> {
         pieces: &mut [Option<P>],
     )
         requires asked { All (λ q. P.asks (E.root self.now) q task.now.chunk) task.now.queries }
-        requires made { AreMade (P.stands (E.root self.now)) task.now.chunk task.now.queries pieces.old }
-        ensures made { AreMade (P.stands (E.root self.now)) task.now.chunk task.now.queries pieces.new }
+        requires made { AreMade (P.stands (E.root self.now))
+            task.now.chunk task.now.queries pieces.old }
+        ensures made { AreMade (P.stands (E.root self.now))
+            task.now.chunk task.now.queries pieces.new }
     {
         for _ in rt.forever() {
             let next = open.lock(rt).next();
