@@ -18,6 +18,7 @@ ghost use Rattle.scan_core.specs.Boards.{IsLawful};
 ghost use Rattle.scan_core.specs.Answers.{IsLapped};
 ghost use Rattle.turn_lock.specs.Seats.{Knows};
 ghost use Rattle.scan_board.specs.Calls.{board_at};
+ghost use Rattle.scan_worker.specs.Opened.{ArePromised};
 ghost use Rattle.scan_worker.specs.Working.{AllDelivered, Worked};
 ghost use Rattle.scan_session.specs.declared.end.Outcome.{Outcome};
 
@@ -25,7 +26,7 @@ use crate::czar::czar;
 use crate::end::{End, Outcome, Planned};
 use scan_board::SharedBoard;
 use scan_core::{Board, Work};
-use scan_worker::{Desk, Engine, worker};
+use scan_worker::{Desk, Engine, Promised, Team, worker};
 use session_script::Step;
 use sky_io::Gate;
 use std::alloc::Global;
@@ -80,7 +81,7 @@ fn alone<R: Wait, P: Work, E: Engine<P>, G: Gate>(
 }
 
 /// The czar with so many workers beside him.
-pub fn manned<R: Threads + Wait + Sync, P: Work + Send, E: Engine<P> + Sync, G: Gate + Sync>(
+fn manned<R: Threads + Wait + Sync, P: Work + Send, E: Engine<P> + Sync, G: Gate + Sync>(
     alloc: Global,
     rt: &R,
     board: &SharedBoard<P>,
@@ -169,4 +170,53 @@ where
     let mut seat = seat;
     board.join(&mut seat, other);
     (outcome, ends, seat)
+}
+
+/// The czar with so many workers beside him, each of whom makes pieces of the tasks of the others where nothing is to take.
+pub fn teamed<
+    R: Threads + Wait + Sync,
+    P: Work + Send,
+    E: Engine<P> + Sync,
+    G: Gate + Sync,
+    W: Promised<P> + Send + Sync,
+>(
+    alloc: Global,
+    rt: &R,
+    board: &SharedBoard<P>,
+    seat: Seat<Board<P>>,
+    engine: &E,
+    gate: &G,
+    plans: Vec<Option<Planned<P>>>,
+    ends: Vec<Option<End<P>>>,
+    steps: &[Step],
+    workers: u32,
+) -> (Outcome, Vec<Option<End<P>>>, Seat<Board<P>>)
+where
+    P::Root: Send,
+    E::Scratch: Send,
+    requires own { seat.turn ≡ board.now }
+    requires czar { IsCzar P.asks seat }
+    requires engine { E.root engine.now ≡ seat.root.root }
+    requires kept { ArePromised P.asks P.stands (E.root engine.now) W.asks W.stands }
+    requires script { IsScript (vec_len ends) steps.now }
+    requires len { vec_len plans ≡ vec_len ends }
+    requires few { vec_len ends ≤ QUERY_MOST }
+    requires fit { PlansFit P.stands P.asks seat.root.ring seat.root.root plans.items }
+    requires from_1 { 1 ≤ seat.made }
+    requires room { seat.made + workers < 2 ^ 32 - 1 }
+    ensures leaves { (plan : Plans) → Marks plan ends.items
+        → Ready plan [] plans.items → Going plan [] seat.seen (known_in ends.items)
+        → Leaves plan steps.now result.2.seen (known_in result.1.items) result.0 }
+    ensures known { result.0 ≡ Outcome.Went → AllKnown result.1.items }
+    ensures more { MoreKnown ends.items result.1.items }
+    ensures whole { PiecesStand (P.stands seat.root.root) seat.seen ends.items
+        → PiecesStand (P.stands seat.root.root) result.2.seen result.1.items }
+    ensures made { result.2.made ≡ seat.made + workers }
+    ensures manned { Manned P.asks seat result.2 }
+{
+    let seats = if workers == 0 { 0 } else { workers as usize + 1 };
+    let team = Team::<'_, P, E, W>::new(alloc, engine, seats);
+    manned(
+        alloc, rt, board, seat, &team, gate, plans, ends, steps, workers,
+    )
 }

@@ -8,7 +8,7 @@ ghost use Rattle.scan_session.specs.Drove.{AreEnds, Drove};
 ghost use Rattle.scan_session.specs.KnownEnds.{plan_in, AllKnown, AreKnown, IsFirstEnd, MarksPlans, PlansFit};
 ghost use Rattle.scan_session.specs.Crews.{Manned};
 
-use crate::crew::manned;
+use crate::crew::teamed;
 use crate::czar::close;
 use crate::end::{End, Outcome, Planned};
 use scan_board::SharedBoard;
@@ -17,6 +17,7 @@ use scan_worker::Engine;
 use session_script::Step;
 use sky_io::{Gate, Memory};
 use std::alloc::Global;
+use std::marker::Brand;
 use std::sync::Wait;
 use std::thread::Threads;
 use turn_lock::Seat;
@@ -125,7 +126,7 @@ where
     let Ok(ends) = first_ends(alloc, plans.as_slice()) else {
         return (Err(Memory), close(rt, board, seat));
     };
-    let (outcome, ends, seat) = manned(
+    let (outcome, ends, seat) = teamed::<R, P, E, G, Brand>(
         alloc, rt, board, seat, engine, gate, plans, ends, steps, workers,
     );
     match outcome {

@@ -2,7 +2,7 @@
 //!
 //! Callers: none. Nothing stands on this crate, so that a crate of the scan is proved once, and its tests over what it
 //! promises. Below: `scan_rules` (`sets`), `scan_core` (`machine`), `turn_lock`, `scan_board`, `scan_worker` and
-//! `scan_session`.
+//! `scan_session` (`sessions`, `teams`).
 #![tactic(auto)]
 
 #[cfg(test)]
@@ -13,6 +13,8 @@ mod machine;
 mod sessions;
 #[cfg(test)]
 mod sets;
+#[cfg(test)]
+mod teams;
 #[cfg(test)]
 mod turns;
 #[cfg(test)]

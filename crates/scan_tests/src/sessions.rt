@@ -17,7 +17,7 @@ use std::thread::Threads;
 
 /// A mark for each chunk that a query's work was done on, in the order in which they came.
 #[derive(Drop)]
-struct Marks {
+pub(crate) struct Marks {
     marks: Vec<u32>,
 }
 
@@ -50,7 +50,7 @@ fn mark(q: u32, chunk: u32) -> u32 {
 
 /// Marks chunks, and has no memory for the queries of one number.
 #[derive(Drop)]
-struct Marker {
+pub(crate) struct Marker {
     alloc: Global,
     root: u8,
     starved: u32,
@@ -154,7 +154,7 @@ fn letters(alloc: Global, ends: &[End<Marks>], wants: &[Want]) -> Result<Vec<u8>
 }
 
 // The letters of the ends of a script's queries, after a session over a ring of 8 chunks.
-fn session<R: Threads + Wait + Sync, E: Engine<Marks> + Sync, G: Gate + Sync>(
+pub(crate) fn session<R: Threads + Wait + Sync, E: Engine<Marks> + Sync, G: Gate + Sync>(
     alloc: Global,
     rt: &R,
     engine: &E,
@@ -194,7 +194,7 @@ where
 }
 
 // A marker that has no memory for the queries of one number, and of number 0 for all.
-fn marker_of(alloc: Global, starved: u32) -> Marker
+pub(crate) fn marker_of(alloc: Global, starved: u32) -> Marker
     ensures { result.root ≡ 7 }
 {
     Marker {

@@ -13,11 +13,11 @@ close-requires-clause-czar g c = first_czar g.P.Work.asks c.args.seat c.requires
 pub close-requires-in_default-first_ends-clause-czar : goal.close-requires-in_default-first_ends-clause-czar
 close-requires-in_default-first_ends-clause-czar g c = first_czar g.P.Work.asks c.args.seat c.requires.first.0 c.requires.first.1 c.requires.first.2 c.requires.ring c.number-number.ensures.known
 
-pub manned-outcome-requires-clause-czar : goal.manned-outcome-requires-clause-czar
-manned-outcome-requires-clause-czar g c κs within = first_czar g.P.Work.asks c.args.seat c.requires.first.0 c.requires.first.1 c.requires.first.2 c.requires.ring c.number-number.ensures.known
+pub teamed-outcome-requires-clause-czar : goal.teamed-outcome-requires-clause-czar
+teamed-outcome-requires-clause-czar g c κs within = first_czar g.P.Work.asks c.args.seat c.requires.first.0 c.requires.first.1 c.requires.first.2 c.requires.ring c.number-number.ensures.known
 
-pub manned-outcome-requires-clause-script : goal.manned-outcome-requires-clause-script
-manned-outcome-requires-clause-script g c κs within =
+pub teamed-outcome-requires-clause-script : goal.teamed-outcome-requires-clause-script
+teamed-outcome-requires-clause-script g c κs within =
     let len : vec_len c.in-Ok-first_ends.ends ≡ vec_len c.args.plans = search rules in
     script_of (vec_len c.in-Ok-first_ends.ends) c.args.steps.now c.requires.numbered (len ∙ c.requires.each)
 
@@ -28,7 +28,7 @@ returns-in-Went-clause-drove g c =
     let marks : MarksPlans plans first = search rules in
     let each : length plans ≡ query_count c.args.steps.now = search rules in
     let len : length first ≡ length plans = search rules in
-    let m = c.manned-outcome in
+    let m = c.teamed-outcome in
     let p = session_promises g.P.Work.asks c.args.workers c.args.seat m.result.2 plans first m.result.1.items c.args.steps.now c.requires.numbered each len marks m.ensures.more m.result.0 c.requires.first.3 c.requires.first.1 m.ensures.manned m.ensures.made m.ensures.known m.ensures.leaves in
     (subst (λ (r : Outcome). Promises c.args.workers (plan_in plans) c.args.steps.now m.result.2.seen (known_in m.result.1.items) r) c.in-Went.is p).0
 
@@ -39,7 +39,7 @@ returns-in-Went-clause-ends g c =
     let marks : MarksPlans plans first = search rules in
     let each : length plans ≡ query_count c.args.steps.now = search rules in
     let len : length first ≡ length plans = search rules in
-    let m = c.manned-outcome in
+    let m = c.teamed-outcome in
     let p = session_promises g.P.Work.asks c.args.workers c.args.seat m.result.2 plans first m.result.1.items c.args.steps.now c.requires.numbered each len marks m.ensures.more m.result.0 c.requires.first.3 c.requires.first.1 m.ensures.manned m.ensures.made m.ensures.known m.ensures.leaves in
     session_ends g.P.Work.asks c.args.workers c.args.seat m.result.2 plans first m.result.1.items c.args.steps.now c.requires.numbered each len marks m.ensures.more (g.P.Work.stands c.args.seat.root.root) c.known_ends.result.items
     (subst (λ (r : Outcome). Promises c.args.workers (plan_in plans) c.args.steps.now m.result.2.seen (known_in m.result.1.items) r) c.in-Went.is p) m.ensures.whole c.known_ends.ensures
@@ -51,6 +51,6 @@ unreachable-requires g c =
     let marks : MarksPlans plans first = search rules in
     let each : length plans ≡ query_count c.args.steps.now = search rules in
     let len : length first ≡ length plans = search rules in
-    let m = c.manned-outcome in
+    let m = c.teamed-outcome in
     let p = session_promises g.P.Work.asks c.args.workers c.args.seat m.result.2 plans first m.result.1.items c.args.steps.now c.requires.numbered each len marks m.ensures.more m.result.0 c.requires.first.3 c.requires.first.1 m.ensures.manned m.ensures.made m.ensures.known m.ensures.leaves in
     subst (λ (r : Outcome). Promises c.args.workers (plan_in plans) c.args.steps.now m.result.2.seen (known_in m.result.1.items) r) c.in-Odd.is p
