@@ -9,6 +9,7 @@
 //! Not in it: pairs of rows, and tests of a column that `lane_filter` does faster.
 #![tactic(auto)]
 
+mod aggregate;
 mod area;
 mod cond;
 mod expr;
