@@ -12,7 +12,7 @@ use Rattle.std.proofs.lemmas.List.Elements.{All-drop, All-take, recursion_from_A
 use Rattle.table_rules.specs.declared.limits.TheConstants.{ROWS_MOST}
 use Rattle.value_rules.specs.Widths.{IsOfSize}
 use Rattle.column_eval.specs.Aggregates.{AreSummed, IsNoLarger, StaysWithin, greater, joined_all, joined_from, lesser, numbers_between, sum_of}
-use Rattle.column_eval.specs.Lanes.{IsSmall, numbers_of, value_in, values_in}
+use Rattle.column_eval.specs.Lanes.{IsSmall, numbers_of, values_in}
 use Rattle.column_eval.specs.declared.join.TheConstants.{NARROW_MOST, WIDE_MOST}
 use Rattle.column_eval.specs.declared.lane.Lane.{Lane}
 use Rattle.column_eval.proofs.Reading.{value_is, values_count}
@@ -170,8 +170,11 @@ sum_size n a (z ∷ zs) h = omega (arith, sum_step a z, h.0, sum_size n (a +ℤ 
 
 summed : (n : ℕ) (values : List (Option ℤ)) (from to rows : ℕ) → All (IsOfSize n) values → to - from ≤ rows → nat_abs (sum_of (numbers_between values from to)) ≤ rows * n
 summed n values from to rows sized short =
-    omega (arith, sum_size n (pos 0) (numbers_between values from to) (between_fit n values from to sized),
-    mul-le (length (numbers_between values from to)) n rows n (omega (arith, between_few values from to, short)) (omega arith))
+    omega (
+      arith,
+      sum_size n (pos 0) (numbers_between values from to) (between_fit n values from to sized),
+      mul-le (length (numbers_between values from to)) n rows n (omega (arith, between_few values from to, short)) (omega arith),
+    )
 
 pub are_summed : (n : ℕ) (values : List (Option ℤ)) (rows : ℕ) → All (IsOfSize n) values → rows * n ≤ NARROW_MOST → AreSummed rows values
 are_summed n values rows sized small = λ from to order short. omega (arith, summed n values from to rows sized (omega (arith, short)), small)

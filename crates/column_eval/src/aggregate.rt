@@ -14,6 +14,7 @@ use crate::numbers::Numbers;
 
 /// How many rows a block has where the numbers are small, as those of a column are, and where they are larger.
 const LONG: usize = 4096;
+
 const SHORT: usize = 64;
 
 /// The lesser of two.
@@ -99,13 +100,7 @@ fn rows_of(bound: u128) -> Option<usize>
 }
 
 /// The same of numbers of 64 bits, of which so many always have a sum of 64 bits.
-fn sum_by_blocks(
-    numbers: &[i64],
-    known: &[bool],
-    from: usize,
-    to: usize,
-    rows: usize,
-) -> i128
+fn sum_by_blocks(numbers: &[i64], known: &[bool], from: usize, to: usize, rows: usize) -> i128
     requires count { length known.now ≡ length numbers.now }
     requires order { from ≤ to }
     requires there { to ≤ length numbers.now }
@@ -193,7 +188,8 @@ fn narrow_from<J: Join>(
     requires count { length known.now ≡ length numbers.now }
     requires order { from ≤ to }
     requires there { to ≤ length numbers.now }
-    requires fits { StaysWithin J.joins NARROW_MOST first (values_in numbers.now known.now) from to }
+    requires fits { StaysWithin J.joins NARROW_MOST first (values_in numbers.now known.now)
+        from to }
     ensures { result
         ≡ joined_from J.joins first (numbers_between (values_in numbers.now known.now) from to) }
 {
@@ -231,7 +227,8 @@ fn whole_from<J: Join>(
     requires order { from ≤ to }
     requires there { to ≤ length numbers.now }
     requires known { (i : ℕ) → from ≤ i → i < to → get_or known.now i false ≡ true }
-    requires fits { StaysWithin J.joins NARROW_MOST first (values_in numbers.now known.now) from to }
+    requires fits { StaysWithin J.joins NARROW_MOST first (values_in numbers.now known.now)
+        from to }
     ensures { result
         ≡ joined_from J.joins first (numbers_between (values_in numbers.now known.now) from to) }
 {
@@ -254,7 +251,8 @@ fn partly_from<J: Join>(
     requires count { length known.now ≡ length numbers.now }
     requires order { from ≤ to }
     requires there { to ≤ length numbers.now }
-    requires fits { StaysWithin J.joins NARROW_MOST first (values_in numbers.now known.now) from to }
+    requires fits { StaysWithin J.joins NARROW_MOST first (values_in numbers.now known.now)
+        from to }
     ensures { result
         ≡ joined_from J.joins first (numbers_between (values_in numbers.now known.now) from to) }
 {
@@ -290,8 +288,8 @@ fn wide_from<J: Join>(
     requires count { length known.now ≡ length (numbers_of numbers.now) }
     requires order { from ≤ to }
     requires there { to ≤ length known.now }
-    requires fits { StaysWithin J.joins WIDE_MOST first (values_in (numbers_of numbers.now) known.now)
-        from to }
+    requires fits { StaysWithin J.joins WIDE_MOST first
+        (values_in (numbers_of numbers.now) known.now) from to }
     ensures { result ≡ joined_from J.joins first
         (numbers_between (values_in (numbers_of numbers.now) known.now) from to) }
 {

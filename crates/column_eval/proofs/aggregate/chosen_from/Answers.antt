@@ -1,4 +1,4 @@
-use Rattle.std.proofs.Common.{◌≡◌, ◌∙◌, ◌≤◌, ap, arith, get_or, length, pos, rules, subst, sym, w64, FitsSigned}
+use Rattle.std.proofs.Common.{◌∙◌, ◌≤◌, ap, arith, get_or, pos, rules, subst, sym, w64, FitsSigned}
 use Rattle.std.specs.Int.{w128}
 use Rattle.std.proofs.lemmas.Int.{to_z-of_z}
 use Rattle.column_eval.specs.Aggregates.{StaysWithin}

@@ -1,4 +1,4 @@
-use Rattle.std.proofs.Common.{◌∙◌, arith, rules}
+use Rattle.std.proofs.Common.{◌∙◌, arith}
 use Rattle.column_eval.proofs.Aggregated.{null_more}
 use Rattle.column_eval.proofs.aggregate.first_known.Goals as goal
 

@@ -13,9 +13,9 @@ with_narrow-total-requires g c =
     let stays = subst (λ z. StaysWithin g.J.Join.joins NARROW_MOST z (values_in c.args.numbers.now c.args.known.now) c.args.from c.args.to) (sym (to_z-of_z w64 _ first_fits)) c.requires.fits in
     let low : c.loop-i.i < length c.args.known.now = omega (arith, c.loop-i-test.true, c.requires.there, c.requires.count) in
     λ is.
-        simp (to_z-of_z w64 _ fits)
-        (known_size g.J.Join.joins _ _ _ c.args.numbers.now c.args.known.now c.args.from c.loop-i.i c.args.to (omega (arith, c.loop-i.auto.i))
-        c.loop-i-test.true low is stays c.loop-i.invariant)
+    simp (to_z-of_z w64 _ fits)
+    (known_size g.J.Join.joins _ _ _ c.args.numbers.now c.args.known.now c.args.from c.loop-i.i c.args.to (omega (arith, c.loop-i.auto.i))
+    c.loop-i-test.true low is stays c.loop-i.invariant)
 
 pub loop-i-preserved : goal.loop-i-preserved
 loop-i-preserved g c =

@@ -1,10 +1,10 @@
-use Rattle.std.proofs.Common.{◌≡◌, ◌∙◌, ◌+◌, ◌≤◌, ◌+ℤ◌, ap, arith, nat_abs, rules, subst, sym, of_z, to_z, w64, FitsSigned}
+use Rattle.std.proofs.Common.{◌≡◌, ◌∙◌, ◌+◌, ◌≤◌, ◌+ℤ◌, arith, nat_abs, rules, subst, sym, of_z, to_z, w64, FitsSigned}
 use Rattle.std.specs.Int.{w128}
 use Rattle.std.proofs.lemmas.Int.{to_z-of_z}
 use Rattle.column_eval.specs.Aggregates.{numbers_between, sum_of}
 use Rattle.column_eval.specs.Lanes.{values_in}
 use Rattle.column_eval.specs.declared.join.TheConstants.{WIDE_MOST}
-use Rattle.column_eval.proofs.Aggregated.{block_stays, sum_more}
+use Rattle.column_eval.proofs.Aggregated.{sum_more}
 use Rattle.column_eval.proofs.aggregate.sum_by_blocks.Goals as goal
 
 pub overflow_add-total : goal.overflow_add-total

@@ -1,5 +1,4 @@
-use Rattle.std.proofs.Common.{◌≡◌, ◌<◌, ◌∙◌, ap, arith, subst, sym, false, refl, rules, get_or, length, pos, FitsSigned}
-use Rattle.std.specs.Prelude.{if◌then◌else◌}
+use Rattle.std.proofs.Common.{◌<◌, ◌∙◌, arith, subst, sym, false, refl, rules, get_or, length, pos, FitsSigned}
 use Rattle.std.specs.Int.{w128}
 use Rattle.std.proofs.lemmas.Int.{to_z-of_z}
 use Rattle.column_eval.specs.Aggregates.{StaysWithin}
@@ -16,9 +15,9 @@ with_wide-total-requires g c =
     let stays = subst (λ z. StaysWithin g.J.Join.joins WIDE_MOST z (values_in (numbers_of c.args.numbers.now) c.args.known.now) c.args.from c.args.to) (sym (to_z-of_z w128 _ first_fits)) c.requires.fits in
     let low : c.loop-i.i < length c.args.known.now = omega (arith, c.loop-i-test.true, c.requires.there) in
     λ is.
-        simp (c.get.ensures, to_z-of_z w128 _ fits)
-        (known_size g.J.Join.joins _ _ _ (numbers_of c.args.numbers.now) c.args.known.now c.args.from c.loop-i.i c.args.to (omega (arith, c.loop-i.auto.i))
-        c.loop-i-test.true low is stays c.loop-i.invariant)
+    simp (c.get.ensures, to_z-of_z w128 _ fits)
+    (known_size g.J.Join.joins _ _ _ (numbers_of c.args.numbers.now) c.args.known.now c.args.from c.loop-i.i c.args.to (omega (arith, c.loop-i.auto.i))
+    c.loop-i-test.true low is stays c.loop-i.invariant)
 
 pub loop-i-preserved : goal.loop-i-preserved
 loop-i-preserved g c =
