@@ -1,5 +1,5 @@
 -- What the rows of a group come to for an aggregate, by the values of its expression.
-use Rattle.std.specs.Prelude.{◌≡◌, ℕ, ◌≤◌, ℤ, pos, neg_ℤ, List, [], ◌∷◌, length, map, Option, None, Some, option_to_list, slice_range, All}
+use Rattle.std.specs.Prelude.{ℕ, ◌≤◌, ℤ, List, [], length, map, Option, None, Some, option_to_list, slice_range, All}
 use Rattle.std.specs.List.{flat_map}
 use Rattle.table_rules.specs.Objects.{Obj}
 use Rattle.sql_bound.specs.declared.expr.BoundExpr.{BoundExpr}
@@ -7,10 +7,8 @@ use Rattle.value_rules.specs.Values.{row, value_of}
 use Rattle.value_rules.specs.Widths.{IsOfSize, most}
 use Rattle.answer_rules.specs.declared.rewritten.ChunkItem.{ChunkItem}
 use Rattle.answer_rules.specs.declared.rewritten.ChunkItem.TheVariants.{Plain, Count, CountOf, Sum, Min, Max}
-use Rattle.answer_rules.specs.declared.way.Way.{Way}
 use Rattle.answer_rules.specs.declared.way.Way.TheVariants.{Added, Least, Greatest}
-use Rattle.answer_rules.specs.Parts.{Part, count_part, join_by, part_by}
-use Rattle.chunk_scan.specs.declared.join.SoFar.{SoFar}
+use Rattle.answer_rules.specs.Parts.{Part, count_part, part_by}
 
 -- the values of an expression on some rows
 abbrev pub values_on : BoundExpr → List Obj → List (Option ℤ)
@@ -43,19 +41,3 @@ part_of (Max e) rows numbers = part_by Greatest numbers
 abbrev pub IsReady : ℕ → Option (List (Option ℤ)) → Type 0
 IsReady to None = Unit {0}
 IsReady to (Some values) = (to ≤ length values) × All (IsOfSize most) values
-
--- the number that leaves a total of numbers that are not too large as it is
-abbrev pub unit_of : Way → ℤ
-unit_of Added = pos 0
-unit_of Least = pos most
-unit_of Greatest = neg_ℤ (pos most)
-
--- these numbers joined, and that one behind them
-abbrev pub joined_from : Way → List ℤ → ℤ
-joined_from way [] = unit_of way
-joined_from way (z ∷ zs) = join_by way z (joined_from way zs)
-
--- So many numbers were seen, and they come to this.
-pub record IsSoFar (way : Way) (numbers : List ℤ) (s : SoFar) : Type 0 where
-  pub count : s.seen ≡ length numbers
-  pub joined : s.total ≡ joined_from way numbers

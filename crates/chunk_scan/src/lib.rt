@@ -19,7 +19,6 @@ mod early;
 mod early_area;
 mod first_rows;
 mod group_piece;
-mod join;
 mod kernel;
 mod key_order;
 mod known;

@@ -1,13 +1,13 @@
 //! What a group keeps for an aggregate: the part that its rows make, which stand together in the lists of values.
 
-ghost use Rattle.std.specs.Prelude.{◌≡◌, ◌-◌, ◌++◌, ◌∷◌, [], ◌≤◌, All, List, OnOk, length, map, slice_range};
+ghost use Rattle.std.specs.Prelude.{◌≡◌, ◌-◌, ◌++◌, ◌∷◌, [], ◌≤◌, All, List, OnOk, Some, length, map, slice_range};
 ghost use Rattle.table_rules.specs.Objects.{Obj};
 ghost use Rattle.table_rules.specs.declared.limits.TheConstants.{ROWS_MOST};
 ghost use Rattle.value_rules.specs.Values.{row};
+ghost use Rattle.answer_rules.specs.declared.way.Way.TheVariants.{Added, Greatest, Least};
 ghost use Rattle.answer_rules.specs.Parts.{count_part, part_by, part_over};
 ghost use Rattle.chunk_scan.specs.Parted.{IsReady, numbers_between, part_of, worth_of};
 
-use crate::join::{Greater, Join, Lesser, Sum, joined, tally};
 use answer_rules::{ChunkItem, Way};
 use column_eval::ValueList;
 use partial_merge::Tally;
@@ -55,9 +55,9 @@ fn part(item: &ChunkItem, worth: &Option<ValueList>, from: usize, to: usize) -> 
         ChunkItem::Plain(_) => Tally::new(Way::Added, 0, None),
         ChunkItem::Count => Tally::new(Way::Added, (to - from) as u32, None),
         ChunkItem::CountOf(_) => counted(worth, from, to),
-        ChunkItem::Sum(_) => of_values(&Sum, worth, from, to),
-        ChunkItem::Min(_) => of_values(&Lesser, worth, from, to),
-        ChunkItem::Max(_) => of_values(&Greater, worth, from, to),
+        ChunkItem::Sum(_) => summed(worth, from, to),
+        ChunkItem::Min(_) => least(worth, from, to),
+        ChunkItem::Max(_) => greatest(worth, from, to),
     }
 }
 
@@ -70,19 +70,64 @@ fn counted(worth: &Option<ValueList>, from: usize, to: usize) -> Tally
 {
     match worth {
         None => Tally::new(Way::Added, 0, None),
-        Some(found) => Tally::new(Way::Added, joined(&Sum, found, from, to).seen, None),
+        Some(found) => Tally::new(Way::Added, found.count(from, to), None),
     }
 }
 
-/// The part of the values by a way of joining two.
-fn of_values<J: Join>(join: &J, worth: &Option<ValueList>, from: usize, to: usize) -> Tally
+/// The count of the values and their sum.
+fn summed(worth: &Option<ValueList>, from: usize, to: usize) -> Tally
     requires order { from ≤ to }
     requires few { to ≤ ROWS_MOST }
     requires ready { IsReady to worth.now }
-    ensures { result ≡ part_by J.way (numbers_between worth.now from to) }
+    ensures { result ≡ part_by Added (numbers_between worth.now from to) }
 {
     match worth {
-        None => Tally::new(join.name(), 0, None),
-        Some(found) => tally(join, joined(join, found, from, to)),
+        None => Tally::new(Way::Added, 0, None),
+        Some(found) => sum_of(found, from, to),
+    }
+}
+
+/// The same where there is a list of values; of none there is no sum.
+fn sum_of(found: &ValueList, from: usize, to: usize) -> Tally
+    requires order { from ≤ to }
+    requires few { to ≤ ROWS_MOST }
+    requires there { to ≤ length found.now }
+    ensures { result ≡ part_by Added (numbers_between (Some found.now) from to) }
+{
+    let seen = found.count(from, to);
+    if seen == 0 {
+        Tally::new(Way::Added, 0, None)
+    } else {
+        Tally::new(Way::Added, seen, Some(found.sum(from, to)))
+    }
+}
+
+/// The count of the values and the least of them.
+fn least(worth: &Option<ValueList>, from: usize, to: usize) -> Tally
+    requires order { from ≤ to }
+    requires few { to ≤ ROWS_MOST }
+    requires ready { IsReady to worth.now }
+    ensures { result ≡ part_by Least (numbers_between worth.now from to) }
+{
+    match worth {
+        None => Tally::new(Way::Least, 0, None),
+        Some(found) => Tally::new(Way::Least, found.count(from, to), found.least(from, to)),
+    }
+}
+
+/// The count of the values and the greatest of them.
+fn greatest(worth: &Option<ValueList>, from: usize, to: usize) -> Tally
+    requires order { from ≤ to }
+    requires few { to ≤ ROWS_MOST }
+    requires ready { IsReady to worth.now }
+    ensures { result ≡ part_by Greatest (numbers_between worth.now from to) }
+{
+    match worth {
+        None => Tally::new(Way::Greatest, 0, None),
+        Some(found) => Tally::new(
+            Way::Greatest,
+            found.count(from, to),
+            found.greatest(from, to),
+        ),
     }
 }

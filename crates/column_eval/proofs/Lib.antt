@@ -5,3 +5,4 @@ pub mod Reading
 pub mod Flagged
 pub mod Judging
 pub mod Masked
+pub mod Aggregated

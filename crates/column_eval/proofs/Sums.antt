@@ -172,6 +172,11 @@ factor_small allowed rows f a are sound h =
     lane_small (term_of_atom (out-BoundFactor f).atom) rows a are h
     (few allowed (term_of_atom (out-BoundFactor f).atom) (factor_atom allowed f sound))
 
+-- the lane of an expression is small
+pub sum_small : (allowed : BoundCol → Bool) (rows : List Obj) (e : BoundExpr) (a : Lane) → All IsRow rows
+    → is_sound_at allowed (term_of e) ≡ true → IsLane rows (term_of e) a → IsSmall a
+sum_small allowed rows e a are sound h = lane_small (term_of e) rows a are h (few allowed (term_of e) sound)
+
 pub factor_signed : (rows : List Obj) (f : BoundFactor) (a b : Lane) → IsLane rows (term_of_atom (out-BoundFactor f).atom) a
     → IsSigned (out-BoundFactor f).minus a b → IsLane rows (term_of_factor f) b
 factor_signed rows f a b h made =

@@ -3,3 +3,4 @@ pub mod Totals
 pub mod Masks
 pub mod Lanes
 pub mod Flags
+pub mod Aggregates

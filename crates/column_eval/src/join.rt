@@ -4,14 +4,17 @@
 ghost use Rattle.std.specs.Prelude.{◌≡◌, ◌≤◌, ◌<◌, ◌+ℤ◌, ◌-ℤ◌, ◌*ℤ◌, ℕ, ℤ, FitsSigned, IfOk, length, nat_abs, get_or, pos};
 ghost use Rattle.sky_vector.specs.declared.limits.TheConstants.{NUMBER_MOST};
 ghost use Rattle.column_eval.specs.Lanes.{AreJoined, CanJoin, numbers_of};
-ghost use Rattle.column_eval.specs.declared.join.TheConstants.{NARROW_MOST};
+ghost use Rattle.column_eval.specs.declared.join.TheConstants.{NARROW_MOST, WIDE_MOST};
 
 use crate::numbers::Numbers;
 use crate::scratch::Scratch;
 use sky_io::Memory;
 
 /// The largest size that a number in 64 bits is let to have, though one below 0 could be larger by 1.
-const NARROW_MOST: u128 = i64::MAX as u128;
+pub(crate) const NARROW_MOST: u128 = i64::MAX as u128;
+
+/// The largest size that a number in 128 bits is let to have: that of a sum of 2^24 numbers that queries compute.
+pub(crate) const WIDE_MOST: u128 = 1 << 124;
 
 /// An operation on two numbers.
 pub(crate) trait Join {
@@ -25,7 +28,7 @@ pub(crate) trait Join {
 
     /// The operation in 128 bits.
     fn wide(&self, left: i128, right: i128) -> i128
-        requires { nat_abs (joins left right) ≤ NUMBER_MOST }
+        requires { nat_abs (joins left right) ≤ WIDE_MOST }
         ensures { result ≡ joins left right };
 }
 

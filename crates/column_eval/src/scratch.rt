@@ -1,5 +1,5 @@
 //! Vectors that are used again: what one node of a tree no longer needs, the next one takes.
-ghost use Rattle.std.specs.Prelude.{◌≡◌, ◌≤◌, [], IfOk, vec_capacity};
+ghost use Rattle.std.specs.Prelude.{◌≡◌, ◌≤◌, [], IfOk, length, replicate, vec_capacity};
 
 use sky_io::Memory;
 use std::alloc::Global;
@@ -25,22 +25,23 @@ impl Scratch {
 
 /// Vectors of one kind that nobody uses.
 #[derive(Drop)]
-pub(crate) struct Pool<T> {
+pub struct Pool<T> {
     alloc: Global,
     free: Vec<Vec<T>>,
 }
 
 impl<T: Copy> Pool<T> {
-    // No vectors. Takes no memory.
-    fn new(alloc: Global) -> Pool<T> {
+    /// No vectors. Takes no memory.
+    pub fn new(alloc: Global) -> Pool<T> {
         Pool {
             alloc,
             free: Vec::new(alloc),
         }
     }
 
-    /// An empty vector with room for so many items: one that is free, or a new one.
-    pub(crate) fn take(&mut self, count: usize) -> Result<Vec<T>, Memory>
+    /// An empty vector with room for so many items: one that is free, or a new one. Takes memory where there is none, or
+    /// where it has less room.
+    pub fn take(&mut self, count: usize) -> Result<Vec<T>, Memory>
         ensures empty { IfOk result (λ found. found.items ≡ []) }
         ensures room { IfOk result (λ found. count ≤ vec_capacity found) }
     {
@@ -50,8 +51,26 @@ impl<T: Copy> Pool<T> {
         Ok(found)
     }
 
-    /// Keeps a vector for its next use. Where there is no memory to keep it, it is gone.
-    pub(crate) fn give(&mut self, used: Vec<T>) {
+    /// The same with so many times one item in it.
+    pub fn filled(&mut self, item: T, count: usize) -> Result<Vec<T>, Memory>
+        ensures { IfOk result (λ found. found.items ≡ replicate count item) }
+    {
+        let mut found = self.take(count)?;
+        found.resize(count, item)?;
+        Ok(found)
+    }
+
+    /// The same with so many items in it, whatever they are: for what is written before it is read.
+    pub fn sized(&mut self, item: T, count: usize) -> Result<Vec<T>, Memory>
+        ensures { IfOk result (λ found. length found.items ≡ count) }
+    {
+        let mut found = self.free.pop().unwrap_or(Vec::new(self.alloc));
+        found.resize(count, item)?;
+        Ok(found)
+    }
+
+    /// Keeps a vector for its next use, whatever it holds. Where there is no memory to keep it, it is gone.
+    pub fn give(&mut self, used: Vec<T>) {
         let _ = self.free.push(used);
     }
 }

@@ -1,7 +1,10 @@
 //! The values of an expression on some rows.
-ghost use Rattle.std.specs.Prelude.{◌≡◌, ◌<◌, None, length, get_or};
-ghost use Rattle.column_eval.specs.Lanes.{numbers_of, value_in, values_in};
+ghost use Rattle.std.specs.Prelude.{◌≡◌, ◌<◌, ◌≤◌, None, length, get_or};
+ghost use Rattle.table_rules.specs.declared.limits.TheConstants.{ROWS_MOST};
+ghost use Rattle.column_eval.specs.Aggregates.{greater, joined_all, lesser, numbers_between, sum_of};
+ghost use Rattle.column_eval.specs.Lanes.{IsSmall, numbers_of, value_in, values_in};
 
+use crate::aggregate::{Greater, Lesser, chosen, count, sum};
 use crate::lane::Lane;
 use crate::numbers::Numbers;
 use crate::scratch::Scratch;
@@ -10,40 +13,35 @@ use std::marker::Model;
 /// ValueList, of which `None` is NULL, one a row.
 #[derive(Drop)]
 pub struct ValueList {
-    /// A number for each row, which has no meaning where the row has no value.
-    numbers: Numbers,
-    /// Which rows have a value.
-    known: Vec<bool>,
+    /// A number for each row, which has no meaning where the row has no value, and which rows have one.
+    lane: Lane,
 }
 
 impl Model for ValueList {
     ghost use Rattle.std.specs.Prelude.{◌≡◌, ℤ, List, Option, length};
-    ghost use Rattle.column_eval.specs.Lanes.{numbers_of, values_in};
+    ghost use Rattle.column_eval.specs.Lanes.{IsSmall, numbers_of, values_in};
 
     ghost Value = { List (Option ℤ) };
 
-    ghost view = { λ v. values_in (numbers_of v.numbers) v.known.items };
+    ghost view = { λ v. values_in (numbers_of v.lane.numbers) v.lane.known.items };
 
-    ghost invariant = { λ v. length (numbers_of v.numbers) ≡ length v.known.items };
+    ghost invariant = { λ v. IsSmall v.lane };
 }
 
 impl ValueList {
     /// The values of a lane.
     pub(crate) fn of(lane: Lane) -> ValueList
-        requires { length (numbers_of lane.numbers) ≡ length lane.known.items }
+        requires { IsSmall lane }
         ensures { result ≡ values_in (numbers_of lane.numbers) lane.known.items }
     {
-        ValueList {
-            numbers: lane.numbers,
-            known: lane.known,
-        }
+        ValueList { lane }
     }
 
     /// How many rows there are. Takes no memory.
     pub fn len(&self) -> usize
         ensures { result ≡ length self.now }
     {
-        self.known.len()
+        self.lane.known.len()
     }
 
     /// The value of the row with this number, from 0; `None` is NULL. Takes no memory.
@@ -51,13 +49,50 @@ impl ValueList {
         requires { i < length self.now }
         ensures { result ≡ get_or self.now i None }
     {
-        value_at(&self.numbers, self.known.as_slice(), i)
+        value_at(&self.lane.numbers, self.lane.known.as_slice(), i)
+    }
+
+    /// How many of the values from one place up to another are not NULL. Takes no memory.
+    pub fn count(&self, from: usize, to: usize) -> u32
+        requires order { from ≤ to }
+        requires there { to ≤ length self.now }
+        requires few { to ≤ ROWS_MOST }
+        ensures { result ≡ length (numbers_between self.now from to) }
+    {
+        count(self.lane.known.as_slice(), from, to)
+    }
+
+    /// Their sum, 0 where there is none. Takes no memory.
+    pub fn sum(&self, from: usize, to: usize) -> i128
+        requires order { from ≤ to }
+        requires there { to ≤ length self.now }
+        requires few { to ≤ ROWS_MOST }
+        ensures { result ≡ sum_of (numbers_between self.now from to) }
+    {
+        sum(&self.lane, from, to)
+    }
+
+    /// The least of them, if there is one. Takes no memory.
+    pub fn least(&self, from: usize, to: usize) -> Option<i128>
+        requires order { from ≤ to }
+        requires there { to ≤ length self.now }
+        ensures { result ≡ joined_all lesser (numbers_between self.now from to) }
+    {
+        chosen(&Lesser, &self.lane, from, to)
+    }
+
+    /// The greatest of them, if there is one. Takes no memory.
+    pub fn greatest(&self, from: usize, to: usize) -> Option<i128>
+        requires order { from ≤ to }
+        requires there { to ≤ length self.now }
+        ensures { result ≡ joined_all greater (numbers_between self.now from to) }
+    {
+        chosen(&Greater, &self.lane, from, to)
     }
 
     /// Gives the vectors back to the scratch, for the next evaluation. Takes no memory.
     pub fn give_back(self, scratch: &mut Scratch) {
-        self.numbers.give_back(scratch);
-        scratch.flags.give(self.known);
+        self.lane.give_back(scratch);
     }
 }
 

@@ -14,6 +14,7 @@ use sql_bound::{Bound, BoundCond, BoundExpr, BoundItem, Shape};
 use sql_reader::read;
 use sql_tree::Query;
 use std::alloc::Global;
+use table_rules::limits::ROWS_MOST;
 
 // A query over the schema, where it fits it and there is memory.
 fn bound_over(alloc: Global, schema: &Schema, query: &Query) -> Option<Bound>
@@ -80,13 +81,13 @@ pub(crate) fn truths_taken(
     }
 }
 
-// The sum of the values, without the NULLs.
+// The sum of the values, without the NULLs. There are never more of them than rows of a catalogue.
 fn total(values: &ValueList) -> i128 {
-    let mut total = 0i128;
-    for i in 0..values.len() {
-        total = total.wrapping_add(values.get(i).unwrap_or(0));
+    if values.len() <= ROWS_MOST {
+        values.sum(0, values.len())
+    } else {
+        0
     }
-    total
 }
 
 // The sum in all turns of the expression at the places.

@@ -1,7 +1,8 @@
-use Rattle.std.proofs.Common.{◌∙◌, ◌<◌, ap, arith, rules, length, get_or, pos, sym, subst, FitsSigned}
+use Rattle.std.proofs.Common.{◌∙◌, ◌<◌, ◌≤◌, ap, arith, rules, length, get_or, nat_abs, pos, sym, subst, FitsSigned}
 use Rattle.std.specs.Int.{w128}
 use Rattle.std.proofs.lemmas.Int.{to_z-of_z}
 use Rattle.std.proofs.lemmas.List.{length-set}
+use Rattle.column_eval.specs.declared.join.TheConstants.{WIDE_MOST}
 use Rattle.column_eval.proofs.Masked.{joined_more, rest_kept}
 use Rattle.column_eval.proofs.join.each_wide.Goals as goal
 
@@ -12,7 +13,8 @@ wide-requires g c =
     let fits : FitsSigned w128 (get_or c.args.left.now c.loop-i.i (pos 0)) = search rules in
     let fits_left : FitsSigned w128 (get_or c.loop-i.left c.loop-i.i (pos 0)) = subst (FitsSigned w128) (sym same) fits in
     let fits_right : FitsSigned w128 (get_or c.args.right.now c.loop-i.i (pos 0)) = search rules in
-    let own = c.requires.fits c.loop-i.i (omega (arith, low, c.requires.count)) in
+    let own : nat_abs (g.J.Join.joins (get_or c.args.left.now c.loop-i.i (pos 0)) (get_or c.args.right.now c.loop-i.i (pos 0))) ≤ WIDE_MOST =
+    omega (arith, c.requires.fits c.loop-i.i (omega (arith, low, c.requires.count))) in
     simp (to_z-of_z w128 _ fits_left, to_z-of_z w128 _ fits_right) (rw same own)
 
 pub loop-i-preserved : goal.loop-i-preserved

@@ -4,5 +4,5 @@ use Rattle.column_eval.proofs.value_list.ValueList.len.Goals as goal
 
 pub returns : goal.returns
 returns c =
-    let is : c.len.result ≡ length c.self.inside.known.items = search rules in
-    is ∙ sym (ap length (sym c.self.view_is) ∙ values_count _ c.self.inside.known.items)
+    let is : c.len.result ≡ length c.self.inside.lane.known.items = search rules in
+    is ∙ sym (ap length (sym c.self.view_is) ∙ values_count _ c.self.inside.lane.known.items)
