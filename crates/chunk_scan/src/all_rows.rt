@@ -8,6 +8,7 @@ ghost use Rattle.partial_merge.specs.Bags.{out_row};
 ghost use Rattle.partial_merge.specs.Joining.{IsOfRows, TakesRow};
 ghost use Rattle.chunk_scan.specs.Computed.{AreReady, keys_on};
 ghost use Rattle.chunk_scan.specs.Lines.{IsOfRowsOver};
+ghost use Rattle.table_rules.specs.declared.limits.TheConstants.{FIRST_COLUMNS};
 
 use crate::columns::{columns, fill_at, give_back, rank_at};
 use crate::line::is_down;
@@ -31,7 +32,7 @@ pub(crate) fn all_rows<'w>(
     scratch: &mut Scratch,
 ) -> Result<Piece<'w>, Memory>
     requires shape { query.now.shape ≡ OfRows }
-    requires sound { IsSoundChunk (4 + block.now.width) query.now }
+    requires sound { IsSoundChunk (FIRST_COLUMNS + block.now.width) query.now }
     requires there { All (λ place. place < length block.now.objects) places.now }
     requires keys { keys.now
         ≡ keys_on (objects_at block.now.objects places.now) query.now.order }

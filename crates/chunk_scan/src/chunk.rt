@@ -1,7 +1,7 @@
 //! The piece of a chunk.
 
 ghost use Rattle.std.specs.Prelude.{◌≡◌, ◌∷◌, [], ◌+◌, ◌<◌, ◌≤◌, All, IfOk, length, true, false};
-ghost use Rattle.table_rules.specs.declared.limits.TheConstants.{ROWS_MOST};
+ghost use Rattle.table_rules.specs.declared.limits.TheConstants.{FIRST_COLUMNS, ROWS_MOST};
 ghost use Rattle.sky_rules.specs.Limits.{IsSky};
 ghost use Rattle.sky_rules.specs.Partition.{chunk_count};
 ghost use Rattle.chunk_rules.specs.Filled.{is_filled};
@@ -37,7 +37,7 @@ pub fn scan<'w>(
     requires there { chunk < chunk_count store.now.plan }
     requires filled { is_filled store.now.plan store.now.rows.objects chunk ≡ true }
     requires rows { is_paired query.now.shape ≡ false }
-    requires sound { IsSoundChunk (4 + length store.now.rows.names) query.now }
+    requires sound { IsSoundChunk (FIRST_COLUMNS + length store.now.rows.names) query.now }
     ensures { IfOk result (PieceFor store.now.plan store.now.rows.objects query.now (chunk ∷ [])) }
 {
     know(store);
@@ -74,7 +74,7 @@ fn piece_at<'w>(
     requires objects { block.now.objects ≡ objects_at rows.now.objects own.now }
     requires width { block.now.width ≡ length rows.now.names }
     requires rows { is_paired query.now.shape ≡ false }
-    requires sound { IsSoundChunk (4 + length rows.now.names) query.now }
+    requires sound { IsSoundChunk (FIRST_COLUMNS + length rows.now.names) query.now }
     requires small { length block.now.objects ≤ ROWS_MOST }
     requires few { length places.now ≤ ROWS_MOST }
     requires own { All (λ place. place < length rows.now.objects) own.now }

@@ -8,6 +8,7 @@ ghost use Rattle.value_rules.specs.Widths.{IsOfSize, most};
 ghost use Rattle.answer_rules.specs.SoundChunks.{is_sound_chunk_order, is_sound_part};
 ghost use Rattle.chunk_scan.specs.Computed.{AreReady, item_on, key_in, keys_on, rank_by};
 ghost use Rattle.chunk_scan.specs.Parted.{IsReady};
+ghost use Rattle.table_rules.specs.declared.limits.TheConstants.{FIRST_COLUMNS};
 
 use crate::line::{push, rank_of};
 use crate::scratch::Scratch;
@@ -28,7 +29,8 @@ pub(crate) fn keys(
     scratch: &mut Scratch,
 ) -> Result<Option<ValueList>, Memory>
     requires there { All (λ place. place < length block.now.objects) places.now }
-    requires sound { IsTrue (is_sound_chunk_order (4 + block.now.width) Rows order.now) }
+    requires sound { IsTrue
+        (is_sound_chunk_order (FIRST_COLUMNS + block.now.width) Rows order.now) }
     ensures { IfOk result (λ keys. keys
         ≡ keys_on (objects_at block.now.objects places.now) order.now) }
 {
@@ -46,7 +48,8 @@ fn keys_by(
     scratch: &mut Scratch,
 ) -> Result<Option<ValueList>, Memory>
     requires there { All (λ place. place < length block.now.objects) places.now }
-    requires sound { IsTrue (is_sound_chunk_order (4 + block.now.width) Rows (Some order.now)) }
+    requires sound { IsTrue
+        (is_sound_chunk_order (FIRST_COLUMNS + block.now.width) Rows (Some order.now)) }
     ensures { IfOk result (λ keys. keys
         ≡ keys_on (objects_at block.now.objects places.now) (Some order.now)) }
 {
@@ -63,7 +66,8 @@ pub(crate) fn columns(
     scratch: &mut Scratch,
 ) -> Result<Vec<ValueList>, Memory>
     requires there { All (λ place. place < length block.now.objects) places.now }
-    requires sound { IsTrue (list_all (is_sound_part (4 + block.now.width) Rows) items.now) }
+    requires sound { IsTrue (list_all (is_sound_part (FIRST_COLUMNS + block.now.width) Rows)
+        items.now) }
     ensures { IfOk result (λ columns. columns.items
         ≡ map (item_on (objects_at block.now.objects places.now)) items.now) }
 {
@@ -103,7 +107,7 @@ fn column(
     scratch: &mut Scratch,
 ) -> Result<ValueList, Memory>
     requires there { All (λ place. place < length block.now.objects) places.now }
-    requires sound { IsTrue (is_sound_part (4 + block.now.width) Rows item.now) }
+    requires sound { IsTrue (is_sound_part (FIRST_COLUMNS + block.now.width) Rows item.now) }
     ensures { IfOk result (λ column. column
         ≡ item_on (objects_at block.now.objects places.now) item.now) }
 {

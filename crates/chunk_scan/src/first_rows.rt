@@ -10,6 +10,7 @@ ghost use Rattle.partial_merge.specs.Bags.{out_row};
 ghost use Rattle.partial_merge.specs.Joining.{IsOfRows, TakesRow};
 ghost use Rattle.chunk_scan.specs.Computed.{keys_on};
 ghost use Rattle.chunk_scan.specs.Lines.{IsOfRowsOver};
+ghost use Rattle.table_rules.specs.declared.limits.TheConstants.{FIRST_COLUMNS};
 
 use crate::columns::rank_at;
 use crate::line::{fill, is_down};
@@ -37,7 +38,7 @@ pub(crate) fn first_rows<'w>(
     requires shape { query.now.shape ≡ OfRows }
     requires objects { block.now.objects ≡ objects_at rows.now.objects own.now }
     requires width { block.now.width ≡ length rows.now.names }
-    requires sound { IsSoundChunk (4 + length rows.now.names) query.now }
+    requires sound { IsSoundChunk (FIRST_COLUMNS + length rows.now.names) query.now }
     requires own { All (λ place. place < length rows.now.objects) own.now }
     requires there { All (λ place. place < length block.now.objects) places.now }
     requires places { All (λ place. place < length own.now) places.now }
@@ -71,7 +72,7 @@ fn offer(
 ) -> Result<(), Memory>
     requires rows { IsOfRows piece.old }
     requires shape { query.now.shape ≡ OfRows }
-    requires sound { IsSoundChunk (4 + length rows.now.names) query.now }
+    requires sound { IsSoundChunk (FIRST_COLUMNS + length rows.now.names) query.now }
     requires own { All (λ place. place < length rows.now.objects) own.now }
     requires there { place < length own.now }
     ensures { OnOk result (TakesRow piece.old (out_row rank.now (map (chunk_value
@@ -94,7 +95,7 @@ fn push_one(
 ) -> Result<(), Memory>
     requires rows { IsOfRows piece.old }
     requires shape { query.now.shape ≡ OfRows }
-    requires sound { IsSoundChunk (4 + length first.now.further) query.now }
+    requires sound { IsSoundChunk (FIRST_COLUMNS + length first.now.further) query.now }
     ensures { OnOk result (TakesRow piece.old (out_row rank.now
         (map (chunk_value (row first.now)) query.now.items)) piece.new) }
 {

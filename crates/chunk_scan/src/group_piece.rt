@@ -6,7 +6,7 @@
 
 ghost use Rattle.std.specs.Prelude.{◌≡◌, ◌+◌, ◌++◌, ◌<◌, ◌≤◌, ◌∷◌, [], All, IfOk, IsTrue, OnOk, false, get_or, length, map};
 ghost use Rattle.std.specs.List.{list_all};
-ghost use Rattle.table_rules.specs.declared.limits.TheConstants.{ROWS_MOST};
+ghost use Rattle.table_rules.specs.declared.limits.TheConstants.{FIRST_COLUMNS, ROWS_MOST};
 ghost use Rattle.sky_row.specs.Columns.{no_row, objects_at};
 ghost use Rattle.sql_bound.specs.declared.query.Shape.TheVariants.{Groups};
 ghost use Rattle.value_rules.specs.Sound.{has_col};
@@ -41,7 +41,7 @@ pub(crate) fn piece_of_groups<'w>(
     scratch: &mut Scratch,
 ) -> Result<Piece<'w>, Memory>
     requires shape { query.now.shape ≡ Groups keys.now }
-    requires sound { IsSoundChunk (4 + block.now.width) query.now }
+    requires sound { IsSoundChunk (FIRST_COLUMNS + block.now.width) query.now }
     requires small { length block.now.objects ≤ ROWS_MOST }
     requires few { length places.now ≤ ROWS_MOST }
     requires there { All (λ place. place < length block.now.objects) places.now }
@@ -65,7 +65,7 @@ fn by_keys<'w>(
     scratch: &mut Scratch,
 ) -> Result<Piece<'w>, Memory>
     requires shape { query.now.shape ≡ Groups keys.now }
-    requires sound { IsSoundChunk (4 + block.now.width) query.now }
+    requires sound { IsSoundChunk (FIRST_COLUMNS + block.now.width) query.now }
     requires small { length block.now.objects ≤ ROWS_MOST }
     requires few { length places.now ≤ ROWS_MOST }
     requires there { All (λ place. place < length block.now.objects) places.now }
@@ -88,7 +88,7 @@ fn group_piece<'w>(
     scratch: &mut Scratch,
 ) -> Result<Piece<'w>, Memory>
     requires shape { query.now.shape ≡ Groups keys.now }
-    requires sound { IsSoundChunk (4 + block.now.width) query.now }
+    requires sound { IsSoundChunk (FIRST_COLUMNS + block.now.width) query.now }
     requires few { length places.now ≤ ROWS_MOST }
     requires there { All (λ place. place < length block.now.objects) places.now }
     ensures { IfOk result (λ piece. piece ≡ OfGroups (partials_of keys.now query.now.items
@@ -150,7 +150,7 @@ fn fill_key(
     place: u32,
 ) -> Result<(), Memory>
     requires there { place < length block.now.objects }
-    requires sound { IsTrue (list_all (has_col (4 + block.now.width) false) keys.now) }
+    requires sound { IsTrue (list_all (has_col (FIRST_COLUMNS + block.now.width) false) keys.now) }
     ensures { OnOk result (cells.new.items
         ≡ key_of keys.now (row (get_or block.now.objects place no_row))) }
 {
@@ -171,7 +171,7 @@ fn push_cell(cells: &mut Vec<Option<i64>>, value: Option<i64>) -> Result<(), Mem
 /// The value of the row at the place in a key column.
 fn cell(block: &Block, key: &BoundCol, place: usize) -> Option<i64>
     requires there { place < length block.now.objects }
-    requires col { IsTrue (has_col (4 + block.now.width) false key.now) }
+    requires col { IsTrue (has_col (FIRST_COLUMNS + block.now.width) false key.now) }
     ensures { result ≡ cell_of (row (get_or block.now.objects place no_row)) key.now }
 {
     match key.col {

@@ -4,6 +4,7 @@ ghost use Rattle.lane_filter.specs.Tests.{IsKeptBy};
 ghost use Rattle.sky_row.specs.Columns.{no_row};
 ghost use Rattle.table_rules.specs.Objects.{cell};
 ghost use Rattle.chunk_scan.specs.Asking.{IsThere, asks, is_compared, is_in_range};
+ghost use Rattle.table_rules.specs.declared.limits.TheConstants.{FIRST_COLUMNS};
 
 use crate::known::Known;
 use crate::narrow::narrow;
@@ -11,11 +12,12 @@ use column_block::Block;
 use lane_filter::{keep, keep_between, keep_between_narrow, keep_narrow, keep_near, keep_present};
 use sky_row::Column;
 use sql_tree::Cmp;
+use table_rules::limits::FIRST_COLUMNS;
 
 /// Clears the mask where the answer is no. Takes no memory.
 pub(crate) fn keep_asked(block: &Block, test: Known, mask: &mut [bool])
     requires rows { length block.now.objects ≡ length mask.old }
-    requires there { IsThere (4 + block.now.width) test }
+    requires there { IsThere (FIRST_COLUMNS + block.now.width) test }
     ensures len { length mask.new ≡ length mask.old }
     ensures each { IsKeptBy (λ k. asks test (get_or block.now.objects k no_row)) mask.old mask.new }
 {
@@ -35,7 +37,7 @@ pub(crate) fn keep_asked(block: &Block, test: Known, mask: &mut [bool])
 #[tactic(auto, using(crate::proofs::Kernels::column_told))]
 fn keep_compared(block: &Block, col: u32, op: Cmp, n: i64, mask: &mut [bool])
     requires rows { length block.now.objects ≡ length mask.old }
-    requires there { col < 4 + block.now.width }
+    requires there { col < FIRST_COLUMNS + block.now.width }
     ensures len { length mask.new ≡ length mask.old }
     ensures each { IsKeptBy (λ k. is_compared op n (cell (get_or block.now.objects k no_row) col))
         mask.old mask.new }
@@ -64,7 +66,7 @@ fn keep_compared_further(column: &Column, op: Cmp, n: i64, mask: &mut [bool])
 #[tactic(auto, using(crate::proofs::Kernels::column_told))]
 fn keep_range(block: &Block, col: u32, low: i64, high: i64, mask: &mut [bool])
     requires rows { length block.now.objects ≡ length mask.old }
-    requires there { col < 4 + block.now.width }
+    requires there { col < FIRST_COLUMNS + block.now.width }
     ensures len { length mask.new ≡ length mask.old }
     ensures each { IsKeptBy
         (λ k. is_in_range low high (cell (get_or block.now.objects k no_row) col)) mask.old mask.new }
@@ -94,7 +96,7 @@ fn keep_range_further(column: &Column, low: i64, high: i64, mask: &mut [bool])
 #[tactic(auto, using(crate::proofs::Kernels::column_told, crate::proofs::Kernels::first_valued))]
 fn keep_there(block: &Block, col: u32, mask: &mut [bool])
     requires rows { length block.now.objects ≡ length mask.old }
-    requires there { col < 4 + block.now.width }
+    requires there { col < FIRST_COLUMNS + block.now.width }
     ensures len { length mask.new ≡ length mask.old }
     ensures each { IsKeptBy (λ k. is_some (cell (get_or block.now.objects k no_row) col))
         mask.old mask.new }
@@ -120,12 +122,12 @@ fn keep_valued(column: &Column, mask: &mut [bool])
 #[tactic(auto, using(crate::proofs::Kernels::column_told, crate::proofs::Kernels::first_missing))]
 fn keep_missing(block: &Block, col: u32, mask: &mut [bool])
     requires rows { length block.now.objects ≡ length mask.old }
-    requires there { col < 4 + block.now.width }
+    requires there { col < FIRST_COLUMNS + block.now.width }
     ensures len { length mask.new ≡ length mask.old }
     ensures each { IsKeptBy (λ k. is_none (cell (get_or block.now.objects k no_row) col))
         mask.old mask.new }
 {
-    if col < 4 {
+    if col < FIRST_COLUMNS as u32 {
         clear(mask);
     } else {
         keep_null(block.further(col), mask);

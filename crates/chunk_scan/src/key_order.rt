@@ -6,7 +6,7 @@
 ghost use Rattle.std.specs.Prelude.{◌≡◌, ◌+◌, ◌<◌, ◌≤◌, All, IfOk, IsTrue, false, length, replicate};
 ghost use Rattle.std.specs.List.{list_all};
 ghost use Rattle.std.specs.List.Sorted.{IsPermutation};
-ghost use Rattle.table_rules.specs.declared.limits.TheConstants.{ROWS_MOST};
+ghost use Rattle.table_rules.specs.declared.limits.TheConstants.{FIRST_COLUMNS, ROWS_MOST};
 ghost use Rattle.value_rules.specs.Sound.{has_col};
 
 use crate::scratch::Scratch;
@@ -26,7 +26,7 @@ pub(crate) fn by_key(
 ) -> Result<Vec<u32>, Memory>
     requires few { length block.now.objects ≤ ROWS_MOST }
     requires there { All (λ place. place < length block.now.objects) places.now }
-    requires sound { IsTrue (list_all (has_col (4 + block.now.width) false) keys.now) }
+    requires sound { IsTrue (list_all (has_col (FIRST_COLUMNS + block.now.width) false) keys.now) }
     ensures { IfOk result (λ order. IsPermutation places.now order.items) }
 {
     let mut words = scratch.words.filled(0, places.len())?;
@@ -62,7 +62,7 @@ fn reorder(numbers: &mut [u64], spare: &mut [u64], places: &[u32], order: &mut [
 fn put_numbers(numbers: &mut [u64], block: &Block, keys: &[BoundCol], places: &[u32])
     requires len { length numbers.old ≡ length places.now }
     requires there { All (λ place. place < length block.now.objects) places.now }
-    requires sound { IsTrue (list_all (has_col (4 + block.now.width) false) keys.now) }
+    requires sound { IsTrue (list_all (has_col (FIRST_COLUMNS + block.now.width) false) keys.now) }
     ensures { length numbers.new ≡ length numbers.old }
 {
     for key in keys {
@@ -74,7 +74,7 @@ fn put_numbers(numbers: &mut [u64], block: &Block, keys: &[BoundCol], places: &[
 fn mix(numbers: &mut [u64], block: &Block, col: u32, places: &[u32])
     requires len { length numbers.old ≡ length places.now }
     requires there { All (λ place. place < length block.now.objects) places.now }
-    requires col { col < 4 + block.now.width }
+    requires col { col < FIRST_COLUMNS + block.now.width }
     ensures { length numbers.new ≡ length numbers.old }
 {
     match col {

@@ -8,6 +8,7 @@ ghost use Rattle.answer_rules.specs.Pieces.{chunk_down, chunk_value};
 ghost use Rattle.answer_rules.specs.Ranks.{rank_class, rank_value};
 ghost use Rattle.answer_rules.specs.SoundChunks.{is_sound_part};
 ghost use Rattle.chunk_scan.specs.Computed.{rank_by};
+ghost use Rattle.table_rules.specs.declared.limits.TheConstants.{FIRST_COLUMNS};
 
 use answer_rules::{ChunkItem, ChunkOrder};
 use expr_eval::value;
@@ -35,7 +36,7 @@ pub(crate) fn fill(
     first: &Row,
 ) -> Result<(), Memory>
     requires sound { IsTrue
-        (list_all (is_sound_part (4 + length first.now.further) Rows) items.now) }
+        (list_all (is_sound_part (FIRST_COLUMNS + length first.now.further) Rows) items.now) }
     ensures { OnOk result (values.new.items ≡ map (chunk_value (row first.now)) items.now) }
 {
     values.clear();
@@ -54,7 +55,8 @@ pub(crate) fn push(values: &mut Vec<Option<Num>>, value: Option<Num>) -> Result<
 
 /// The value of an item; an aggregate has none on a row.
 fn cell(item: &ChunkItem, first: &Row) -> Option<Num>
-    requires sound { IsTrue (is_sound_part (4 + length first.now.further) Rows item.now) }
+    requires sound { IsTrue
+        (is_sound_part (FIRST_COLUMNS + length first.now.further) Rows item.now) }
     ensures { result ≡ chunk_value (row first.now) item.now }
 {
     match item {

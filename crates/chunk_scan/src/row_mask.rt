@@ -8,6 +8,7 @@ ghost use Rattle.chunk_store.specs.Places.{chunk_rows};
 ghost use Rattle.answer_rules.specs.SoundChunks.{IsSoundChunk};
 ghost use Rattle.value_rules.specs.Sound.{has_col, is_paired, is_sound_cond};
 ghost use Rattle.chunk_scan.specs.Standing.{mask_of};
+ghost use Rattle.table_rules.specs.declared.limits.TheConstants.{FIRST_COLUMNS};
 
 use crate::scratch::Scratch;
 use crate::standing::standing;
@@ -30,7 +31,7 @@ pub fn mask(
     requires there { chunk < chunk_count store.now.plan }
     requires filled { is_filled store.now.plan store.now.rows.objects chunk ≡ true }
     requires rows { is_paired query.now.shape ≡ false }
-    requires sound { IsSoundChunk (4 + length store.now.rows.names) query.now }
+    requires sound { IsSoundChunk (FIRST_COLUMNS + length store.now.rows.names) query.now }
     ensures { IfOk result (λ mask. mask.items ≡ mask_of query.now.conds
         (rows_at store.now.rows.objects (chunk_rows store.now.plan store.now.rows.objects chunk))) }
 {
@@ -42,7 +43,8 @@ pub fn mask(
 #[tactic(auto, using(crate::proofs::Masks::mask_is))]
 fn mask_over(alloc: Global, block: &Block, conds: &[BoundCond]) -> Result<Vec<bool>, Memory>
     requires few { length block.now.objects < 2 ^ 32 }
-    requires sound { IsTrue (list_all (is_sound_cond (has_col (4 + block.now.width) false))
+    requires sound { IsTrue (list_all
+        (is_sound_cond (has_col (FIRST_COLUMNS + block.now.width) false))
         conds.now) }
     ensures { IfOk result (λ mask. mask.items ≡ mask_of conds.now block.now.objects) }
 {

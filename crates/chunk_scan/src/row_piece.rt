@@ -9,6 +9,7 @@ ghost use Rattle.sky_row.specs.Columns.{objects_at};
 ghost use Rattle.sql_bound.specs.declared.query.Shape.TheVariants.{Rows as OfRows};
 ghost use Rattle.answer_rules.specs.SoundChunks.{IsSoundChunk};
 ghost use Rattle.chunk_scan.specs.Lines.{IsOfRowsOver};
+ghost use Rattle.table_rules.specs.declared.limits.TheConstants.{FIRST_COLUMNS};
 
 use crate::all_rows::all_rows;
 use crate::columns::{give_keys_back, keys};
@@ -35,7 +36,7 @@ pub(crate) fn row_piece<'w>(
     requires shape { query.now.shape ≡ OfRows }
     requires objects { block.now.objects ≡ objects_at rows.now.objects own.now }
     requires width { block.now.width ≡ length rows.now.names }
-    requires sound { IsSoundChunk (4 + length rows.now.names) query.now }
+    requires sound { IsSoundChunk (FIRST_COLUMNS + length rows.now.names) query.now }
     requires own { All (λ place. place < length rows.now.objects) own.now }
     requires there { All (λ place. place < length block.now.objects) places.now }
     requires places { All (λ place. place < length own.now) places.now }

@@ -5,6 +5,7 @@ ghost use Rattle.std.specs.List.{list_all};
 ghost use Rattle.sky_row.specs.Columns.{column_in, objects_at};
 ghost use Rattle.value_rules.specs.Sound.{has_col};
 ghost use Rattle.chunk_scan.specs.Runs.{AreStarts, IsMarked, IsMarkedBy};
+ghost use Rattle.table_rules.specs.declared.limits.TheConstants.{FIRST_COLUMNS};
 
 use crate::scratch::Scratch;
 use column_block::Block;
@@ -20,7 +21,7 @@ pub(crate) fn starts(
     scratch: &mut Scratch,
 ) -> Result<Vec<bool>, Memory>
     requires there { All (λ place. place < length block.now.objects) places.now }
-    requires sound { IsTrue (list_all (has_col (4 + block.now.width) false) keys.now) }
+    requires sound { IsTrue (list_all (has_col (FIRST_COLUMNS + block.now.width) false) keys.now) }
     ensures len { IfOk result (λ starts. length starts.items ≡ length places.now) }
     ensures are { IfOk result (λ starts.
         AreStarts keys.now (objects_at block.now.objects places.now) starts.items) }
@@ -34,7 +35,7 @@ pub(crate) fn starts(
 fn mark_all(starts: &mut [bool], block: &Block, keys: &[BoundCol], places: &[u32])
     requires len { length starts.old ≡ length places.now }
     requires there { All (λ place. place < length block.now.objects) places.now }
-    requires sound { IsTrue (list_all (has_col (4 + block.now.width) false) keys.now) }
+    requires sound { IsTrue (list_all (has_col (FIRST_COLUMNS + block.now.width) false) keys.now) }
     ensures len { length starts.new ≡ length starts.old }
     ensures are { AreStarts keys.now (objects_at block.now.objects places.now) starts.new }
 {
@@ -47,7 +48,7 @@ fn mark_all(starts: &mut [bool], block: &Block, keys: &[BoundCol], places: &[u32
 fn mark(starts: &mut [bool], block: &Block, col: u32, places: &[u32])
     requires len { length starts.old ≡ length places.now }
     requires there { All (λ place. place < length block.now.objects) places.now }
-    requires col { col < 4 + block.now.width }
+    requires col { col < FIRST_COLUMNS + block.now.width }
     ensures len { length starts.new ≡ length starts.old }
     ensures marked { IsMarked (column_in block.now.objects col) places.now starts.old starts.new }
 {

@@ -7,6 +7,7 @@ ghost use Rattle.std.specs.List.{filter, list_all};
 ghost use Rattle.lane_filter.specs.Tests.{places_of};
 ghost use Rattle.value_rules.specs.Sound.{has_col, is_sound_cond};
 ghost use Rattle.chunk_scan.specs.Standing.{IsNarrowed, IsNarrowedBy, AreDone, holds_at, meets_at, standing};
+ghost use Rattle.table_rules.specs.declared.limits.TheConstants.{FIRST_COLUMNS};
 
 use crate::early::early;
 use crate::kernel::keep_asked;
@@ -26,7 +27,8 @@ pub(crate) fn standing(
     scratch: &mut Scratch,
 ) -> Result<Vec<u32>, Memory>
     requires few { length block.now.objects < 2 ^ 32 }
-    requires sound { IsTrue (list_all (is_sound_cond (has_col (4 + block.now.width) false))
+    requires sound { IsTrue (list_all
+        (is_sound_cond (has_col (FIRST_COLUMNS + block.now.width) false))
         conds.now) }
     ensures value { IfOk result (λ places. places.items ≡ standing conds.now block.now.objects) }
     ensures there { IfOk result (λ places.
@@ -50,7 +52,8 @@ fn narrow_all(
     scratch: &mut Scratch,
 ) -> Result<Vec<bool>, Memory>
     requires all { mask.old ≡ replicate (length block.now.objects) true }
-    requires sound { IsTrue (list_all (is_sound_cond (has_col (4 + block.now.width) false))
+    requires sound { IsTrue (list_all
+        (is_sound_cond (has_col (FIRST_COLUMNS + block.now.width) false))
         conds.now) }
     ensures narrowed { IfOk result (λ done.
         IsNarrowed conds.now block.now.objects done.items mask.new) }
@@ -68,7 +71,8 @@ fn narrow_all(
 #[tactic(auto, using(crate::proofs::Narrowing::narrowed_by, crate::proofs::Narrowing::narrowed_not))]
 fn narrow_by(block: &Block, c: &BoundCond, mask: &mut [bool]) -> bool
     requires rows { length block.now.objects ≡ length mask.old }
-    requires sound { IsTrue (is_sound_cond (has_col (4 + block.now.width) false) c.now) }
+    requires sound { IsTrue (is_sound_cond (has_col (FIRST_COLUMNS + block.now.width) false)
+        c.now) }
     ensures { IsNarrowedBy c.now block.now.objects result mask.old mask.new }
 {
     match early(c) {
@@ -102,7 +106,8 @@ fn keep_all(
 ) -> Result<(), Memory>
     requires count { length done.now ≡ length conds.now }
     requires there { All (λ place. place < length block.now.objects) places.old.items }
-    requires sound { IsTrue (list_all (is_sound_cond (has_col (4 + block.now.width) false))
+    requires sound { IsTrue (list_all
+        (is_sound_cond (has_col (FIRST_COLUMNS + block.now.width) false))
         conds.now) }
     requires done { AreDone conds.now block.now.objects done.now places.old.items }
     ensures { OnOk result (places.new.items
@@ -124,7 +129,8 @@ fn keep_unless(
     scratch: &mut Scratch,
 ) -> Result<(), Memory>
     requires there { All (λ place. place < length block.now.objects) places.old.items }
-    requires sound { IsTrue (is_sound_cond (has_col (4 + block.now.width) false) c.now) }
+    requires sound { IsTrue (is_sound_cond (has_col (FIRST_COLUMNS + block.now.width) false)
+        c.now) }
     requires done { done ≡ true
         → All (λ k. holds_at c.now block.now.objects k ≡ true) places.old.items }
     ensures { OnOk result (places.new.items
@@ -146,7 +152,8 @@ fn keep_holding(
     scratch: &mut Scratch,
 ) -> Result<(), Memory>
     requires there { All (λ place. place < length block.now.objects) places.old.items }
-    requires sound { IsTrue (is_sound_cond (has_col (4 + block.now.width) false) c.now) }
+    requires sound { IsTrue (is_sound_cond (has_col (FIRST_COLUMNS + block.now.width) false)
+        c.now) }
     ensures { OnOk result (places.new.items
         ≡ filter (holds_at c.now block.now.objects) places.old.items) }
 {

@@ -6,6 +6,7 @@ ghost use Rattle.sky_row.specs.Columns.{objects_at};
 ghost use Rattle.value_rules.specs.Sound.{has_col, is_sound_expr};
 ghost use Rattle.chunk_scan.specs.Grouped.{is_sound_total};
 ghost use Rattle.chunk_scan.specs.Parted.{values_on, worth_of};
+ghost use Rattle.table_rules.specs.declared.limits.TheConstants.{FIRST_COLUMNS};
 
 use crate::scratch::Scratch;
 use answer_rules::ChunkItem;
@@ -25,7 +26,8 @@ pub(crate) fn worths(
     scratch: &mut Scratch,
 ) -> Result<Vec<Option<ValueList>>, Memory>
     requires there { All (λ place. place < length block.now.objects) places.now }
-    requires sound { IsTrue (list_all (is_sound_total (4 + block.now.width)) items.now) }
+    requires sound { IsTrue (list_all (is_sound_total (FIRST_COLUMNS + block.now.width))
+        items.now) }
     ensures { IfOk result (λ worths. worths.items
         ≡ map (worth_of (objects_at block.now.objects places.now)) items.now) }
 {
@@ -60,7 +62,7 @@ fn worth(
     scratch: &mut Scratch,
 ) -> Result<Option<ValueList>, Memory>
     requires there { All (λ place. place < length block.now.objects) places.now }
-    requires sound { IsTrue (is_sound_total (4 + block.now.width) item.now) }
+    requires sound { IsTrue (is_sound_total (FIRST_COLUMNS + block.now.width) item.now) }
     ensures { IfOk result (λ worth. worth
         ≡ worth_of (objects_at block.now.objects places.now) item.now) }
 {
@@ -82,7 +84,8 @@ fn of_expr(
     scratch: &mut Scratch,
 ) -> Result<Option<ValueList>, Memory>
     requires there { All (λ place. place < length block.now.objects) places.now }
-    requires sound { IsTrue (is_sound_expr (has_col (4 + block.now.width) false) e.now) }
+    requires sound { IsTrue (is_sound_expr (has_col (FIRST_COLUMNS + block.now.width) false)
+        e.now) }
     ensures { IfOk result (λ worth. worth
         ≡ Some (values_on e.now (objects_at block.now.objects places.now))) }
 {

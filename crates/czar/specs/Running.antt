@@ -1,6 +1,7 @@
 -- What the running of a query over its chunks rests on, and what it comes to.
 use Rattle.std.specs.Prelude.{◌≡◌, ◌+◌, ◌<◌, ℕ, ℤ, true, List, None, Ok, Err, length}
 use Rattle.table_rules.specs.Objects.{Catalogue}
+use Rattle.table_rules.specs.declared.limits.TheConstants.{FIRST_COLUMNS}
 use Rattle.sky_rules.specs.Partition.{Partition, chunk_count}
 use Rattle.chunk_rules.specs.Filled.{is_filled}
 use Rattle.sql_rules.specs.PrintedExprs.{Bytes}
@@ -30,7 +31,7 @@ pub record IsOpen (g : Partition) (c : Catalogue) (shape : Shape) (chunk : ℕ) 
 
 -- A query that can be run: it is sound and tested, it is cut so, these are its chunks, and their overlap allows it.
 pub record CanRun (g : Partition) (c : Catalogue) (q : Bound) (query : Rewritten) (chunks : List ℕ) : Type 0 where
-  pub sound : IsSound (4 + length c.names) q
+  pub sound : IsSound (FIRST_COLUMNS + length c.names) q
   pub tested : IsTested q
   pub cut : query ≡ rewritten q
   pub plan : chunks ≡ plan_of g c.objects q

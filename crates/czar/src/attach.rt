@@ -7,6 +7,7 @@ ghost use Rattle.scan_rules.specs.declared.limits.TheConstants.{QUERY_MOST};
 ghost use Rattle.answer_rules.specs.Bases.{columns_in};
 ghost use Rattle.turn_lock.specs.Seats.{first_seat};
 ghost use Rattle.czar.specs.Attached.{IsSoundIfThere, attached, base_of, chunk_query, with_next};
+ghost use Rattle.table_rules.specs.declared.limits.TheConstants.{FIRST_COLUMNS};
 
 use crate::plan::Plan;
 use answer_rules::ChunkQuery;
@@ -117,7 +118,8 @@ fn give_next(
 ) -> Result<(), Memory>
     requires few { length queries.now ≤ QUERY_MOST }
     requires there { place < length queries.now }
-    requires sound { All (IsSoundIfThere (4 + length world.now.rows.names)) queries.now }
+    requires sound { All (IsSoundIfThere (FIRST_COLUMNS + length world.now.rows.names))
+        queries.now }
     requires given { root.old
         ≡ base_of world.now.plan world.now.rows (take place queries.now) }
     ensures { OnOk result (root.new
@@ -134,7 +136,8 @@ fn root_of<'w>(
     queries: &[Option<ChunkQuery>],
 ) -> Result<PieceRoot<'w>, Memory>
     requires few { length queries.now ≤ QUERY_MOST }
-    requires sound { All (IsSoundIfThere (4 + length world.now.rows.names)) queries.now }
+    requires sound { All (IsSoundIfThere (FIRST_COLUMNS + length world.now.rows.names))
+        queries.now }
     ensures { IfOk result (λ root. root ≡ base_of world.now.plan world.now.rows queries.now) }
 {
     let mut root = PieceRoot::new(alloc, world.plan(), world.rows());
@@ -151,7 +154,8 @@ pub(crate) fn seated<'w>(
     queries: &[Option<ChunkQuery>],
 ) -> Result<(SharedBoard<Piece<'w>>, Seat<Board<Piece<'w>>>), Memory>
     requires few { length queries.now ≤ QUERY_MOST }
-    requires sound { All (IsSoundIfThere (4 + length world.now.rows.names)) queries.now }
+    requires sound { All (IsSoundIfThere (FIRST_COLUMNS + length world.now.rows.names))
+        queries.now }
     ensures { IfOk result (λ r. r.1 ≡ first_seat r.0 (record {
       root = base_of world.now.plan world.now.rows queries.now;
       ring = chunk_count world.now.plan;

@@ -6,6 +6,7 @@ ghost use Rattle.table_rules.specs.Objects.{IsCatalogue};
 ghost use Rattle.answer_rules.specs.Pieces.{PieceFor};
 ghost use Rattle.answer_rules.specs.SoundChunks.{IsSoundChunk};
 ghost use Rattle.czar.specs.Running.{IsOpen};
+ghost use Rattle.table_rules.specs.declared.limits.TheConstants.{FIRST_COLUMNS};
 
 use answer_rules::ChunkQuery;
 use chunk_scan::{Scratch, scan};
@@ -34,7 +35,7 @@ fn piece_of<'w>(
     scratch: &mut Scratch,
 ) -> Result<Piece<'w>, Memory>
     requires open { IsOpen world.now.plan world.now.rows query.now.shape chunk }
-    requires sound { IsSoundChunk (4 + length world.now.rows.names) query.now }
+    requires sound { IsSoundChunk (FIRST_COLUMNS + length world.now.rows.names) query.now }
     ensures { IfOk result (PieceFor world.now.plan world.now.rows.objects query.now (chunk ∷ [])) }
 {
     match &query.shape {

@@ -16,6 +16,7 @@ ghost use Rattle.czar.specs.Attached.{IsSoundIfThere, attached, base_of, chunk_q
 ghost use Rattle.czar.specs.Driven.{IsDriven};
 ghost use Rattle.czar.specs.Ends.{EndsShow, kind_of};
 ghost use Rattle.czar.specs.Plans.{ArePlans};
+ghost use Rattle.table_rules.specs.declared.limits.TheConstants.{FIRST_COLUMNS};
 
 use crate::attach::{prepared, seated};
 use crate::chunk_engine::ChunkEngine;
@@ -139,7 +140,7 @@ impl<'s, 't, R: Threads + Wait + Sync, G: Gate + Sync> Session<'s, 't, R, G> {
     ) -> Result<Vec<BoardEnd<Piece<'s>>>, Memory>
         requires few { self.now.workers ≤ WORKERS_MOST }
         requires queries { length queries.now ≤ QUERY_MOST }
-        requires sound { All (IsSoundIfThere (4 + length self.now.world.now.rows.names))
+        requires sound { All (IsSoundIfThere (FIRST_COLUMNS + length self.now.world.now.rows.names))
             queries.now }
         requires each { length planned.items ≡ query_count self.now.script.now.steps }
         requires fit { PlansFit StandsFor Asks (chunk_count self.now.world.now.plan)
