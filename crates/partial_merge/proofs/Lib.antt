@@ -18,3 +18,4 @@ pub mod Owning
 pub mod Increasing
 pub mod Gaining
 pub mod Plains
+pub mod Firsts

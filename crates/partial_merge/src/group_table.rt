@@ -1,15 +1,16 @@
 //! The table of groups: their totals tested, their lines put in order, and of the first of them the merged items.
 
-ghost use Rattle.std.specs.Prelude.{◌≡◌, ◌++◌, All, Err, IfErr, IfOk, length, map, Ok, OnOk};
+ghost use Rattle.std.specs.Prelude.{◌≡◌, ◌++◌, ◌<◌, All, Err, IfErr, IfOk, IfSome, length, map, Ok, OnOk, Some};
 ghost use Rattle.std.specs.List.{flat_map};
 ghost use Rattle.answer_rules.specs.Finish.{merged_groups, merged_line};
 ghost use Rattle.answer_rules.specs.Gather.{Rise};
 ghost use Rattle.answer_rules.specs.Groups.{group_order};
 ghost use Rattle.answer_rules.specs.InOrder.{first, in_order};
+ghost use Rattle.answer_rules.specs.Keeps.{AreApart};
 ghost use Rattle.answer_rules.specs.Keys.{key_order};
 ghost use Rattle.answer_rules.specs.Rows.{limit_of};
 ghost use Rattle.partial_merge.specs.Groups.{IsThere, group_of};
-ghost use Rattle.partial_merge.specs.Lines.{group_values, line_values};
+ghost use Rattle.partial_merge.specs.Lines.{group_values, line_of, line_values};
 ghost use Rattle.partial_merge.specs.Merging.{IsMergeable, MayMerge};
 ghost use Rattle.partial_merge.specs.Tables.{IsShort};
 ghost use Rattle.sky_io.specs.Stops.{IfBad};
@@ -25,7 +26,7 @@ use crate::tally::Tally;
 use crate::totals::first_out;
 use answer_rules::{MergeItem, MergePlan, TotalOut, Value};
 use sky_io::{Memory, Stop};
-use sql_bound::ColList;
+use sql_bound::{ColList, Int};
 use std::alloc::Global;
 
 /// Puts the merged items of a group behind the others.
@@ -84,6 +85,60 @@ fn line_table(
     Ok(Table::of(values, items.len(), lines.len()))
 }
 
+/// The table of lines in any order, each apart from the others.
+fn all_table(
+    alloc: Global,
+    mut lines: Vec<Line>,
+    tallies: &[Tally],
+    keys: &ColList,
+    merge: &MergePlan,
+) -> Result<Table, Memory>
+    requires may { All (λ l. IsMergeable keys.now merge.now.items tallies.now l.mark) lines.items }
+    requires apart { AreApart group_order
+        (map (line_of tallies.now keys.now merge.now.items) lines.items) }
+    ensures { IfOk result (λ table. table ≡ map (λ r. r.values) (first (limit_of merge.now.limit)
+        (in_order group_order (map (line_of tallies.now keys.now merge.now.items) lines.items)))) }
+{
+    lines.sort_unstable();
+    cut(&mut lines, merge.limit);
+    line_table(
+        alloc,
+        lines.as_slice(),
+        keys,
+        tallies,
+        merge.items.as_slice(),
+    )
+}
+
+/// The table of the first n of more lines in any order: only these are put in order.
+fn some_table(
+    alloc: Global,
+    lines: &mut [Line],
+    n: usize,
+    tallies: &[Tally],
+    keys: &ColList,
+    items: &[MergeItem],
+) -> Result<Table, Memory>
+    requires few { n < length lines.old }
+    requires may { All (λ l. IsMergeable keys.now items.now tallies.now l.mark) lines.old }
+    requires apart { AreApart group_order (map (line_of tallies.now keys.now items.now) lines.old) }
+    ensures { IfOk result (λ table. table ≡ map (λ r. r.values) (first (Some n)
+        (in_order group_order (map (line_of tallies.now keys.now items.now) lines.old)))) }
+{
+    let (front, _, _) = lines.select_nth_unstable(n);
+    front.sort_unstable();
+    line_table(alloc, front, keys, tallies, items)
+}
+
+/// The limit, where there are more lines.
+fn limit_below(limit: Option<Int>, count: usize) -> Option<usize>
+    ensures limit { IfSome result (λ n. limit_of limit ≡ Some n) }
+    ensures below { IfSome result (λ n. n < count) }
+{
+    let n = limit?.get().unsigned_abs() as usize;
+    if n < count { Some(n) } else { None }
+}
+
 /// The table of groups whose totals are in range.
 fn tested_table(
     alloc: Global,
@@ -98,15 +153,17 @@ fn tested_table(
         (in_order group_order (map (merged_line keys.now merge.now) (map (group_of tallies.now) marks.items))))) }
 {
     let mut lines = lines(alloc, marks, keys, merge, tallies)?;
-    lines.sort_unstable();
-    cut(&mut lines, merge.limit);
-    line_table(
-        alloc,
-        lines.as_slice(),
-        keys,
-        tallies,
-        merge.items.as_slice(),
-    )
+    match limit_below(merge.limit, lines.len()) {
+        None => all_table(alloc, lines, tallies, keys, merge),
+        Some(n) => some_table(
+            alloc,
+            lines.as_mut_slice(),
+            n,
+            tallies,
+            keys,
+            merge.items.as_slice(),
+        ),
+    }
 }
 
 /// The table of groups that ascend by their keys, or the first total that is out of range. Takes memory for the table

@@ -1,34 +1,43 @@
-use Rattle.std.proofs.Common.{◌≡◌, List, ap, map, subst, sym, ◌∙◌, IsPermutation}
+use Rattle.std.proofs.Common.{List, map, subst, sym, ap, ◌≡◌, ◌∙◌, ℕ, Option, Some}
 use Rattle.std.specs.List.{All}
 use Rattle.std.specs.Prelude.{IfOk}
-use Rattle.answer_rules.specs.InOrder.{first}
+use Rattle.answer_rules.specs.Finish.{merged_line}
+use Rattle.answer_rules.specs.InOrder.{first, in_order}
+use Rattle.answer_rules.specs.Groups.{GroupLine, group_order}
+use Rattle.answer_rules.specs.Keeps.{AreApart}
 use Rattle.answer_rules.specs.Rows.{limit_of}
 use Rattle.answer_rules.specs.declared.rewritten.MergeItem.{MergeItem}
-use Rattle.answer_rules.specs.declared.value.Value.{Value}
-use Rattle.partial_merge.specs.declared.line.Line.{Line}
-use Rattle.partial_merge.specs.Lines.{line_by, line_values}
+use Rattle.partial_merge.specs.Groups.{group_of}
+use Rattle.partial_merge.specs.Lines.{line_of}
 use Rattle.partial_merge.specs.Merging.{IsMergeable}
-use Rattle.partial_merge.proofs.Lining.{first_lines, first_mergeable}
+use Rattle.partial_merge.proofs.Lining.{made_apart, made_are, made_mergeable}
 use Rattle.partial_merge.proofs.group_table.tested_table.Goals as goal
 
--- the sorted lines are those of the groups
-sorted : (c : goal.After-as_slice-2) → IsPermutation (map (line_by c.args.tallies.now c.args.keys.now c.args.merge.now) c.args.marks.items) c.sort_unstable.new.self.items
-sorted c = subst (λ (ls : List Line). IsPermutation ls c.sort_unstable.new.self.items) c.in_ok-lines.ensures c.sort_unstable.ensures.permutation
+pub all_table-requires-clause-may : goal.all_table-requires-clause-may
+all_table-requires-clause-may c = made_mergeable c.args.tallies.now c.args.keys.now c.args.merge.now c.args.marks.items c.in_ok-lines.lines.items c.in_ok-lines.ensures c.requires.may
 
--- the lines of the table are the first of them
-lines_are : (c : goal.After-as_slice-2) → c.as_slice.result.now ≡ first (limit_of c.args.merge.now.limit) c.sort_unstable.new.self.items
-lines_are c = c.as_slice.ensures.value ∙ c.cut.ensures
+pub all_table-requires-clause-apart : goal.all_table-requires-clause-apart
+all_table-requires-clause-apart c = made_apart c.args.tallies.now c.args.keys.now c.args.merge.now c.args.marks.items c.in_ok-lines.lines.items c.in_ok-lines.ensures c.requires.rise
 
-pub line_table-requires : goal.line_table-requires
-line_table-requires c =
-    subst (λ (is : List MergeItem). All (λ l. IsMergeable c.args.keys.now is c.args.tallies.now l.mark) c.as_slice.result.now) (sym c.as_slice-2.ensures)
-    (subst (λ (ls : List Line). All (λ l. IsMergeable c.args.keys.now c.args.merge.now.items c.args.tallies.now l.mark) ls) (sym (lines_are c))
-    (first_mergeable c.args.tallies.now c.args.keys.now c.args.merge.now (limit_of c.args.merge.now.limit) c.args.marks.items c.sort_unstable.new.self.items c.requires.may (sorted c)))
+pub some_table-requires-clause-may : goal.some_table-requires-clause-may
+some_table-requires-clause-may c =
+    subst (λ (is : List MergeItem). All (λ l. IsMergeable c.args.keys.now is c.args.tallies.now l.mark) c.as_mut_slice.result.now) (sym c.as_slice.ensures)
+    (made_mergeable c.args.tallies.now c.args.keys.now c.args.merge.now c.args.marks.items c.as_mut_slice.result.now (c.as_mut_slice.ensures.value ∙ c.in_ok-lines.ensures) c.requires.may)
 
-pub returns : goal.returns
-returns c =
-    let own : IsPermutation (map (line_by c.args.tallies.now c.args.keys.now c.args.merge.now) c.args.marks.items) c.sort_unstable.new.self.items = subst (λ (ls : List Line). IsPermutation ls c.sort_unstable.new.self.items) c.in_ok-lines.ensures c.sort_unstable.ensures.permutation in
-    let answer = first_lines c.args.tallies.now c.args.keys.now c.args.merge.now (limit_of c.args.merge.now.limit) c.args.marks.items c.sort_unstable.new.self.items c.requires.rise own c.sort_unstable.ensures.sorted in
-    subst (λ (vs : List (List Value)). IfOk c.line_table.result (λ table. table ≡ vs))
-    (ap (λ (is : List MergeItem). map (line_values c.args.tallies.now c.args.keys.now is) c.as_slice.result.now) c.as_slice-2.ensures
-    ∙ ap (map (line_values c.args.tallies.now c.args.keys.now c.args.merge.now.items)) (c.as_slice.ensures.value ∙ c.cut.ensures) ∙ answer) c.line_table.ensures
+pub some_table-requires-clause-apart : goal.some_table-requires-clause-apart
+some_table-requires-clause-apart c =
+    subst (λ (is : List MergeItem). AreApart group_order (map (line_of c.args.tallies.now c.args.keys.now is) c.as_mut_slice.result.now)) (sym c.as_slice.ensures)
+    (made_apart c.args.tallies.now c.args.keys.now c.args.merge.now c.args.marks.items c.as_mut_slice.result.now (c.as_mut_slice.ensures.value ∙ c.in_ok-lines.ensures) c.requires.rise)
+
+pub returns-in-None : goal.returns-in-None
+returns-in-None c =
+    subst (λ (ls : List GroupLine). IfOk c.all_table.result (λ table. table ≡ map (λ (r : GroupLine). r.values) (first (limit_of c.args.merge.now.limit) (in_order group_order ls))))
+    (made_are c.args.tallies.now c.args.keys.now c.args.merge.now c.args.marks.items c.in_ok-lines.lines.items c.in_ok-lines.ensures) c.all_table.ensures
+
+pub returns-in-Some : goal.returns-in-Some
+returns-in-Some c =
+    subst (λ (limit : Option ℕ). IfOk c.some_table.result (λ table. table ≡ map (λ (r : GroupLine). r.values) (first limit (in_order group_order (map (merged_line c.args.keys.now c.args.merge.now) (map (group_of c.args.tallies.now) c.args.marks.items)))))) (sym c.in-Some.ensures.limit)
+    (subst (λ (ls : List GroupLine). IfOk c.some_table.result (λ table. table ≡ map (λ (r : GroupLine). r.values) (first (Some c.in-Some.n) (in_order group_order ls))))
+    (ap (λ (is : List MergeItem). map (line_of c.args.tallies.now c.args.keys.now is) c.as_mut_slice.result.now) c.as_slice.ensures
+    ∙ made_are c.args.tallies.now c.args.keys.now c.args.merge.now c.args.marks.items c.as_mut_slice.result.now (c.as_mut_slice.ensures.value ∙ c.in_ok-lines.ensures))
+    c.some_table.ensures)
