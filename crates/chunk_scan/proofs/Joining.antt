@@ -1,5 +1,5 @@
 -- Numbers that are joined one by one come to the part of an aggregate.
-use Rattle.std.proofs.Common.{◌≡◌, ◌∙◌, refl, sym, ap, ℕ, ◌+◌, ◌≤◌, arith, ℤ, ◌+ℤ◌, pos, nat_abs, List, [], ◌∷◌, ◌++◌, length, length-append, Option, None, Some, option_to_list}
+use Rattle.std.proofs.Common.{◌≡◌, ◌∙◌, refl, ap, ℕ, ◌≤◌, arith, ℤ, ◌+ℤ◌, nat_abs, List, [], ◌∷◌, ◌++◌, length, length-append, Option, None, Some, option_to_list}
 use Rattle.std.specs.List.{AllByRecursion as Each, flat_map}
 use Rattle.std.proofs.lemmas.Int.{ints}
 use Rattle.value_rules.specs.Widths.{IsOfSize, most}
