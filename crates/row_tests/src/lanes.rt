@@ -1,5 +1,7 @@
 //! What no clause says: the worked rows, and each kernel at lengths around its block beside a test of one row.
-use lane_filter::{keep, keep_between, keep_between_narrow, keep_narrow, keep_near, keep_present, picked};
+use lane_filter::{
+    keep, keep_between, keep_between_narrow, keep_narrow, keep_near, keep_present, picked,
+};
 use sky_vector::Pos;
 use sql_tree::Cmp;
 use std::alloc::Global;

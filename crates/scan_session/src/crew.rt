@@ -214,7 +214,11 @@ where
     ensures made { result.2.made ≡ seat.made + workers }
     ensures manned { Manned P.asks seat result.2 }
 {
-    let seats = if workers == 0 { 0 } else { workers as usize + 1 };
+    let seats = if workers == 0 {
+        0
+    } else {
+        workers as usize + 1
+    };
     let team = Team::<'_, P, E, W>::new(alloc, engine, seats);
     manned(
         alloc, rt, board, seat, &team, gate, plans, ends, steps, workers,
