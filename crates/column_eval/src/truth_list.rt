@@ -7,7 +7,7 @@ use crate::flags::Flags;
 use crate::scratch::Scratch;
 use std::marker::Model;
 
-/// TruthList, of which `None` is unknown, one a row.
+/// Truths, of which `None` is unknown, one a row.
 #[derive(Drop)]
 pub struct TruthList {
     /// Where it is true.

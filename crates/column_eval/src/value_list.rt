@@ -10,7 +10,7 @@ use crate::numbers::Numbers;
 use crate::scratch::Scratch;
 use std::marker::Model;
 
-/// ValueList, of which `None` is NULL, one a row.
+/// Values, of which `None` is NULL, one a row.
 #[derive(Drop)]
 pub struct ValueList {
     /// A number for each row, which has no meaning where the row has no value, and which rows have one.
