@@ -7,7 +7,8 @@
 //! stand together are put into the piece as one group. Of rows the values that they are ordered by are computed so, and without
 //! a LIMIT those of the items too; with a LIMIT n a row that comes behind n others is passed over before its items are computed.
 //! What a scan needs beside its piece stands in a `Scratch`, which its caller keeps for the next one.
-//! Below: `chunk_store` for the rows of a chunk and their columns, `expr_eval` for values, `partial_merge` for the piece.
+//! Below: `chunk_store` for the rows of a chunk and their columns, `lane_filter` and `column_eval` for what is computed a
+//! column at a time, `expr_eval` for the values of one row, `partial_merge` for the piece.
 //! Above: the sessions.
 //! No pairs of rows, no threads and no other chunk.
 #![tactic(auto)]
