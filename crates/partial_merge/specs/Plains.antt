@@ -1,4 +1,4 @@
--- Rows of a bag without a limit: those without an order key, of which each has as many values, and the others.
+-- Rows of a bag without a limit: those whose rank is that of no order key, each with as many values, and the others.
 use Rattle.std.specs.Prelude.{◌≡◌, ℕ, ℤ, Option, pos, ◌+◌, ◌-◌, ◌≤◌, ◌++◌, List, map, vec_len, vec_capacity}
 use Rattle.std.specs.declared.cmp.Ordering.{Ordering}
 use Rattle.std.specs.Ordering.{int_cmp, on, then_cmp}
@@ -32,7 +32,7 @@ plain_order = then_cmp (on (λ p. p.first) int_cmp) (on (λ p. p.second) int_cmp
 abbrev pub all_of : Lot → List Ranked
 all_of l = map (full l.width) l.plain.items ++ l.rows.items
 
--- The row has no order key, and as many values as those of its kind that are there.
+-- The row's rank is that of no order key, and it has as many values as those of its kind that are there.
 pub record IsPlainIn (l : Lot) (r : Ranked) : Type 0 where
   pub class : r.class ≡ 0
   pub value : r.value ≡ pos 0

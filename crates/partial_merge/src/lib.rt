@@ -3,6 +3,9 @@
 //! Callers see a `Piece` as `PieceView` of `answer_rules`, a `Table` as a list of rows of values, and a `PieceRoot`, on
 //! which the pieces of a session rest, as a `Base`. What a piece stands for is told by `PieceFor`; `absorb` keeps it, for
 //! whatever two pieces it is called (`specs/Joining.antt`).
+//! Inside, a piece holds rows or groups (`held`). Rows are a bag, all of them or the first n (`bag`, `kept`, `lot`, `heap`), and
+//! become a table in `kept_table`. Groups are a pile (`pile`, `taking`), which is settled now and then (`keeping`, `settle`),
+//! and become a table in `group_table`.
 //! Below: `answer_rules` for what pieces mean and the laws that are used here, `expr_eval` for expressions of keys, and
 //! `scan_core` for `Work`, by which a board joins pieces. Above: the scans fill pieces, the board joins them, and the
 //! session finishes them.

@@ -1,5 +1,6 @@
 //! All rows of a bag without a limit. Most queries that list millions of rows ask for no order of their own: a row then has
-//! its place by its ids alone, and is kept in a short record, which is what is sorted at the end.
+//! its place by its ids alone, and is kept in a short record, which is what is sorted at the end. That is told by its rank,
+//! which a NULL key has too where the order goes up, and the key 0 where it goes down.
 
 ghost use Rattle.std.specs.Prelude.{◌≡◌, ◌≤◌, ◌+◌, ◌-◌, ◌^◌, ◌++◌, ◌∷◌, [], pos, All, IsPermutation, length, map, None, OnErr, OnOk, vec_capacity, vec_len};
 ghost use Rattle.std.specs.Bool.{OnTrue};
@@ -15,7 +16,7 @@ use crate::ranked::Ranked;
 use sky_io::Memory;
 use std::alloc::Global;
 
-/// The rows without an order key that have `width` values, and all others, each in any order.
+/// Rows without an order key, or with one that ranks as none, that have `width` values; and all others; each in any order.
 #[derive(Drop)]
 pub(crate) struct Lot {
     pub(crate) plain: Vec<Plain>,
@@ -23,7 +24,7 @@ pub(crate) struct Lot {
     pub(crate) rows: Vec<Ranked>,
 }
 
-/// Whether the row has no order key.
+/// Whether the row has no order key, or one that ranks as none.
 fn is_unordered(row: &Ranked) -> bool
     ensures class { OnTrue result (row.now.class ≡ 0) }
     ensures value { OnTrue result (row.now.value ≡ pos 0) }

@@ -1,4 +1,4 @@
-//! A row of a bag that has no order key, and as many values as the others of its kind.
+//! A row of a bag that has no order key, or one that ranks as none, and as many values as the others of its kind.
 
 ghost use Rattle.std.specs.Prelude.{◌≡◌, ◌+◌, ◌-◌, ◌≤◌, ◌^◌};
 ghost use Rattle.std.proofs.Common.{rules};
