@@ -43,6 +43,7 @@ impl<'w> Index<'w> {
         ensures { IfOk result (λ index.
             index ≡ record { plan = plan.now; rows = rows.now.objects }) }
     {
+        // the rows tell that their ids ascend
         let _count = rows.len();
         let firsts = first_rows(alloc, rows.ids())?;
         Ok(Index { plan, rows, firsts })
@@ -91,6 +92,7 @@ impl<'w> Index<'w> {
             IsRowOf self.now.rows id row (get_or self.now.rows row no_row)) }
         ensures none { IfNone result (has_id self.now.rows id ≡ false) }
     {
+        // the rows tell that their ids ascend
         let _count = self.rows.len();
         row_with(self.rows.ids(), &self.firsts, id)
     }
