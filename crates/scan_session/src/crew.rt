@@ -2,7 +2,8 @@
 //!
 //! Each call splits one seat off, and runs a worker with it beside the rest; the innermost call is the czar himself.
 //! He closes the board on every path, so a worker whose thread could not be started, which is run after him in his
-//! thread, ends too; and each seat that was split off is joined again.
+//! thread, ends too; and each seat that was split off is joined again. Where there are workers they and the czar are a team:
+//! who finds nothing to take makes pieces of another's task.
 ghost use Rattle.std.specs.Prelude.{◌≡◌, ℕ, ◌+◌, ◌-◌, ◌<◌, ◌≤◌, ◌^◌, [], List, true, length, vec_len};
 ghost use Rattle.std.specs.Thread.{IsSync};
 ghost use Rattle.session_script.specs.declared.step.Step.{Step};
@@ -214,6 +215,7 @@ where
     ensures made { result.2.made ≡ seat.made + workers }
     ensures manned { Manned P.asks seat result.2 }
 {
+    // a czar without workers has nobody who would help him
     let seats = if workers == 0 {
         0
     } else {

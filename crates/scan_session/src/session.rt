@@ -119,6 +119,7 @@ where
     ensures made { IfOk result.0 (λ ends. result.1.made ≡ 1 + workers) }
     ensures manned { Manned P.asks seat result.1 }
 {
+    // the seat tells that it knows its own lines
     let _number = seat.number();
     let Ok(told) = room_for(alloc, plans.len()) else {
         return (Err(Memory), close(rt, board, seat));
