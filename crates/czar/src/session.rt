@@ -35,8 +35,8 @@ use std::sync::Wait;
 use std::thread::Threads;
 
 /// Runs the queries of a script over a shared board, with so many workers on threads beside the caller, who works too while
-/// he waits. Each worker passes the gate before each chunk. Takes memory, and waits; each answer is made before any of it
-/// is written. Wait lines and cancel lines are obeyed in the order of the script; a query whose own work wants for memory
+/// he waits. Who takes a chunk passes the gate before the work on it. Takes memory, and waits; each answer is made before any
+/// of it is written. Wait lines and cancel lines are obeyed in the order of the script; a query whose own work wants for memory
 /// ends as spent, and the others go on.
 pub fn run_session<R: Threads + Wait + Sync, G: Gate + Sync>(
     alloc: Global,
