@@ -1,4 +1,5 @@
-//! That one who finds nothing to take makes pieces of another's task: two pieces of it are made at one time.
+//! That one who finds nothing to take makes pieces of another's task: two pieces of one chunk are made at one time. Where its
+//! queries are taken together one of the two is a helper's; where they are taken apart, two tasks may meet instead.
 ghost use Rattle.std.specs.Prelude.{◌≡◌};
 
 use crate::sessions::{Marker, Marks, marker_of, session};
