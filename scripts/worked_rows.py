@@ -120,8 +120,15 @@ def limit_texts():
         "more_rows.csv": itertools.chain(["objectId,x,y,z\n"], map("%d,268435456,0,0\n".__mod__, range(4194305))),
         # a sky plan of a byte more than there may be: notes of 32 bytes, and one of a byte
         "long.txt": [("#" * 31 + "\n") * 2048, "\n"],
+        # a script of as many bytes as there may be, and one of a byte more: notes, as above
+        "most.sql": [("#" * 31 + "\n") * 262144],
+        "long.sql": [("#" * 31 + "\n") * 262144, "\n"],
         "unknown.sql": ["SELECT x FROM Object\n", "wait 2\n"],
     }
+
+
+# bytes of catalogues of zeros, which take no room in the folder: as many as there may be, and one more
+ZEROS = {"most.csv": 536870912, "long.csv": 536870913}
 
 
 def fault(words, status, line):
@@ -135,6 +142,11 @@ LIMITS = [
     fault(["load", "more_chunks.txt", "catalogue.csv"], 3, "sky line 18: too many"),
     # the row is told without its number
     fault(["load", "sky.txt", "more_rows.csv"], 4, "catalogue: too many rows"),
+    # a text of as many bytes as there may be is read: a script of notes has no query, and zeros are no header
+    Run(["explain", "sky.txt", "catalogue.csv", "most.sql"], 0, "", ""),
+    fault(["explain", "sky.txt", "catalogue.csv", "long.sql"], 6, "long.sql: too long"),
+    fault(["load", "sky.txt", "most.csv"], 4, "catalogue header: field 1"),
+    fault(["load", "sky.txt", "long.csv"], 6, "long.csv: too long"),
 ]
 STATUSES = [
     # no form, a word too many, and a worker too many
@@ -162,6 +174,11 @@ OUTPUT_FAILED = fault(["load", "sky.txt", "catalogue.csv"], 8, "output failed")
 def write(folder, name, pieces):
     with open(os.path.join(folder, name), "w", encoding="latin-1", newline="") as file:
         file.writelines(pieces)
+
+
+def write_zeros(folder, name, size):
+    with open(os.path.join(folder, name), "wb") as file:
+        file.truncate(size)
 
 
 def ended(program, folder, words, out=subprocess.PIPE):
@@ -222,6 +239,8 @@ def compare(program, folder):
     shutil.copytree(WORKED, folder, dirs_exist_ok=True)
     for name, pieces in limit_texts().items():
         write(folder, name, pieces)
+    for name, size in ZEROS.items():
+        write_zeros(folder, name, size)
     found, rows = [is_full_told(program, folder)], len(LIMITS) + len(STATUSES) + 1
     for run in LIMITS + STATUSES:
         found.append(is_told(program, folder, run))
