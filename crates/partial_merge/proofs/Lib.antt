@@ -18,4 +18,5 @@ pub mod Owning
 pub mod Increasing
 pub mod Gaining
 pub mod Plains
+pub mod Pairs
 pub mod Firsts

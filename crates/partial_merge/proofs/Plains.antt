@@ -65,9 +65,9 @@ other_put l r now e =
 -- ---- the rows of two bags
 
 -- one more of them is put
-pub one_more_put : {X : Type 0} (f : X → Ranked) (start old new : List Ranked) (xs : List X) (i : ℕ) (d : X) → i < length xs → IsPermutation (start ++ map f (take i xs)) old → IsPermutation (old ++ f (get_or xs i d) ∷ []) new → IsPermutation (start ++ map f (take (i + 1) xs)) new
-one_more_put f start old new xs i d l h k =
-    let r : Ranked = f (get_or xs i d) in
+pub one_more_put : {X Y : Type 0} (f : X → Y) (start old new : List Y) (xs : List X) (i : ℕ) (d : X) → i < length xs → IsPermutation (start ++ map f (take i xs)) old → IsPermutation (old ++ f (get_or xs i d) ∷ []) new → IsPermutation (start ++ map f (take (i + 1) xs)) new
+one_more_put {X} {Y} f start old new xs i d l h k =
+    let r : Y = f (get_or xs i d) in
     let longer : map f (take (i + 1) xs) ≡ map f (take i xs) ++ r ∷ [] = ap (map f) (take_more xs i d l) ∙ map-append f (take i xs) (get_or xs i d ∷ []) in
     let both : IsPermutation ((start ++ map f (take i xs)) ++ r ∷ []) (old ++ r ∷ []) = IsPermutation-append_left (r ∷ []) _ _ h in
     subst (λ rs. IsPermutation rs new) (append_assoc start (map f (take i xs)) (r ∷ []) ∙ ap (λ rs. start ++ rs) (sym longer)) (IsPermutation-trans _ _ _ both k)

@@ -29,12 +29,6 @@ too_late cells values rank (kept.First limit heap) h =
     keeps_late row_order limit (map (row_of cells) heap.data.items) (out_row rank values) (omega (arith, h.0, length-map heap.data.items (row_of cells)))
     (each_map (λ m. is_lt (row_order (out_row rank values) m) ≡ false) (row_of cells) heap.data.items h.1)
 
--- so is one of its rank with any values
-pub late_for_all : (cells : List (Option ℤ)) (rank : Rank) (k : Kept) (late : Bool) → OnTrue late (IsTooLate (ranked_at rank 0 0) k)
-    → OnTrue late ((values : List (Option ℤ)) → KeepsFirst row_order (pushed_in k) (rows_in cells k ++ out_row rank values ∷ []) (rows_in cells k))
-late_for_all cells rank k true h = λ values. too_late cells values rank k h
-late_for_all cells rank k false h = tt
-
 -- and the bag may stay as it is where it takes it in
 pub none_of_first : (bag : BagView) (rank : Rank) (late : Bool)
     → OnTrue late ((values : List (Option ℤ)) → KeepsFirst row_order bag.pushed (bag.rows ++ out_row rank values ∷ []) bag.rows)

@@ -2,6 +2,7 @@ pub mod Cells
 pub mod KeyValues
 pub mod Rows
 pub mod Plains
+pub mod Pairs
 pub mod Views
 pub mod Bags
 pub mod Tables

@@ -4,19 +4,25 @@
 //! Nothing is in order before the end. Without a limit a bag keeps all rows that come; with a limit n it is a heap of the
 //! first n, and a row that comes behind n others is looked at and forgotten. The values of rows that had to go stay until
 //! the list of values has doubled; then those of the others are copied into a new one (`packing`).
+//!
+//! A join whose answer is the two ids of each pair has millions of rows whose values say again what their ranks say. Without
+//! a limit and without an order key such a pair is kept as its two ids in a third list, and has no values elsewhere. The
+//! table is written from that list alone where the bag holds nothing else (`bag_table`).
 
-ghost use Rattle.std.specs.Prelude.{◌≡◌, ◌≤◌, ◌+◌, ◌-◌, ◌++◌, ◌∷◌, [], ℤ, length, IfOk, IfSome, List, OnErr, OnOk, Option, vec_len, vec_capacity};
+ghost use Rattle.std.specs.Prelude.{◌≡◌, ◌≤◌, ◌++◌, ◌∷◌, [], ℤ, length, IfOk, IfSome, List, None, OnErr, OnOk, Option};
 ghost use Rattle.std.specs.Bool.{OnTrue};
 ghost use Rattle.answer_rules.specs.Finish.{merged_rows};
 ghost use Rattle.answer_rules.specs.Keeps.{AreApart, KeepsFirst};
 ghost use Rattle.answer_rules.specs.Ranks.{row_order};
-ghost use Rattle.partial_merge.specs.Bags.{IsKept, out_row, pushed_in, ranks_in, rows_in};
+ghost use Rattle.partial_merge.specs.Bags.{out_row, pushed_in};
+ghost use Rattle.partial_merge.specs.Pairs.{pair_row};
 
+use crate::bag_table::bag_table;
 use crate::cell::Cell;
-use crate::kept::{Kept, count, is_too_late, join, none_kept, put};
-use crate::kept_table::kept_table;
-use crate::lists::reserve;
-use crate::packing::keep_small;
+use crate::id_pair::IdPair;
+use crate::id_pairs::{count_more, join_ids, make_room, push_ids};
+use crate::kept::{Kept, count, is_too_late, none_kept};
+use crate::kept_cells::{join_and_pack, put_and_pack};
 use crate::rank::Rank;
 use crate::table::Table;
 use answer_rules::MergePlan;
@@ -32,6 +38,7 @@ pub(crate) struct Bag {
     kept: Kept,
     cells: Vec<Cell>,
     packed: usize,
+    ids: Vec<IdPair>,
 }
 
 /// How many values a bag may have before it is packed for the first time, twice over.
@@ -43,91 +50,23 @@ impl Model for Bag {
     ghost Value = { BagView };
 
     ghost use Rattle.std.specs.Prelude.{length};
-    ghost use Rattle.partial_merge.specs.Bags.{view_of, IsKept};
+    ghost use Rattle.partial_merge.specs.Bags.{view_of, IsBag};
 
-    ghost view = { λ b. view_of b.kept b.cells.items };
+    ghost view = { λ b. view_of b.kept b.cells.items b.ids.items };
 
-    ghost invariant = { λ b. IsKept (length b.cells.items) b.kept };
+    ghost invariant = { λ b. IsBag (length b.cells.items) b.kept b.ids.items };
 }
 
-/// Puts the values behind the others. Takes no memory.
-fn put_values(cells: &mut Vec<Cell>, values: &[Option<Num>])
-    requires { vec_len cells.old + length values.now ≤ vec_capacity cells.old }
-    ensures { cells.new.items ≡ cells.old.items ++ values.now }
+/// The pair of this rank with these values, where all rows are kept and its ids are all that has to be kept of it.
+#[inline]
+fn ids_alone(kept: &Kept, rank: &Rank, values: &[Option<Num>]) -> Option<IdPair>
+    ensures all { IfSome result (λ pair. pushed_in kept.now ≡ None) }
+    ensures row { IfSome result (λ pair. pair_row pair ≡ out_row rank.now values.now) }
 {
-    for value in values {
-        cells.push_reserved(Cell::new(*value));
+    match kept {
+        Kept::All(_) => IdPair::of(rank, values),
+        Kept::First { limit: _, heap: _ } => None,
     }
-}
-
-/// Keeps one row more, its values behind the others. After `Err` nothing has changed.
-fn put_row(
-    kept: &mut Kept,
-    cells: &mut Vec<Cell>,
-    rank: &Rank,
-    values: &[Option<Num>],
-) -> Result<(), Memory>
-    requires mine { IsKept (length cells.old.items) kept.old }
-    ensures mine { IsKept (length cells.new.items) kept.new }
-    ensures pushed { pushed_in kept.new ≡ pushed_in kept.old }
-    ensures kept { OnOk result (KeepsFirst row_order (pushed_in kept.old)
-        (rows_in cells.old.items kept.old ++ out_row rank.now values.now ∷ [])
-        (rows_in cells.new.items kept.new)) }
-    ensures rows { OnErr result (ranks_in kept.new ≡ ranks_in kept.old) }
-    ensures cells { OnErr result (cells.new.items ≡ cells.old.items) }
-{
-    let from = cells.len();
-    reserve(cells, values.len())?;
-    put(kept, rank.at(from, from + values.len()))?;
-    put_values(cells, values);
-    Ok(())
-}
-
-/// Keeps one row more, and tells how many values there were after the last packing. After `Err` nothing has changed.
-fn put_and_pack(
-    alloc: Global,
-    kept: &mut Kept,
-    cells: &mut Vec<Cell>,
-    packed: usize,
-    rank: &Rank,
-    values: &[Option<Num>],
-) -> Result<usize, Memory>
-    requires mine { IsKept (length cells.old.items) kept.old }
-    ensures mine { IsKept (length cells.new.items) kept.new }
-    ensures pushed { pushed_in kept.new ≡ pushed_in kept.old }
-    ensures kept { OnOk result (KeepsFirst row_order (pushed_in kept.old)
-        (rows_in cells.old.items kept.old ++ out_row rank.now values.now ∷ [])
-        (rows_in cells.new.items kept.new)) }
-    ensures rows { OnErr result (ranks_in kept.new ≡ ranks_in kept.old) }
-    ensures cells { OnErr result (cells.new.items ≡ cells.old.items) }
-{
-    put_row(kept, cells, rank, values)?;
-    Ok(keep_small(alloc, kept, cells, packed))
-}
-
-/// Takes in the rows of another bag of the same limit, and tells how many values there were after the last packing. After
-/// `Err` nothing has changed.
-fn join_and_pack(
-    alloc: Global,
-    kept: &mut Kept,
-    cells: &mut Vec<Cell>,
-    packed: usize,
-    theirs: Kept,
-    more: Vec<Cell>,
-) -> Result<usize, Memory>
-    requires mine { IsKept (length cells.old.items) kept.old }
-    requires theirs { IsKept (length more.items) theirs }
-    requires alike { pushed_in theirs ≡ pushed_in kept.old }
-    ensures mine { IsKept (length cells.new.items) kept.new }
-    ensures pushed { pushed_in kept.new ≡ pushed_in kept.old }
-    ensures joined { OnOk result (KeepsFirst row_order (pushed_in kept.old)
-        (rows_in cells.old.items kept.old ++ rows_in more.items theirs)
-        (rows_in cells.new.items kept.new)) }
-    ensures rows { OnErr result (rows_in cells.new.items kept.new
-        ≡ rows_in cells.old.items kept.old) }
-{
-    join(kept, cells, theirs, more)?;
-    Ok(keep_small(alloc, kept, cells, packed))
 }
 
 impl Bag {
@@ -140,6 +79,7 @@ impl Bag {
             kept: none_kept(alloc, limit),
             cells: Vec::new(alloc),
             packed: SHORT,
+            ids: Vec::new(alloc),
         }
     }
 
@@ -151,8 +91,21 @@ impl Bag {
         is_too_late(&self.kept, &rank.at(0, 0))
     }
 
-    /// Takes in a row of this rank with these values. After `Err` nothing has changed.
-    pub(crate) fn push(&mut self, rank: &Rank, values: &[Option<Num>]) -> Result<(), Memory>
+    /// Takes in a pair whose values are its ids. After `Err` nothing has changed.
+    #[inline]
+    fn push_pair(&mut self, pair: IdPair) -> Result<(), Memory>
+        requires { self.old.pushed ≡ None }
+        ensures pushed { self.new.pushed ≡ self.old.pushed }
+        ensures kept { OnOk result (KeepsFirst row_order self.old.pushed
+            (self.old.rows ++ pair_row pair ∷ []) self.new.rows) }
+        ensures same { OnErr result (self.new ≡ self.old) }
+    {
+        count_more(self.held(), 1)?;
+        push_ids(&mut self.ids, pair)
+    }
+
+    /// Takes in any row of this rank with these values. After `Err` nothing has changed.
+    fn push_row(&mut self, rank: &Rank, values: &[Option<Num>]) -> Result<(), Memory>
         ensures pushed { self.new.pushed ≡ self.old.pushed }
         ensures kept { OnOk result (KeepsFirst row_order self.old.pushed
             (self.old.rows ++ out_row rank.now values.now ∷ []) self.new.rows) }
@@ -161,6 +114,7 @@ impl Bag {
         if is_too_late(&self.kept, &rank.at(0, 0)) {
             return Ok(());
         }
+        count_more(self.held(), 1)?;
         self.packed = put_and_pack(
             self.alloc,
             &mut self.kept,
@@ -172,6 +126,19 @@ impl Bag {
         Ok(())
     }
 
+    /// Takes in a row of this rank with these values. After `Err` nothing has changed.
+    pub(crate) fn push(&mut self, rank: &Rank, values: &[Option<Num>]) -> Result<(), Memory>
+        ensures pushed { self.new.pushed ≡ self.old.pushed }
+        ensures kept { OnOk result (KeepsFirst row_order self.old.pushed
+            (self.old.rows ++ out_row rank.now values.now ∷ []) self.new.rows) }
+        ensures same { OnErr result (self.new ≡ self.old) }
+    {
+        match ids_alone(&self.kept, rank, values) {
+            Some(pair) => self.push_pair(pair),
+            None => self.push_row(rank, values),
+        }
+    }
+
     /// Takes in the rows of another bag of the same limit. After `Err` nothing has changed.
     pub(crate) fn absorb(&mut self, other: Bag) -> Result<(), Memory>
         requires alike { other.pushed ≡ self.old.pushed }
@@ -180,12 +147,15 @@ impl Bag {
             (self.old.rows ++ other.rows) self.new.rows) }
         ensures same { OnErr result (self.new ≡ self.old) }
     {
+        count_more(self.held(), other.held())?;
         let Bag {
             alloc: _,
             kept,
             cells,
             packed: _,
+            ids,
         } = other;
+        make_room(&mut self.ids, ids.len())?;
         self.packed = join_and_pack(
             self.alloc,
             &mut self.kept,
@@ -194,6 +164,7 @@ impl Bag {
             kept,
             cells,
         )?;
+        join_ids(&mut self.ids, ids);
         Ok(())
     }
 
@@ -202,7 +173,7 @@ impl Bag {
         ensures held { result ≡ length self.now.rows }
         ensures few { IfSome self.now.pushed (λ n. result ≤ n) }
     {
-        count(&self.kept)
+        count(&self.kept) + self.ids.len()
     }
 
     /// The table of the rows: in order, the first of them, and of each its merged items. Takes memory for the table.
@@ -215,7 +186,8 @@ impl Bag {
             kept,
             cells,
             packed: _,
+            ids,
         } = self;
-        kept_table(alloc, kept, cells.as_slice(), merge)
+        bag_table(alloc, kept, cells, ids, merge)
     }
 }

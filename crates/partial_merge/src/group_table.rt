@@ -20,7 +20,7 @@ use crate::lines::lines;
 use crate::lists::cut;
 use crate::mark::Mark;
 use crate::merged::merged;
-use crate::row_table::put;
+use crate::row_table::{put, values_room};
 use crate::table::Table;
 use crate::tally::Tally;
 use crate::totals::first_out;
@@ -62,7 +62,7 @@ fn values_of(
         ≡ flat_map (line_values tallies.now keys.now items.now) lines.now) }
     ensures short { IfOk result (λ values. All IsShort values.items) }
 {
-    let mut values = Vec::new(alloc);
+    let mut values = values_room(alloc, lines.len(), items.len())?;
     for line in lines {
         put_group(&mut values, keys, tallies, &line.mark, items)?;
     }

@@ -14,13 +14,17 @@
 
 mod average;
 mod bag;
+mod bag_table;
 mod cell;
 mod group_table;
 mod heap;
 mod held;
 mod hints;
+mod id_pair;
+mod id_pairs;
 mod keeping;
 mod kept;
+mod kept_cells;
 mod kept_table;
 pub mod key;
 pub mod limits;
@@ -32,6 +36,7 @@ mod lot;
 mod mark;
 mod merged;
 mod packing;
+mod pair_table;
 pub mod piece;
 mod pile;
 mod plain;

@@ -48,7 +48,7 @@ pub(crate) fn value_at(parts: &[Tally], n: usize) -> Option<i128>
 }
 
 /// The number with this value.
-fn number(value: i128) -> Num
+pub(crate) fn number(value: i128) -> Num
     requires { IsQueryNumber value }
     ensures { result ≡ value }
 {

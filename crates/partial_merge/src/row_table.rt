@@ -9,6 +9,7 @@ ghost use Rattle.partial_merge.specs.Rows.{IsIn, row_of, row_values};
 ghost use Rattle.partial_merge.specs.Tables.{IsShort};
 
 use crate::cell::Cell;
+use crate::lists::room;
 use crate::plain::Plain;
 use crate::ranked::Ranked;
 use crate::table::Table;
@@ -51,6 +52,13 @@ pub(crate) fn put(values: &mut Vec<Value>, value: Value) -> Result<(), Memory>
     Ok(values.push(value)?)
 }
 
+/// An empty list with room for the values of so many rows: it need not grow.
+pub(crate) fn values_room(alloc: Global, rows: usize, items: usize) -> Result<Vec<Value>, Memory>
+    ensures { IfOk result (λ values. values.items ≡ []) }
+{
+    room(alloc, rows.saturating_mul(items))
+}
+
 /// Puts the merged items of a row behind the others.
 fn put_row(values: &mut Vec<Value>, cells: &[Cell], items: &[MergeItem]) -> Result<(), Memory>
     ensures { OnOk result (values.new.items
@@ -81,7 +89,7 @@ fn row_values(
     ensures { IfOk result (λ values. values.items
         ≡ flat_map (row_values cells.now items.now) rows.now) }
 {
-    let mut values = Vec::new(alloc);
+    let mut values = values_room(alloc, rows.len(), items.len())?;
     for row in rows {
         put_row(&mut values, cells_of(cells, row), items)?;
     }
@@ -108,7 +116,7 @@ fn plain_values(
     ensures { IfOk result (λ values. values.items
         ≡ flat_map (plain_values cells.now items.now width) plain.now) }
 {
-    let mut values = Vec::new(alloc);
+    let mut values = values_room(alloc, plain.len(), items.len())?;
     for row in plain {
         put_row(&mut values, part(cells, row.from, width), items)?;
     }

@@ -1,7 +1,7 @@
 use Rattle.std.proofs.Common.{◌++◌}
 use Rattle.partial_merge.specs.Bags.{pushed_in, rows_in}
 use Rattle.partial_merge.proofs.Repacking.{keeps_then}
-use Rattle.partial_merge.proofs.bag.join_and_pack.Goals as goal
+use Rattle.partial_merge.proofs.kept_cells.join_and_pack.Goals as goal
 
 pub returns-clause-joined : goal.returns-clause-joined
 returns-clause-joined c =

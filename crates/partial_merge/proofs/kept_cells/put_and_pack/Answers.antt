@@ -1,7 +1,7 @@
 use Rattle.std.proofs.Common.{◌++◌, ◌∷◌, []}
 use Rattle.partial_merge.specs.Bags.{out_row, pushed_in, rows_in}
 use Rattle.partial_merge.proofs.Repacking.{keeps_then}
-use Rattle.partial_merge.proofs.bag.put_and_pack.Goals as goal
+use Rattle.partial_merge.proofs.kept_cells.put_and_pack.Goals as goal
 
 pub returns-clause-kept : goal.returns-clause-kept
 returns-clause-kept c =
