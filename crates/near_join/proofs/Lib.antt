@@ -14,3 +14,4 @@ pub mod Joining
 pub mod Squares
 pub mod Upwards
 pub mod Taking
+pub mod Neighbouring

@@ -19,7 +19,8 @@ use Rattle.value_rules.specs.Values.{Pick, pair}
 use Rattle.answer_rules.specs.Pieces.{PieceView}
 use Rattle.answer_rules.specs.declared.rewritten.ChunkQuery.{ChunkQuery}
 use Rattle.partial_merge.specs.Joining.{IsOfRows}
-use Rattle.near_join.specs.Gains.{Gains, both_ways, held_pair, held_rows, swept_pairs, upward_pairs}
+use Rattle.near_join.specs.Bare.{IsBare}
+use Rattle.near_join.specs.Gains.{Gains, both_ways, held_pair, held_rows, swept_pairs, upward_pairs, way}
 use Rattle.near_join.specs.Rising.{Rises, is_upward}
 use Rattle.near_join.specs.Strips.{heights_at, is_close, object_at}
 use Rattle.near_join.specs.Walk.{is_near, joins}
@@ -135,24 +136,25 @@ shut_by true met p = refl
 shut_by false met p = refl
 
 -- rows that are too far apart are no pair
-far_pair : (cq : ChunkQuery) (limit : ℤ) (bounds : Bounds) (u v : Obj) → is_near limit u v ≡ false → held_pair cq limit bounds u v ≡ []
-far_pair cq limit bounds u v h =
-    ap (λ b. cond (in_bounds bounds u.at && (b && meets cq.conds (pair u v))) (pair u v ∷ []) []) h ∙ shut_by (in_bounds bounds u.at) (meets cq.conds (pair u v)) (pair u v)
+far_pair : (cq : ChunkQuery) (limit : ℤ) (held : Bool) (u v : Obj) → is_near limit u v ≡ false → way cq limit held u v ≡ []
+far_pair cq limit held u v h =
+    ap (λ b. cond (held && (b && meets cq.conds (pair u v))) (pair u v ∷ []) []) h ∙ shut_by held (meets cq.conds (pair u v)) (pair u v)
 
 -- nor are they in the other order
 far_ways : (cq : ChunkQuery) (limit : ℤ) (bounds : Bounds) (u v : Obj) → is_near limit u v ≡ false → both_ways cq limit bounds u v ≡ []
-far_ways cq limit bounds u v h = ap (λ l. l ++ held_pair cq limit bounds v u) (far_pair cq limit bounds u v h) ∙ far_pair cq limit bounds v u (same_near limit u v ∙ h)
+far_ways cq limit bounds u v h =
+    ap (λ l. l ++ held_pair cq limit bounds v u) (far_pair cq limit (in_bounds bounds u.at) u v h) ∙ far_pair cq limit (in_bounds bounds v.at) v u (same_near limit u v ∙ h)
+
+both_of : (a b : Bool) → (a && b) ≡ true → (a ≡ true) × (b ≡ true)
+both_of true b h = (refl, h)
+both_of false b h = absurd (cc)
 
 -- rows that are near enough are a pair where they meet the conditions, of those whose first row is held
-pub way_open : (cq : ChunkQuery) (limit : ℤ) (bounds : Bounds) (rises : Bool) (u v : Obj) → is_near limit u v ≡ true → (is_upward rises u v && in_bounds bounds u.at) ≡ true
-    → cond (meets cq.conds (pair u v)) (pair u v ∷ []) [] ≡ held_pair cq limit bounds u v
-way_open cq limit bounds rises u v near may =
-    sym (ap (λ b. cond (in_bounds bounds u.at && (b && meets cq.conds (pair u v))) (pair u v ∷ []) []) near
-    ∙ ap (λ b. cond (b && meets cq.conds (pair u v)) (pair u v ∷ []) []) (second_of (is_upward rises u v) (in_bounds bounds u.at) may))
-  where
-    second_of : (a b : Bool) → (a && b) ≡ true → b ≡ true
-    second_of true b h = h
-    second_of false b h = absurd (cc)
+pub way_open : (cq : ChunkQuery) (limit : ℤ) (held rises : Bool) (u v : Obj) → is_near limit u v ≡ true → (held && is_upward rises u v) ≡ true
+    → cond (meets cq.conds (pair u v)) (pair u v ∷ []) [] ≡ way cq limit held u v
+way_open cq limit held rises u v near may =
+    sym (ap (λ b. cond (held && (b && meets cq.conds (pair u v))) (pair u v ∷ []) []) near
+    ∙ ap (λ b. cond (b && meets cq.conds (pair u v)) (pair u v ∷ []) []) (both_of held (is_upward rises u v) may).0)
 
 not_met : (conds : List BoundCond) (u v : Obj) → Rises conds → int_lt u.id v.id ≡ false → meets conds (pair u v) ≡ false
 not_met conds u v rising h = by (meets conds (pair u v)) refl
@@ -166,27 +168,29 @@ not_met conds u v rising h = by (meets conds (pair u v)) refl
         let under = rising u v e in
         let over = not_under u.id v.id h in absurd (omega (arith, ints, under, over))
 
-unmet_pair : (cq : ChunkQuery) (limit : ℤ) (bounds : Bounds) (u v : Obj) → meets cq.conds (pair u v) ≡ false → held_pair cq limit bounds u v ≡ []
-unmet_pair cq limit bounds u v h = ap (λ b. cond (in_bounds bounds u.at && (is_near limit u v && b)) (pair u v ∷ []) []) h ∙ by (in_bounds bounds u.at) (is_near limit u v)
+unmet_pair : (cq : ChunkQuery) (limit : ℤ) (held : Bool) (u v : Obj) → meets cq.conds (pair u v) ≡ false → way cq limit held u v ≡ []
+unmet_pair cq limit held u v h = ap (λ b. cond (held && (is_near limit u v && b)) (pair u v ∷ []) []) h ∙ by held (is_near limit u v)
   where
     by : (held near : Bool) → cond (held && (near && false)) (pair u v ∷ []) [] ≡ []
     by true true = refl
     by true false = refl
     by false near = refl
 
-lower : (b : Bool) → (b && true) ≡ false → b ≡ false
-lower true h = h
-lower false h = refl
+-- a pair whose first row is not held, or whose ids speak against it, is none
+pub way_shut : (cq : ChunkQuery) (limit : ℤ) (held rises : Bool) (u v : Obj) → (rises ≡ true → Rises cq.conds) → (held && is_upward rises u v) ≡ false → way cq limit held u v ≡ []
+way_shut cq limit false rises u v rising h = refl
+way_shut cq limit true false u v rising h = absurd (cc)
+way_shut cq limit true true u v rising h = unmet_pair cq limit true u v (not_met cq.conds u v (rising refl) h)
 
--- a pair whose ids speak against it, or whose first row is not held, is none
-pub way_shut : (cq : ChunkQuery) (limit : ℤ) (bounds : Bounds) (rises : Bool) (u v : Obj) → (rises ≡ true → Rises cq.conds) → (is_upward rises u v && in_bounds bounds u.at) ≡ false
-    → held_pair cq limit bounds u v ≡ []
-way_shut cq limit bounds rises u v rising h = by rises rising h (in_bounds bounds u.at) refl
-  where
-    by : (rises : Bool) → (rises ≡ true → Rises cq.conds) → (is_upward rises u v && in_bounds bounds u.at) ≡ false → (held : Bool) → in_bounds bounds u.at ≡ held → held_pair cq limit bounds u v ≡ []
-    by rises rising h false e = ap (λ b. cond (b && (is_near limit u v && meets cq.conds (pair u v))) (pair u v ∷ []) []) e
-    by false rising h true e = absurd (two_answers (in_bounds bounds u.at) h e)
-    by true rising h true e = unmet_pair cq limit bounds u v (not_met cq.conds u v (rising refl) (lower (int_lt u.id v.id) (ap (λ b. int_lt u.id v.id && b) (sym e) ∙ h)))
+-- the same of a bare query, which has no other conditions
+pub bare_open : (cq : ChunkQuery) (limit : ℤ) (held rises : Bool) (u v : Obj) → IsBare rises cq → is_near limit u v ≡ true → (held && is_upward rises u v) ≡ true
+    → pair u v ∷ [] ≡ way cq limit held u v
+bare_open cq limit held rises u v bare near may =
+    ap (λ b. cond b (pair u v ∷ []) []) (sym (bare.conds u v ∙ (both_of held (is_upward rises u v) may).1)) ∙ way_open cq limit held rises u v near may
+
+pub bare_shut : (cq : ChunkQuery) (limit : ℤ) (held rises : Bool) (u v : Obj) → IsBare rises cq → (held && is_upward rises u v) ≡ false → way cq limit held u v ≡ []
+bare_shut cq limit false rises u v bare h = refl
+bare_shut cq limit true rises u v bare h = unmet_pair cq limit true u v (bare.conds u v ∙ h)
 
 -- ---- the pair of a row with itself
 
@@ -195,29 +199,19 @@ pub own_near : (limit : ℤ) (u : Obj) → pos 0 ≤ℤ limit → is_near limit 
 own_near limit u h = let none = no_chord u.at in le_to (chord_squared u.at u.at) limit (omega (arith, ints, none, h))
 
 -- no two rows are near enough where the limit is below 0
-pub none_near : (cq : ChunkQuery) (limit : ℤ) (bounds : Bounds) (u : Obj) → int_le (pos 0) limit ≡ false → held_pair cq limit bounds u u ≡ []
-none_near cq limit bounds u h = far_pair cq limit bounds u u (by (chord_squared u.at u.at) limit (no_chord u.at) h)
+pub none_near : (cq : ChunkQuery) (limit : ℤ) (held : Bool) (u : Obj) → int_le (pos 0) limit ≡ false → way cq limit held u u ≡ []
+none_near cq limit held u h = far_pair cq limit held u u (by (chord_squared u.at u.at) limit (no_chord u.at) h)
   where
     by : (chord limit : ℤ) → chord ≡ pos 0 → int_le (pos 0) limit ≡ false → int_le chord limit ≡ false
     by chord limit e h = ap (λ c. int_le c limit) e ∙ h
 
 own_unmet : (cq : ChunkQuery) (limit : ℤ) (bounds : Bounds) (u : Obj) → Rises cq.conds → held_pair cq limit bounds u u ≡ []
-own_unmet cq limit bounds u rising = unmet_pair cq limit bounds u u (not_met cq.conds u u rising (none u.id))
+own_unmet cq limit bounds u rising = unmet_pair cq limit (in_bounds bounds u.at) u u (not_met cq.conds u u rising (none u.id))
   where
     none : (a : ℤ) → int_lt a a ≡ false
     none a = grind (arith, ints)
 
 -- ---- the pairs of a row with those behind it
-
--- one place more
-pub ways_more : (f : Obj → List Pick) (objects : List Obj) (found : List ℕ) (i p : ℕ) → i < length found → p ≡ get_or found i p
-    → flat_map f (objects_at objects (take (i + 1) found)) ≡ flat_map f (objects_at objects (take i found)) ++ f (object_at objects p)
-ways_more f objects found i p l e =
-    let v : List Obj = object_at objects p ∷ [] in
-    let before : List Obj = objects_at objects (take i found) in
-    let rows : objects_at objects (take (i + 1) found) ≡ before ++ v =
-    ap (objects_at objects) (take_more found i p l ∙ ap (λ m. take i found ++ m ∷ []) (sym e)) ∙ map-append (object_at objects) (take i found) (p ∷ []) in
-    ap (flat_map f) rows ∙ flat_map-append f before v ∙ ap (λ l. flat_map f before ++ l) (append-nil (f (object_at objects p)))
 
 only_step : (f : Obj → List Pick) (objects : List Obj) (p : ℕ) (kept places : List ℕ) (b : Bool) → (b ≡ false → f (object_at objects p) ≡ []) → flat_map f (objects_at objects kept) ≡ flat_map f (objects_at objects places)
     → flat_map f (objects_at objects (cond b (p ∷ kept) kept)) ≡ f (object_at objects p) ++ flat_map f (objects_at objects places)

@@ -1,5 +1,5 @@
 -- What a step of a join puts into the piece.
-use Rattle.std.specs.Prelude.{◌≡◌, ℤ, List, [], ◌∷◌, Option, ◌++◌, ◌&&◌, if◌then◌else◌, map}
+use Rattle.std.specs.Prelude.{◌≡◌, ℤ, Bool, List, [], ◌∷◌, Option, ◌++◌, ◌&&◌, if◌then◌else◌, map}
 use Rattle.std.specs.List.{filter, flat_map}
 use Rattle.table_rules.specs.Objects.{Obj}
 use Rattle.sky_rules.specs.Bounds.{Bounds, in_bounds}
@@ -39,9 +39,13 @@ swept_pairs cq limit others rows = flat_map (row_pairs cq limit others) rows
 abbrev pub held_rows : Bounds → List Obj → List Obj
 held_rows bounds rows = filter (λ o. in_bounds bounds o.at) rows
 
+-- the pair of two rows that join, where the first is one that is held
+abbrev pub way : ChunkQuery → ℤ → Bool → Obj → Obj → List Pick
+way cq limit held u v = if held && joins limit cq.conds u v then pair u v ∷ [] else []
+
 -- the pair of two rows that join, where the bounds hold the first
 abbrev pub held_pair : ChunkQuery → ℤ → Bounds → Obj → Obj → List Pick
-held_pair cq limit bounds u v = if in_bounds bounds u.at && joins limit cq.conds u v then pair u v ∷ [] else []
+held_pair cq limit bounds u v = way cq limit (in_bounds bounds u.at) u v
 
 -- the pairs of two rows, in both orders
 abbrev pub both_ways : ChunkQuery → ℤ → Bounds → Obj → Obj → List Pick

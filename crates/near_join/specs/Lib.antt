@@ -5,3 +5,5 @@ pub mod Sound
 pub mod Strips
 pub mod Gains
 pub mod Rising
+pub mod Bare
+pub mod Neighbours

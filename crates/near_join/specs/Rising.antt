@@ -15,9 +15,9 @@ id_of second = record { second = second; col = 0 }
 abbrev pub Rises : List BoundCond → Type 0
 Rises conds = (u v : Obj) → meets conds (pair u v) ≡ true → u.id <ℤ v.id
 
--- so have pairs of which the formula is true
+-- the formula is true of the pairs that have the lower id first, and of no others
 abbrev pub RisesBy : Formula → Type 0
-RisesBy f = (u v : Obj) → is_true (truth_at (cell_of (pair u v)) u.at f) ≡ true → u.id <ℤ v.id
+RisesBy f = (u v : Obj) → is_true (truth_at (cell_of (pair u v)) u.at f) ≡ int_lt u.id v.id
 
 -- the first of two rows has the lower id, where it has to
 abbrev pub is_upward : Bool → Obj → Obj → Bool

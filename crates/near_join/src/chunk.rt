@@ -3,20 +3,21 @@
 ghost use Rattle.std.specs.Prelude.{◌≡◌, ◌+◌, ◌<◌, ◌≤ℤ◌, ◌∷◌, [], All, IfOk, IfSome, IsTrue, OnOk, get_or, length, negsuc, true};
 ghost use Rattle.sky_rules.specs.Limits.{IsSky};
 ghost use Rattle.sky_rules.specs.Partition.{chunk_count, sub_count};
-ghost use Rattle.value_rules.specs.Sound.{has_col, is_paired};
+ghost use Rattle.value_rules.specs.Sound.{is_paired};
 ghost use Rattle.answer_rules.specs.Coverage.{AreInTheSky};
 ghost use Rattle.answer_rules.specs.Pieces.{PieceFor};
 ghost use Rattle.answer_rules.specs.Plans.{Reaches};
 ghost use Rattle.answer_rules.specs.SoundChunks.{IsSoundChunk};
 ghost use Rattle.chunk_store.specs.Places.{sub_lists, sub_rows};
 ghost use Rattle.partial_merge.specs.Joining.{IsOfRows};
+ghost use Rattle.near_join.specs.Bare.{IsAsked};
 ghost use Rattle.near_join.specs.Gains.{Gains};
-ghost use Rattle.near_join.specs.Rising.{Rises};
-ghost use Rattle.near_join.specs.Sound.{IsSoundLine};
 ghost use Rattle.near_join.specs.Strips.{IsChunkStrip, IsWhole};
 ghost use Rattle.near_join.specs.Walk.{joins, sub_pairs};
 ghost use Rattle.table_rules.specs.declared.limits.TheConstants.{FIRST_COLUMNS};
 
+use crate::asked::Asked;
+use crate::neighbour::Neighbour;
 use crate::pairs::push_swept;
 use crate::reach::Reach;
 use crate::strip::{Strip, chunk_strip};
@@ -121,7 +122,7 @@ fn push_sub(
     alloc: Global,
     piece: &mut Piece<'_>,
     values: &mut Vec<Option<Num>>,
-    found: &mut Vec<u32>,
+    found: &mut Vec<Neighbour>,
     store: &Store,
     chunk: u32,
     sub: u32,
@@ -138,9 +139,8 @@ fn push_sub(
     requires subs { IfSome subs.now (λ lists.
         lists ≡ sub_lists store.now.plan store.now.rows.objects chunk) }
     requires strip { IsChunkStrip store.now.plan store.now.rows.objects chunk strip.now }
-    requires rises { IsTrue reach.now.rises → Rises query.now.conds }
-    requires sound { IsSoundLine (has_col (FIRST_COLUMNS + length store.now.rows.names) true)
-        query.now }
+    requires asked { IsAsked (length store.now.rows.names) query.now reach.now.rises
+        reach.now.bare }
     ensures { OnOk result (Gains query.now (sub_pairs store.now.plan store.now.rows.objects
         (joins reach.now.limit query.now.conds) chunk sub) piece.old piece.new) }
 {
@@ -158,7 +158,7 @@ fn push_near(
     alloc: Global,
     piece: &mut Piece<'_>,
     values: &mut Vec<Option<Num>>,
-    found: &mut Vec<u32>,
+    found: &mut Vec<Neighbour>,
     store: &Store,
     chunk: u32,
     sub: u32,
@@ -172,22 +172,14 @@ fn push_near(
     requires sky { IsSky store.now.plan }
     requires rows { AreInTheSky store.now.rows.objects }
     requires strip { IsChunkStrip store.now.plan store.now.rows.objects chunk strip.now }
-    requires rises { IsTrue reach.now.rises → Rises query.now.conds }
-    requires sound { IsSoundLine (has_col (FIRST_COLUMNS + length store.now.rows.names) true)
-        query.now }
+    requires asked { IsAsked (length store.now.rows.names) query.now reach.now.rises
+        reach.now.bare }
     ensures { OnOk result (Gains query.now (sub_pairs store.now.plan store.now.rows.objects
         (joins reach.now.limit query.now.conds) chunk sub) piece.old piece.new) }
 {
     let region = store.plan().sub_region(chunk, sub);
     let near = sub_strip(alloc, store, chunk, sub, &region, strip)?;
-    push_swept(
-        piece,
-        values,
-        found,
-        store.rows(),
-        query,
-        reach,
-        &region,
-        &near,
-    )
+    let rows = store.rows();
+    let asked = Asked { rows, query, reach };
+    push_swept(piece, values, found, &asked, &region, &near)
 }

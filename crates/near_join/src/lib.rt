@@ -7,11 +7,15 @@
 //! No merging: an order and a LIMIT are left to the piece.
 #![tactic(auto)]
 
+mod asked;
+mod bare;
 mod beside;
+mod by_ids;
 mod chunk;
 pub mod heights;
 pub mod laws;
 mod line;
+mod neighbour;
 mod order;
 mod pairs;
 mod reach;

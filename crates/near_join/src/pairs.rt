@@ -1,25 +1,25 @@
 //! The sweep of a strip: each row is compared with those behind it, up to the first whose height is too far above its own, by
-//! the columns of the strip. Whole rows are looked up for those alone that are near enough.
+//! the columns of the strip. What is asked of a row for its pairs is asked where it is found near enough, of those columns.
 
-ghost use Rattle.std.specs.Prelude.{◌≡◌, ◌+◌, ◌++◌, ◌+ℤ◌, ◌-ℤ◌, ◌<◌, ◌∷◌, [], IsTrue, OnOk, drop, filter, get_or, if◌then◌else◌, int_le, length, true};
+ghost use Rattle.std.specs.Prelude.{◌≡◌, ◌+◌, ◌++◌, ◌+ℤ◌, ◌-ℤ◌, ◌<◌, ◌∷◌, [], All, IsTrue, OnOk, drop, filter, get_or, if◌then◌else◌, int_le, length, map, true};
 ghost use Rattle.sky_vector.specs.Points.{chord_squared, square};
 ghost use Rattle.sky_vector.specs.Pos.{point};
 ghost use Rattle.sky_plan.specs.Regions.{bounds_shown};
 ghost use Rattle.sky_row.specs.Columns.{objects_at};
-ghost use Rattle.value_rules.specs.Sound.{has_col};
 ghost use Rattle.partial_merge.specs.Joining.{IsOfRows};
+ghost use Rattle.near_join.specs.Bare.{IsAsked};
 ghost use Rattle.near_join.specs.Gains.{Gains, held_rows, swept_pairs, upward_pairs};
-ghost use Rattle.near_join.specs.Rising.{Rises};
-ghost use Rattle.near_join.specs.Sound.{IsSoundLine};
+ghost use Rattle.near_join.specs.Neighbours.{IsTold};
 ghost use Rattle.near_join.specs.Strips.{IsListed, IsWhole, is_close, object_at};
 ghost use Rattle.near_join.specs.Windows.{Ascend};
-ghost use Rattle.table_rules.specs.declared.limits.TheConstants.{FIRST_COLUMNS};
 
+use crate::asked::Asked;
 use crate::heights::is_above;
+use crate::neighbour::Neighbour;
 use crate::reach::Reach;
 use crate::strip::Strip;
 use crate::ways::push_found;
-use answer_rules::ChunkQuery;
+use overlap_tables::is_in;
 use partial_merge::Piece;
 use sky_io::Memory;
 use sky_plan::Region;
@@ -31,27 +31,25 @@ use sky_vector::{Num, Pos, chord2};
 pub(crate) fn push_swept(
     piece: &mut Piece<'_>,
     values: &mut Vec<Option<Num>>,
-    found: &mut Vec<u32>,
-    rows: &Rows,
-    query: &ChunkQuery,
-    reach: &Reach,
+    found: &mut Vec<Neighbour>,
+    asked: &Asked<'_>,
     region: &Region,
     near: &Strip,
 ) -> Result<(), Memory>
     requires of_rows { IsOfRows piece.old }
-    requires listed { IsListed rows.now.objects near.now }
+    requires listed { IsListed asked.now.rows.now.objects near.now }
     requires whole { IsWhole near.now }
     requires ascend { Ascend near.now.zs }
-    requires rises { IsTrue reach.now.rises → Rises query.now.conds }
-    requires sound { IsSoundLine (has_col (FIRST_COLUMNS + length rows.now.names) true) query.now }
-    ensures { OnOk result (Gains query.now (swept_pairs query.now reach.now.limit
-        (objects_at rows.now.objects near.now.places)
-        (held_rows (bounds_shown region.now) (objects_at rows.now.objects near.now.places)))
-        piece.old piece.new) }
+    requires asked { IsAsked (length asked.now.rows.now.names) asked.now.query.now
+        asked.now.reach.now.rises asked.now.reach.now.bare }
+    ensures { OnOk result (Gains asked.now.query.now (swept_pairs asked.now.query.now
+        asked.now.reach.now.limit (objects_at asked.now.rows.now.objects near.now.places)
+        (held_rows (bounds_shown region.now)
+        (objects_at asked.now.rows.now.objects near.now.places))) piece.old piece.new) }
 {
     let count = near.len();
     for i in 0..count {
-        push_upwards(piece, values, found, rows, query, reach, region, near, i)?;
+        push_upwards(piece, values, found, asked, region, near, i)?;
     }
     Ok(())
 }
@@ -61,75 +59,70 @@ pub(crate) fn push_swept(
 fn push_upwards(
     piece: &mut Piece<'_>,
     values: &mut Vec<Option<Num>>,
-    found: &mut Vec<u32>,
-    rows: &Rows,
-    query: &ChunkQuery,
-    reach: &Reach,
+    found: &mut Vec<Neighbour>,
+    asked: &Asked<'_>,
     region: &Region,
     near: &Strip,
     i: usize,
 ) -> Result<(), Memory>
     requires of_rows { IsOfRows piece.old }
-    requires listed { IsListed rows.now.objects near.now }
+    requires listed { IsListed asked.now.rows.now.objects near.now }
     requires whole { IsWhole near.now }
     requires ascend { Ascend near.now.zs }
     requires there { i < length near.now.places }
-    requires rises { IsTrue reach.now.rises → Rises query.now.conds }
-    requires sound { IsSoundLine (has_col (FIRST_COLUMNS + length rows.now.names) true) query.now }
-    ensures { OnOk result (Gains query.now (upward_pairs query.now reach.now.limit
-        (bounds_shown region.now) (object_at rows.now.objects (get_or near.now.places i 0))
-        (objects_at rows.now.objects (drop (i + 1) near.now.places))) piece.old piece.new) }
+    requires asked { IsAsked (length asked.now.rows.now.names) asked.now.query.now
+        asked.now.reach.now.rises asked.now.reach.now.bare }
+    ensures { OnOk result (Gains asked.now.query.now (upward_pairs asked.now.query.now
+        asked.now.reach.now.limit (bounds_shown region.now)
+        (object_at asked.now.rows.now.objects (get_or near.now.places i 0))
+        (objects_at asked.now.rows.now.objects (drop (i + 1) near.now.places)))
+        piece.old piece.new) }
 {
-    pick(found, rows, near, reach, i)?;
-    if is_done(reach, found.as_slice()) {
+    pick(found, asked, region, near, i)?;
+    if is_done(asked.reach, found.as_slice()) {
         Ok(())
     } else {
-        push_found(
-            piece,
-            values,
-            rows,
-            query,
-            reach,
-            region,
-            near.place(i),
-            found.as_slice(),
-        )
+        let this = neighbour_at(asked.rows, region, near, i);
+        push_found(piece, values, asked, &this, found.as_slice())
     }
 }
 
 /// Whether nothing was found for a row that is no pair with itself.
-fn is_done(reach: &Reach, found: &[u32]) -> bool
+fn is_done(reach: &Reach, found: &[Neighbour]) -> bool
     ensures { IsTrue result → (reach.now.rises ≡ true) × (found.now ≡ []) }
 {
     reach.rises && found.is_empty()
 }
 
-/// The places of those rows behind the one with this number in the strip that are near enough to it. They take the place of
-/// what the list held.
+/// Those rows behind the one with this number in the strip that are near enough to it. They take the place of what the list
+/// held.
 fn pick(
-    found: &mut Vec<u32>,
-    rows: &Rows,
+    found: &mut Vec<Neighbour>,
+    asked: &Asked<'_>,
+    region: &Region,
     near: &Strip,
-    reach: &Reach,
     i: usize,
 ) -> Result<(), Memory>
-    requires listed { IsListed rows.now.objects near.now }
+    requires listed { IsListed asked.now.rows.now.objects near.now }
     requires whole { IsWhole near.now }
     requires ascend { Ascend near.now.zs }
     requires there { i < length near.now.places }
-    ensures { OnOk result (found.new.items
-        ≡ filter (is_close rows.now.objects reach.now.limit (get_or near.now.places i 0))
-        (drop (i + 1) near.now.places)) }
+    ensures places { OnOk result (map (λ n. n.place) found.new.items
+        ≡ filter (is_close asked.now.rows.now.objects asked.now.reach.now.limit
+        (get_or near.now.places i 0)) (drop (i + 1) near.now.places)) }
+    ensures told { OnOk result (All
+        (IsTold asked.now.rows.now.objects (bounds_shown region.now)) found.new.items) }
 {
     found.clear();
     let at = near.at(i);
-    let high = highest(&at, reach);
+    let high = highest(&at, asked.reach);
     let count = near.len();
     for k in i + 1..count {
         if is_above(near.zs(), k, high) {
             return Ok(());
         }
-        push_if(found, is_pair(reach, &at, &near.at(k)), near.place(k))?;
+        let is = is_pair(asked.reach, &at, &near.at(k));
+        push_if(found, is, asked.rows, region, near, k)?;
     }
     Ok(())
 }
@@ -165,13 +158,44 @@ fn is_near(a: &Pos, b: &Pos, reach: &Reach) -> bool
     chord2(a, b) as i64 <= reach.limit
 }
 
-/// Puts the place behind the others, where the answer is yes.
-fn push_if(found: &mut Vec<u32>, is: bool, place: u32) -> Result<(), Memory>
-    ensures { OnOk result (found.new.items
-        ≡ found.old.items ++ (if is then place ∷ [] else [])) }
+/// Puts the row with this number in the strip behind the others, where the answer is yes.
+#[inline(always)]
+fn push_if(
+    found: &mut Vec<Neighbour>,
+    is: bool,
+    rows: &Rows,
+    region: &Region,
+    near: &Strip,
+    k: usize,
+) -> Result<(), Memory>
+    requires listed { IsListed rows.now.objects near.now }
+    requires whole { IsWhole near.now }
+    requires there { k < length near.now.places }
+    requires told { All (IsTold rows.now.objects (bounds_shown region.now)) found.old.items }
+    ensures places { OnOk result (map (λ n. n.place) found.new.items
+        ≡ map (λ n. n.place) found.old.items
+        ++ (if is then get_or near.now.places k 0 ∷ [] else [])) }
+    ensures told { OnOk result (All
+        (IsTold rows.now.objects (bounds_shown region.now)) found.new.items) }
 {
     if is {
-        found.push(place)?;
+        found.push(neighbour_at(rows, region, near, k))?;
     }
     Ok(())
+}
+
+/// What is asked of the row with this number in the strip for its pairs.
+fn neighbour_at(rows: &Rows, region: &Region, near: &Strip, k: usize) -> Neighbour
+    requires listed { IsListed rows.now.objects near.now }
+    requires whole { IsWhole near.now }
+    requires there { k < length near.now.places }
+    ensures place { result.place ≡ get_or near.now.places k 0 }
+    ensures told { IsTold rows.now.objects (bounds_shown region.now) result }
+{
+    let place = near.place(k);
+    Neighbour {
+        place,
+        id: rows.ids()[place as usize],
+        held: is_in(region, &near.at(k)),
+    }
 }

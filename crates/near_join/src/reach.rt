@@ -1,23 +1,27 @@
 //! How near two rows of a pair have to be: the limit of their squared chord, and its root, which is taken once; and whether
-//! the lower id has to come first.
+//! the lower id has to come first, and whether the query is bare.
 
 ghost use Rattle.std.specs.Prelude.{◌≡◌, ◌≤ℤ◌, ◌^◌, IsTrue, negsuc, pos};
+ghost use Rattle.near_join.specs.Bare.{IsBare};
 ghost use Rattle.near_join.specs.Rising.{Rises};
 ghost use Rattle.near_join.specs.Sound.{limit_in};
 ghost use Rattle.near_join.specs.Windows.{IsRoot};
 
+use crate::bare::is_bare;
 use crate::heights::root;
 use crate::rising::rises;
 use answer_rules::ChunkQuery;
 use sql_bound::Shape;
 
 /// The largest squared chord, in squared grid units and -1 where no pair is asked for; the largest difference in height whose
-/// square is at most that; and whether the conditions hold only of pairs whose first id is the lower one.
+/// square is at most that; whether the conditions hold only of pairs whose first id is the lower one; and whether the query asks
+/// for the two ids of a pair alone.
 #[derive(Clone, Copy)]
 pub(crate) struct Reach {
     pub limit: i64,
     pub root: i64,
     pub rises: bool,
+    pub bare: bool,
     pub ghost limit_least: { negsuc 0 ≤ℤ limit },
     pub ghost is_root: { IsRoot limit root },
     pub ghost root_least: { negsuc 0 ≤ℤ root },
@@ -30,12 +34,15 @@ impl Reach {
         requires { negsuc 0 ≤ℤ limit_in query.now.shape }
         ensures limit { result.limit ≡ limit_in query.now.shape }
         ensures rises { IsTrue result.rises → Rises query.now.conds }
+        ensures bare { IsTrue result.bare → IsBare result.rises query.now }
     {
         let limit = limit_of(&query.shape);
+        let upwards = rises(query.conds.as_slice());
         Reach {
             limit,
             root: root(limit),
-            rises: rises(query.conds.as_slice()),
+            rises: upwards,
+            bare: is_bare(query, upwards),
         }
     }
 }

@@ -21,7 +21,7 @@ pub(crate) fn rises(conds: &[BoundCond]) -> bool
 }
 
 /// Whether the condition says that the first id is the lower one.
-fn is_rising(c: &BoundCond) -> bool
+pub(crate) fn is_rising(c: &BoundCond) -> bool
     ensures { IsTrue result → RisesBy (formula_of c.now) }
 {
     !c.not && is_order_of_ids(&c.pred)
@@ -49,7 +49,7 @@ fn is_upwards(left: &BoundExpr, op: Cmp, right: &BoundExpr) -> bool
 }
 
 /// Whether the expression is the id of the second row of a pair, or else of the first, and nothing beside.
-fn is_id(e: &BoundExpr, second: bool) -> bool
+pub(crate) fn is_id(e: &BoundExpr, second: bool) -> bool
     ensures { IsTrue result → term_of e.now ≡ Column (id_of second) }
 {
     e.rest.is_empty() && is_id_product(&e.first, second)

@@ -1,203 +1,200 @@
-//! The pairs of rows that are near enough: in both orders, or in one where the lower id has to come first, of those whose first
-//! row the region holds, what meets the conditions.
+//! The pairs of a row with its neighbours: in both orders, or in one where the lower id has to come first, of those whose first
+//! row the subchunk holds, what meets the conditions. For these the rows are looked up.
 
-ghost use Rattle.std.specs.Prelude.{◌≡◌, ◌&&◌, ◌+◌, ◌<◌, ◌∷◌, [], All, IsTrue, OnOk, if◌then◌else◌, int_le, length, pos, true};
+ghost use Rattle.std.specs.Prelude.{◌≡◌, ◌&&◌, ◌+◌, ◌<◌, ◌∷◌, [], All, IsTrue, OnOk, if◌then◌else◌, int_le, int_lt, length, pos, true};
 ghost use Rattle.std.specs.List.{flat_map};
-ghost use Rattle.sky_rules.specs.Bounds.{in_bounds};
-ghost use Rattle.sky_plan.specs.Regions.{bounds_shown};
-ghost use Rattle.sky_row.specs.Columns.{objects_at};
 ghost use Rattle.value_rules.specs.Sound.{has_col};
 ghost use Rattle.value_rules.specs.Truth.{meets};
 ghost use Rattle.value_rules.specs.Values.{pair};
 ghost use Rattle.partial_merge.specs.Joining.{IsOfRows};
-ghost use Rattle.near_join.specs.Gains.{Gains, both_ways, held_pair, upward_pairs};
-ghost use Rattle.near_join.specs.Rising.{Rises, is_upward};
+ghost use Rattle.near_join.specs.Bare.{IsAsked};
+ghost use Rattle.near_join.specs.Gains.{Gains, way};
+ghost use Rattle.near_join.specs.Neighbours.{IsRowOf, row_of, told_pairs, told_ways};
 ghost use Rattle.near_join.specs.Sound.{IsSoundLine};
-ghost use Rattle.near_join.specs.Strips.{is_close, object_at};
 ghost use Rattle.near_join.specs.Walk.{is_near};
 ghost use Rattle.table_rules.specs.declared.limits.TheConstants.{FIRST_COLUMNS};
 
+use crate::asked::Asked;
+use crate::by_ids::push_by_ids;
 use crate::line::{fill, rank_of};
+use crate::neighbour::Neighbour;
 use crate::reach::Reach;
 use answer_rules::ChunkQuery;
 use expr_eval::meets;
-use overlap_tables::is_in;
 use partial_merge::Piece;
 use sky_io::Memory;
-use sky_plan::Region;
-use sky_row::{Row, Rows};
+use sky_row::Row;
 use sky_vector::Num;
 
-/// Puts the pairs of the row at a place with itself, and with those at the places found in both orders, into the piece.
+/// Puts the pairs of a row with itself, and with the neighbours that were found in both orders, into the piece.
 pub(crate) fn push_found(
     piece: &mut Piece<'_>,
     values: &mut Vec<Option<Num>>,
-    rows: &Rows,
-    query: &ChunkQuery,
-    reach: &Reach,
-    region: &Region,
-    place: u32,
-    found: &[u32],
+    asked: &Asked<'_>,
+    this: &Neighbour,
+    found: &[Neighbour],
 ) -> Result<(), Memory>
     requires of_rows { IsOfRows piece.old }
-    requires there { place < length rows.now.objects }
-    requires found { All (λ p. p < length rows.now.objects) found.now }
-    requires near { All (λ p. is_close rows.now.objects reach.now.limit place p ≡ true) found.now }
-    requires rises { IsTrue reach.now.rises → Rises query.now.conds }
-    requires sound { IsSoundLine (has_col (FIRST_COLUMNS + length rows.now.names) true) query.now }
-    ensures { OnOk result (Gains query.now (upward_pairs query.now reach.now.limit
-        (bounds_shown region.now) (object_at rows.now.objects place)
-        (objects_at rows.now.objects found.now)) piece.old piece.new) }
+    requires row { IsRowOf asked.now.rows.now.objects this.now }
+    requires found { All (IsRowOf asked.now.rows.now.objects) found.now }
+    requires near { All (λ n. is_near asked.now.reach.now.limit
+        (row_of asked.now.rows.now.objects this.now) (row_of asked.now.rows.now.objects n) ≡ true)
+        found.now }
+    requires asked { IsAsked (length asked.now.rows.now.names) asked.now.query.now
+        asked.now.reach.now.rises asked.now.reach.now.bare }
+    ensures { OnOk result (Gains asked.now.query.now (told_pairs asked.now.query.now
+        asked.now.reach.now.limit asked.now.rows.now.objects this.now found.now)
+        piece.old piece.new) }
 {
-    let row = rows.get(place);
-    push_itself(piece, values, query, reach, region, &row)?;
-    push_others(piece, values, rows, query, reach, region, &row, found)
+    if asked.reach.bare {
+        push_by_ids(piece, asked, this, found)
+    } else {
+        push_by_rows(piece, values, asked, this, found)
+    }
 }
 
-/// Puts the pair of the row with itself into the piece, where the region holds it and it meets the conditions.
+/// Puts these pairs into the piece, of rows that are looked up.
+fn push_by_rows(
+    piece: &mut Piece<'_>,
+    values: &mut Vec<Option<Num>>,
+    asked: &Asked<'_>,
+    this: &Neighbour,
+    found: &[Neighbour],
+) -> Result<(), Memory>
+    requires of_rows { IsOfRows piece.old }
+    requires row { IsRowOf asked.now.rows.now.objects this.now }
+    requires found { All (IsRowOf asked.now.rows.now.objects) found.now }
+    requires near { All (λ n. is_near asked.now.reach.now.limit
+        (row_of asked.now.rows.now.objects this.now) (row_of asked.now.rows.now.objects n) ≡ true)
+        found.now }
+    requires asked { IsAsked (length asked.now.rows.now.names) asked.now.query.now
+        asked.now.reach.now.rises asked.now.reach.now.bare }
+    ensures { OnOk result (Gains asked.now.query.now (told_pairs asked.now.query.now
+        asked.now.reach.now.limit asked.now.rows.now.objects this.now found.now)
+        piece.old piece.new) }
+{
+    let row = asked.rows.get(this.place);
+    push_itself(piece, values, asked, this.held, &row)?;
+    push_others(piece, values, asked, this.held, &row, found)
+}
+
+/// Puts the pair of the row with itself into the piece, where it is held and the pair meets the conditions.
 fn push_itself(
     piece: &mut Piece<'_>,
     values: &mut Vec<Option<Num>>,
-    query: &ChunkQuery,
-    reach: &Reach,
-    region: &Region,
+    asked: &Asked<'_>,
+    held: bool,
     row: &Row,
 ) -> Result<(), Memory>
     requires of_rows { IsOfRows piece.old }
-    requires rises { IsTrue reach.now.rises → Rises query.now.conds }
-    requires sound { IsSoundLine (has_col (FIRST_COLUMNS + length row.now.further) true) query.now }
-    ensures { OnOk result (Gains query.now (held_pair query.now reach.now.limit
-        (bounds_shown region.now) row.now row.now) piece.old piece.new) }
+    requires asked { IsAsked (length row.now.further) asked.now.query.now
+        asked.now.reach.now.rises asked.now.reach.now.bare }
+    ensures { OnOk result (Gains asked.now.query.now
+        (way asked.now.query.now asked.now.reach.now.limit held row.now row.now)
+        piece.old piece.new) }
 {
-    if is_own_pair(reach) {
-        push_way(piece, values, query, reach, region, row, row)
+    if is_own_pair(asked.reach) {
+        push_way(piece, values, asked, held, row, row)
     } else {
         Ok(())
     }
 }
 
 /// Whether a row is near enough to itself.
-fn is_own_pair(reach: &Reach) -> bool
+pub(crate) fn is_own_pair(reach: &Reach) -> bool
     ensures { result ≡ int_le (pos 0) reach.now.limit }
 {
     0 <= reach.limit
 }
 
-/// Puts the pairs of the row with those at the places found, which are near enough, into the piece, in both orders.
+/// Puts the pairs of the row with its neighbours into the piece, in both orders.
 fn push_others(
     piece: &mut Piece<'_>,
     values: &mut Vec<Option<Num>>,
-    rows: &Rows,
-    query: &ChunkQuery,
-    reach: &Reach,
-    region: &Region,
+    asked: &Asked<'_>,
+    held: bool,
     row: &Row,
-    found: &[u32],
+    found: &[Neighbour],
 ) -> Result<(), Memory>
     requires of_rows { IsOfRows piece.old }
-    requires wide { length row.now.further ≡ length rows.now.names }
-    requires found { All (λ p. p < length rows.now.objects) found.now }
-    requires near { All (λ p. is_near reach.now.limit row.now (object_at rows.now.objects p) ≡ true)
-        found.now }
-    requires rises { IsTrue reach.now.rises → Rises query.now.conds }
-    requires sound { IsSoundLine (has_col (FIRST_COLUMNS + length rows.now.names) true) query.now }
-    ensures { OnOk result (Gains query.now (flat_map
-        (both_ways query.now reach.now.limit (bounds_shown region.now) row.now)
-        (objects_at rows.now.objects found.now)) piece.old piece.new) }
+    requires wide { length row.now.further ≡ length asked.now.rows.now.names }
+    requires found { All (IsRowOf asked.now.rows.now.objects) found.now }
+    requires near { All (λ n. is_near asked.now.reach.now.limit row.now
+        (row_of asked.now.rows.now.objects n) ≡ true) found.now }
+    requires asked { IsAsked (length asked.now.rows.now.names) asked.now.query.now
+        asked.now.reach.now.rises asked.now.reach.now.bare }
+    ensures { OnOk result (Gains asked.now.query.now (flat_map (told_ways asked.now.query.now
+        asked.now.reach.now.limit asked.now.rows.now.objects held row.now) found.now)
+        piece.old piece.new) }
 {
-    for place in found {
-        push_other(piece, values, rows, query, reach, region, row, *place)?;
+    for other in found {
+        push_other(piece, values, asked, held, row, other)?;
     }
     Ok(())
 }
 
-/// Puts the pairs of the row with the one at a place, which is near enough, into the piece, in both orders.
+/// Puts the pairs of the row with a neighbour into the piece, in both orders.
 fn push_other(
     piece: &mut Piece<'_>,
     values: &mut Vec<Option<Num>>,
-    rows: &Rows,
-    query: &ChunkQuery,
-    reach: &Reach,
-    region: &Region,
+    asked: &Asked<'_>,
+    held: bool,
     row: &Row,
-    place: u32,
+    other: &Neighbour,
 ) -> Result<(), Memory>
     requires of_rows { IsOfRows piece.old }
-    requires wide { length row.now.further ≡ length rows.now.names }
-    requires there { place < length rows.now.objects }
-    requires near { is_near reach.now.limit row.now (object_at rows.now.objects place) ≡ true }
-    requires rises { IsTrue reach.now.rises → Rises query.now.conds }
-    requires sound { IsSoundLine (has_col (FIRST_COLUMNS + length rows.now.names) true) query.now }
-    ensures { OnOk result (Gains query.now
-        (both_ways query.now reach.now.limit (bounds_shown region.now) row.now
-        (object_at rows.now.objects place)) piece.old piece.new) }
-{
-    push_both(piece, values, query, reach, region, row, &rows.get(place))
-}
-
-/// Puts the pairs of two rows that are near enough into the piece, in both orders.
-fn push_both(
-    piece: &mut Piece<'_>,
-    values: &mut Vec<Option<Num>>,
-    query: &ChunkQuery,
-    reach: &Reach,
-    region: &Region,
-    a: &Row,
-    b: &Row,
-) -> Result<(), Memory>
-    requires of_rows { IsOfRows piece.old }
-    requires wide { length b.now.further ≡ length a.now.further }
-    requires near { is_near reach.now.limit a.now b.now ≡ true }
-    requires rises { IsTrue reach.now.rises → Rises query.now.conds }
-    requires sound { IsSoundLine (has_col (FIRST_COLUMNS + length a.now.further) true) query.now }
-    ensures { OnOk result (Gains query.now
-        (both_ways query.now reach.now.limit (bounds_shown region.now) a.now b.now)
+    requires wide { length row.now.further ≡ length asked.now.rows.now.names }
+    requires there { IsRowOf asked.now.rows.now.objects other.now }
+    requires near { is_near asked.now.reach.now.limit row.now
+        (row_of asked.now.rows.now.objects other.now) ≡ true }
+    requires asked { IsAsked (length asked.now.rows.now.names) asked.now.query.now
+        asked.now.reach.now.rises asked.now.reach.now.bare }
+    ensures { OnOk result (Gains asked.now.query.now (told_ways asked.now.query.now
+        asked.now.reach.now.limit asked.now.rows.now.objects held row.now other.now)
         piece.old piece.new) }
 {
-    push_way(piece, values, query, reach, region, a, b)?;
-    push_way(piece, values, query, reach, region, b, a)
+    let beside = asked.rows.get(other.place);
+    push_way(piece, values, asked, held, row, &beside)?;
+    push_way(piece, values, asked, other.held, &beside, row)
 }
 
-/// Puts the pair of two rows that are near enough into the piece, where the region holds the first and it meets the
-/// conditions.
+/// Puts the pair of two rows that are near enough into the piece, where the first is held and the pair meets the conditions.
 fn push_way(
     piece: &mut Piece<'_>,
     values: &mut Vec<Option<Num>>,
-    query: &ChunkQuery,
-    reach: &Reach,
-    region: &Region,
+    asked: &Asked<'_>,
+    held: bool,
     first: &Row,
     second: &Row,
 ) -> Result<(), Memory>
     requires of_rows { IsOfRows piece.old }
     requires wide { length second.now.further ≡ length first.now.further }
-    requires near { is_near reach.now.limit first.now second.now ≡ true }
-    requires rises { IsTrue reach.now.rises → Rises query.now.conds }
-    requires sound { IsSoundLine (has_col (FIRST_COLUMNS + length first.now.further) true)
-        query.now }
-    ensures { OnOk result (Gains query.now (held_pair query.now reach.now.limit
-        (bounds_shown region.now) first.now second.now) piece.old piece.new) }
+    requires near { is_near asked.now.reach.now.limit first.now second.now ≡ true }
+    requires asked { IsAsked (length first.now.further) asked.now.query.now
+        asked.now.reach.now.rises asked.now.reach.now.bare }
+    ensures { OnOk result (Gains asked.now.query.now
+        (way asked.now.query.now asked.now.reach.now.limit held first.now second.now)
+        piece.old piece.new) }
 {
-    if is_way(reach, region, first, second) {
-        push_if_met(piece, values, query, first, second)
+    if is_way(held, asked.reach.rises, first.id(), second.id()) {
+        push_if_met(piece, values, asked.query, first, second)
     } else {
         Ok(())
     }
 }
 
-/// Whether the region holds the first row, and it has the lower id, where it has to.
-fn is_way(reach: &Reach, region: &Region, first: &Row, second: &Row) -> bool
-    ensures { result ≡ (is_upward reach.now.rises first.now second.now
-        && in_bounds (bounds_shown region.now) first.now.at) }
+/// Whether the first of two rows is held, and has the lower id, where it has to.
+pub(crate) fn is_way(held: bool, rises: bool, first: i64, second: i64) -> bool
+    ensures { result ≡ (held && (if rises then int_lt first second else true)) }
 {
-    is_upward(reach.rises, first, second) && is_in(region, first.pos())
+    held && is_upward(rises, first, second)
 }
 
-/// Whether the first row has the lower id, where it has to.
-fn is_upward(rises: bool, first: &Row, second: &Row) -> bool
-    ensures { result ≡ is_upward rises first.now second.now }
+/// Whether the first of two ids is the lower one, where it has to be.
+fn is_upward(rises: bool, first: i64, second: i64) -> bool
+    ensures { result ≡ (if rises then int_lt first second else true) }
 {
-    !rises || first.id() < second.id()
+    !rises || first < second
 }
 
 /// Puts the pair of rows into the piece, where it meets the conditions.

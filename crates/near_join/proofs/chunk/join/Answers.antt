@@ -27,8 +27,8 @@ push_sub-requires-clause-sub c =
     let count : c.subs-sub-end.result ≡ sub_count c.args.store.now.plan c.args.chunk = c.subs-sub-end.ensures ∙ ap (λ (p : Partition). sub_count p c.args.chunk) c.plan.ensures in
     omega (arith, count, c.loop-sub-test.true)
 
-pub push_sub-requires-clause-sound : goal.push_sub-requires-clause-sound
-push_sub-requires-clause-sound c = line_is_sound _ c.args.query.now c.requires.pairs c.requires.sound
+pub push_sub-requires-clause-asked : goal.push_sub-requires-clause-asked
+push_sub-requires-clause-asked c = record { rises = c.of-reach.ensures.rises; bare = c.of-reach.ensures.bare; sound = line_is_sound _ c.args.query.now c.requires.pairs c.requires.sound }
 
 pub loop-sub-preserved : goal.loop-sub-preserved
 loop-sub-preserved c =

@@ -18,7 +18,7 @@ pub sub_strip-requires-clause-whole : goal.sub_strip-requires-clause-whole
 sub_strip-requires-clause-whole c = whole_in_sky c.args.store.now.rows.objects c.args.strip.now c.requires.rows (IsChunkStrip.listed c.requires.strip)
 
 pub push_swept-requires-clause-listed : goal.push_swept-requires-clause-listed
-push_swept-requires-clause-listed c = subst (λ (t : Catalogue). IsListed t.objects c.in_ok-near.near) (sym c.rows.ensures) (IsSubStrip.listed c.in_ok-near.ensures)
+push_swept-requires-clause-listed c = subst (λ (t : Catalogue). IsListed t.objects c.in_ok-near.near) (sym c.rows-rows.ensures) (IsSubStrip.listed c.in_ok-near.ensures)
 
 pub push_swept-requires-clause-whole : goal.push_swept-requires-clause-whole
 push_swept-requires-clause-whole c = whole_in_sky c.args.store.now.rows.objects c.in_ok-near.near c.requires.rows (IsSubStrip.listed c.in_ok-near.ensures)
@@ -36,5 +36,5 @@ returns c =
     let bounds = bounds_shown c.sub_region-region.result in
     let is : bounds ≡ sub_bounds_of g c.args.chunk c.args.sub = c.sub_region-region.ensures ∙ ap (λ (p : Partition). sub_bounds_of p c.args.chunk c.args.sub) c.plan.ensures in
     let gain : OnOk c.push_swept.result (Gains cq (swept_pairs cq limit (objects_at objects near.places) (held_rows bounds (objects_at objects near.places))) c.args.piece.now c.push_swept.new.piece) =
-    subst (λ (t : Catalogue). OnOk c.push_swept.result (Gains cq (swept_pairs cq limit (objects_at t.objects near.places) (held_rows bounds (objects_at t.objects near.places))) c.args.piece.now c.push_swept.new.piece)) c.rows.ensures c.push_swept.ensures in
+    subst (λ (t : Catalogue). OnOk c.push_swept.result (Gains cq (swept_pairs cq limit (objects_at t.objects near.places) (held_rows bounds (objects_at t.objects near.places))) c.args.piece.now c.push_swept.new.piece)) c.rows-rows.ensures c.push_swept.ensures in
     on_ok c.push_swept.result _ _ (gains_sub g objects cq limit c.args.chunk c.args.sub bounds near c.args.piece.now c.push_swept.new.piece is c.in_ok-near.ensures) gain

@@ -12,10 +12,10 @@ push_upwards-requires-clause-of_rows c = IsSwept.of_rows c.loop-i.invariant
 
 pub loop-i-preserved : goal.loop-i-preserved
 loop-i-preserved c =
-    one_swept c.args.query.now c.args.reach.now.limit (bounds_shown c.args.region.now) c.args.rows.now.objects c.args.near.now.places c.args.piece.now c.loop-i.piece c.push_upwards.new.piece c.loop-i.i
-    (omega (arith, c.loop-i-test.true, c.len-count.ensures)) c.in_ok-push_upwards.ensures (gained_rows c.args.query.now _ c.loop-i.piece c.push_upwards.new.piece c.in_ok-push_upwards.ensures) c.loop-i.invariant
+    one_swept c.args.asked.now.query.now c.args.asked.now.reach.now.limit (bounds_shown c.args.region.now) c.args.asked.now.rows.now.objects c.args.near.now.places c.args.piece.now c.loop-i.piece c.push_upwards.new.piece c.loop-i.i
+    (omega (arith, c.loop-i-test.true, c.len-count.ensures)) c.in_ok-push_upwards.ensures (gained_rows c.args.asked.now.query.now _ c.loop-i.piece c.push_upwards.new.piece c.in_ok-push_upwards.ensures) c.loop-i.invariant
 
 pub returns : goal.returns
 returns c =
-    all_swept c.args.query.now c.args.reach.now.limit (bounds_shown c.args.region.now) c.args.rows.now.objects c.args.near.now.places c.args.piece.now c.loop-i.piece c.loop-i.i
+    all_swept c.args.asked.now.query.now c.args.asked.now.reach.now.limit (bounds_shown c.args.region.now) c.args.asked.now.rows.now.objects c.args.near.now.places c.args.piece.now c.loop-i.piece c.loop-i.i
     (omega (arith, c.loop-i-test.false, c.len-count.ensures)) c.loop-i.invariant

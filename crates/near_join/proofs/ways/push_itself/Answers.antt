@@ -1,5 +1,4 @@
 use Rattle.std.proofs.Common.{◌∙◌, List, pos, sym, subst}
-use Rattle.sky_plan.specs.Regions.{bounds_shown}
 use Rattle.value_rules.specs.Values.{Pick}
 use Rattle.wedge_rules.proofs.Tests.{le_from}
 use Rattle.near_join.specs.Gains.{Gains}
@@ -8,10 +7,11 @@ use Rattle.near_join.proofs.Upwards.{none_near, own_near}
 use Rattle.near_join.proofs.ways.push_itself.Goals as goal
 
 pub push_way-requires-clause-near : goal.push_way-requires-clause-near
-push_way-requires-clause-near c = own_near c.args.reach.now.limit c.args.row.now (le_from (pos 0) c.args.reach.now.limit (sym c.is_own_pair.ensures ∙ c.if-is_own_pair.true))
+push_way-requires-clause-near c =
+    own_near c.args.asked.now.reach.now.limit c.args.row.now (le_from (pos 0) c.args.asked.now.reach.now.limit (sym c.is_own_pair.ensures ∙ c.if-is_own_pair.true))
 
 pub returns-else-is_own_pair : goal.returns-else-is_own_pair
 returns-else-is_own_pair c =
-    let cq = c.args.query.now in
+    let cq = c.args.asked.now.query.now in
     subst (λ (ps : List Pick). Gains cq ps c.args.piece.now c.args.piece.now)
-    (sym (none_near cq c.args.reach.now.limit (bounds_shown c.args.region.now) c.args.row.now (sym c.is_own_pair.ensures ∙ c.if-is_own_pair.false))) (gains_nothing cq c.args.piece.now c.requires.of_rows)
+    (sym (none_near cq c.args.asked.now.reach.now.limit c.args.held c.args.row.now (sym c.is_own_pair.ensures ∙ c.if-is_own_pair.false))) (gains_nothing cq c.args.piece.now c.requires.of_rows)

@@ -1,32 +1,35 @@
-use Rattle.std.proofs.Common.{ℕ, List, arith, get_or, subst, sym}
+use Rattle.std.proofs.Common.{List, arith, false, get_or, pos, subst, sym}
 use Rattle.std.specs.List.{flat_map}
 use Rattle.std.proofs.lemmas.List.{get_or_default, take_all}
-use Rattle.sky_plan.specs.Regions.{bounds_shown}
-use Rattle.sky_row.specs.Columns.{objects_at}
 use Rattle.value_rules.specs.Values.{Pick}
-use Rattle.near_join.specs.Gains.{Gains, both_ways}
+use Rattle.near_join.specs.declared.neighbour.Neighbour.{Neighbour}
+use Rattle.near_join.specs.Gains.{Gains}
+use Rattle.near_join.specs.Neighbours.{told_ways}
 use Rattle.near_join.proofs.Gaining.{gained_rows, gains_joined, gains_nothing}
-use Rattle.near_join.proofs.Upwards.{ways_more}
+use Rattle.near_join.proofs.Neighbouring.{ways_more}
 use Rattle.near_join.proofs.ways.push_others.Goals as goal
 
-pub loop-place-init : goal.loop-place-init
-loop-place-init c = gains_nothing c.args.query.now c.args.piece.now c.requires.of_rows
+pub loop-other-init : goal.loop-other-init
+loop-other-init c = gains_nothing c.args.asked.now.query.now c.args.piece.now c.requires.of_rows
 
 pub push_other-requires-clause-of_rows : goal.push_other-requires-clause-of_rows
-push_other-requires-clause-of_rows c = gained_rows c.args.query.now _ c.args.piece.now c.loop-place.piece c.loop-place.invariant
+push_other-requires-clause-of_rows c = gained_rows c.args.asked.now.query.now _ c.args.piece.now c.loop-other.piece c.loop-other.invariant
 
-pub loop-place-preserved : goal.loop-place-preserved
-loop-place-preserved c =
-    let index = c.loop-place.place-index in
-    let place = get_or c.args.found.now index 0 in
-    let cq = c.args.query.now in
-    let ways = both_ways cq c.args.reach.now.limit (bounds_shown c.args.region.now) c.args.row.now in
+pub loop-other-preserved : goal.loop-other-preserved
+loop-other-preserved c =
+    let index = c.loop-other.other-index in
+    let found = c.args.found.now in
+    let cq = c.args.asked.now.query.now in
+    let ways = told_ways cq c.args.asked.now.reach.now.limit c.args.asked.now.rows.now.objects c.args.held c.args.row.now in
+    let none : Neighbour = record { place = 0; id = pos 0; held = false } in
+    let other = get_or found index none in
     subst (λ (ps : List Pick). Gains cq ps c.args.piece.now c.push_other.new.piece)
-    (sym (ways_more ways c.args.rows.now.objects c.args.found.now index place c.loop-place-test.true (get_or_default c.args.found.now index 0 place c.loop-place-test.true)))
-    (gains_joined cq _ _ c.args.piece.now c.loop-place.piece c.push_other.new.piece c.loop-place.invariant c.in_ok-push_other.ensures)
+    (sym (ways_more ways found index other c.loop-other-test.true (get_or_default found index none other c.loop-other-test.true)))
+    (gains_joined cq _ _ c.args.piece.now c.loop-other.piece c.push_other.new.piece c.loop-other.invariant c.in_ok-push_other.ensures)
 
 pub returns : goal.returns
 returns c =
-    let whole = take_all c.loop-place.place-index c.args.found.now (omega (arith, c.loop-place-test.false)) in
-    subst (λ (l : List ℕ). Gains c.args.query.now (flat_map (both_ways c.args.query.now c.args.reach.now.limit (bounds_shown c.args.region.now) c.args.row.now)
-    (objects_at c.args.rows.now.objects l)) c.args.piece.now c.loop-place.piece) whole c.loop-place.invariant
+    let cq = c.args.asked.now.query.now in
+    let whole = take_all c.loop-other.other-index c.args.found.now (omega (arith, c.loop-other-test.false)) in
+    subst (λ (l : List Neighbour). Gains cq (flat_map (told_ways cq c.args.asked.now.reach.now.limit c.args.asked.now.rows.now.objects c.args.held c.args.row.now) l) c.args.piece.now c.loop-other.piece)
+    whole c.loop-other.invariant

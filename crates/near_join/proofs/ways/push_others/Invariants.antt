@@ -1,9 +1,8 @@
 use Rattle.std.proofs.Common.{take}
 use Rattle.std.specs.List.{flat_map}
-use Rattle.sky_plan.specs.Regions.{bounds_shown}
-use Rattle.sky_row.specs.Columns.{objects_at}
-use Rattle.near_join.specs.Gains.{Gains, both_ways}
+use Rattle.near_join.specs.Gains.{Gains}
+use Rattle.near_join.specs.Neighbours.{told_ways}
 use Rattle.near_join.proofs.ways.push_others.Given as goal
 
-abbrev pub invariant-loop-place : goal.invariant-loop-place
-invariant-loop-place l = Gains l.query (flat_map (both_ways l.query l.reach.limit (bounds_shown l.region) l.row) (objects_at l.rows.objects (take l.place-index l.found))) l.fn.piece l.piece
+abbrev pub invariant-loop-other : goal.invariant-loop-other
+invariant-loop-other l = Gains l.asked.query.now (flat_map (told_ways l.asked.query.now l.asked.reach.now.limit l.asked.rows.now.objects l.held l.row) (take l.other-index l.found)) l.fn.piece l.piece

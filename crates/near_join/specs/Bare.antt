@@ -1,0 +1,36 @@
+-- Queries over pairs that ask for the ids alone, and what is known of a query that is asked.
+use Rattle.std.specs.Prelude.{◌≡◌, ℕ, ◌+◌, ℤ, pos, Bool, true, List, [], ◌∷◌, map, Option, None, Some, IsTrue}
+use Rattle.table_rules.specs.Objects.{Obj}
+use Rattle.table_rules.specs.declared.limits.TheConstants.{FIRST_COLUMNS}
+use Rattle.value_rules.specs.Sound.{has_col}
+use Rattle.value_rules.specs.Truth.{meets}
+use Rattle.value_rules.specs.Values.{pair}
+use Rattle.answer_rules.specs.Pieces.{chunk_value}
+use Rattle.answer_rules.specs.declared.rewritten.ChunkQuery.{ChunkQuery}
+use Rattle.answer_rules.specs.declared.row.OutRow.{OutRow}
+use Rattle.near_join.specs.Rising.{Rises, is_upward}
+use Rattle.near_join.specs.Sound.{IsSoundLine}
+
+-- The query asks for the two ids of a pair, in no order, of pairs that have the lower id first, where it has to be, and of
+-- no others beside those that are too far apart.
+pub record IsBare (rises : Bool) (cq : ChunkQuery) : Type 0 where
+  pub ids : (u v : Obj) → map (chunk_value (pair u v)) cq.items ≡ Some u.id ∷ Some v.id ∷ []
+  pub order : cq.order ≡ None
+  pub conds : (u v : Obj) → meets cq.conds (pair u v) ≡ is_upward rises u v
+
+-- the line of a pair of which the two ids alone are asked
+abbrev pub id_line : ℤ → ℤ → OutRow
+id_line first second = record {
+  class = 0;
+  value = pos 0;
+  first = first;
+  second = second;
+  cells = Some first ∷ Some second ∷ [];
+}
+
+-- What is known of a query of a table with so many further columns: that its columns are there, and what is told of its
+-- conditions.
+pub record IsAsked (width : ℕ) (cq : ChunkQuery) (upwards ids : Bool) : Type 0 where
+  pub rises : IsTrue upwards → Rises cq.conds
+  pub bare : IsTrue ids → IsBare upwards cq
+  pub sound : IsSoundLine (has_col (FIRST_COLUMNS + width) true) cq
