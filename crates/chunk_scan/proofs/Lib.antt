@@ -16,3 +16,5 @@ pub mod Parting
 pub mod Running
 pub mod Computing
 pub mod Apart
+pub mod Stretches
+pub mod Dealing

@@ -6,3 +6,4 @@ pub mod Parted
 pub mod Runs
 pub mod Computed
 pub mod Words
+pub mod Dealt

@@ -9,6 +9,7 @@ ghost use Rattle.std.specs.List.Sorted.{IsPermutation};
 ghost use Rattle.table_rules.specs.declared.limits.TheConstants.{FIRST_COLUMNS, ROWS_MOST};
 ghost use Rattle.value_rules.specs.Sound.{has_col};
 
+use crate::deal::deal_by_bits;
 use crate::scratch::Scratch;
 use crate::together::bring_together;
 use crate::word::{mix_narrow, mix_presence, mix_wide, put_places, take_places};
@@ -45,7 +46,7 @@ pub(crate) fn by_key(
 }
 
 /// Puts the places into the order, those of one number together. `spare` is room for as many words.
-#[tactic(auto, using(crate::proofs::Apart::places_moved))]
+#[tactic(auto, using(crate::proofs::Apart::places_moved, crate::proofs::Apart::places_told))]
 fn reorder(numbers: &mut [u64], spare: &mut [u64], places: &[u32], order: &mut [u32])
     requires len { length numbers.old ≡ length places.now }
     requires room { length spare.old ≡ length places.now }
@@ -54,6 +55,9 @@ fn reorder(numbers: &mut [u64], spare: &mut [u64], places: &[u32], order: &mut [
     ensures { IsPermutation places.now order.new }
 {
     put_places(numbers, places);
+    if deal_by_bits(numbers, spare, order) {
+        return;
+    }
     bring_together(numbers, spare);
     take_places(numbers, order);
 }

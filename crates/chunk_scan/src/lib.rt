@@ -16,6 +16,7 @@
 mod all_rows;
 mod chunk;
 mod columns;
+mod deal;
 mod early;
 mod early_area;
 mod first_rows;
