@@ -10,8 +10,8 @@ The rows stand in the files scripts/worked/*.rows. A line `[FORMS: SKY CSV]` beg
 indented lines behind it are its block; lines with a # at their head say why it is so. The queries of a part are one script:
 it is answered with 0, 1, 4 and 16 workers, and explained. A few texts are too long to be written down, and are made here.
 Runs of other kinds stand in scripts/worked_runs.py: sky plans and catalogues with their reports or their first faults, scripts
-that wait and cancel, the demo, words of no form, and an outcome of each status that a run can be brought to. A larger sky,
-whose rows are drawn, stands in scripts/worked_world.py.
+that wait and cancel, the demo, words of no form, and an outcome of each status that a run can be brought to. A larger sky, whose
+rows are drawn, stands in scripts/worked_world.py, and catalogues of certain lengths in scripts/worked_lanes.py.
 
 It prints a line for each run that ended otherwise, with the row and with what is wanted, and then how many rows it has
 compared. The status is 0 where none differs, and 1 else, also where there is no program.
@@ -26,6 +26,7 @@ import subprocess
 import sys
 import tempfile
 
+import worked_lanes
 import worked_runs
 import worked_world
 
@@ -77,8 +78,9 @@ def long_parts():
     return [Part(["query"], *texts, answered), Part(["query", "explain"], *texts, others), Part(["query"], *texts, counts)]
 
 
-def drawn_parts():
-    """The ids of a catalogue of two granules and one row, and the close pairs of the drawn world."""
+def made_parts():
+    """The ids of a catalogue of two granules and one row, the close pairs of the drawn world, and tests of columns; and the
+    texts that they are over, by their names."""
     rows = [(10 + 3 * number, -1 if number % 2 == 0 else 1) for number in range(8193)]
     granules = "objectId,x,y,z\n" + "".join(f"{number},268435456,0,{z}\n" for number, z in rows)
     # at both ends of a granule and between, those with row numbers 0, 1, 4094 to 4097, 8191 and 8192 among them
@@ -88,7 +90,13 @@ def drawn_parts():
     ids += [Row("other ids", one_id(number), ["objectId,z", "0 rows, 0 chunks"]) for number in others]
     pairs = [Row("drawn pairs", *query) for query in worked_world.QUERIES]
     texts = {"granules.csv": granules, "drawn.txt": worked_world.SKY, "drawn.csv": worked_world.CSV}
-    return [Part(["query"], "sky.txt", "granules.csv", ids), Part(["query"], "drawn.txt", "drawn.csv", pairs)], texts
+    found = [Part(["query"], "sky.txt", "granules.csv", ids), Part(["query"], "drawn.txt", "drawn.csv", pairs)]
+    texts["lanes.txt"] = worked_lanes.SKY
+    for length in worked_lanes.LENGTHS:
+        texts[f"{length}.csv"] = worked_lanes.csv(length)
+        rows = [Row(f"{length} rows", *query) for query in worked_lanes.queries(length)]
+        found.append(Part(["query"], "lanes.txt", f"{length}.csv", rows))
+    return found, texts
 
 
 def one_id(number):
@@ -185,13 +193,13 @@ def is_full_told(program, folder):
 def compare(program, folder):
     """How many rows there are, and whether all are told."""
     shutil.copytree(WORKED, folder, dirs_exist_ok=True)
-    drawn, texts = drawn_parts()
+    made, texts = made_parts()
     for name, text in texts.items():
         write(folder, name, text)
     found, rows = [is_full_told(program, folder)], len(worked_runs.RUNS) + 1
     for run in worked_runs.RUNS:
         found.append(is_told(program, folder, run))
-    for part in parts() + drawn:
+    for part in parts() + made:
         found.append(is_part_told(program, folder, part))
         rows += len(part.rows)
     return rows, all(found)
