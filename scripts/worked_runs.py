@@ -203,6 +203,11 @@ CANCELLED, COUNTED = ends("cancelled\n"), ends("COUNT(*)\n6\n1 rows, 3 chunks\n"
 SCRIPTS = [
     ("0", "", ""),
     ("0", "# a note\n\n", ""),
+    (
+        "0",
+        COUNT + "SELECT x FROM Galaxy\nSELECT MAX(flux) FROM Object\n",
+        "query 1\nCOUNT(*)\n6\n1 rows, 3 chunks\nquery 2\nrefused: unknown name Galaxy\n" + LARGEST,
+    ),
     # a cancel of a query that is refused, and of one that needs no chunk, is passed over
     ("0 1 4 16", "SELECT mag FROM Object\ncancel 1\nwait 1\n", NO_NAME),
     (
