@@ -188,6 +188,7 @@ CATALOGUES += [fault(LOAD_CSV, 4, "catalogue " + line, csv=text) for text, line 
 QUERY = ["query", "sky.txt", "catalogue.csv", "script"]
 EXPLAIN = ["explain", "sky.txt", "catalogue.csv", "script"]
 COUNT = "SELECT COUNT(*) FROM Object\n"
+NO_CHUNK = "SELECT objectId FROM Object WHERE objectId IN (99)\n"
 THREE = "SELECT objectId FROM Object\n" + COUNT + "SELECT MAX(flux) FROM Object\n"
 NO_NAME = "query 1\nrefused: unknown name mag\n"
 LARGEST = "query 3\nMAX(flux)\n60\n1 rows, 3 chunks\n"
@@ -212,12 +213,25 @@ SCRIPTS = [
     ("0 1 4 16", "SELECT mag FROM Object\ncancel 1\nwait 1\n", NO_NAME),
     (
         "0 1 4 16",
-        "SELECT objectId FROM Object WHERE objectId IN (99)\ncancel 1\nwait 1\n",
+        NO_CHUNK + "cancel 1\nwait 1\n",
         "query 1\nobjectId\n0 rows, 0 chunks\n",
     ),
     # with no workers a cancel before every wait is in time, and with workers it may be
     ("0", THREE + "cancel 2\nwait 1\n", CANCELLED),
     ("4", THREE + "cancel 2\nwait 1\n", CANCELLED, COUNTED),
+    # a wait before a query is started is not between it and its cancel
+    (
+        "0",
+        COUNT + COUNT + "cancel 1\nwait 2\ncancel 2\n" + COUNT + "cancel 3\nwait 3\n",
+        "query 1\ncancelled\nquery 2\nCOUNT(*)\n6\n1 rows, 3 chunks\nquery 3\ncancelled\n",
+    ),
+    # of four queries the first needs no chunk, and two are refused
+    (
+        "0 4",
+        NO_CHUNK + "SELECT mag FROM Object\nwait 2\ncancel 2\n" + COUNT + "SELECT mag FROM Object\ncancel 1\n",
+        "query 1\nobjectId\n0 rows, 0 chunks\nquery 2\nrefused: unknown name mag\nquery 3\nCOUNT(*)\n6\n1 rows, 3 chunks\n"
+        "query 4\nrefused: unknown name mag\n",
+    ),
     # a cancel behind a wait for its query comes too late
     ("0 4", THREE + "wait 2\ncancel 2\nwait 2\n", COUNTED),
 ]
