@@ -8,8 +8,10 @@ PROGRAM is the built program, by default crates/qserv_cli/out/qserv_cli, where t
 The rows stand in the files scripts/worked/*.rows. A line `[FORMS: SKY CSV]` begins a part: the forms that are run, `query`,
 `explain` or both, over a sky plan and a catalogue of that folder. In a part each line that isn't indented is a query, and the
 indented lines behind it are its block; lines with a # at their head say why it is so. The queries of a part are one script:
-it is answered with no workers and with three, and explained. A few texts are too long to be written down, and are made here,
-beside the largest sky plan, a catalogue of too many rows, and an outcome of each status that a run can be brought to.
+it is answered with 0, 1, 4 and 16 workers, and explained. A few texts are too long to be written down, and are made here.
+Runs of other kinds stand in scripts/worked_runs.py: sky plans and catalogues with their reports or their first faults, scripts
+that wait and cancel, the demo, words of no form, and an outcome of each status that a run can be brought to. A larger sky, whose
+rows are drawn, stands in scripts/worked_world.py, and catalogues of certain lengths in scripts/worked_lanes.py.
 
 It prints a line for each run that ended otherwise, with the row and with what is wanted, and then how many rows it has
 compared. The status is 0 where none differs, and 1 else, also where there is no program.
@@ -17,7 +19,6 @@ compared. The status is 0 where none differs, and 1 else, also where there is no
 import argparse
 import collections
 import glob
-import itertools
 import os
 import re
 import shutil
@@ -25,19 +26,21 @@ import subprocess
 import sys
 import tempfile
 
+import worked_lanes
+import worked_runs
+import worked_world
+
 HERE = os.path.dirname(os.path.abspath(__file__))
 WORKED = os.path.join(HERE, "worked")
 PROGRAM = os.path.join(HERE, "..", "crates", "qserv_cli", "out", "qserv_cli")
 HEAD = re.compile(r"\[((?:query|explain)(?: explain)?): ([a-z_.]+) ([a-z_.]+)\]")
-WORKERS = ["0", "3"]
+WORKERS = ["0", "1", "4", "16"]
 # far more than any of the runs takes
 SECONDS = 600
 
 # where it stands, the query's line, and the lines of its block
 Row = collections.namedtuple("Row", "at line block")
 Part = collections.namedtuple("Part", "forms sky csv rows")
-# the words of a run, with its status, its output and its text on standard error
-Run = collections.namedtuple("Run", "words status out err")
 
 
 # ---- queries
@@ -59,7 +62,7 @@ def parts_of(path):
 
 
 def long_parts():
-    """Queries at the limit of 2,048 tokens."""
+    """Queries at the limit of 2,048 tokens, and more queries than run at once."""
     # SELECT, 1,022 items with 1,021 commas, and four words: 2,048 tokens
     items = "x" + ",x" * 1021
     largest, refused = f"SELECT {items} FROM Object LIMIT 0", ["refused: more than 2048 tokens"]
@@ -70,8 +73,34 @@ def long_parts():
         Row("2048 brackets", "(" * 2048, ["refused: brackets too deep at 32"]),
         Row("2049 brackets", "(" * 2049, refused),
     ]
+    counts = [Row("65 queries", "SELECT COUNT(*) FROM Object", ["COUNT(*)", "6", "1 rows, 3 chunks"])] * 65
     texts = ["sky.txt", "catalogue.csv"]
-    return [Part(["query"], *texts, answered), Part(["query", "explain"], *texts, others)]
+    return [Part(["query"], *texts, answered), Part(["query", "explain"], *texts, others), Part(["query"], *texts, counts)]
+
+
+def made_parts():
+    """The ids of a catalogue of two granules and one row, the close pairs of the drawn world, and tests of columns; and the
+    texts that they are over, by their names."""
+    rows = [(10 + 3 * number, -1 if number % 2 == 0 else 1) for number in range(8193)]
+    granules = "objectId,x,y,z\n" + "".join(f"{number},268435456,0,{z}\n" for number, z in rows)
+    # at both ends of a granule and between, those with row numbers 0, 1, 4094 to 4097, 8191 and 8192 among them
+    held = [(10, -1), (13, 1), (12292, -1), (12295, 1), (12298, -1), (12301, 1), (24583, 1), (24586, -1)]
+    ids = [Row("held ids", one_id(number), ["objectId,z", f"{number},{z}", "1 rows, 1 chunks"]) for number, z in held]
+    others = [9, 11, 12296, 12297, 12299, 24585, 24587, 24589]
+    ids += [Row("other ids", one_id(number), ["objectId,z", "0 rows, 0 chunks"]) for number in others]
+    pairs = [Row("drawn pairs", *query) for query in worked_world.QUERIES]
+    texts = {"granules.csv": granules, "drawn.txt": worked_world.SKY, "drawn.csv": worked_world.CSV}
+    found = [Part(["query"], "sky.txt", "granules.csv", ids), Part(["query"], "drawn.txt", "drawn.csv", pairs)]
+    texts["lanes.txt"] = worked_lanes.SKY
+    for length in worked_lanes.LENGTHS:
+        texts[f"{length}.csv"] = worked_lanes.csv(length)
+        rows = [Row(f"{length} rows", *query) for query in worked_lanes.queries(length)]
+        found.append(Part(["query"], "lanes.txt", f"{length}.csv", rows))
+    return found, texts
+
+
+def one_id(number):
+    return f"SELECT objectId,z FROM Object WHERE objectId IN ({number})"
 
 
 def parts():
@@ -80,7 +109,7 @@ def parts():
 
 def runs_of(part):
     """The words of each run of a part's script."""
-    texts = [part.sky, part.csv, "script.sql"]
+    texts = [part.sky, part.csv, "script"]
     answered = [["query", *texts, workers] for workers in WORKERS]
     return answered * ("query" in part.forms) + [["explain", *texts]] * ("explain" in part.forms)
 
@@ -90,105 +119,29 @@ def blocks_of(part):
     return ["\n".join([f"query {number}", *row.block]) + "\n" for number, row in enumerate(part.rows, 1)]
 
 
-# ---- limits and statuses
+# ---- runs
 
-
-def sky_of_most_chunks():
-    """A sky plan of 16 stripes of 1,024 chunks: the lowest is half of the sky, and the others are 64 high but for the last."""
-    lows = [-268435472, *range(0, 960, 64)]
-    return "overlap 0\n" + "".join(f"stripe {low} 1024 1 1\n" for low in lows)
-
-
-# Row 5 is in the lowest stripe, and rows 1 to 4 in the next one. Rows 1 and 3, with y = 0, lie on the border of the last
-# wedge of their stripe, which holds row 4. Row 6, at the pole, is in the first chunk of the last stripe.
-REPORT_OF_MOST_CHUNKS = """6 rows, 4 of 16384 chunks
-chunk 0: 1 rows, 0 overlap
-chunk 1024: 3 rows, 0 overlap
-chunk 2047: 1 rows, 2 overlap
-chunk 15360: 1 rows, 0 overlap
-"""
-
-
-def limit_texts():
-    """The texts of the limits, by their names, in pieces."""
-    most = sky_of_most_chunks()
-    return {
-        "most_chunks.txt": [most],
-        # a chunk more, on the line behind the 17 there are
-        "more_chunks.txt": [most, "stripe 960 1 1 1\n"],
-        # a row more than there may be
-        "more_rows.csv": itertools.chain(["objectId,x,y,z\n"], map("%d,268435456,0,0\n".__mod__, range(4194305))),
-        # a sky plan of a byte more than there may be: notes of 32 bytes, and one of a byte
-        "long.txt": [("#" * 31 + "\n") * 2048, "\n"],
-        # a script of as many bytes as there may be, and one of a byte more: notes, as above
-        "most.sql": [("#" * 31 + "\n") * 262144],
-        "long.sql": [("#" * 31 + "\n") * 262144, "\n"],
-        "unknown.sql": ["SELECT x FROM Object\n", "wait 2\n"],
-    }
-
-
-# bytes of catalogues of zeros, which take no room in the folder: as many as there may be, and one more
-ZEROS = {"most.csv": 536870912, "long.csv": 536870913}
-
-
-def fault(words, status, line):
-    """A run that writes nothing but a line on standard error."""
-    return Run(words, status, "", line + "\n")
-
-
-USAGE = "usage: qserv load SKY CSV; query SKY CSV SCRIPT WORKERS; explain SKY CSV SCRIPT; demo COUNT SEED WORKERS"
-LIMITS = [
-    Run(["load", "most_chunks.txt", "catalogue.csv"], 0, REPORT_OF_MOST_CHUNKS, ""),
-    fault(["load", "more_chunks.txt", "catalogue.csv"], 3, "sky line 18: too many"),
-    # the row is told without its number
-    fault(["load", "sky.txt", "more_rows.csv"], 4, "catalogue: too many rows"),
-    # a text of as many bytes as there may be is read: a script of notes has no query, and zeros are no header
-    Run(["explain", "sky.txt", "catalogue.csv", "most.sql"], 0, "", ""),
-    fault(["explain", "sky.txt", "catalogue.csv", "long.sql"], 6, "long.sql: too long"),
-    fault(["load", "sky.txt", "most.csv"], 4, "catalogue header: field 1"),
-    fault(["load", "sky.txt", "long.csv"], 6, "long.csv: too long"),
-]
-STATUSES = [
-    # no form, a word too many, and a worker too many
-    fault([], 2, USAGE),
-    fault(["load", "sky.txt", "catalogue.csv", "0"], 2, USAGE),
-    fault(["query", "sky.txt", "catalogue.csv", "unknown.sql", "17"], 2, USAGE),
-    # a catalogue is no sky plan, and a sky plan no catalogue
-    fault(["load", "catalogue.csv", "catalogue.csv"], 3, "sky line 1: syntax"),
-    fault(["load", "sky.txt", "sky.txt"], 4, "catalogue header: field 1"),
-    # no query has the number 2
-    fault(["explain", "sky.txt", "catalogue.csv", "unknown.sql"], 5, "script line 2: unknown query 2"),
-    fault(["load", "long.txt", "catalogue.csv"], 6, "long.txt: too long"),
-    # the texts are judged in the order of the words
-    fault(["load", "long.txt", "none.csv"], 6, "long.txt: too long"),
-    fault(["load", "sky.txt", "none.csv"], 7, "none.csv: cannot be read"),
-]
 # whatever is written to the full device fails
 FULL = "/dev/full"
-OUTPUT_FAILED = fault(["load", "sky.txt", "catalogue.csv"], 8, "output failed")
-
-
-# ---- runs
 
 
 def write(folder, name, pieces):
+    """Writes a text by its pieces, or one of so many zeros, which takes no room in the folder."""
     with open(os.path.join(folder, name), "w", encoding="latin-1", newline="") as file:
-        file.writelines(pieces)
-
-
-def write_zeros(folder, name, size):
-    with open(os.path.join(folder, name), "wb") as file:
-        file.truncate(size)
+        if isinstance(pieces, int):
+            file.truncate(pieces)
+        else:
+            file.writelines(pieces)
 
 
 def ended(program, folder, words, out=subprocess.PIPE):
-    """How the program ends with the words, as a run; None where it can't be started or doesn't end."""
+    """The status, the output and the text on standard error of a run; None where it can't be started or doesn't end."""
     try:
         end = subprocess.run([program, *words], cwd=folder, stdout=out, stderr=subprocess.PIPE, timeout=SECONDS)
     except (OSError, subprocess.TimeoutExpired) as wrong:
         print(f"worked_rows: {' '.join(words)}: {wrong}")
         return None
-    return Run(words, end.returncode, (end.stdout or b"").decode("latin-1"), end.stderr.decode("latin-1"))
+    return end.returncode, (end.stdout or b"").decode("latin-1"), end.stderr.decode("latin-1")
 
 
 def say(run, at, told, wanted):
@@ -210,41 +163,47 @@ def first_other(part, told):
 
 def is_part_told(program, folder, part):
     """Whether all runs of a part's script end as they have to."""
-    write(folder, "script.sql", [row.line + "\n" for row in part.rows])
+    script = "".join(row.line + "\n" for row in part.rows)
     wanted = "".join(blocks_of(part))
-    found = [is_told(program, folder, Run(words, 0, wanted, ""), part) for words in runs_of(part)]
+    found = [is_told(program, folder, worked_runs.done(words, wanted, script=script), part) for words in runs_of(part)]
     return all(found)
 
 
 def is_told(program, folder, run, part=None, out=subprocess.PIPE):
-    """Whether a run ends as it has to; says where it does not."""
+    """Whether a run ends as it has to; says where it does not. Its texts are there for it alone."""
+    for name, pieces in run.texts.items():
+        write(folder, name, pieces)
     end = ended(program, folder, run.words, out)
-    if end is None or end == run:
-        return end is not None
-    if (end.status, end.err) != (run.status, run.err):
-        say(run, "status and standard error", f"{end.status} {end.err}", f"{run.status} {run.err}")
-    if end.out != run.out:
-        say(run, *(first_other(part, end.out) if part else ("output", end.out, run.out)))
-    return False
+    for name in run.texts:
+        os.remove(os.path.join(folder, name))
+    if end is None:
+        return False
+    status, told, err = end
+    is_same = (status, err) == (run.status, run.err)
+    if not is_same:
+        say(run, "status and standard error", f"{status} {err}", f"{run.status} {run.err}")
+    if told not in run.outs:
+        is_same = False
+        say(run, *(first_other(part, told) if part else ("output", told, run.outs[0])))
+    return is_same
 
 
 def is_full_told(program, folder):
     """Whether a failed output is told of."""
     with open(FULL, "wb") as full:
-        return is_told(program, folder, OUTPUT_FAILED, out=full)
+        return is_told(program, folder, worked_runs.OUTPUT_FAILED, out=full)
 
 
 def compare(program, folder):
     """How many rows there are, and whether all are told."""
     shutil.copytree(WORKED, folder, dirs_exist_ok=True)
-    for name, pieces in limit_texts().items():
-        write(folder, name, pieces)
-    for name, size in ZEROS.items():
-        write_zeros(folder, name, size)
-    found, rows = [is_full_told(program, folder)], len(LIMITS) + len(STATUSES) + 1
-    for run in LIMITS + STATUSES:
+    made, texts = made_parts()
+    for name, text in texts.items():
+        write(folder, name, text)
+    found, rows = [is_full_told(program, folder)], len(worked_runs.RUNS) + 1
+    for run in worked_runs.RUNS:
         found.append(is_told(program, folder, run))
-    for part in parts():
+    for part in parts() + made:
         found.append(is_part_told(program, folder, part))
         rows += len(part.rows)
     return rows, all(found)

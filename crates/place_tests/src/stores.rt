@@ -1,5 +1,4 @@
-//! What no clause says: that a store is made and its lists are given with memory left, over six rows that are worked out
-//! by hand.
+//! What no clause says: that the lists of a subchunk are given with memory left, over six rows that are worked out by hand.
 
 ghost use Rattle.std.specs.Prelude.{◌≡◌, IfSome, length};
 
@@ -13,10 +12,8 @@ use std::test::Fail;
 
 const ONE_OVERLAP: &str = "overlap 5\nstripe -268435472 4 2 2\nstripe 0 4 2 2\n";
 
-const TWO_OVERLAPS: &str = "version 2\nstripe -268435472 4 2 2 5\nstripe 0 4 2 2 2\n";
-
 // A row with no further value, where the position is admissible.
-pub(crate) fn row(id: u32, x: i64, y: i64, z: i64) -> Option<Row>
+fn row(id: u32, x: i64, y: i64, z: i64) -> Option<Row>
     ensures { IfSome result (λ row. length row.further ≡ 0) }
 {
     let at = Pos::new(x, y, z)?;
@@ -28,7 +25,7 @@ pub(crate) fn row(id: u32, x: i64, y: i64, z: i64) -> Option<Row>
 }
 
 // Puts a row with no further value behind the others, where they have none either and there is room.
-pub(crate) fn put(columns: &mut Columns, row: &Row) -> Result<(), Memory>
+fn put(columns: &mut Columns, row: &Row) -> Result<(), Memory>
     requires { length row.now.further ≡ 0 }
 {
     if columns.schema().width() == 4 && columns.len() < 1000 {
@@ -78,33 +75,6 @@ fn store(alloc: Global, sky: &str) -> Result<Option<Store>, Fail> {
     Ok(Some(Store::build(alloc, plan, rows)?))
 }
 
-// How many rows a chunk has, and how many its full overlap.
-fn counts(store: &Store, chunk: u32) -> Option<(usize, usize)> {
-    if chunk < store.plan().chunks() {
-        Some((store.chunk(chunk).len(), store.full_overlap(chunk).len()))
-    } else {
-        None
-    }
-}
-
-#[test]
-fn chunks_count_their_rows_and_those_of_their_overlap(rt: HostRuntime) -> Result<(), Fail> {
-    let alloc = rt.alloc();
-    for (sky, want) in [
-        (ONE_OVERLAP, [(0, 1, 4), (4, 4, 2), (7, 1, 5)]),
-        (TWO_OVERLAPS, [(0, 1, 4), (4, 4, 1), (7, 1, 4)]),
-    ] {
-        let Some(store) = store(alloc, sky)? else {
-            panic!(rt; "{sky}");
-        };
-        assert_eq!(rt; store.filled(), [0, 4, 7].as_slice(), "{sky}");
-        for (chunk, rows, near) in want {
-            assert_eq!(rt; counts(&store, chunk), Some((rows, near)), "{sky} {chunk}");
-        }
-    }
-    Ok(())
-}
-
 #[test]
 fn a_subchunk_has_its_rows_and_those_near_it(rt: HostRuntime) -> Result<(), Fail> {
     let alloc = rt.alloc();
@@ -129,52 +99,5 @@ fn a_subchunk_has_its_rows_and_those_near_it(rt: HostRuntime) -> Result<(), Fail
     } else {
         panic!(rt; "no first subchunk");
     }
-    Ok(())
-}
-
-#[test]
-fn the_rows_of_all_subchunks_are_parted_at_once(rt: HostRuntime) -> Result<(), Fail> {
-    let alloc = rt.alloc();
-    let Some(store) = store(alloc, ONE_OVERLAP)? else {
-        panic!(rt; "no store");
-    };
-    if store.plan().chunks() <= 4 {
-        panic!(rt; "no chunk 4");
-    }
-    let subs = store.subs(alloc, 4)?;
-    assert_eq!(rt; subs.len(), 4);
-    for (sub, want) in [(0, [0, 1, 2].as_slice()), (1, &[]), (2, &[5]), (3, &[])] {
-        if subs.len() <= sub {
-            panic!(rt; "{sub}");
-        }
-        assert_eq!(rt; subs.of(sub), want, "{sub}");
-    }
-    Ok(())
-}
-
-#[test]
-fn a_block_has_the_columns_of_its_chunks_rows(rt: HostRuntime) -> Result<(), Fail> {
-    let alloc = rt.alloc();
-    let Some(store) = store(alloc, ONE_OVERLAP)? else {
-        panic!(rt; "no store");
-    };
-    let mut ids = Vec::new(alloc);
-    for chunk in store.filled() {
-        let block = store.block(*chunk);
-        ids.extend_from_slice(block.ids())?;
-        if *chunk == 4 {
-            assert_eq!(rt; block.zs(), [0, 0, 4, 268435456].as_slice());
-        }
-    }
-    assert_eq!(rt; ids.as_slice(), [5, 1, 2, 3, 6, 4].as_slice());
-    Ok(())
-}
-
-#[test]
-fn the_store_keeps_its_rows_and_its_plan(rt: HostRuntime) -> Result<(), Fail> {
-    let Some(store) = store(rt.alloc(), ONE_OVERLAP)? else {
-        panic!(rt; "no store");
-    };
-    assert_eq!(rt; (store.rows().len(), store.plan().chunks()), (6, 8));
     Ok(())
 }

@@ -7,24 +7,16 @@
 //! No reading of a text, no SQL, no sky and no thread here: the order of the work, the outcomes, and what is told of them.
 #![tactic(auto)]
 
-#[cfg(test)]
-mod answer_tests;
 mod demo;
-#[cfg(test)]
-mod demo_tests;
 mod ends;
 mod fault_lines;
 mod inputs;
 mod limits;
 mod outcome;
 mod script_lines;
-#[cfg(test)]
-mod script_tests;
 mod task;
 #[cfg(test)]
 mod tests;
-#[cfg(test)]
-mod text_tests;
 mod told;
 mod top;
 mod words;

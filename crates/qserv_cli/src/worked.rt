@@ -2,7 +2,7 @@
 use crate::outcome::{Outcome, status};
 use crate::told::put_outcome;
 use crate::top::qserv;
-use sky_io::{Gate, MemSink, OpenGate, PlainShelf};
+use sky_io::{Gate, MemSink, PlainShelf};
 use std::alloc::Global;
 use std::sync::Wait;
 use std::test::Fail;
@@ -10,19 +10,8 @@ use std::thread::Threads;
 
 pub const SKY: &str = "overlap 5\nstripe -268435472 4 2 2\nstripe 0 4 2 2\n";
 
-/// The same sky in stripes that have an overlap each.
-pub const OWN_OVERLAPS: &str = "version 2\nstripe -268435472 4 2 2 5\nstripe 0 4 2 2 2\n";
-
 pub const CATALOGUE: &str =
     "objectId,x,y,z,flux\n1,268435456,0,0,10\n2,268435456,3,0,20\n3,268435456,0,4,30\n4,268435456,-3,0,40\n5,268435456,0,-1,50\n6,0,0,268435456,60\n";
-
-/// A catalogue of values at the ends of their range.
-pub const LARGE_VALUES: &str =
-    "objectId,x,y,z,a,b,g\n1,268435456,0,0,1125899906842624,1125899906842624,5\n2,268435456,-3,0,0,0,7\n3,268435456,0,-1,-1125899906842624,1125899906842624,5\n4,268435456,0,4,1125899906842624,1125899906842624,7\n";
-
-/// The worked catalogue's positions, with values that are missing.
-pub const WITH_NULL: &str =
-    "objectId,x,y,z,flux\n1,268435456,0,0,10\n2,268435456,3,0,\n3,268435456,0,4,30\n4,268435456,-3,0,\n5,268435456,0,-1,-5\n6,0,0,268435456,60\n";
 
 /// The words that ask for the answers of the script, with no worker beside the czar.
 pub const QUERY: [&str; 5] = ["query", "sky", "csv", "script", "0"];
@@ -31,9 +20,6 @@ pub const QUERY: [&str; 5] = ["query", "sky", "csv", "script", "0"];
 pub fn query_with(workers: &str) -> [&str; 5] {
     ["query", "sky", "csv", "script", workers]
 }
-
-/// The words that ask for the plans of the script.
-pub const EXPLAIN: [&str; 4] = ["explain", "sky", "csv", "script"];
 
 /// What a call wrote, its status, and what is told of it.
 #[derive(Drop)]
@@ -91,19 +77,7 @@ pub fn line_of(alloc: Global, outcome: &Outcome, words: &[String]) -> Result<Mem
     Ok(sink)
 }
 
-/// The top call over a sky plan, a catalogue and a script, with room for its output.
-pub fn run<R: Threads + Wait + Sync>(
-    rt: &R,
-    alloc: Global,
-    words: &[&str],
-    sky: &str,
-    csv: &str,
-    script: &[u8],
-) -> Result<Output, Fail> {
-    run_past(rt, alloc, words, sky, csv, script, &OpenGate)
-}
-
-/// The same, past a gate.
+/// The top call over a sky plan, a catalogue and a script, with room for its output, past a gate.
 pub fn run_past<R: Threads + Wait + Sync, G: Gate + Sync>(
     rt: &R,
     alloc: Global,

@@ -6,8 +6,7 @@ ghost use Rattle.table_rules.specs.declared.limits.TheConstants.{FURTHER_COLUMNS
 ghost use Rattle.sky_vector.specs.Points.{is_admissible};
 ghost use Rattle.sky_vector.specs.Pos.{point};
 
-use sky_io::Memory;
-use sky_row::{Column, Columns, Row, Rows, Schema};
+use sky_row::{Column, Row, Rows, Schema};
 use sky_vector::Pos;
 use std::alloc::Global;
 use std::test::Fail;
@@ -47,21 +46,6 @@ fn are_kept(alloc: Global, values: &[Option<i64>]) -> Result<bool, Fail>
     let count = values.len() as u32;
     let row = Row::new(7, place(), values);
     Ok(further_of(alloc, &row, count)?.as_slice() == values)
-}
-
-// Three bare rows as they come.
-fn columns_of(alloc: Global, a: u32, b: u32, c: u32) -> Result<Columns, Memory> {
-    let mut columns = Columns::new(alloc, Schema::new(alloc))?;
-    columns.push(&bare(a))?;
-    columns.push(&bare(b))?;
-    columns.push(&bare(c))?;
-    Ok(columns)
-}
-
-// The catalogue of three bare rows.
-fn of_three(alloc: Global, a: u32, b: u32, c: u32) -> Result<Option<Rows>, Fail> {
-    let columns = columns_of(alloc, a, b, c)?;
-    Ok(Rows::in_order(alloc, columns)?)
 }
 
 #[test]
@@ -105,27 +89,6 @@ fn a_row_keeps_few_and_many_further_values(rt: HostRuntime) -> Result<(), Fail> 
     assert!(rt; are_kept(alloc, &four)?, "4");
     assert!(rt; are_kept(alloc, &five)?, "5");
     assert!(rt; are_kept(alloc, &twelve)?, "12");
-    Ok(())
-}
-
-#[test]
-fn rows_in_any_order_come_by_id(rt: HostRuntime) -> Result<(), Fail> {
-    let alloc = rt.alloc();
-    for (a, b, c) in [(1, 3, 5), (5, 1, 3), (3, 5, 1), (5, 3, 1)] {
-        let Some(found) = of_three(alloc, a, b, c)? else {
-            panic!(rt; "{a} {b} {c}");
-        };
-        assert_eq!(rt; found.ids(), [1, 3, 5].as_slice(), "{a} {b} {c}");
-    }
-    Ok(())
-}
-
-#[test]
-fn rows_with_one_id_are_no_catalogue(rt: HostRuntime) -> Result<(), Fail> {
-    let alloc = rt.alloc();
-    for (a, b, c) in [(1, 1, 5), (5, 1, 5), (0, 0, 0)] {
-        assert!(rt; of_three(alloc, a, b, c)?.is_none(), "{a} {b} {c}");
-    }
     Ok(())
 }
 

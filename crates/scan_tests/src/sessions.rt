@@ -1,5 +1,5 @@
-//! Whole sessions over short scripts: that they end with answers, that queries share laps, and that workers run at one
-//! time. A query's work on a chunk is a mark of both, so each piece shows whose it is and what it was made of.
+//! Whole sessions over short scripts: that queries share laps, that workers run at one time, and that a query which finds no
+//! memory is spent alone. A query's work on a chunk is a mark of both, so each piece shows whose it is and what it was made of.
 ghost use Rattle.std.specs.Prelude.{◌≡◌, ◌<◌, ◌≤◌, [], All, IfOk, IfSome, length, vec_len};
 ghost use Rattle.session_rules.specs.declared.limits.TheConstants.{WORKERS_MOST};
 
@@ -205,30 +205,6 @@ pub(crate) fn marker_of(alloc: Global, starved: u32) -> Marker
 }
 
 #[test]
-fn each_query_has_its_whole_answer(rt: HostRuntime) -> Result<(), Fail> {
-    let alloc = rt.alloc();
-    let marker = marker_of(alloc, 0);
-    let wants = [Some((0, 8)), Some((3, 8)), Some((5, 6))];
-    for workers in [0, 4] {
-        let text = b"q\nq\nwait 1\nq\n";
-        let ends = session(alloc, &rt, &marker, &OpenGate, text, &wants, workers)?;
-        assert_eq!(rt; ends.as_slice(), b"AAA".as_slice());
-    }
-    Ok(())
-}
-
-#[test]
-fn a_cancel_takes_effect_where_no_wait_stands_before_it(rt: HostRuntime) -> Result<(), Fail> {
-    let alloc = rt.alloc();
-    let marker = marker_of(alloc, 0);
-    let wants = [Some((0, 4)), Some((0, 4)), Some((2, 8))];
-    let text = b"q\nq\ncancel 1\nwait 2\ncancel 2\nq\ncancel 3\nwait 3\n";
-    let ends = session(alloc, &rt, &marker, &OpenGate, text, &wants, 0)?;
-    assert_eq!(rt; ends.as_slice(), b"CAC".as_slice());
-    Ok(())
-}
-
-#[test]
 fn queries_over_the_same_chunks_share_a_lap(rt: HostRuntime) -> Result<(), Fail> {
     let alloc = rt.alloc();
     let marker = marker_of(alloc, 0);
@@ -277,66 +253,6 @@ fn two_workers_work_at_one_time_on_each_of_two_queries(rt: HostRuntime) -> Resul
     let ends = session(alloc, &rt, &marker, &gate, b"q\nwait 1\nq\n", &wants, 4)?;
     assert_eq!(rt; ends.as_slice(), b"AA".as_slice());
     assert_eq!(rt; (gate.low.met(), gate.high.met()), (true, true));
-    Ok(())
-}
-
-// A script of so many queries.
-fn queries(alloc: Global, times: usize) -> Result<Vec<u8>, Fail> {
-    let mut text = Vec::new(alloc);
-    for _ in 0..times {
-        text.extend_from_slice(b"q\n")?;
-    }
-    Ok(text)
-}
-
-// Whether each of 100 queries over three chunks is answered.
-fn hundred_are_answered<R: Threads + Wait + Sync>(
-    alloc: Global,
-    rt: &R,
-    workers: u32,
-) -> Result<bool, Fail>
-    requires { workers ≤ WORKERS_MOST }
-{
-    let marker = marker_of(alloc, 0);
-    let text = queries(alloc, 100)?;
-    let wants = vec![in alloc; Some((2, 5)); 100]?;
-    let ends = session(
-        alloc,
-        rt,
-        &marker,
-        &OpenGate,
-        text.as_slice(),
-        wants.as_slice(),
-        workers,
-    )?;
-    let want = vec![in alloc; b'A'; 100]?;
-    Ok(ends.as_slice() == want.as_slice())
-}
-
-#[test]
-fn more_queries_than_run_at_once_are_all_answered(rt: HostRuntime) -> Result<(), Fail> {
-    let alloc = rt.alloc();
-    for workers in [0, 4] {
-        assert!(rt;
-            hundred_are_answered(alloc, &rt, workers)?,
-            "with {workers} workers"
-        );
-    }
-    Ok(())
-}
-
-#[test]
-fn queries_without_chunks_are_answered_and_without_plans_refused(
-    rt: HostRuntime,
-) -> Result<(), Fail> {
-    let alloc = rt.alloc();
-    let marker = marker_of(alloc, 0);
-    let wants = [Some((3, 3)), None, Some((7, 8)), None];
-    let text = b"q\nq\nwait 2\ncancel 2\nq\nq\ncancel 1\n";
-    for workers in [0, 4] {
-        let ends = session(alloc, &rt, &marker, &OpenGate, text, &wants, workers)?;
-        assert_eq!(rt; ends.as_slice(), b"ARAR".as_slice());
-    }
     Ok(())
 }
 

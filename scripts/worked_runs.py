@@ -1,0 +1,369 @@
+"""Runs of the program over texts of a few lines, and what they come to, found by hand: scripts/worked_rows.py makes them.
+
+The texts of the folder scripts/worked/ are there for each run; those that a run has of its own have the names sky, csv and
+script.
+"""
+import collections
+import itertools
+
+import worked_world
+
+# the words of a run, and the texts that it reads, by their names and in pieces, or how many zeros one is of; its status, its output or the few that there
+# may be, and its text on standard error
+Run = collections.namedtuple("Run", "words texts status outs err")
+
+
+def done(words, *outs, **texts):
+    """A run that writes one of a few texts."""
+    return Run(words, texts, 0, outs, "")
+
+
+def fault(words, status, line, **texts):
+    """A run that writes nothing but a line on standard error."""
+    return Run(words, texts, status, [""], line + "\n")
+
+
+# ---- sky plans
+
+SKY = "overlap 5\nstripe -268435472 4 2 2\nstripe 0 4 2 2\n"
+LOAD_SKY = ["load", "sky", "catalogue.csv"]
+OF_SKY = "6 rows, 3 of 8 chunks\nchunk 0: 1 rows, 4 overlap\nchunk 4: 4 rows, 2 overlap\nchunk 7: 1 rows, 5 overlap\n"
+# with the overlap 2 row 5 alone is near chunk 4, at the equator, and row 3, at z = 4, is not near chunk 7
+OF_OWN_OVERLAPS = "6 rows, 3 of 8 chunks\nchunk 0: 1 rows, 4 overlap\nchunk 4: 4 rows, 1 overlap\nchunk 7: 1 rows, 4 overlap\n"
+# one stripe of one chunk, with the greatest overlap, of which 281474976710656 is the square
+ONE_CHUNK = "# sky\noverlap 16777216\n\nstripe -0268435472 1 1 64"
+BEYOND = "SELECT a.x FROM Object a,Object b WHERE chord2(a,b)<=281474976710657"
+
+
+def stripes(count):
+    """A sky plan of so many stripes of one chunk, the least high that they can be but for the last."""
+    return "overlap 5\n" + "".join(f"stripe {-268435472 + 64 * stripe} 1 1 1\n" for stripe in range(count))
+
+
+SKIES = [
+    done(LOAD_SKY, OF_SKY, sky=SKY),
+    done(["load", "own_overlaps.txt", "catalogue.csv"], OF_OWN_OVERLAPS),
+    done(LOAD_SKY, OF_OWN_OVERLAPS, sky="version 2\r\nstripe -268435472 4 2 2 5\r\nstripe 0 4 2 2 2\r\n"),
+    done(LOAD_SKY, "6 rows, 1 of 1 chunks\nchunk 0: 6 rows, 0 overlap\n", sky=ONE_CHUNK),
+    done(
+        ["explain", "sky", "catalogue.csv", "script"],
+        "query 1\nrefused: radius 281474976710657 above 281474976710656\n",
+        sky=ONE_CHUNK,
+        script=BEYOND,
+    ),
+    # the last of them holds all from z = -268419152 on
+    done(LOAD_SKY, "6 rows, 1 of 256 chunks\nchunk 255: 6 rows, 0 overlap\n", sky=stripes(256)),
+    # as many bytes as there may be, and one more
+    done(LOAD_SKY, OF_SKY, sky=SKY + "#" * (65536 - len(SKY))),
+    fault(LOAD_SKY, 6, "sky: too long", sky=SKY + "#" * (65537 - len(SKY))),
+    fault(LOAD_SKY, 3, "sky line 258: too many", sky=stripes(257)),
+]
+# the first fault of a text and its line
+SKY_FAULTS = [
+    ("", "1: syntax"),
+    ("version 3", "1: syntax"),
+    ("version 02\nstripe -268435472 4 2 2 5\n", "1: syntax"),
+    ("overlap  5\n", "1: syntax"),
+    ("overlap 5\r", "1: syntax"),
+    ("overlap 5", "2: syntax"),
+    ("version 2\nstripe -268435472 4 2 2\n", "2: syntax"),
+    ("# none\noverlap 5\n", "3: syntax"),
+    ("# sky\n \t\n\n", "4: syntax"),
+    ("overlap 16777217", "1: overlap"),
+    ("overlap 9999999999999999999", "1: overlap"),
+    ("version 2\n# low\nstripe 0 2 2 2 -1\n", "3: overlap"),
+    ("overlap 5\nstripe 0 2 2 2\nstripe\n", "2: order"),
+    ("overlap 5\nstripe -268435472 4 2 2\nstripe -268435472 4 2 2\n", "3: order"),
+    ("overlap 5\nstripe -268435472 2 2 2\nstripe 0 4 2 2\n", "2: count"),
+]
+SKIES += [fault(LOAD_SKY, 3, "sky line " + line, sky=text) for text, line in SKY_FAULTS]
+
+# ---- catalogues
+
+LOAD_CSV = ["load", "sky.txt", "csv"]
+FOUR, MOST_ID = "objectId,x,y,z\n", "9223372036854775807"
+NONE = "0 rows, 0 of 8 chunks\n"
+
+
+def rows_of(ids):
+    """A catalogue of these ids, each at the same place."""
+    return FOUR + "".join(f"{number},268435456,0,0\n" for number in ids.split())
+
+
+def in_chunk_4(count):
+    """The report of so many rows at that place."""
+    return f"{count} rows, 1 of 8 chunks\nchunk 4: {count} rows, 0 overlap\n"
+
+
+THOUSAND = rows_of(" ".join(f"{number:03}" for number in range(999, -1, -1)))
+FURTHER = "a,b,c,d,e,f,g,h,i,j,k,l"
+ACCEPTED = [
+    (rows_of(""), NONE),
+    (rows_of("5"), in_chunk_4(1)),
+    (rows_of("3 1 2"), in_chunk_4(3)),
+    (rows_of("5 9 2 0 7 1"), in_chunk_4(6)),
+    (THOUSAND, in_chunk_4(1000)),
+    # twelve further columns, a NULL among their values
+    (f"objectId,x,y,z,{FURTHER}\n9,268435456,0,0,1,,-3,4,5,,7,-8,9,,11,12\n", in_chunk_4(1)),
+    ("objectId,x,y,z,flux\n1,268435456,0,0,", in_chunk_4(1)),
+    ('objectId,x,y,z,f\n1,268435456,0,0,""\n', in_chunk_4(1)),
+    # quotes, and no end of the last line
+    (FOUR + '1,"268435456",0,0', in_chunk_4(1)),
+    # a byte order mark, carriage returns, and lines with nothing
+    ("\xef\xbb\xbfobjectId,x,y,z", NONE),
+    ('"objectId",x,y,z\r1,268435456,0,0\r2,268435456,0,0', in_chunk_4(2)),
+    ("\n\r\nobjectId,x,y,z\r\n\n1,268435456,0,0\r\n\n", in_chunk_4(1)),
+]
+# the first fault of a text and its place
+CSV_FAULTS = [
+    ("", "header: field 1"),
+    (" objectId,x,y,z\n", "header: field 1"),
+    ("objectId,x", "header: field 3"),
+    ("objectId,x,y,z,f\0\n", "header: field 5"),
+    ('objectId,x,y,z,"a""b"\n', "header: field 5"),
+    (f"objectId,x,y,z,{FURTHER},m\n", "header: field 17"),
+    (FOUR + "1,268435456,0\n", "row 1: 3 fields"),
+    (FOUR + '""\n', "row 1: 1 fields"),
+    (FOUR + "  \n", "row 1: 1 fields"),
+    # the quote goes on to the end
+    (FOUR + '1,"268435456,0,0\n2,268435456,0,0\n', "row 1: 2 fields"),
+    (FOUR + "1,+5,0,0\n", "row 1: field 2 is not a number"),
+    ("objectId,x,y,z,flux\n1,268435456,,0,10\n", "row 1: field 3 is not a number"),
+    (FOUR + "1,268435456,0,\0\n", "row 1: field 4 is not a number"),
+    (FOUR + "-1,268435456,0,0", "row 1: field 1 out of range: -1"),
+    (FOUR + "-7,268435456,0,0\n", "row 1: field 1 out of range: -7"),
+    (FOUR + "9223372036854775808,268435456,0,0", "row 1: field 1 out of range: 9223372036854775808"),
+    (FOUR + "1,268435473,0,0\n", "row 1: field 2 out of range: 268435473"),
+    # 17 below 2^28
+    (FOUR + "1,268435439,0,0\n", "row 1: length"),
+    (FOUR + "1,268435456,0,0\n1,0,0,268435456\n", "row 2: repeated id 1"),
+    # behind a closing quote a field goes on
+    (FOUR + '"12"3,268435456,0,0\n123,268435456,0,0', "row 2: repeated id 123"),
+    # of repeated ids and other faults the first by its row; of repeats the first that one before it equals
+    (rows_of("1 2 1 4 five 6"), "row 3: repeated id 1"),
+    (rows_of("1 2 three 4 2 6"), "row 3: field 1 is not a number"),
+    (rows_of("5 9 2 -9 5 9"), "row 4: field 1 out of range: -9"),
+    (rows_of("40 7 99 3 7 12"), "row 5: repeated id 7"),
+    (rows_of("5 9 2 9 5 1"), "row 4: repeated id 9"),
+    (rows_of("0 1 2 3 4 0"), "row 6: repeated id 0"),
+    (rows_of("7 7"), "row 2: repeated id 7"),
+    (rows_of("1 2 3 2 1"), "row 4: repeated id 2"),
+    (rows_of("4 9 9 4"), "row 3: repeated id 9"),
+    (rows_of(f"0 {MOST_ID} 0"), "row 3: repeated id 0"),
+    (rows_of(f"1 {MOST_ID} 2 0 {MOST_ID}"), "row 5: repeated id " + MOST_ID),
+    (THOUSAND + "500,268435456,0,0\n", "row 1001: repeated id 500"),
+    (THOUSAND + "500,268435456,0,0\n999,0,0,0\n", "row 1001: repeated id 500"),
+]
+# a catalogue of 57 bytes, and what it is when it is cut behind its first bytes, up to a number of them and without it
+WHOLE = "objectId,x,y,z,flux\n7,268435456,0,0,\n3,0,0,-268435456,-5\n"
+CUTS = [
+    (8, "header: field 1"),
+    (10, "header: field 2"),
+    (12, "header: field 3"),
+    (14, "header: field 4"),
+    (15, NONE),
+    (16, "header: field 5"),
+    (21, NONE),
+    (22, "row 1: 1 fields"),
+    (32, "row 1: 2 fields"),
+    (34, "row 1: 3 fields"),
+    (36, "row 1: 4 fields"),
+    (38, in_chunk_4(1)),
+    (39, "row 2: 1 fields"),
+    (41, "row 2: 2 fields"),
+    (43, "row 2: 3 fields"),
+    (54, "row 2: 4 fields"),
+    # the row at the south pole is in chunk 0, to which the other one is near
+    (55, "2 rows, 2 of 8 chunks\nchunk 0: 1 rows, 1 overlap\nchunk 4: 1 rows, 0 overlap\n"),
+    (56, "row 2: field 5 is not a number"),
+    (58, "2 rows, 2 of 8 chunks\nchunk 0: 1 rows, 1 overlap\nchunk 4: 1 rows, 0 overlap\n"),
+]
+for start, (end, told) in zip([0] + [end for end, _ in CUTS], CUTS):
+    (ACCEPTED if told.endswith("\n") else CSV_FAULTS).extend((WHOLE[:cut], told) for cut in range(start, end))
+CATALOGUES = [done(LOAD_CSV, told, csv=text) for text, told in ACCEPTED]
+CATALOGUES += [fault(LOAD_CSV, 4, "catalogue " + line, csv=text) for text, line in CSV_FAULTS]
+
+# ---- scripts
+
+QUERY = ["query", "sky.txt", "catalogue.csv", "script"]
+EXPLAIN = ["explain", "sky.txt", "catalogue.csv", "script"]
+COUNT = "SELECT COUNT(*) FROM Object\n"
+NO_CHUNK = "SELECT objectId FROM Object WHERE objectId IN (99)\n"
+THREE = "SELECT objectId FROM Object\n" + COUNT + "SELECT MAX(flux) FROM Object\n"
+NO_NAME = "query 1\nrefused: unknown name mag\n"
+LARGEST = "query 3\nMAX(flux)\n60\n1 rows, 3 chunks\n"
+
+
+def ends(second):
+    """The transcript of the three queries, of which the second ends so."""
+    return "query 1\nobjectId\n1\n2\n3\n4\n5\n6\n6 rows, 3 chunks\nquery 2\n" + second + LARGEST
+
+
+CANCELLED, COUNTED = ends("cancelled\n"), ends("COUNT(*)\n6\n1 rows, 3 chunks\n")
+# the numbers of workers, a script, and what it may come to
+SCRIPTS = [
+    ("0", "", ""),
+    ("0", "# a note\n\n", ""),
+    (
+        "0",
+        COUNT + "SELECT x FROM Galaxy\nSELECT MAX(flux) FROM Object\n",
+        "query 1\nCOUNT(*)\n6\n1 rows, 3 chunks\nquery 2\nrefused: unknown name Galaxy\n" + LARGEST,
+    ),
+    # a cancel of a query that is refused, and of one that needs no chunk, is passed over
+    ("0 1 4 16", "SELECT mag FROM Object\ncancel 1\nwait 1\n", NO_NAME),
+    (
+        "0 1 4 16",
+        NO_CHUNK + "cancel 1\nwait 1\n",
+        "query 1\nobjectId\n0 rows, 0 chunks\n",
+    ),
+    # with no workers a cancel before every wait is in time, and with workers it may be
+    ("0", THREE + "cancel 2\nwait 1\n", CANCELLED),
+    ("4", THREE + "cancel 2\nwait 1\n", CANCELLED, COUNTED),
+    # a wait before a query is started is not between it and its cancel
+    (
+        "0",
+        COUNT + COUNT + "cancel 1\nwait 2\ncancel 2\n" + COUNT + "cancel 3\nwait 3\n",
+        "query 1\ncancelled\nquery 2\nCOUNT(*)\n6\n1 rows, 3 chunks\nquery 3\ncancelled\n",
+    ),
+    # of four queries the first needs no chunk, and two are refused
+    (
+        "0 4",
+        NO_CHUNK + "SELECT mag FROM Object\nwait 2\ncancel 2\n" + COUNT + "SELECT mag FROM Object\ncancel 1\n",
+        "query 1\nobjectId\n0 rows, 0 chunks\nquery 2\nrefused: unknown name mag\nquery 3\nCOUNT(*)\n6\n1 rows, 3 chunks\n"
+        "query 4\nrefused: unknown name mag\n",
+    ),
+    # a cancel behind a wait for its query comes too late
+    ("0 4", THREE + "wait 2\ncancel 2\nwait 2\n", COUNTED),
+]
+STEPS = [
+    done([*QUERY, workers], *outs, script=text) for numbers, text, *outs in SCRIPTS for workers in numbers.split()
+]
+STEPS += [done(EXPLAIN, NO_NAME, script="SELECT mag FROM Object\nwait 1\ncancel 1\n")]
+# the first fault of a script and its line
+SCRIPT_FAULTS = [
+    (THREE + "cancel 2\nwait 1\ncancel 9\n", "6: unknown query 9"),
+    ("# none\nwait 1\n", "2: unknown query 1"),
+    ("SELECT x FROM Object\nwait 2\n", "2: unknown query 2"),
+    (COUNT * 256, "256: too many queries"),
+    # 16,400 bytes
+    ("SELECT          " * 1025, "1: too long"),
+]
+STEPS += [
+    fault(words, 5, "script line " + line, script=text)
+    for text, line in SCRIPT_FAULTS
+    for words in ([*QUERY, "0"], EXPLAIN)
+]
+
+# ---- the demo
+
+# its one object is drawn around the south pole
+OF_ONE_OBJECT = """query 1
+COUNT(*),SUM(flux),AVG(flux),MIN(z),MAX(z)
+1,20637,20637.0000,-268387185,-268387185
+1 rows, 1 chunks
+query 2
+kind,COUNT(*),MAX(flux)
+0 rows, 1 chunks
+query 3
+objectId,flux
+0 rows, 0 chunks
+query 4
+a.objectId,b.objectId
+0 rows, 1 chunks
+"""
+OF_NO_OBJECT = """query 1
+COUNT(*),SUM(flux),AVG(flux),MIN(z),MAX(z)
+0,NULL,NULL,NULL,NULL
+1 rows, 0 chunks
+query 2
+kind,COUNT(*),MAX(flux)
+0 rows, 0 chunks
+query 3
+objectId,flux
+0 rows, 0 chunks
+query 4
+a.objectId,b.objectId
+0 rows, 0 chunks
+"""
+DEMOS = [
+    done(["demo", count, "1", workers], told)
+    for count, told in [("1", OF_ONE_OBJECT), ("0", OF_NO_OBJECT)]
+    for workers in ["0", "4"]
+]
+
+# ---- words and statuses
+
+USAGE = "usage: qserv load SKY CSV; query SKY CSV SCRIPT WORKERS; explain SKY CSV SCRIPT; demo COUNT SEED WORKERS"
+TEXTS = ["sky.txt", "catalogue.csv"]
+NO_FORMS = [
+    [],
+    ["query", "sky.txt"],
+    ["load", *TEXTS, "0"],
+    QUERY,
+    [*EXPLAIN, "0"],
+    # no number of workers: one too many, a minus, no digit, a digit too many
+    *([*QUERY, workers] for workers in ["17", "-1", "", "00000000000"]),
+    # a row too many, no seed and a seed too many, a worker too many, no number, no digit, a digit too many
+    *(["demo", *words.split(" ")] for words in ["4194305 1 0", "1 0 0", "1 2147483647 0", "1 1 17", "1 x 0"]),
+    *(["demo", *words.split(" ")] for words in [" 1 0", "00000000001 1 0"]),
+]
+STATUSES = [fault(words, 2, USAGE, script="") for words in NO_FORMS]
+STATUSES += [done([*QUERY, "0000000000"], "", script=""), done([*QUERY, "16"], "", script=""), done(EXPLAIN, "", script="")]
+STATUSES += [
+    # a catalogue is no sky plan, and a sky plan no catalogue
+    fault(["load", "catalogue.csv", "catalogue.csv"], 3, "sky line 1: syntax"),
+    fault(["load", "sky.txt", "sky.txt"], 4, "catalogue header: field 1"),
+    # the texts are judged in the order of the words
+    fault(["load", "sky", "none.csv"], 6, "sky: too long", sky="#" * 65537),
+    fault(["load", "sky.txt", "none.csv"], 7, "none.csv: cannot be read"),
+    fault(["query", "none", "catalogue.csv", "script", "0"], 7, "none: cannot be read", script=COUNT),
+    fault(["query", "sky.txt", "moon", "script", "0"], 7, "moon: cannot be read", script=COUNT),
+    fault(["query", "sky.txt", "", "script", "0"], 7, ": cannot be read", script=COUNT),
+    fault(["query", *TEXTS, "two ranges", "0"], 7, "two ranges: cannot be read"),
+]
+
+# ---- limits
+
+
+def sky_of_most_chunks():
+    """A sky plan of 16 stripes of 1,024 chunks: the lowest is half of the sky, and the others are 64 high but for the last."""
+    lows = [-268435472, *range(0, 960, 64)]
+    return "overlap 0\n" + "".join(f"stripe {low} 1024 1 1\n" for low in lows)
+
+
+# Row 5 is in the lowest stripe, and rows 1 to 4 in the next one. Rows 1 and 3, with y = 0, lie on the border of the last
+# wedge of their stripe, which holds row 4. Row 6, at the pole, is in the first chunk of the last stripe.
+REPORT_OF_MOST_CHUNKS = """6 rows, 4 of 16384 chunks
+chunk 0: 1 rows, 0 overlap
+chunk 1024: 3 rows, 0 overlap
+chunk 2047: 1 rows, 2 overlap
+chunk 15360: 1 rows, 0 overlap
+"""
+
+
+# a script of as many bytes as there may be: notes of 32 bytes
+MOST_NOTES = ("#" * 31 + "\n") * 262144
+
+
+def more_rows():
+    """A row more than there may be."""
+    return itertools.chain([FOUR], map("%d,268435456,0,0\n".__mod__, range(4194305)))
+
+
+LIMITS = [
+    done(LOAD_SKY, REPORT_OF_MOST_CHUNKS, sky=sky_of_most_chunks()),
+    # a chunk more, on the line behind the 17 there are
+    fault(LOAD_SKY, 3, "sky line 18: too many", sky=sky_of_most_chunks() + "stripe 960 1 1 1\n"),
+    # the row is told without its number
+    fault(LOAD_CSV, 4, "catalogue: too many rows", csv=more_rows()),
+    # a text of as many bytes as there may be is read: notes ask nothing, and zeros are no header
+    done(EXPLAIN, "", script=MOST_NOTES),
+    fault(EXPLAIN, 6, "script: too long", script=MOST_NOTES + "\n"),
+    fault(LOAD_CSV, 4, "catalogue header: field 1", csv=536870912),
+    fault(LOAD_CSV, 6, "csv: too long", csv=536870913),
+]
+
+RUNS = SKIES + CATALOGUES + STEPS + DEMOS + STATUSES + LIMITS
+RUNS.append(done(["load", "sky", "csv"], worked_world.report(), sky=worked_world.SKY, csv=worked_world.CSV))
+# whatever is written to the full device fails
+OUTPUT_FAILED = fault(["load", *TEXTS], 8, "output failed")
