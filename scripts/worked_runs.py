@@ -8,8 +8,8 @@ import itertools
 
 import worked_world
 
-# the words of a run, and the texts that it reads, by their names and in pieces, or how many zeros one is of; its status, its output or the few that there
-# may be, and its text on standard error
+# the words of a run, and the texts that it reads, by their names and in pieces, or as how many zeros one is; its status, its
+# output or the few that there may be, and its text on standard error
 Run = collections.namedtuple("Run", "words texts status outs err")
 
 

@@ -1,13 +1,16 @@
-//! That one who finds nothing to take makes pieces of another's task: two pieces of one chunk are made at one time. Where its
-//! queries are taken together one of the two is a helper's; where they are taken apart, two tasks may meet instead.
+//! That one who finds nothing to take makes pieces of another's task: two pieces of one task are made at one time. A session
+//! in which the queries on the chunk were taken apart, so that two tasks may have met, tells nothing and is run again.
 ghost use Rattle.std.specs.Prelude.{◌≡◌};
 
 use crate::sessions::{Marker, Marks, marker_of, session};
 use scan_worker::Engine;
-use sky_io::{Memory, OpenGate};
+use sky_io::{Memory, NoteGate};
+use std::alloc::Global;
+use std::sync::Wait;
 use std::sync::atomic::{AtomicBool, AtomicU64, Ordering};
 use std::test::Fail;
 use std::thread;
+use std::thread::Threads;
 
 /// Marks chunks, and stays with a piece on chunk 0 until another is made there too, or for so many turns.
 #[derive(Drop)]
@@ -54,18 +57,45 @@ impl Engine<Marks> for Meeting {
     }
 }
 
-#[test]
-fn two_make_pieces_of_one_task_at_one_time(rt: HostRuntime) -> Result<(), Fail> {
-    let alloc = rt.alloc();
+// Whether the queries on chunk 0 were taken together: of the first passes one alone was in front of it.
+fn is_one_task(gate: &mut NoteGate) -> bool {
+    let mut passes = 0u32;
+    for pass in 0..4 {
+        if matches!(gate.noted(pass), Some((_, 0))) {
+            passes = passes.wrapping_add(1);
+        }
+    }
+    passes == 1
+}
+
+// Whether two pieces on chunk 0 were made at one time in a session with one worker; None where the three queries on it were
+// taken apart.
+fn met_in_one_task<R: Threads + Wait + Sync>(alloc: Global, rt: &R) -> Result<Option<bool>, Fail> {
     let meeting = Meeting {
         marker: marker_of(alloc, 0),
         inside: AtomicU64::new(0),
         met: AtomicBool::new(false),
     };
+    let mut gate = NoteGate::new();
     let wants = [Some((5, 6)), Some((0, 1)), Some((0, 1)), Some((0, 1))];
-    let text = b"q\nq\nq\nq\n";
-    let ends = session(alloc, &rt, &meeting, &OpenGate, text, &wants, 1)?;
-    assert_eq!(rt; ends.as_slice(), b"AAAA".as_slice());
-    assert!(rt; meeting.met.load(Ordering::SeqCst));
-    Ok(())
+    let ends = session(alloc, rt, &meeting, &gate, b"q\nq\nq\nq\n", &wants, 1)?;
+    if ends.as_slice() != b"AAAA".as_slice() {
+        return Err(Fail::new("another end"));
+    }
+    if is_one_task(&mut gate) {
+        Ok(Some(meeting.met.load(Ordering::SeqCst)))
+    } else {
+        Ok(None)
+    }
+}
+
+#[test]
+fn two_make_pieces_of_one_task_at_one_time(rt: HostRuntime) -> Result<(), Fail> {
+    for _ in 0..100 {
+        if let Some(met) = met_in_one_task(rt.alloc(), &rt)? {
+            assert!(rt; met);
+            return Ok(());
+        }
+    }
+    panic!(rt; "the queries were taken apart each time")
 }
