@@ -29,6 +29,17 @@ use sky_io::Memory;
 use sky_vector::Num;
 use std::alloc::Global;
 
+/// A chunk of a store that is joined: what is asked of its pairs, and the rows that its subchunks take theirs of.
+#[derive(Drop)]
+struct Joined<'a> {
+    store: &'a Store,
+    chunk: u32,
+    query: &'a ChunkQuery,
+    reach: &'a Reach,
+    subs: &'a Option<Lists>,
+    strip: &'a Strip,
+}
+
 /// What the chunk query finds over the pairs whose first row lies in the chunk. Takes memory for the piece, for a strip of
 /// the chunk's rows and its full overlap, and for one of a subchunk's at a time; none for a row or a pair.
 pub fn join<'w>(
@@ -48,24 +59,19 @@ pub fn join<'w>(
     let reach = Reach::of(query);
     let strip = chunk_strip(alloc, store, chunk)?;
     let listed = few_rows(alloc, store, chunk)?;
-    let subs = &listed;
+    let joined = Joined {
+        store,
+        chunk,
+        query,
+        reach: &reach,
+        subs: &listed,
+        strip: &strip,
+    };
     let mut piece = Piece::empty(alloc, query);
     let mut values = Vec::new(alloc);
     let mut found = Vec::new(alloc);
     for sub in 0..store.plan().subs(chunk) {
-        push_sub(
-            alloc,
-            &mut piece,
-            &mut values,
-            &mut found,
-            store,
-            chunk,
-            sub,
-            query,
-            &reach,
-            subs,
-            &strip,
-        )?;
+        push_sub(alloc, &mut piece, &mut values, &mut found, &joined, sub)?;
     }
     Ok(piece)
 }
@@ -123,33 +129,29 @@ fn push_sub(
     piece: &mut Piece<'_>,
     values: &mut Vec<Option<Num>>,
     found: &mut Vec<Neighbour>,
-    store: &Store,
-    chunk: u32,
+    joined: &Joined<'_>,
     sub: u32,
-    query: &ChunkQuery,
-    reach: &Reach,
-    subs: &Option<Lists>,
-    strip: &Strip,
 ) -> Result<(), Memory>
     requires of_rows { IsOfRows piece.old }
-    requires chunk { chunk < chunk_count store.now.plan }
-    requires sub { sub < sub_count store.now.plan chunk }
-    requires sky { IsSky store.now.plan }
-    requires rows { AreInTheSky store.now.rows.objects }
-    requires subs { IfSome subs.now (λ lists.
-        lists ≡ sub_lists store.now.plan store.now.rows.objects chunk) }
-    requires strip { IsChunkStrip store.now.plan store.now.rows.objects chunk strip.now }
-    requires asked { IsAsked (length store.now.rows.names) query.now reach.now.rises
-        reach.now.bare }
-    ensures { OnOk result (Gains query.now (sub_pairs store.now.plan store.now.rows.objects
-        (joins reach.now.limit query.now.conds) chunk sub) piece.old piece.new) }
+    requires chunk { joined.now.chunk < chunk_count joined.now.store.now.plan }
+    requires sub { sub < sub_count joined.now.store.now.plan joined.now.chunk }
+    requires sky { IsSky joined.now.store.now.plan }
+    requires rows { AreInTheSky joined.now.store.now.rows.objects }
+    requires subs { IfSome joined.now.subs.now (λ lists. lists
+        ≡ sub_lists joined.now.store.now.plan joined.now.store.now.rows.objects joined.now.chunk) }
+    requires strip { IsChunkStrip joined.now.store.now.plan joined.now.store.now.rows.objects
+        joined.now.chunk joined.now.strip.now }
+    requires asked { IsAsked (length joined.now.store.now.rows.names) joined.now.query.now
+        joined.now.reach.now.rises joined.now.reach.now.bare }
+    ensures { OnOk result (Gains joined.now.query.now (sub_pairs joined.now.store.now.plan
+        joined.now.store.now.rows.objects
+        (joins joined.now.reach.now.limit joined.now.query.now.conds) joined.now.chunk sub)
+        piece.old piece.new) }
 {
-    if is_empty(store, chunk, subs, sub) {
+    if is_empty(joined.store, joined.chunk, joined.subs, sub) {
         Ok(())
     } else {
-        push_near(
-            alloc, piece, values, found, store, chunk, sub, query, reach, strip,
-        )
+        push_near(alloc, piece, values, found, joined, sub)
     }
 }
 
@@ -159,27 +161,36 @@ fn push_near(
     piece: &mut Piece<'_>,
     values: &mut Vec<Option<Num>>,
     found: &mut Vec<Neighbour>,
-    store: &Store,
-    chunk: u32,
+    joined: &Joined<'_>,
     sub: u32,
-    query: &ChunkQuery,
-    reach: &Reach,
-    strip: &Strip,
 ) -> Result<(), Memory>
     requires of_rows { IsOfRows piece.old }
-    requires chunk { chunk < chunk_count store.now.plan }
-    requires sub { sub < sub_count store.now.plan chunk }
-    requires sky { IsSky store.now.plan }
-    requires rows { AreInTheSky store.now.rows.objects }
-    requires strip { IsChunkStrip store.now.plan store.now.rows.objects chunk strip.now }
-    requires asked { IsAsked (length store.now.rows.names) query.now reach.now.rises
-        reach.now.bare }
-    ensures { OnOk result (Gains query.now (sub_pairs store.now.plan store.now.rows.objects
-        (joins reach.now.limit query.now.conds) chunk sub) piece.old piece.new) }
+    requires chunk { joined.now.chunk < chunk_count joined.now.store.now.plan }
+    requires sub { sub < sub_count joined.now.store.now.plan joined.now.chunk }
+    requires sky { IsSky joined.now.store.now.plan }
+    requires rows { AreInTheSky joined.now.store.now.rows.objects }
+    requires strip { IsChunkStrip joined.now.store.now.plan joined.now.store.now.rows.objects
+        joined.now.chunk joined.now.strip.now }
+    requires asked { IsAsked (length joined.now.store.now.rows.names) joined.now.query.now
+        joined.now.reach.now.rises joined.now.reach.now.bare }
+    ensures { OnOk result (Gains joined.now.query.now (sub_pairs joined.now.store.now.plan
+        joined.now.store.now.rows.objects
+        (joins joined.now.reach.now.limit joined.now.query.now.conds) joined.now.chunk sub)
+        piece.old piece.new) }
 {
-    let region = store.plan().sub_region(chunk, sub);
-    let near = sub_strip(alloc, store, chunk, sub, &region, strip)?;
-    let rows = store.rows();
-    let asked = Asked { rows, query, reach };
+    let region = joined.store.plan().sub_region(joined.chunk, sub);
+    let near = sub_strip(
+        alloc,
+        joined.store,
+        joined.chunk,
+        sub,
+        &region,
+        joined.strip,
+    )?;
+    let asked = Asked {
+        rows: joined.store.rows(),
+        query: joined.query,
+        reach: joined.reach,
+    };
     push_swept(piece, values, found, &asked, &region, &near)
 }
