@@ -31,8 +31,8 @@ pub(crate) fn by_key(
     ensures { IfOk result (λ order. IsPermutation places.now order.items) }
 {
     let mut words = scratch.words.filled(0, places.len())?;
-    let mut spare = scratch.words.filled(0, places.len())?;
-    let mut order = scratch.places.filled(0, places.len())?;
+    let mut spare = scratch.words.sized(0, places.len())?;
+    let mut order = scratch.places.sized(0, places.len())?;
     put_numbers(words.as_mut_slice(), block, keys, places);
     reorder(
         words.as_mut_slice(),

@@ -89,7 +89,7 @@ fn places_in(mask: &[bool], scratch: &mut Scratch) -> Result<Vec<u32>, Memory>
     requires { length mask.now < 2 ^ 32 }
     ensures { IfOk result (λ places. places.items ≡ places_of mask.now) }
 {
-    let mut places = scratch.places.filled(0, mask.len())?;
+    let mut places = scratch.places.sized(0, mask.len())?;
     let count = picked(mask, places.as_mut_slice());
     places.truncate(count);
     Ok(places)
