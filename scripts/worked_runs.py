@@ -1,4 +1,5 @@
-"""Runs of the program over texts of a few lines, and what they come to, found by hand: scripts/worked_rows.py makes them.
+"""Runs of the program over texts of a few lines, or at their limits, and what they come to, found by hand: scripts/worked_rows.py
+makes them.
 
 The texts of the folder scripts/worked/ are there for each run; those that a run has of its own have the names sky, csv and
 script.
