@@ -73,7 +73,7 @@ def long_parts():
         Row("2048 brackets", "(" * 2048, ["refused: brackets too deep at 32"]),
         Row("2049 brackets", "(" * 2049, refused),
     ]
-    counts = [Row("65 queries", "SELECT COUNT(*) FROM Object", ["COUNT(*)", "6", "1 rows, 3 chunks"])] * 65
+    counts = [Row("100 queries", "SELECT COUNT(*) FROM Object", ["COUNT(*)", "6", "1 rows, 3 chunks"])] * 100
     texts = ["sky.txt", "catalogue.csv"]
     return [Part(["query"], *texts, answered), Part(["query", "explain"], *texts, others), Part(["query"], *texts, counts)]
 

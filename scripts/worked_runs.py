@@ -321,6 +321,9 @@ STATUSES += [
     fault(["query", "sky.txt", "moon", "script", "0"], 7, "moon: cannot be read", script=COUNT),
     fault(["query", "sky.txt", "", "script", "0"], 7, ": cannot be read", script=COUNT),
     fault(["query", *TEXTS, "two ranges", "0"], 7, "two ranges: cannot be read"),
+    # a folder is there, and has no text
+    *(fault(["load", *words], 7, ".: cannot be read") for words in [[".", "catalogue.csv"], ["sky.txt", "."]]),
+    fault(["explain", *TEXTS, "."], 7, ".: cannot be read"),
 ]
 
 # ---- limits
