@@ -1,7 +1,7 @@
 //! Tests of places: roots, near chunks and the lists of subchunks, by public calls alone.
 //!
 //! Callers: none. Nothing stands on this crate, so that a crate of places is proved once, and its tests over what it
-//! promises. Below: `sky_vector` (`roots`), `overlap_tables` and `chunk_store` (`stores`).
+//! promises. Below: `sky_vector` (`roots`), `overlap_tables` and `chunk_store` (`subchunks`).
 #![tactic(auto)]
 
 #[cfg(test)]
@@ -9,4 +9,4 @@ mod near_chunks;
 #[cfg(test)]
 mod roots;
 #[cfg(test)]
-mod stores;
+mod subchunks;
