@@ -84,7 +84,7 @@ def watch(check, pause):
     while check.poll() is None:
         for first, words, seconds in provers(check.pid):
             key = first, words[words.index("--crate-name") + 1], kind_of(words)
-            # a helper that has ended is counted by nobody until its prover has asked for its end
+            # what helped a prover and has ended is counted nowhere until the prover has asked for its end
             seen[key] = max(seen[key], seconds)
         time.sleep(pause)
     return seen
