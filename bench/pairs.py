@@ -3,6 +3,8 @@
 
     bench/pairs.py FOLDER [--program FILE] [--rows N ..] [--clusters N] [--times N]
 
+FILE is the built program, by default .qserv/qserv, where ./qserv leaves it.
+
 Writes into FOLDER, once, the demo's catalogue of each of the numbers of rows (100,000, 1,000,000 and 4,000,000), and one of
 N clusters (9,500) of 20 rows each that are all near each other; and compiles bench/sweep.c into it with gcc. For each catalogue
 it runs the program with a script of one query, the pairs within 65,536 with the lower id first, and with an empty script, each N

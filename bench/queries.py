@@ -3,11 +3,12 @@
 
     bench/queries.py FOLDER [--program FILE] [--rows N] [--times N]
 
-Writes the demo's catalogue of N rows (1,000,000) into FOLDER, once. For each line of the table it runs the program with a
-script of that query and with an empty script, each N times (3), and prints the difference of the least user times in
-milliseconds, of one query, beside what is aimed at for a million rows. A query that costs little stands several times in its
-script. Each answer is compared with one computed here from the flat list, the dull way. The status is 1 where an answer is
-another, or where a line costs more than is aimed at. Only an idle machine tells anything.
+FILE is the built program, by default .qserv/qserv, where ./qserv leaves it. Writes the demo's catalogue of N rows
+(1,000,000) into FOLDER, once. For each line of the table it runs the program with a script of that query and with an empty
+script, each N times (3), and prints the difference of the least user times in milliseconds, of one query, beside what is
+aimed at for a million rows. A query that costs little stands several times in its script. Each answer is compared with one
+computed here from the flat list, the dull way; of the pairs, how many they are. The status is 1 where an answer is another,
+or where a line costs more than is aimed at. Only an idle machine tells anything.
 """
 import argparse
 import collections
@@ -31,7 +32,6 @@ def ask(program, folder, script):
     words = [program, "query", "sky.txt", "catalogue.csv", "measured.sql", "0"]
     ended = subprocess.run(words, cwd=folder, capture_output=True, text=True, check=True)
     return ended.stdout, resource.getrusage(resource.RUSAGE_CHILDREN).ru_utime - before
-
 
 
 # ---- answers from the flat list
@@ -100,7 +100,7 @@ LINES = [
 
 
 def wanted(rows):
-    """For each line the answers' lines, or how many there are; None where only the first line is compared."""
+    """For each line the answers' lines; None for the pairs, of which the count is compared."""
     return [
         [totals(rows)],
         [[(len(rows), max(row[4] for row in rows))]],

@@ -4,6 +4,8 @@
     bench/run.py FOLDER [--growth | --targets] [--program FILE] [--rows N ..] [--chunks N ..] [--order ascending|random]
         [--further COUNT]
 
+FILE is the built program, by default .qserv/qserv, where ./qserv leaves it.
+
 Writes its inputs into FOLDER (made where it isn't there; files that are there already are used again), runs the
 program over each, and prints a line for each run: rows, chunks, bytes, seconds (the least of three), and the most
 memory held at once. Each run's answer is compared with one computed here from the flat list.

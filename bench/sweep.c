@@ -1,4 +1,4 @@
-/* The near pairs of a catalogue by a plain loop in C: the sweep that the program makes, for comparison.
+/* The near pairs of a catalogue by a plain loop in C: a sweep by subchunks and heights, as the program makes one, for comparison.
  *
  *     gcc -O2 -o sweep bench/sweep.c
  *     ./sweep SKY CSV LIMIT TIMES

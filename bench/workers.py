@@ -7,7 +7,8 @@ Writes the demo's catalogue of N rows (1,000,000) into FOLDER, once. A script of
 over all rows, runs with 0 to 3 workers beside the thread that goes through the script; what is printed is the least of N (3)
 times by the clock, beyond that of an empty script. Beside it stands a loop in C (bench/scale.c, compiled into FOLDER) that
 sums a column 64 times over, parted among as many threads: what the machine itself allows. Each answer is compared with the one
-without workers. The status is 1 where an answer is another. Only an idle machine tells anything.
+without workers. FILE is the built program, by default crates/qserv_cli/out/qserv_cli, where the whole check leaves it. The
+status is 1 where an answer is another. Only an idle machine tells anything.
 """
 import argparse
 import os
@@ -55,7 +56,7 @@ def loop_in_c(folder, threads):
 
 
 def main():
-    words = argparse.ArgumentParser()
+    words = argparse.ArgumentParser(description=__doc__, formatter_class=argparse.RawDescriptionHelpFormatter)
     words.add_argument("folder")
     words.add_argument("--program", default=os.path.join(HERE, "..", "crates", "qserv_cli", "out", "qserv_cli"))
     words.add_argument("--rows", type=int, default=1_000_000)
@@ -79,4 +80,5 @@ def main():
         print(f"| {workers} | {ms:.0f} | {first[1] / ms:.2f} | {loop:.0f} | {first[2] / loop:.2f} |", flush=True)
 
 
-main()
+if __name__ == "__main__":
+    main()

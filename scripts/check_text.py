@@ -14,6 +14,7 @@ It prints each finding, or 'check_text: ok', and writes nothing. It looks for:
 - a call, a clause or a word that a claim names and that stands neither in the crates of its section nor in a crate that
   the row names.
 """
+import argparse
 import collections
 import glob
 import os
@@ -108,6 +109,7 @@ def edit_findings(listed):
 
 
 def main():
+    argparse.ArgumentParser(description=__doc__, formatter_class=argparse.RawDescriptionHelpFormatter).parse_args()
     os.chdir(os.path.join(os.path.dirname(os.path.abspath(__file__)), ".."))
     count = 0
     listed = names()

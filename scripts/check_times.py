@@ -1,14 +1,14 @@
 #!/usr/bin/env python3
-"""Runs the whole check and prints what each crate cost: seconds of processor time for its proof, its tests and its must-fail
-edits.
+"""Proves everything anew and prints what each crate cost: seconds of processor time for its proof, its tests and its
+must-fail edits.
 
     scripts/check_times.py [--every SECONDS]
 
-It runs .ci/run at the top of the repository, which proves from nothing, and looks at the running provers every half
-second: a prover's last reading counts, so that a run shorter than that is missed. It sees all provers of the machine, so
-nothing else may prove meanwhile. The check's own lines go to standard
-error, the table to standard output, dearest crate first. It ends with the check's status and writes nothing else. Linux
-alone, since it reads /proc.
+It runs `rt ci --anew` at the top of the repository: what an earlier run has kept counts for nothing. Every half second it
+looks at the provers that run below it, each with the processes that help it, which are called by the same words; a prover's
+last reading counts, so that a run shorter than that is missed. Whatever else runs meanwhile is not counted, but makes all
+slower. The check's own lines go to standard error, the table to standard output, dearest crate first. It ends with the
+check's status and writes nothing else. Linux alone, since it reads /proc.
 """
 import argparse
 import collections
@@ -20,9 +20,13 @@ import time
 TICKS = os.sysconf("SC_CLK_TCK")
 KINDS = ("proof", "tests", "edits")
 
+# a process that runs: the number of its parent, when it began, its words, and its seconds with those of its ended children
+Process = collections.namedtuple("Process", "parent began words seconds")
 
-def running():
-    """The provers that run, as (number, words, seconds)."""
+
+def processes():
+    """The processes of the machine, by their numbers."""
+    found = {}
     for name in os.listdir("/proc"):
         if not name.isdigit():
             continue
@@ -33,9 +37,37 @@ def running():
                 fields = file.read().rpartition(")")[2].split()
         except OSError:
             continue
-        if os.path.basename(words[0]) == "rattle" and "--crate-name" in words:
-            # user and system time, and those of children that have ended
-            yield name, words, sum(int(field) for field in fields[11:15]) / TICKS
+        # user and system time, and those of children that have ended
+        seconds = sum(int(field) for field in fields[11:15]) / TICKS
+        found[int(name)] = Process(int(fields[1]), fields[19], words, seconds)
+    return found
+
+
+def is_prover(process):
+    return os.path.basename(process.words[0]) == "rattle" and "--crate-name" in process.words
+
+
+def line_to(found, number, top):
+    """The processes from one up to another that it runs below, or nothing where it does not."""
+    line = []
+    while number in found and number != top:
+        line.append(number)
+        number = found[number].parent
+    return line if number == top else []
+
+
+def provers(top):
+    """The provers that run below a process, as (number, when it began), with their words and their seconds. What helps a prover
+    runs below it, and counts as a part of it."""
+    found = processes()
+    words, seconds = {}, collections.Counter()
+    for number, process in found.items():
+        above = [at for at in line_to(found, number, top) if is_prover(found[at])]
+        if above and above[0] == number:
+            first = above[-1], found[above[-1]].began
+            words[first] = found[above[-1]].words
+            seconds[first] += process.seconds
+    return [(first, words[first], seconds[first]) for first in words]
 
 
 def kind_of(words):
@@ -47,12 +79,13 @@ def kind_of(words):
 
 
 def watch(check, pause):
-    """The seconds of each prover while the check runs, by (number, crate, kind)."""
-    seen = {}
+    """The seconds of each prover while the check runs, by (prover, crate, kind)."""
+    seen = collections.Counter()
     while check.poll() is None:
-        for number, words, seconds in running():
-            crate = words[words.index("--crate-name") + 1]
-            seen[number, crate, kind_of(words)] = seconds
+        for first, words, seconds in provers(check.pid):
+            key = first, words[words.index("--crate-name") + 1], kind_of(words)
+            # what helped a prover and has ended is counted nowhere until the prover has asked for its end
+            seen[key] = max(seen[key], seconds)
         time.sleep(pause)
     return seen
 
@@ -75,7 +108,7 @@ def main():
     every = words.parse_args().every
     os.chdir(os.path.join(os.path.dirname(os.path.abspath(__file__)), ".."))
     began = time.time()
-    check = subprocess.Popen([".ci/run"], stdout=sys.stderr)
+    check = subprocess.Popen(["rt", "ci", "--anew"], stdout=sys.stderr)
     for line in table(watch(check, every)):
         print(line)
     print(f"{(time.time() - began) / 60:.1f} minutes by the clock")

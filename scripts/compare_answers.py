@@ -4,11 +4,12 @@
     scripts/compare_answers.py FOLDER [--program FILE] [--scripts N] [--large N] [--demos N] [--seed SEED] [--workers N ..]
 
 For each of N scripts (100) it draws a sky, a small catalogue (NULLs, values at the ends of their range, positions on and
-beside sides and borders) and 60 lines: queries of every kind, some with one token changed, some of the grammar alone. Of N
-scripts (10) the catalogue has up to 1,000 rows. The program answers and explains each script and reports its chunks, and
-answers N demos (20) of up to 400 objects. `flat_answers.py` says what is wanted: answers over the list of all rows, or of
-all pairs of rows, the line of each refusal, explanations, and the rows of each chunk's region and near region. The bytes are
-compared. Before these the script in examples/ is answered, and compared with the transcript there, which was written by hand.
+beside sides and borders) and 60 lines: queries of every kind, some with one token changed, some of the grammar alone. N more
+scripts (10) have 25 lines, over catalogues of 120 to 1,000 rows. The program answers and explains each script and reports
+its chunks, and answers N demos (20) of fewer than 400 objects. `flat_answers.py` says what is wanted: answers over the list
+of all rows, or of all pairs of rows, the line of each refusal, explanations, and the rows of each chunk's region and near
+region. The bytes are compared. Before these the script in examples/ is answered, and compared with the transcript there,
+which was written by hand.
 
 FILE is the built program, by default .qserv/qserv, where ./qserv leaves it. The texts sky, csv and script of the last
 script, and of the first one that differs, stay in FOLDER, which is made where it isn't there. The status is 0 where none

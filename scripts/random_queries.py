@@ -333,7 +333,7 @@ def differ(texts, wants, answers):
 
 
 def main():
-    words = argparse.ArgumentParser(description=__doc__.split("\n", 1)[0])
+    words = argparse.ArgumentParser(description=__doc__, formatter_class=argparse.RawDescriptionHelpFormatter)
     words.add_argument("program")
     words.add_argument("--count", type=int, default=10000)
     words.add_argument("--seed", type=int, default=1)

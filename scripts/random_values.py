@@ -4,8 +4,8 @@
     scripts/random_values.py FOLDER [--program FILE] [--scripts N] [--seed SEED] [--workers N ..]
 
 `compare_answers.py` draws queries of every kind, and few of them come to the numbers that this one is about. For each of N
-scripts (60) it draws a catalogue of groups of 32, 96 or 160 rows with a value and some with NULL, so that an average with an
-odd sum ends in half of a ten-thousandth; values are small, or the largest and their neighbours of either sign; ids are 0,
+scripts (60) it draws a catalogue of groups of rows with a value, mostly 32, 96 or 160 of them, whose averages often end in half
+of a ten-thousandth, and some with NULL; values are small, or the largest and their neighbours of either sign; ids are 0,
 2^63 - 1 and any. Its 40 queries are conditions and aggregates over expressions whose bounds are 2^63 or 2^100, or one below
 or above; compared with literals up to 2^63 - 1; and totals within and beyond 2^100. `flat_answers.py` says what is wanted.
 

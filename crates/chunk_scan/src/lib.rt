@@ -9,7 +9,7 @@
 //! What a scan needs beside its piece stands in a `Scratch`, which its caller keeps for the next one.
 //! Below: `chunk_store` for the rows of a chunk and their columns, `lane_filter` and `column_eval` for what is computed a
 //! column at a time, `expr_eval` for the values of one row, `partial_merge` for the piece.
-//! Above: the sessions.
+//! Above: `czar`, which asks for the piece of each chunk.
 //! No pairs of rows, no threads and no other chunk.
 #![tactic(auto)]
 

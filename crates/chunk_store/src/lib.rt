@@ -1,9 +1,9 @@
 //! The chunks of a survey: which rows each chunk holds, and which it needs beside its own.
 //!
-//! Callers see a `Store` as its `Survey` (`specs/Survey.antt`), and each list as a filter of the flat table
-//! (`specs/Places.antt`): ascending places in the rows.
-//! Below: `sky_plan` for the place of a position, `overlap_tables` for near regions, `sky_row` for rows. Above: the scans
-//! and joins of a chunk, and the count of chunks in an answer.
+//! Callers see a `Store` as its `Survey` (`specs/Survey.antt`), each list as a filter of the flat table
+//! (`specs/Places.antt`): ascending places in the rows, and the columns of a chunk's rows as a `Block`.
+//! Below: `sky_plan` for the place of a position, `overlap_tables` for near regions, `sky_row` for rows, `column_block` for a
+//! chunk's columns. Above: the scans and joins of a chunk, and the count of chunks in an answer.
 //! No queries and no ids: a row is known by its place in the table.
 #![tactic(auto)]
 

@@ -1,7 +1,8 @@
 //! What the values of some rows come to: how many there are, their sum, the least and the greatest.
 //!
-//! Numbers of 64 bits are joined in 64 bits, a sum a block of rows at a time in which it cannot become too large, and in 128
-//! from block to block. Where no value of a block is NULL its flags are looked at once before, and not at each number.
+//! Numbers of 64 bits are joined in 64 bits, a sum by stretches of so many rows that it cannot become too large in one, and in
+//! 128 from stretch to stretch (`sum_by_blocks`; no `Block` is meant). Where no value of a stretch is NULL its flags are looked
+//! at once before, and not at each number.
 ghost use Rattle.std.specs.Prelude.{◌≡◌, ◌+◌, ◌+ℤ◌, ◌*◌, ◌<◌, ◌≤◌, ℕ, ℤ, List, true, false, length, get_or, nat_abs, pos, if◌then◌else◌, IfSome, []};
 ghost use Rattle.table_rules.specs.declared.limits.TheConstants.{ROWS_MOST};
 ghost use Rattle.column_eval.specs.Aggregates.{AreSummed, IsNoLarger, StaysWithin, greater, joined_all, joined_from, lesser, numbers_between, sum_of};
@@ -12,7 +13,7 @@ use crate::join::{Join, NARROW_MOST, Plus};
 use crate::lane::Lane;
 use crate::numbers::Numbers;
 
-/// How many rows a block has where the numbers are small, as those of a column are, and where they are larger.
+/// How many rows a stretch has where the numbers are small, as those of a column are, and where they are larger.
 const LONG: usize = 4096;
 
 const SHORT: usize = 64;
@@ -86,7 +87,7 @@ pub(crate) fn sum(lane: &Lane, from: usize, to: usize) -> i128
     }
 }
 
-/// How many numbers that are no larger than the bound have a sum of 64 bits, if these are enough for a block.
+/// How many numbers that are no larger than the bound have a sum of 64 bits, if these are enough for a stretch.
 fn rows_of(bound: u128) -> Option<usize>
     ensures { IfSome result (λ rows. (0 < rows) × (rows * bound ≤ NARROW_MOST)) }
 {

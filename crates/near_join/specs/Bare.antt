@@ -11,8 +11,8 @@ use Rattle.answer_rules.specs.declared.row.OutRow.{OutRow}
 use Rattle.near_join.specs.Rising.{Rises, is_upward}
 use Rattle.near_join.specs.Sound.{IsSoundLine}
 
--- The query asks for the two ids of a pair, in no order, of pairs that have the lower id first, where it has to be, and of
--- no others beside those that are too far apart.
+-- The query asks for the two ids of a pair and for no order, and its conditions hold of each pair, or, where the lower id has
+-- to come first, of just those pairs in which it does.
 pub record IsBare (rises : Bool) (cq : ChunkQuery) : Type 0 where
   pub ids : (u v : Obj) → map (chunk_value (pair u v)) cq.items ≡ Some u.id ∷ Some v.id ∷ []
   pub order : cq.order ≡ None

@@ -1,5 +1,5 @@
 //! Whether the conditions of a query hold only of pairs whose first id is the lower one, as `a.objectId < b.objectId` does:
-//! each two rows are then paired once, and no row with itself, and their places in the table tell which of them comes first.
+//! each two rows are then paired once, and no row with itself, and their ids tell which of them comes first.
 
 ghost use Rattle.std.specs.Prelude.{◌≡◌, IsTrue};
 ghost use Rattle.value_rules.specs.Formulas.{Compares, formula_of, formula_of_pred};

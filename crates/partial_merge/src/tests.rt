@@ -1,4 +1,4 @@
-//! What no clause says: averages worked by hand, and that a few rows meet no want of memory.
+//! What no clause says: averages worked by hand, how many rows a bag holds, and which row comes too late for it.
 use crate::average::rounded;
 use crate::bag::Bag;
 use crate::rank::Rank;
