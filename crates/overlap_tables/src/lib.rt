@@ -2,8 +2,7 @@
 //!
 //! Callers see a near region as the test of `sky_rules`, and the chunks that need a position as a list of their numbers
 //! (`specs/Overlaps.antt`).
-//! Below: `sky_plan` for bounds and places. Above: `chunk_store`, which lists each chunk's overlap, and the
-//! near-neighbour join.
+//! Below: `sky_plan` for bounds and places. Above: the tables of each chunk, and the near-neighbour join.
 //! No rows and no tables: one position at a time.
 #![tactic(auto)]
 
