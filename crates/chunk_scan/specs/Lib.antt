@@ -7,3 +7,4 @@ pub mod Runs
 pub mod Computed
 pub mod Words
 pub mod Dealt
+pub mod Leading

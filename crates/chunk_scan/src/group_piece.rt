@@ -10,15 +10,17 @@ ghost use Rattle.table_rules.specs.declared.limits.TheConstants.{FIRST_COLUMNS, 
 ghost use Rattle.sky_row.specs.Columns.{no_row, objects_at};
 ghost use Rattle.sql_bound.specs.declared.query.Shape.TheVariants.{Groups};
 ghost use Rattle.value_rules.specs.Sound.{has_col};
-ghost use Rattle.value_rules.specs.Values.{cell_of, row};
+ghost use Rattle.value_rules.specs.Values.{row};
 ghost use Rattle.answer_rules.specs.Keys.{key_of};
 ghost use Rattle.answer_rules.specs.Parts.{partials_of};
 ghost use Rattle.answer_rules.specs.Pieces.{OfGroups};
+ghost use Rattle.chunk_scan.specs.Leading.{leading};
 ghost use Rattle.answer_rules.specs.SoundChunks.{IsSoundChunk};
 ghost use Rattle.partial_merge.specs.Groups.{group_by};
 ghost use Rattle.partial_merge.specs.Joining.{MayTakeGroup, with_group};
 
 use crate::key_order::by_key;
+use crate::lead::{cell, lead};
 use crate::part::fill;
 use crate::runs::{run_end, starts};
 use crate::scratch::Scratch;
@@ -96,6 +98,7 @@ fn group_piece<'w>(
 {
     let _count = block.len();
     let starts = starts(block, keys, places, scratch)?;
+    let lead = lead(block, keys, places, scratch)?;
     let worths = worths(alloc, block, query.items.as_slice(), places, scratch)?;
     let mut piece = Piece::empty(alloc, query);
     let mut cells = Vec::new(alloc);
@@ -103,7 +106,7 @@ fn group_piece<'w>(
     let mut from = 0usize;
     while from < places.len() {
         let to = run_end(starts.as_slice(), from);
-        fill_key(&mut cells, block, keys, places[from])?;
+        fill_key(&mut cells, block, keys, places, lead.as_slice(), from)?;
         fill(
             &mut parts,
             query.items.as_slice(),
@@ -121,6 +124,7 @@ fn group_piece<'w>(
         from = to;
     }
     scratch.flags.give(starts);
+    scratch.cells.give(lead);
     give_back(worths, scratch);
     Ok(piece)
 }
@@ -142,8 +146,35 @@ fn push(
     piece.push_group(key, rows as u32, parts)
 }
 
-/// Puts the values in the key columns of the row at the place in place of what the list held; `None` is NULL.
+/// Puts the key of the row at this place of the list in place of what `cells` held; `None` is NULL. The first value of each
+/// row's key stands in `lead`.
 fn fill_key(
+    cells: &mut Vec<Option<i64>>,
+    block: &Block,
+    keys: &[BoundCol],
+    places: &[u32],
+    lead: &[Option<i64>],
+    j: usize,
+) -> Result<(), Memory>
+    requires there { All (λ place. place < length block.now.objects) places.now }
+    requires sound { IsTrue (list_all (has_col (FIRST_COLUMNS + block.now.width) false) keys.now) }
+    requires at { j < length places.now }
+    requires lead { lead.now ≡ leading keys.now (objects_at block.now.objects places.now) }
+    ensures { OnOk result (cells.new.items
+        ≡ key_of keys.now (row (get_or (objects_at block.now.objects places.now) j no_row))) }
+{
+    cells.clear();
+    match keys {
+        [] => Ok(()),
+        [_, rest @ ..] => {
+            push_cell(cells, lead[j])?;
+            push_cells(cells, block, rest, places[j])
+        }
+    }
+}
+
+/// Puts the values in these columns of the row at the place behind the others.
+fn push_cells(
     cells: &mut Vec<Option<i64>>,
     block: &Block,
     keys: &[BoundCol],
@@ -152,9 +183,8 @@ fn fill_key(
     requires there { place < length block.now.objects }
     requires sound { IsTrue (list_all (has_col (FIRST_COLUMNS + block.now.width) false) keys.now) }
     ensures { OnOk result (cells.new.items
-        ≡ key_of keys.now (row (get_or block.now.objects place no_row))) }
+        ≡ cells.old.items ++ key_of keys.now (row (get_or block.now.objects place no_row))) }
 {
-    cells.clear();
     for key in keys {
         push_cell(cells, cell(block, key, place as usize))?;
     }
@@ -166,19 +196,4 @@ fn push_cell(cells: &mut Vec<Option<i64>>, value: Option<i64>) -> Result<(), Mem
     ensures { OnOk result (cells.new.items ≡ cells.old.items ++ value ∷ []) }
 {
     Ok(cells.push(value)?)
-}
-
-/// The value of the row at the place in a key column.
-fn cell(block: &Block, key: &BoundCol, place: usize) -> Option<i64>
-    requires there { place < length block.now.objects }
-    requires col { IsTrue (has_col (FIRST_COLUMNS + block.now.width) false key.now) }
-    ensures { result ≡ cell_of (row (get_or block.now.objects place no_row)) key.now }
-{
-    match key.col {
-        0 => Some(block.ids()[place]),
-        1 => Some(i64::from(block.xs()[place])),
-        2 => Some(i64::from(block.ys()[place])),
-        3 => Some(i64::from(block.zs()[place])),
-        col => block.further(col).get(place),
-    }
 }

@@ -24,6 +24,7 @@ mod group_piece;
 mod kernel;
 mod key_order;
 mod known;
+mod lead;
 mod line;
 mod narrow;
 mod part;

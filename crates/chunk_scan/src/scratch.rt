@@ -11,6 +11,8 @@ pub struct Scratch {
     pub(crate) columns: Columns,
     /// Truths, of rows and of conditions.
     pub(crate) flags: Pool<bool>,
+    /// Values of a key column.
+    pub(crate) cells: Pool<Option<i64>>,
     /// Places of rows.
     pub(crate) places: Pool<u32>,
     /// Words that rows of one key are brought together by.
@@ -23,6 +25,7 @@ impl Scratch {
         Scratch {
             columns: Columns::new(alloc),
             flags: Pool::new(alloc),
+            cells: Pool::new(alloc),
             places: Pool::new(alloc),
             words: Pool::new(alloc),
         }

@@ -20,3 +20,5 @@ pub mod Gaining
 pub mod Plains
 pub mod Pairs
 pub mod Firsts
+pub mod Keys
+pub mod Walking

@@ -1,5 +1,6 @@
 pub mod Cells
 pub mod KeyValues
+pub mod OpenKeys
 pub mod Rows
 pub mod Plains
 pub mod Pairs

@@ -30,11 +30,21 @@ pub(crate) struct Hints {
 /// The number of a key. Of a key of one column whose value is from 0 and below 2^29 it is the value, so that such keys lie in
 /// the table in their order.
 fn number(key: &Key) -> u64 {
+    let number = match key.lone() {
+        Some(value) => value.cast_unsigned(),
+        None => mixed(key),
+    };
+    number ^ (number >> 29)
+}
+
+/// The values of a key, mixed into one number.
+fn mixed(key: &Key) -> u64 {
+    let key = key.open();
     let mut number = 0u64;
     for value in key.as_slice() {
         number = number.wrapping_mul(STRETCH).wrapping_add(code(*value));
     }
-    number ^ (number >> 29)
+    number
 }
 
 /// The number of a value.

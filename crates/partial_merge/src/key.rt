@@ -1,16 +1,20 @@
 //! The key of a group. It takes memory where it has more than four values, and no query has such keys.
+//!
+//! A pile has a key for each of its groups, and moves and compares them all the time. So a key of few values is 40 bytes, and
+//! one of a single number, which most are, is compared as that number.
 
-ghost use Rattle.std.specs.Prelude.{◌≡◌, ◌≤◌, [], length, IfOk};
+ghost use Rattle.std.specs.Prelude.{◌≡◌, ◌≤◌, ◌∷◌, [], get_or, length, IfOk, IfSome, None, Some};
 ghost use Rattle.std.proofs.Common.{rules};
 ghost use Rattle.std.specs.Cmp.{partial_order_from_total};
 ghost use Rattle.std.specs.Cmp.Rules.{comparing};
-ghost use Rattle.std.specs.Ordering.{as_partial_cmp, eq_by_cmp};
+ghost use Rattle.std.specs.Ordering.{as_partial_cmp, eq_by_cmp, is_eq};
 ghost use Rattle.answer_rules.specs.Keys.{key_order};
 ghost use Rattle.answer_rules.proofs.Totals.{key_total};
 ghost use Rattle.partial_merge.specs.declared.limits.TheConstants.{SHORT_KEY_MOST};
+ghost use Rattle.partial_merge.specs.KeyValues.{few_values, first_of_four, values_in};
 
 use crate::limits::SHORT_KEY_MOST;
-use crate::short_key::ShortKey;
+use crate::short_key::{OpenKey, ShortKey};
 use sky_io::Memory;
 use std::alloc::Global;
 use std::cmp::Ordering;
@@ -19,7 +23,12 @@ use std::marker::Model;
 /// The values of a key: in the key itself, where they are few.
 #[derive(Drop)]
 pub(crate) enum Values {
-    Short(ShortKey),
+    /// The first `taken` of them, each a number or, where none is present, NULL.
+    Short {
+        taken: u8,
+        present: [bool; SHORT_KEY_MOST],
+        numbers: [i64; SHORT_KEY_MOST],
+    },
     Long(Vec<Option<i64>>),
 }
 
@@ -36,6 +45,51 @@ impl Model for Key {
     ghost Value = { List (Option ℤ) };
 
     ghost view = { λ k. values_in k.values };
+}
+
+/// The value at a place, and NULL behind the last one.
+fn value_at(values: &[Option<i64>], place: usize) -> Option<i64>
+    ensures { result ≡ get_or values.now place None }
+{
+    match values.get(place) {
+        None => None,
+        Some(value) => *value,
+    }
+}
+
+/// The number of a value, and any for NULL.
+fn number_of(value: Option<i64>) -> i64
+    ensures { IfSome value (λ n. result ≡ n) }
+{
+    match value {
+        None => 0,
+        Some(number) => number,
+    }
+}
+
+/// The first so many of these values.
+fn packed(taken: u8, a: Option<i64>, b: Option<i64>, c: Option<i64>, d: Option<i64>) -> Values
+    ensures { values_in result ≡ first_of_four taken a b c d }
+{
+    Values::Short {
+        taken,
+        present: [a.is_some(), b.is_some(), c.is_some(), d.is_some()],
+        numbers: [number_of(a), number_of(b), number_of(c), number_of(d)],
+    }
+}
+
+/// The number of a short key of one column, where it is one.
+fn lone_in(
+    taken: u8,
+    present: &[bool; SHORT_KEY_MOST],
+    numbers: &[i64; SHORT_KEY_MOST],
+) -> Option<i64>
+    ensures { IfSome result (λ n. few_values taken present.now numbers.now ≡ Some n ∷ []) }
+{
+    if taken == 1 && present[0] {
+        return Some(numbers[0]);
+    }
+    None
 }
 
 impl Key {
@@ -57,7 +111,13 @@ impl Key {
         ensures { result ≡ values.now }
     {
         Key {
-            values: Values::Short(ShortKey::from_slice(values)),
+            values: packed(
+                values.len() as u8,
+                value_at(values, 0),
+                value_at(values, 1),
+                value_at(values, 2),
+                value_at(values, 3),
+            ),
         }
     }
 
@@ -66,18 +126,55 @@ impl Key {
         ensures { result ≡ [] }
     {
         Key {
-            values: Values::Short(ShortKey::new()),
+            values: packed(0, None, None, None, None),
         }
     }
 
-    /// The values, in their order.
-    pub fn as_slice(&self) -> &[Option<i64>]
-        ensures { result.now ≡ self.now }
+    /// The number of a key of one column, where it is one.
+    pub(crate) fn lone(&self) -> Option<i64>
+        ensures { IfSome result (λ n. self.now ≡ Some n ∷ []) }
     {
         match &self.values {
-            Values::Short(values) => values.as_slice(),
-            Values::Long(values) => values.as_slice(),
+            Values::Short {
+                taken,
+                present,
+                numbers,
+            } => lone_in(*taken, present, numbers),
+            Values::Long(_) => None,
         }
+    }
+
+    /// The values side by side. Takes no memory.
+    pub(crate) fn open(&self) -> OpenKey<'_>
+        ensures { result ≡ self.now }
+    {
+        match &self.values {
+            Values::Short {
+                taken,
+                present,
+                numbers,
+            } => OpenKey::few(ShortKey::of(*taken, present, numbers)),
+            Values::Long(values) => OpenKey::many(values.as_slice()),
+        }
+    }
+}
+
+/// The order of two keys of any length, value by value.
+fn order_by_values(a: &Key, b: &Key) -> Ordering
+    ensures { result ≡ key_order a.now b.now }
+{
+    let a = a.open();
+    let b = b.open();
+    a.as_slice().cmp(b.as_slice())
+}
+
+/// The order of two keys.
+fn order_of(a: &Key, b: &Key) -> Ordering
+    ensures { result ≡ key_order a.now b.now }
+{
+    match (a.lone(), b.lone()) {
+        (Some(a), Some(b)) => a.cmp(&b),
+        _ => order_by_values(a, b),
     }
 }
 
@@ -91,7 +188,7 @@ impl Ord for Key {
     ghost matches_eq = { Prim.search (comparing, rules) depth 9 };
 
     fn cmp(&self, other: &Key) -> Ordering {
-        self.as_slice().cmp(other.as_slice())
+        order_of(self, other)
     }
 }
 

@@ -67,6 +67,7 @@ fn key_at(key: &Key, place: usize) -> Option<i128>
     ensures value { result ≡ unwrap_or (slice_get key.now place) None }
     ensures small { IsOfSize (2 ^ 126) result }
 {
+    let key = key.open();
     let value = *key.as_slice().get(place)?;
     Some(value? as i128)
 }

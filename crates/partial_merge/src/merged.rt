@@ -2,22 +2,26 @@
 
 ghost use Rattle.std.specs.Prelude.{◌≡◌, ◌<◌, IfSome, length, None, slice_get, unwrap_or};
 ghost use Rattle.sky_vector.specs.Numbers.{IsQueryNumber};
+ghost use Rattle.value_rules.specs.Keys.{key_cell};
+ghost use Rattle.value_rules.specs.Terms.{term_of};
+ghost use Rattle.value_rules.specs.Values.{value_at as value_on};
 ghost use Rattle.value_rules.specs.Widths.{IsOfSize, most};
 ghost use Rattle.answer_rules.specs.Finish.{average_of, merged_value};
 ghost use Rattle.answer_rules.specs.Parts.{count_part};
 ghost use Rattle.answer_rules.specs.Rows.{shown};
 ghost use Rattle.partial_merge.specs.Groups.{IsThere, group_of};
-ghost use Rattle.partial_merge.specs.Merging.{IsTested, MayMerge};
+ghost use Rattle.partial_merge.specs.Merging.{IsOnKey, IsTested, MayMerge};
 ghost use Rattle.partial_merge.specs.Tables.{IsShort};
 
 use crate::average::rounded;
+use crate::key::Key;
 use crate::mark::Mark;
 use crate::row_table::shown;
 use crate::tally::Tally;
 use answer_rules::{MergeItem, Value};
 use expr_eval::value_on_key;
 use sky_vector::Num;
-use sql_bound::ColList;
+use sql_bound::{BoundExpr, ColList};
 
 /// The parts of a group.
 pub(crate) fn parts_of<'t>(tallies: &'t [Tally], mark: &Mark) -> &'t [Tally]
@@ -82,6 +86,16 @@ fn average(total: Option<i128>, count: u32) -> Value
     }
 }
 
+/// The value of an expression of the keys.
+fn of_keys(e: &BoundExpr, keys: &ColList, key: &Key) -> Value
+    requires { IsOnKey keys.now key.now e.now }
+    ensures value { result ≡ shown (value_on (key_cell keys.now key.now) (term_of e.now)) }
+    ensures short { IsShort result }
+{
+    let key = key.open();
+    shown(value_on_key(e, keys, key.as_slice()))
+}
+
 /// A merged item of a group, its total tested.
 pub(crate) fn merged(keys: &ColList, tallies: &[Tally], mark: &Mark, item: &MergeItem) -> Value
     requires there { IsThere (length tallies.now) mark.now }
@@ -93,7 +107,7 @@ pub(crate) fn merged(keys: &ColList, tallies: &[Tally], mark: &Mark, item: &Merg
     let parts = parts_of(tallies, mark);
     match item {
         MergeItem::Column(_) => Value::Null,
-        MergeItem::OfKeys(e) => shown(value_on_key(e, keys, mark.key.as_slice())),
+        MergeItem::OfKeys(e) => of_keys(e, keys, &mark.key),
         MergeItem::Count(n) => Value::Whole(number(seen_at(parts, *n) as i128)),
         MergeItem::Sum(n) => whole(value_at(parts, *n)),
         MergeItem::Min(n) => whole(value_at(parts, *n)),

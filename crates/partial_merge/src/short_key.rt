@@ -1,8 +1,8 @@
-//! A key of few values, which stand in the key itself: a pile has a key for each of its groups, and makes and compares them
-//! all the time, so that none takes memory.
+//! The values of a key side by side, as callers of other crates take them.
 
-ghost use Rattle.std.specs.Prelude.{◌≡◌, ◌<◌, ◌≤◌, ◌++◌, ◌∷◌, [], length};
+ghost use Rattle.std.specs.Prelude.{◌≡◌, ◌≤◌, min};
 ghost use Rattle.partial_merge.specs.declared.limits.TheConstants.{SHORT_KEY_MOST};
+ghost use Rattle.partial_merge.specs.KeyValues.{few_values, cell_by};
 
 use crate::limits::SHORT_KEY_MOST;
 use std::marker::Model;
@@ -12,7 +12,7 @@ use std::marker::Model;
 pub(crate) struct ShortKey {
     /// How many there are.
     taken: usize,
-    /// The values, and NULL behind them.
+    /// The values, and others behind them.
     values: [Option<i64>; SHORT_KEY_MOST],
 }
 
@@ -27,36 +27,91 @@ impl Model for ShortKey {
     ghost invariant = { λ k. k.taken ≤ SHORT_KEY_MOST };
 }
 
-impl ShortKey {
-    /// No value.
-    pub(crate) fn new() -> ShortKey
-        ensures { result ≡ [] }
+/// The values of a key, opened or as they stand.
+#[derive(Drop)]
+pub(crate) enum Cells<'k> {
+    Few(ShortKey),
+    Many(&'k [Option<i64>]),
+}
+
+/// The values of a key side by side.
+#[derive(Drop)]
+pub(crate) struct OpenKey<'k> {
+    cells: Cells<'k>,
+}
+
+impl<'k> Model for OpenKey<'k> {
+    ghost use Rattle.std.specs.Prelude.{List, Option, ℤ};
+    ghost use Rattle.partial_merge.specs.OpenKeys.{open_values};
+
+    ghost Value = { List (Option ℤ) };
+
+    ghost view = { λ k. open_values k.cells };
+}
+
+/// A number, or NULL.
+fn cell(present: bool, number: i64) -> Option<i64>
+    ensures { result ≡ cell_by present number }
+{
+    if present { Some(number) } else { None }
+}
+
+/// The number, and four at most.
+fn at_most_four(taken: u8) -> usize
+    ensures min { result ≡ min taken SHORT_KEY_MOST }
+    ensures few { result ≤ SHORT_KEY_MOST }
+{
+    usize::from(taken).min(SHORT_KEY_MOST)
+}
+
+impl<'k> OpenKey<'k> {
+    /// These values.
+    pub(crate) fn few(values: ShortKey) -> OpenKey<'k>
+        ensures { result ≡ values }
     {
-        ShortKey {
-            taken: 0,
-            values: [None; SHORT_KEY_MOST],
+        OpenKey {
+            cells: Cells::Few(values),
         }
     }
 
-    /// The key of these values.
-    pub(crate) fn from_slice(values: &[Option<i64>]) -> ShortKey
-        requires { length values.now ≤ SHORT_KEY_MOST }
+    /// The values of a slice.
+    pub(crate) fn many(values: &'k [Option<i64>]) -> OpenKey<'k>
         ensures { result ≡ values.now }
     {
-        let mut key = ShortKey::new();
-        for value in values {
-            key.push(*value);
+        OpenKey {
+            cells: Cells::Many(values),
         }
-        key
     }
 
-    /// Puts a value behind the others.
-    fn push(&mut self, value: Option<i64>)
-        requires { length self.old < SHORT_KEY_MOST }
-        ensures { self.new ≡ self.old ++ value ∷ [] }
+    /// The values, in their order.
+    pub(crate) fn as_slice(&self) -> &[Option<i64>]
+        ensures { result.now ≡ self.now }
     {
-        self.values[self.taken] = value;
-        self.taken += 1;
+        match &self.cells {
+            Cells::Few(values) => values.as_slice(),
+            Cells::Many(values) => *values,
+        }
+    }
+}
+
+impl ShortKey {
+    /// The first so many of these.
+    pub(crate) fn of(
+        taken: u8,
+        present: &[bool; SHORT_KEY_MOST],
+        numbers: &[i64; SHORT_KEY_MOST],
+    ) -> ShortKey
+        ensures { result ≡ few_values taken present.now numbers.now }
+    {
+        ShortKey {
+            taken: at_most_four(taken),
+            values: [
+                cell(present[0], numbers[0]),
+                cell(present[1], numbers[1]),
+                cell(present[2], numbers[2]),
+                cell(present[3], numbers[3]),
+            ],
+        }
     }
 
     /// The values, in their order.

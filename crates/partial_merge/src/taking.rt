@@ -100,29 +100,29 @@ fn take_one(
     tallies: &mut Vec<Tally>,
     hints: &mut Hints,
     more: &Vec<Tally>,
-    other: Mark,
+    other: &mut Mark,
 )
     requires room { vec_len marks.old < vec_capacity marks.old }
-    requires space { vec_len tallies.old + width_of other ≤ vec_capacity tallies.old }
+    requires space { vec_len tallies.old + width_of other.old ≤ vec_capacity tallies.old }
     requires mine { ArePiled tallies.old.items marks.old.items }
     requires own { HaveOwnParts marks.old.items }
-    requires there { IsThere (length more.now.items) other }
-    requires small { IsSmallGroup (group_of more.now.items other) }
+    requires there { IsThere (length more.now.items) other.old }
+    requires small { IsSmallGroup (group_of more.now.items other.old) }
     requires alike { MayGather (pile_of tallies.old.items marks.old.items)
-        (group_of more.now.items other ∷ []) }
+        (group_of more.now.items other.old ∷ []) }
     ensures mine { ArePiled tallies.new.items marks.new.items }
     ensures own { HaveOwnParts marks.new.items }
     ensures put { pile_of tallies.new.items marks.new.items
         ≡ gather key_order add_own_sums (pile_of tallies.old.items marks.old.items
-        ++ group_of more.now.items other ∷ []) }
+        ++ group_of more.now.items other.old ∷ []) }
     ensures long { vec_len marks.new ≤ vec_len marks.old + 1 }
     ensures room { vec_capacity marks.new ≡ vec_capacity marks.old }
-    ensures more { vec_len tallies.new ≤ vec_len tallies.old + width_of other }
+    ensures more { vec_len tallies.new ≤ vec_len tallies.old + width_of other.old }
     ensures space { vec_capacity tallies.new ≡ vec_capacity tallies.old }
 {
     match hints.find(marks, &other.key) {
-        Some(place) => add_to(marks, tallies, place, more, &other),
-        None => put_behind(marks, tallies, hints, more, other),
+        Some(place) => add_to(marks, tallies, place, more, other),
+        None => put_behind(marks, tallies, hints, more, other.take()),
     }
 }
 
@@ -156,12 +156,13 @@ fn put_behind(
     put_alone(marks, tallies, more, other);
 }
 
-/// Takes in the groups of the other pile. Takes no memory.
+/// Takes in the groups of the other pile. Takes no memory. They are read where they stand: most of them are added to groups
+/// of the pile, and only what is put behind is moved.
 pub(crate) fn take_all(
     marks: &mut Vec<Mark>,
     tallies: &mut Vec<Tally>,
     hints: &mut Hints,
-    others: Vec<Mark>,
+    mut others: Vec<Mark>,
     more: &Vec<Tally>,
 )
     requires room { vec_len marks.old + length others.items ≤ vec_capacity marks.old }
@@ -178,7 +179,7 @@ pub(crate) fn take_all(
         ≡ gather key_order add_own_sums (pile_of tallies.old.items marks.old.items
         ++ pile_of more.now.items others.items) }
 {
-    for other in others {
-        take_one(marks, tallies, hints, more, other);
+    for i in 0..others.len() {
+        take_one(marks, tallies, hints, more, &mut others[i]);
     }
 }

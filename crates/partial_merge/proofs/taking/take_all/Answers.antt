@@ -1,38 +1,65 @@
-use Rattle.std.proofs.Common.{◌≡◌, ◌+◌, ◌*◌, ◌++◌, ◌∷◌, [], length, ap, arith, sym, append_assoc, ◌∙◌}
-use Rattle.std.specs.Vec.Iter.{into_iter_items}
-use Rattle.std.proofs.lemmas.List.{append-nil}
+use Rattle.std.proofs.Common.{◌≡◌, ◌<◌, ◌+◌, ◌*◌, ℕ, List, [], drop, length, take, arith, subst, sym}
+use Rattle.std.proofs.lemmas.List.{get_or_read, take_all}
 use Rattle.partial_merge.specs.Adding.{width_in}
-use Rattle.partial_merge.proofs.Settling.{mul_less, none_left}
-use Rattle.partial_merge.proofs.Gaining.{Comes, all_taken, comes, one_taken}
+use Rattle.partial_merge.specs.declared.mark.Mark.{Mark}
+use Rattle.partial_merge.proofs.Gaining.{Comes, Midway, all_taken, comes, one_taken}
+use Rattle.partial_merge.proofs.Settling.{mul_less}
+use Rattle.partial_merge.proofs.Walking.{Stands, long_stays, rest_stays, stands}
 use Rattle.partial_merge.proofs.taking.take_all.Goals as goal
 
-pub take_one-requires-clause-small : goal.take_one-requires-clause-small
-take_one-requires-clause-small c = Comes.small (comes c.args.tallies.now.items c.args.marks.now.items c.args.more.now.items c.loop-other.yielded (into_iter_items c.next.new.self) c.args.others.items c.in-Some.other c.loop-other.tallies.items c.loop-other.marks.items c.requires.mine c.requires.theirs c.requires.alike (c.loop-other.invariant.all ∙ ap (λ l. c.loop-other.yielded ++ l) c.in-Some.ensures.steps.0) c.loop-other.invariant.midway)
+blank : Mark
+blank = record { key = []; rows = 0; from = 0; to = 0 }
 
-pub take_one-requires-clause-alike : goal.take_one-requires-clause-alike
-take_one-requires-clause-alike c = Comes.alike (comes c.args.tallies.now.items c.args.marks.now.items c.args.more.now.items c.loop-other.yielded (into_iter_items c.next.new.self) c.args.others.items c.in-Some.other c.loop-other.tallies.items c.loop-other.marks.items c.requires.mine c.requires.theirs c.requires.alike (c.loop-other.invariant.all ∙ ap (λ l. c.loop-other.yielded ++ l) c.in-Some.ensures.steps.0) c.loop-other.invariant.midway)
+below : (c : goal.After-index_mut) → c.loop-i.i < length c.args.others.items
+below c = omega (arith, c.loop-i-test.true, c.len-i-end.ensures, c.args.others.ok.0)
+
+at : (c : goal.After-index_mut) → Stands c.args.others.items c.loop-i.i c.index_mut.result.now
+at c = stands c.args.others.items c.loop-i.others.items c.loop-i.i c.index_mut.result.now blank (below c) c.loop-i.invariant.long c.loop-i.invariant.rest
+    (get_or_read c.loop-i.others.items c.loop-i.i c.index_mut.result.now (omega (arith, below c, c.loop-i.invariant.long)) c.index_mut.ensures.value blank)
+
+known : (c : goal.After-index_mut) → Comes c.args.tallies.now.items c.args.marks.now.items c.args.more.now.items (take c.loop-i.i c.args.others.items) c.args.others.items c.index_mut.result.now c.loop-i.tallies.items c.loop-i.marks.items
+known c = comes c.args.tallies.now.items c.args.marks.now.items c.args.more.now.items (take c.loop-i.i c.args.others.items) (drop (c.loop-i.i + 1) c.args.others.items) c.args.others.items c.index_mut.result.now c.loop-i.tallies.items c.loop-i.marks.items c.requires.mine c.requires.theirs c.requires.alike (at c).all c.loop-i.invariant.midway
+
+less : (c : goal.After-index_mut) → length (drop c.loop-i.i c.args.others.items) * width_in c.args.others.items ≡ length (drop (c.loop-i.i + 1) c.args.others.items) * width_in c.args.others.items + width_in c.args.others.items
+less c = mul_less (length (drop c.loop-i.i c.args.others.items)) (length (drop (c.loop-i.i + 1) c.args.others.items)) (width_in c.args.others.items) (sym (at c).more)
+
+pub take_one-requires-clause-room : goal.take_one-requires-clause-room
+take_one-requires-clause-room c = omega (arith, c.loop-i.invariant.room, (at c).more)
 
 pub take_one-requires-clause-space : goal.take_one-requires-clause-space
-take_one-requires-clause-space c =
-    let k : Comes c.args.tallies.now.items c.args.marks.now.items c.args.more.now.items c.loop-other.yielded c.args.others.items c.in-Some.other c.loop-other.tallies.items c.loop-other.marks.items = comes c.args.tallies.now.items c.args.marks.now.items c.args.more.now.items c.loop-other.yielded (into_iter_items c.next.new.self) c.args.others.items c.in-Some.other c.loop-other.tallies.items c.loop-other.marks.items c.requires.mine c.requires.theirs c.requires.alike (c.loop-other.invariant.all ∙ ap (λ l. c.loop-other.yielded ++ l) c.in-Some.ensures.steps.0) c.loop-other.invariant.midway in
-    let less : length (into_iter_items c.loop-other.other-iterator) * width_in c.args.others.items ≡ length (into_iter_items c.next.new.self) * width_in c.args.others.items + width_in c.args.others.items =
-    mul_less (length (into_iter_items c.loop-other.other-iterator)) (length (into_iter_items c.next.new.self)) (width_in c.args.others.items) (omega (arith, ap length c.in-Some.ensures.steps.0)) in
-    omega (arith, c.loop-other.invariant.space, less, Comes.wide k)
+take_one-requires-clause-space c = omega (arith, c.loop-i.invariant.space, less c, Comes.wide (known c))
 
-pub loop-other-preserved : goal.loop-other-preserved
-loop-other-preserved c =
-    let k : Comes c.args.tallies.now.items c.args.marks.now.items c.args.more.now.items c.loop-other.yielded c.args.others.items c.in-Some.other c.loop-other.tallies.items c.loop-other.marks.items = comes c.args.tallies.now.items c.args.marks.now.items c.args.more.now.items c.loop-other.yielded (into_iter_items c.next.new.self) c.args.others.items c.in-Some.other c.loop-other.tallies.items c.loop-other.marks.items c.requires.mine c.requires.theirs c.requires.alike (c.loop-other.invariant.all ∙ ap (λ l. c.loop-other.yielded ++ l) c.in-Some.ensures.steps.0) c.loop-other.invariant.midway in
-    let less : length (into_iter_items c.loop-other.other-iterator) * width_in c.args.others.items ≡ length (into_iter_items c.next.new.self) * width_in c.args.others.items + width_in c.args.others.items =
-    mul_less (length (into_iter_items c.loop-other.other-iterator)) (length (into_iter_items c.next.new.self)) (width_in c.args.others.items) (omega (arith, ap length c.in-Some.ensures.steps.0)) in
+pub take_one-requires-clause-there : goal.take_one-requires-clause-there
+take_one-requires-clause-there c = Comes.there (known c)
+
+pub take_one-requires-clause-small : goal.take_one-requires-clause-small
+take_one-requires-clause-small c = Comes.small (known c)
+
+pub take_one-requires-clause-alike : goal.take_one-requires-clause-alike
+take_one-requires-clause-alike c = Comes.alike (known c)
+
+pub loop-i-preserved : goal.loop-i-preserved
+loop-i-preserved c =
+    let others : List Mark = c.args.others.items in
+    let i : ℕ = c.loop-i.i in
+    let low : i < length others = omega (arith, c.loop-i-test.true, c.len-i-end.ensures, c.args.others.ok.0) in
+    let s : Stands others i c.index_mut.result.now = stands others c.loop-i.others.items i c.index_mut.result.now blank low c.loop-i.invariant.long c.loop-i.invariant.rest
+    (get_or_read c.loop-i.others.items i c.index_mut.result.now (omega (arith, low, c.loop-i.invariant.long)) c.index_mut.ensures.value blank) in
+    let k : Comes c.args.tallies.now.items c.args.marks.now.items c.args.more.now.items (take i others) others c.index_mut.result.now c.loop-i.tallies.items c.loop-i.marks.items =
+    comes c.args.tallies.now.items c.args.marks.now.items c.args.more.now.items (take i others) (drop (i + 1) others) others c.index_mut.result.now c.loop-i.tallies.items c.loop-i.marks.items c.requires.mine c.requires.theirs c.requires.alike s.all c.loop-i.invariant.midway in
+    let fewer : length (drop i others) * width_in others ≡ length (drop (i + 1) others) * width_in others + width_in others =
+    mul_less (length (drop i others)) (length (drop (i + 1) others)) (width_in others) (sym s.more) in
     record {
-      midway = one_taken c.args.tallies.now.items c.args.marks.now.items c.args.more.now.items c.loop-other.yielded c.args.others.items c.in-Some.other c.loop-other.tallies.items c.take_one.new.tallies.items c.loop-other.marks.items c.take_one.new.marks.items c.loop-other.invariant.midway k c.take_one.ensures.mine c.take_one.ensures.own c.take_one.ensures.put;
-      all = c.loop-other.invariant.all ∙ ap (λ l. c.loop-other.yielded ++ l) c.in-Some.ensures.steps.0 ∙ sym (append_assoc c.loop-other.yielded (c.in-Some.other ∷ []) (into_iter_items c.next.new.self));
-      room = omega (arith, c.loop-other.invariant.room, ap length c.in-Some.ensures.steps.0, c.take_one.ensures.long, c.take_one.ensures.room);
-      space = omega (arith, c.loop-other.invariant.space, less, Comes.wide k, c.take_one.ensures.more, c.take_one.ensures.space);
+      midway = subst (λ (taken : List Mark). Midway c.args.tallies.now.items c.args.marks.now.items c.args.more.now.items taken c.take_one.new.tallies.items c.take_one.new.marks.items) (sym s.front)
+          (one_taken c.args.tallies.now.items c.args.marks.now.items c.args.more.now.items (take i others) others c.index_mut.result.now c.loop-i.tallies.items c.take_one.new.tallies.items c.loop-i.marks.items c.take_one.new.marks.items c.loop-i.invariant.midway k c.take_one.ensures.mine c.take_one.ensures.own c.take_one.ensures.put);
+      long = long_stays others c.loop-i.others.items i c.take_one.new.other c.loop-i.invariant.long;
+      rest = rest_stays others c.loop-i.others.items i blank c.take_one.new.other low c.loop-i.invariant.long c.loop-i.invariant.rest;
+      room = omega (arith, c.loop-i.invariant.room, s.more, c.take_one.ensures.long, c.take_one.ensures.room);
+      space = omega (arith, c.loop-i.invariant.space, fewer, Comes.wide k, c.take_one.ensures.more, c.take_one.ensures.space);
     }
 
 pub returns-clause-joined : goal.returns-clause-joined
 returns-clause-joined c =
-    all_taken c.args.tallies.now.items c.args.marks.now.items c.args.more.now.items c.loop-other.yielded c.args.others.items c.loop-other.tallies.items c.loop-other.marks.items c.requires.mine c.requires.theirs c.requires.alike
-    (c.loop-other.invariant.all ∙ ap (λ l. c.loop-other.yielded ++ l) (none_left (into_iter_items c.loop-other.other-iterator) (sym c.loop-other.other-iterator.rest.ok.0 ∙ c.in-None.ensures.steps.0)) ∙ append-nil c.loop-other.yielded)
-    c.loop-other.invariant.midway
+    all_taken c.args.tallies.now.items c.args.marks.now.items c.args.more.now.items (take c.loop-i.i c.args.others.items) c.args.others.items c.loop-i.tallies.items c.loop-i.marks.items c.requires.mine c.requires.theirs c.requires.alike
+    (sym (take_all c.loop-i.i c.args.others.items (omega (arith, c.loop-i-test.false, c.len-i-end.ensures, c.args.others.ok.0))))
+    c.loop-i.invariant.midway

@@ -1,0 +1,76 @@
+//! The values of the first key column, in the order of the rows.
+//!
+//! A key is read once for each run of rows. In the column these rows stand anywhere, and much is done between two keys, so
+//! that each would be waited for; a short loop over all rows reads many of them at one time.
+
+ghost use Rattle.std.specs.Prelude.{◌≡◌, ◌+◌, ◌++◌, ◌<◌, ◌≤◌, [], All, IfOk, IsTrue, false, get_or, length, map, vec_capacity, vec_len};
+ghost use Rattle.std.specs.List.{list_all};
+ghost use Rattle.table_rules.specs.declared.limits.TheConstants.{FIRST_COLUMNS};
+ghost use Rattle.sky_row.specs.Columns.{no_row, objects_at};
+ghost use Rattle.value_rules.specs.Sound.{has_col};
+ghost use Rattle.value_rules.specs.Values.{cell_of, row};
+ghost use Rattle.chunk_scan.specs.Leading.{leading};
+
+use crate::scratch::Scratch;
+use column_block::Block;
+use sky_io::Memory;
+use sql_bound::BoundCol;
+
+/// The values of the first key column of the rows at these places, in a vector of the scratch; none where there is no key.
+pub(crate) fn lead(
+    block: &Block,
+    keys: &[BoundCol],
+    places: &[u32],
+    scratch: &mut Scratch,
+) -> Result<Vec<Option<i64>>, Memory>
+    requires there { All (λ place. place < length block.now.objects) places.now }
+    requires sound { IsTrue (list_all (has_col (FIRST_COLUMNS + block.now.width) false) keys.now) }
+    ensures { IfOk result (λ lead. lead.items
+        ≡ leading keys.now (objects_at block.now.objects places.now)) }
+{
+    let mut lead = scratch.cells.take(places.len())?;
+    put_lead(&mut lead, block, keys, places);
+    Ok(lead)
+}
+
+/// Puts them into an empty list with room for them. Takes no memory.
+fn put_lead(lead: &mut Vec<Option<i64>>, block: &Block, keys: &[BoundCol], places: &[u32])
+    requires empty { lead.old.items ≡ [] }
+    requires room { length places.now ≤ vec_capacity lead.old }
+    requires there { All (λ place. place < length block.now.objects) places.now }
+    requires sound { IsTrue (list_all (has_col (FIRST_COLUMNS + block.now.width) false) keys.now) }
+    ensures { lead.new.items ≡ leading keys.now (objects_at block.now.objects places.now) }
+{
+    match keys {
+        [] => (),
+        [key, ..] => put_cells(lead, block, key, places),
+    }
+}
+
+/// Puts the values of a key column at these places behind the others. Takes no memory.
+fn put_cells(lead: &mut Vec<Option<i64>>, block: &Block, key: &BoundCol, places: &[u32])
+    requires room { vec_len lead.old + length places.now ≤ vec_capacity lead.old }
+    requires there { All (λ place. place < length block.now.objects) places.now }
+    requires col { IsTrue (has_col (FIRST_COLUMNS + block.now.width) false key.now) }
+    ensures { lead.new.items ≡ lead.old.items
+        ++ map (λ o. cell_of (row o) key.now) (objects_at block.now.objects places.now) }
+{
+    for place in places {
+        lead.push_reserved(cell(block, key, *place as usize));
+    }
+}
+
+/// The value of the row at the place in a key column.
+pub(crate) fn cell(block: &Block, key: &BoundCol, place: usize) -> Option<i64>
+    requires there { place < length block.now.objects }
+    requires col { IsTrue (has_col (FIRST_COLUMNS + block.now.width) false key.now) }
+    ensures { result ≡ cell_of (row (get_or block.now.objects place no_row)) key.now }
+{
+    match key.col {
+        0 => Some(block.ids()[place]),
+        1 => Some(i64::from(block.xs()[place])),
+        2 => Some(i64::from(block.ys()[place])),
+        3 => Some(i64::from(block.zs()[place])),
+        col => block.further(col).get(place),
+    }
+}
