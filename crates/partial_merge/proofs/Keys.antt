@@ -1,7 +1,7 @@
 -- What stands in a short key is what was put there.
-use Rattle.std.proofs.Common.{◌≡◌, ◌≤◌, ◌∷◌, [], length, IfSome, None, Some, ℕ, ℤ, Bool, List, Option, get_or, ap, sym, ◌∙◌, arith}
+use Rattle.std.proofs.Common.{◌≡◌, ◌≤◌, ◌∷◌, [], length, IfSome, None, Some, ℕ, ℤ, Bool, List, Option, get_or, ap, ◌∙◌, arith}
 use Rattle.std.specs.Prelude.{is_some}
-use Rattle.partial_merge.specs.KeyValues.{cell_by, few_values, first_of_four}
+use Rattle.partial_merge.specs.KeyValues.{cell_by, first_of_four}
 
 pub cell_is : (v : Option ℤ) (present : Bool) (put number : ℤ) → present ≡ is_some v → put ≡ number → IfSome v (λ n. number ≡ n) → cell_by present put ≡ v
 cell_is None present put number is same one = ap (λ p. cell_by p put) is

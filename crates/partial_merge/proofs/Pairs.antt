@@ -1,5 +1,5 @@
 -- Pairs whose values are their own two ids: beside the other rows of a bag, put in order, and their table.
-use Rattle.std.proofs.Common.{◌≡◌, ℕ, ◌+◌, ◌-◌, ◌*◌, ◌^◌, ◌<◌, ◌≤◌, ℤ, pos, Bool, true, false, List, [], ◌∷◌, ◌++◌, append_assoc, append-nil, map, length, length-append, take, get_or, Option, Some, None, refl, sym, ap, subst, ◌∙◌, arith, count_by, is_eq, is_lt, IsPermutation, IsSorted}
+use Rattle.std.proofs.Common.{◌≡◌, ℕ, ◌+◌, ◌-◌, ◌*◌, ◌^◌, ◌<◌, ◌≤◌, ℤ, Bool, true, false, List, [], ◌∷◌, ◌++◌, append_assoc, append-nil, map, length, length-append, take, get_or, Option, Some, None, refl, sym, ap, subst, ◌∙◌, arith, count_by, is_eq, is_lt, IsPermutation, IsSorted}
 use Rattle.std.specs.Cmp.{IsTotalOrder}
 use Rattle.std.specs.List.{All, AllByRecursion as Each, flat_map}
 use Rattle.std.specs.Bool.{OnTrue}

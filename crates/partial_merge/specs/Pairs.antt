@@ -1,5 +1,5 @@
 -- Pairs without an order key whose values are their own two ids: the ids are all that has to be kept of them.
-use Rattle.std.specs.Prelude.{ℤ, pos, List, [], ◌∷◌, map, Some}
+use Rattle.std.specs.Prelude.{pos, List, [], ◌∷◌, map, Some}
 use Rattle.std.specs.declared.cmp.Ordering.{Ordering}
 use Rattle.std.specs.Ordering.{int_cmp, on, then_cmp}
 use Rattle.answer_rules.specs.declared.rewritten.MergeItem.{MergeItem}

@@ -1,4 +1,4 @@
-use Rattle.std.proofs.Common.{rules, ◌≡◌, FitsSigned, w64}
+use Rattle.std.proofs.Common.{rules, FitsSigned, w64}
 use Rattle.std.proofs.lemmas.Int.{to_z-of_z}
 use Rattle.partial_merge.proofs.Keys.{cell_is, four_are}
 use Rattle.partial_merge.proofs.key.packed.Goals as goal
