@@ -1,7 +1,7 @@
 -- The sweep of a strip: each row with itself, and with those behind it that are near enough, in both orders.
 use Rattle.std.proofs.Common.{◌≡◌, ℕ, zero, suc, ◌+◌, ◌-◌, ◌<◌, ◌≤◌, ℤ, pos, ◌+ℤ◌, ◌-ℤ◌, ◌≤ℤ◌, Bool, true, false, cond, ◌&&◌, List, [], ◌∷◌, ◌++◌, length, get_or, take, drop, slice_range, filter, int_le, int_lt, neg_ℤ, refl, sym, ap, subst, ◌∙◌, arith, IsPermutation, All}
 use Rattle.std.specs.List.{AllWithin, flat_map}
-use Rattle.std.proofs.lemmas.Bool.{both_ways as two_answers}
+use Rattle.std.proofs.lemmas.Bool.{and_parts, both_ways as two_answers}
 use Rattle.std.proofs.lemmas.Int.{ints}
 use Rattle.std.proofs.lemmas.List.{append-nil, drop_more, map-append, get_or-map, get_or-drop, length-drop, length-map, take_all, take_more}
 use Rattle.std.proofs.lemmas.List.Concat.{flat_map-append}
@@ -20,7 +20,7 @@ use Rattle.answer_rules.specs.Pieces.{PieceView}
 use Rattle.answer_rules.specs.declared.rewritten.ChunkQuery.{ChunkQuery}
 use Rattle.partial_merge.specs.Joining.{IsOfRows}
 use Rattle.near_join.specs.Bare.{IsBare}
-use Rattle.near_join.specs.Gains.{Gains, both_ways, held_pair, held_rows, swept_pairs, upward_pairs, way}
+use Rattle.near_join.specs.Gains.{Gains, both_ways, held_pair, held_rows, if_met, swept_pairs, upward_pairs, way}
 use Rattle.near_join.specs.Rising.{Rises, is_upward}
 use Rattle.near_join.specs.Strips.{heights_at, is_close, object_at}
 use Rattle.near_join.specs.Walk.{is_near, joins}
@@ -145,16 +145,12 @@ far_ways : (cq : ChunkQuery) (limit : ℤ) (bounds : Bounds) (u v : Obj) → is_
 far_ways cq limit bounds u v h =
     ap (λ l. l ++ held_pair cq limit bounds v u) (far_pair cq limit (in_bounds bounds u.at) u v h) ∙ far_pair cq limit (in_bounds bounds v.at) v u (same_near limit u v ∙ h)
 
-both_of : (a b : Bool) → (a && b) ≡ true → (a ≡ true) × (b ≡ true)
-both_of true b h = (refl, h)
-both_of false b h = absurd (cc)
-
 -- rows that are near enough are a pair where they meet the conditions, of those whose first row is held
 pub way_open : (cq : ChunkQuery) (limit : ℤ) (held rises : Bool) (u v : Obj) → is_near limit u v ≡ true → (held && is_upward rises u v) ≡ true
-    → cond (meets cq.conds (pair u v)) (pair u v ∷ []) [] ≡ way cq limit held u v
+    → if_met cq.conds u v ≡ way cq limit held u v
 way_open cq limit held rises u v near may =
     sym (ap (λ b. cond (held && (b && meets cq.conds (pair u v))) (pair u v ∷ []) []) near
-    ∙ ap (λ b. cond (b && meets cq.conds (pair u v)) (pair u v ∷ []) []) (both_of held (is_upward rises u v) may).0)
+    ∙ ap (λ b. cond (b && meets cq.conds (pair u v)) (pair u v ∷ []) []) (and_parts held (is_upward rises u v) may).0)
 
 not_met : (conds : List BoundCond) (u v : Obj) → Rises conds → int_lt u.id v.id ≡ false → meets conds (pair u v) ≡ false
 not_met conds u v rising h = by (meets conds (pair u v)) refl
@@ -182,15 +178,9 @@ way_shut cq limit false rises u v rising h = refl
 way_shut cq limit true false u v rising h = absurd (cc)
 way_shut cq limit true true u v rising h = unmet_pair cq limit true u v (not_met cq.conds u v (rising refl) h)
 
--- the same of a bare query, which has no other conditions
-pub bare_open : (cq : ChunkQuery) (limit : ℤ) (held rises : Bool) (u v : Obj) → IsBare rises cq → is_near limit u v ≡ true → (held && is_upward rises u v) ≡ true
-    → pair u v ∷ [] ≡ way cq limit held u v
-bare_open cq limit held rises u v bare near may =
-    ap (λ b. cond b (pair u v ∷ []) []) (sym (bare.conds u v ∙ (both_of held (is_upward rises u v) may).1)) ∙ way_open cq limit held rises u v near may
-
-pub bare_shut : (cq : ChunkQuery) (limit : ℤ) (held rises : Bool) (u v : Obj) → IsBare rises cq → (held && is_upward rises u v) ≡ false → way cq limit held u v ≡ []
-bare_shut cq limit false rises u v bare h = refl
-bare_shut cq limit true rises u v bare h = unmet_pair cq limit true u v (bare.conds u v ∙ h)
+-- of a bare query a pair with the lower id first, if it has to be, meets the conditions
+pub bare_met : (cq : ChunkQuery) (rises : Bool) (u v : Obj) → IsBare rises cq → is_upward rises u v ≡ true → pair u v ∷ [] ≡ if_met cq.conds u v
+bare_met cq rises u v bare up = ap (λ b. cond b (pair u v ∷ []) []) (sym (bare.conds u v ∙ up))
 
 -- ---- the pair of a row with itself
 

@@ -3,6 +3,8 @@ use Rattle.std.specs.Prelude.{◌≡◌, ℤ, Bool, List, [], ◌∷◌, Option,
 use Rattle.std.specs.List.{filter, flat_map}
 use Rattle.table_rules.specs.Objects.{Obj}
 use Rattle.sky_rules.specs.Bounds.{Bounds, in_bounds}
+use Rattle.sql_bound.specs.declared.cond.BoundCond.{BoundCond}
+use Rattle.value_rules.specs.Truth.{meets}
 use Rattle.value_rules.specs.Values.{Pick, pair}
 use Rattle.answer_rules.specs.Keeps.{KeepsFirst}
 use Rattle.answer_rules.specs.Pieces.{PieceView, OfRows, OfGroups, chunk_lines}
@@ -38,6 +40,10 @@ swept_pairs cq limit others rows = flat_map (row_pairs cq limit others) rows
 -- of some rows those that the bounds hold
 abbrev pub held_rows : Bounds → List Obj → List Obj
 held_rows bounds rows = filter (λ o. in_bounds bounds o.at) rows
+
+-- the pair of two rows, where it meets the conditions
+abbrev pub if_met : List BoundCond → Obj → Obj → List Pick
+if_met conds u v = if meets conds (pair u v) then pair u v ∷ [] else []
 
 -- the pair of two rows that join, where the first is one that is held
 abbrev pub way : ChunkQuery → ℤ → Bool → Obj → Obj → List Pick

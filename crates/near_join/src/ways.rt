@@ -1,5 +1,5 @@
 //! The pairs of a row with its neighbours: in both orders, or in one where the lower id has to come first, of those whose first
-//! row the subchunk holds, what meets the conditions. For these the rows are looked up.
+//! row the subchunk holds, what meets the conditions. For these the rows are looked up, where more than their ids is asked.
 
 ghost use Rattle.std.specs.Prelude.{◌≡◌, ◌&&◌, ◌+◌, ◌<◌, ◌∷◌, [], All, IsTrue, OnOk, if◌then◌else◌, int_le, int_lt, length, pos, true};
 ghost use Rattle.std.specs.List.{flat_map};
@@ -8,14 +8,15 @@ ghost use Rattle.value_rules.specs.Truth.{meets};
 ghost use Rattle.value_rules.specs.Values.{pair};
 ghost use Rattle.partial_merge.specs.Joining.{IsOfRows};
 ghost use Rattle.near_join.specs.Bare.{IsAsked};
-ghost use Rattle.near_join.specs.Gains.{Gains, way};
+ghost use Rattle.near_join.specs.Gains.{Gains, if_met, way};
 ghost use Rattle.near_join.specs.Neighbours.{IsRowOf, row_of, told_pairs, told_ways};
+ghost use Rattle.near_join.specs.Rising.{is_upward};
 ghost use Rattle.near_join.specs.Sound.{IsSoundLine};
 ghost use Rattle.near_join.specs.Walk.{is_near};
 ghost use Rattle.table_rules.specs.declared.limits.TheConstants.{FIRST_COLUMNS};
 
 use crate::asked::Asked;
-use crate::by_ids::push_by_ids;
+use crate::by_ids::push_line;
 use crate::line::{fill, rank_of};
 use crate::neighbour::Neighbour;
 use crate::reach::Reach;
@@ -46,15 +47,41 @@ pub(crate) fn push_found(
         asked.now.reach.now.limit asked.now.rows.now.objects this.now found.now)
         piece.old piece.new) }
 {
-    if asked.reach.bare {
-        push_by_ids(piece, asked, this, found)
+    push_itself(piece, values, asked, this)?;
+    push_others(piece, values, asked, this, found)
+}
+
+/// Puts the pair of the row with itself into the piece, where it is near enough to itself.
+fn push_itself(
+    piece: &mut Piece<'_>,
+    values: &mut Vec<Option<Num>>,
+    asked: &Asked<'_>,
+    this: &Neighbour,
+) -> Result<(), Memory>
+    requires of_rows { IsOfRows piece.old }
+    requires row { IsRowOf asked.now.rows.now.objects this.now }
+    requires asked { IsAsked (length asked.now.rows.now.names) asked.now.query.now
+        asked.now.reach.now.rises asked.now.reach.now.bare }
+    ensures { OnOk result (Gains asked.now.query.now (way asked.now.query.now
+        asked.now.reach.now.limit this.now.held (row_of asked.now.rows.now.objects this.now)
+        (row_of asked.now.rows.now.objects this.now)) piece.old piece.new) }
+{
+    if is_own_pair(asked.reach) {
+        push_way(piece, values, asked, this, this)
     } else {
-        push_by_rows(piece, values, asked, this, found)
+        Ok(())
     }
 }
 
-/// Puts these pairs into the piece, of rows that are looked up.
-fn push_by_rows(
+/// Whether a row is near enough to itself.
+fn is_own_pair(reach: &Reach) -> bool
+    ensures { result ≡ int_le (pos 0) reach.now.limit }
+{
+    0 <= reach.limit
+}
+
+/// Puts the pairs of the row with its neighbours into the piece, in both orders.
+fn push_others(
     piece: &mut Piece<'_>,
     values: &mut Vec<Option<Num>>,
     asked: &Asked<'_>,
@@ -69,66 +96,12 @@ fn push_by_rows(
         found.now }
     requires asked { IsAsked (length asked.now.rows.now.names) asked.now.query.now
         asked.now.reach.now.rises asked.now.reach.now.bare }
-    ensures { OnOk result (Gains asked.now.query.now (told_pairs asked.now.query.now
-        asked.now.reach.now.limit asked.now.rows.now.objects this.now found.now)
-        piece.old piece.new) }
-{
-    let row = asked.rows.get(this.place);
-    push_itself(piece, values, asked, this.held, &row)?;
-    push_others(piece, values, asked, this.held, &row, found)
-}
-
-/// Puts the pair of the row with itself into the piece, where it is held and the pair meets the conditions.
-fn push_itself(
-    piece: &mut Piece<'_>,
-    values: &mut Vec<Option<Num>>,
-    asked: &Asked<'_>,
-    held: bool,
-    row: &Row,
-) -> Result<(), Memory>
-    requires of_rows { IsOfRows piece.old }
-    requires asked { IsAsked (length row.now.further) asked.now.query.now
-        asked.now.reach.now.rises asked.now.reach.now.bare }
-    ensures { OnOk result (Gains asked.now.query.now
-        (way asked.now.query.now asked.now.reach.now.limit held row.now row.now)
-        piece.old piece.new) }
-{
-    if is_own_pair(asked.reach) {
-        push_way(piece, values, asked, held, row, row)
-    } else {
-        Ok(())
-    }
-}
-
-/// Whether a row is near enough to itself.
-pub(crate) fn is_own_pair(reach: &Reach) -> bool
-    ensures { result ≡ int_le (pos 0) reach.now.limit }
-{
-    0 <= reach.limit
-}
-
-/// Puts the pairs of the row with its neighbours into the piece, in both orders.
-fn push_others(
-    piece: &mut Piece<'_>,
-    values: &mut Vec<Option<Num>>,
-    asked: &Asked<'_>,
-    held: bool,
-    row: &Row,
-    found: &[Neighbour],
-) -> Result<(), Memory>
-    requires of_rows { IsOfRows piece.old }
-    requires wide { length row.now.further ≡ length asked.now.rows.now.names }
-    requires found { All (IsRowOf asked.now.rows.now.objects) found.now }
-    requires near { All (λ n. is_near asked.now.reach.now.limit row.now
-        (row_of asked.now.rows.now.objects n) ≡ true) found.now }
-    requires asked { IsAsked (length asked.now.rows.now.names) asked.now.query.now
-        asked.now.reach.now.rises asked.now.reach.now.bare }
     ensures { OnOk result (Gains asked.now.query.now (flat_map (told_ways asked.now.query.now
-        asked.now.reach.now.limit asked.now.rows.now.objects held row.now) found.now)
-        piece.old piece.new) }
+        asked.now.reach.now.limit asked.now.rows.now.objects this.now.held
+        (row_of asked.now.rows.now.objects this.now)) found.now) piece.old piece.new) }
 {
     for other in found {
-        push_other(piece, values, asked, held, row, other)?;
+        push_other(piece, values, asked, this, other)?;
     }
     Ok(())
 }
@@ -138,53 +111,53 @@ fn push_other(
     piece: &mut Piece<'_>,
     values: &mut Vec<Option<Num>>,
     asked: &Asked<'_>,
-    held: bool,
-    row: &Row,
+    this: &Neighbour,
     other: &Neighbour,
 ) -> Result<(), Memory>
     requires of_rows { IsOfRows piece.old }
-    requires wide { length row.now.further ≡ length asked.now.rows.now.names }
+    requires row { IsRowOf asked.now.rows.now.objects this.now }
     requires there { IsRowOf asked.now.rows.now.objects other.now }
-    requires near { is_near asked.now.reach.now.limit row.now
+    requires near { is_near asked.now.reach.now.limit (row_of asked.now.rows.now.objects this.now)
         (row_of asked.now.rows.now.objects other.now) ≡ true }
     requires asked { IsAsked (length asked.now.rows.now.names) asked.now.query.now
         asked.now.reach.now.rises asked.now.reach.now.bare }
     ensures { OnOk result (Gains asked.now.query.now (told_ways asked.now.query.now
-        asked.now.reach.now.limit asked.now.rows.now.objects held row.now other.now)
-        piece.old piece.new) }
+        asked.now.reach.now.limit asked.now.rows.now.objects this.now.held
+        (row_of asked.now.rows.now.objects this.now) other.now) piece.old piece.new) }
 {
-    let beside = asked.rows.get(other.place);
-    push_way(piece, values, asked, held, row, &beside)?;
-    push_way(piece, values, asked, other.held, &beside, row)
+    push_way(piece, values, asked, this, other)?;
+    push_way(piece, values, asked, other, this)
 }
 
-/// Puts the pair of two rows that are near enough into the piece, where the first is held and the pair meets the conditions.
+/// Puts the pair of two rows that are near enough into the piece, where the first is held and has the lower id, if it has to,
+/// and the pair meets the conditions.
 fn push_way(
     piece: &mut Piece<'_>,
     values: &mut Vec<Option<Num>>,
     asked: &Asked<'_>,
-    held: bool,
-    first: &Row,
-    second: &Row,
+    first: &Neighbour,
+    second: &Neighbour,
 ) -> Result<(), Memory>
     requires of_rows { IsOfRows piece.old }
-    requires wide { length second.now.further ≡ length first.now.further }
-    requires near { is_near asked.now.reach.now.limit first.now second.now ≡ true }
-    requires asked { IsAsked (length first.now.further) asked.now.query.now
+    requires first { IsRowOf asked.now.rows.now.objects first.now }
+    requires second { IsRowOf asked.now.rows.now.objects second.now }
+    requires near { is_near asked.now.reach.now.limit (row_of asked.now.rows.now.objects first.now)
+        (row_of asked.now.rows.now.objects second.now) ≡ true }
+    requires asked { IsAsked (length asked.now.rows.now.names) asked.now.query.now
         asked.now.reach.now.rises asked.now.reach.now.bare }
-    ensures { OnOk result (Gains asked.now.query.now
-        (way asked.now.query.now asked.now.reach.now.limit held first.now second.now)
-        piece.old piece.new) }
+    ensures { OnOk result (Gains asked.now.query.now (way asked.now.query.now
+        asked.now.reach.now.limit first.now.held (row_of asked.now.rows.now.objects first.now)
+        (row_of asked.now.rows.now.objects second.now)) piece.old piece.new) }
 {
-    if is_way(held, asked.reach.rises, first.id(), second.id()) {
-        push_if_met(piece, values, asked.query, first, second)
+    if is_way(first.held, asked.reach.rises, first.id, second.id) {
+        push_upward(piece, values, asked, first, second)
     } else {
         Ok(())
     }
 }
 
 /// Whether the first of two rows is held, and has the lower id, where it has to.
-pub(crate) fn is_way(held: bool, rises: bool, first: i64, second: i64) -> bool
+fn is_way(held: bool, rises: bool, first: i64, second: i64) -> bool
     ensures { result ≡ (held && (if rises then int_lt first second else true)) }
 {
     held && is_upward(rises, first, second)
@@ -195,6 +168,56 @@ fn is_upward(rises: bool, first: i64, second: i64) -> bool
     ensures { result ≡ (if rises then int_lt first second else true) }
 {
     !rises || first < second
+}
+
+/// Puts the pair of two rows into the piece, where it meets the conditions. The first has the lower id, if it has to; of a bare
+/// query that is the condition, and the ids are all that is asked of the rows.
+fn push_upward(
+    piece: &mut Piece<'_>,
+    values: &mut Vec<Option<Num>>,
+    asked: &Asked<'_>,
+    first: &Neighbour,
+    second: &Neighbour,
+) -> Result<(), Memory>
+    requires of_rows { IsOfRows piece.old }
+    requires first { IsRowOf asked.now.rows.now.objects first.now }
+    requires second { IsRowOf asked.now.rows.now.objects second.now }
+    requires upward { is_upward asked.now.reach.now.rises
+        (row_of asked.now.rows.now.objects first.now)
+        (row_of asked.now.rows.now.objects second.now) ≡ true }
+    requires asked { IsAsked (length asked.now.rows.now.names) asked.now.query.now
+        asked.now.reach.now.rises asked.now.reach.now.bare }
+    ensures { OnOk result (Gains asked.now.query.now (if_met asked.now.query.now.conds
+        (row_of asked.now.rows.now.objects first.now)
+        (row_of asked.now.rows.now.objects second.now)) piece.old piece.new) }
+{
+    if asked.reach.bare {
+        push_line(piece, first.id, second.id)
+    } else {
+        push_looked_up(piece, values, asked, first, second)
+    }
+}
+
+/// Puts the pair of two rows, which are looked up, into the piece, where it meets the conditions.
+fn push_looked_up(
+    piece: &mut Piece<'_>,
+    values: &mut Vec<Option<Num>>,
+    asked: &Asked<'_>,
+    first: &Neighbour,
+    second: &Neighbour,
+) -> Result<(), Memory>
+    requires of_rows { IsOfRows piece.old }
+    requires first { IsRowOf asked.now.rows.now.objects first.now }
+    requires second { IsRowOf asked.now.rows.now.objects second.now }
+    requires asked { IsAsked (length asked.now.rows.now.names) asked.now.query.now
+        asked.now.reach.now.rises asked.now.reach.now.bare }
+    ensures { OnOk result (Gains asked.now.query.now (if_met asked.now.query.now.conds
+        (row_of asked.now.rows.now.objects first.now)
+        (row_of asked.now.rows.now.objects second.now)) piece.old piece.new) }
+{
+    let row = asked.rows.get(first.place);
+    let beside = asked.rows.get(second.place);
+    push_if_met(piece, values, asked.query, &row, &beside)
 }
 
 /// Puts the pair of rows into the piece, where it meets the conditions.
@@ -209,9 +232,8 @@ fn push_if_met(
     requires wide { length second.now.further ≡ length first.now.further }
     requires sound { IsSoundLine (has_col (FIRST_COLUMNS + length first.now.further) true)
         query.now }
-    ensures { OnOk result (Gains query.now
-        (if meets query.now.conds (pair first.now second.now) then pair first.now second.now ∷ []
-        else []) piece.old piece.new) }
+    ensures { OnOk result (Gains query.now (if_met query.now.conds first.now second.now)
+        piece.old piece.new) }
 {
     if meets(query.conds.as_slice(), first, Some(second)) {
         push_pair(piece, values, query, first, second)

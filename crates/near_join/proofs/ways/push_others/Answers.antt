@@ -4,7 +4,7 @@ use Rattle.std.proofs.lemmas.List.{get_or_default, take_all}
 use Rattle.value_rules.specs.Values.{Pick}
 use Rattle.near_join.specs.declared.neighbour.Neighbour.{Neighbour}
 use Rattle.near_join.specs.Gains.{Gains}
-use Rattle.near_join.specs.Neighbours.{told_ways}
+use Rattle.near_join.specs.Neighbours.{row_of, told_ways}
 use Rattle.near_join.proofs.Gaining.{gained_rows, gains_joined, gains_nothing}
 use Rattle.near_join.proofs.Neighbouring.{ways_more}
 use Rattle.near_join.proofs.ways.push_others.Goals as goal
@@ -20,7 +20,7 @@ loop-other-preserved c =
     let index = c.loop-other.other-index in
     let found = c.args.found.now in
     let cq = c.args.asked.now.query.now in
-    let ways = told_ways cq c.args.asked.now.reach.now.limit c.args.asked.now.rows.now.objects c.args.held c.args.row.now in
+    let ways = told_ways cq c.args.asked.now.reach.now.limit c.args.asked.now.rows.now.objects c.args.this.now.held (row_of c.args.asked.now.rows.now.objects c.args.this.now) in
     let none : Neighbour = record { place = 0; id = pos 0; held = false } in
     let other = get_or found index none in
     subst (λ (ps : List Pick). Gains cq ps c.args.piece.now c.push_other.new.piece)
@@ -31,5 +31,5 @@ pub returns : goal.returns
 returns c =
     let cq = c.args.asked.now.query.now in
     let whole = take_all c.loop-other.other-index c.args.found.now (omega (arith, c.loop-other-test.false)) in
-    subst (λ (l : List Neighbour). Gains cq (flat_map (told_ways cq c.args.asked.now.reach.now.limit c.args.asked.now.rows.now.objects c.args.held c.args.row.now) l) c.args.piece.now c.loop-other.piece)
+    subst (λ (l : List Neighbour). Gains cq (flat_map (told_ways cq c.args.asked.now.reach.now.limit c.args.asked.now.rows.now.objects c.args.this.now.held (row_of c.args.asked.now.rows.now.objects c.args.this.now)) l) c.args.piece.now c.loop-other.piece)
     whole c.loop-other.invariant
