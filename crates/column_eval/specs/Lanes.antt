@@ -9,13 +9,14 @@ use Rattle.value_rules.specs.Widths.{most, width_at}
 use Rattle.column_eval.specs.Masks.{IsMask}
 use Rattle.column_eval.specs.Totals.{number_on, is_known}
 use Rattle.column_eval.specs.declared.numbers.Numbers.{Numbers}
-use Rattle.column_eval.specs.declared.numbers.Numbers.TheVariants.{Narrow, Wide}
+use Rattle.column_eval.specs.declared.numbers.Numbers.TheVariants.{Narrow, Wide, Same}
 use Rattle.column_eval.specs.declared.lane.Lane.{Lane}
 
 -- the numbers themselves
 abbrev pub numbers_of : Numbers → List ℤ
 numbers_of (Narrow v) = v.items
 numbers_of (Wide v) = v.items
+numbers_of (Same n count) = replicate count n
 
 -- What is kept of a term on some rows: a number for each, which is what the term is worth where NULL counts as 0; whether it
 -- has a value there; and the largest size that the numbers can have.
@@ -51,6 +52,12 @@ pub record IsRepeated (n : ℤ) (count : ℕ) (lane : Lane) : Type 0 where
   pub bound : lane.bound ≡ nat_abs n
   pub numbers : numbers_of lane.numbers ≡ replicate count n
   pub known : lane.known.items ≡ replicate count true
+
+-- A lane of the same numbers.
+pub record IsListed (lane listed : Lane) : Type 0 where
+  pub bound : listed.bound ≡ lane.bound
+  pub numbers : numbers_of listed.numbers ≡ numbers_of lane.numbers
+  pub known : listed.known.items ≡ lane.known.items
 
 -- A lane that was read from a column at places.
 pub record IsRead (column : List (Option ℤ)) (places : List ℕ) (size : ℕ) (lane : Lane) : Type 0 where

@@ -35,8 +35,18 @@ pub fn values(
 {
     let _ = block.len();
     let rows = Picked::new(block, picked);
-    let lane = sum(e, &rows, scratch)?;
+    let lane = listed_sum(e, &rows, scratch)?;
     Ok(ValueList::of(lane))
+}
+
+// The lane of a sum, each number in a list.
+fn listed_sum(e: &BoundExpr, rows: &Picked<'_>, scratch: &mut Scratch) -> Result<Lane, Memory>
+    requires rows { All IsRow rows.now.objects }
+    requires sound { IsSoundFor rows.now (term_of e.now) }
+    ensures { IfOk result (IsLane rows.now.objects (term_of e.now)) }
+{
+    let lane = sum(e, rows, scratch)?;
+    lane.listed(scratch)
 }
 
 /// The lane of a sum, from the left.

@@ -1,7 +1,7 @@
 //! Sums, differences and products of two numbers, and of two vectors of them place by place.
 //!
-//! An operation is a type of its own, so that one pair of loops, in 64 and in 128 bits, serves all of them.
-ghost use Rattle.std.specs.Prelude.{◌≡◌, ◌≤◌, ◌<◌, ◌+ℤ◌, ◌-ℤ◌, ◌*ℤ◌, ℕ, ℤ, FitsSigned, IfOk, length, nat_abs, get_or, pos};
+//! An operation is a type of its own, so that the same loops, in 64 and in 128 bits, serve all of them.
+ghost use Rattle.std.specs.Prelude.{◌≡◌, ◌≤◌, ◌<◌, ◌+ℤ◌, ◌-ℤ◌, ◌*ℤ◌, ℕ, ℤ, FitsSigned, IfOk, length, nat_abs, get_or, pos, replicate};
 ghost use Rattle.sky_vector.specs.declared.limits.TheConstants.{NUMBER_MOST};
 ghost use Rattle.column_eval.specs.Lanes.{AreJoined, CanJoin, numbers_of};
 ghost use Rattle.column_eval.specs.declared.join.TheConstants.{NARROW_MOST, WIDE_MOST};
@@ -99,9 +99,28 @@ pub(crate) fn joined<J: Join>(
     ensures { IfOk result (λ made.
         AreJoined J.joins (numbers_of left) (numbers_of right) (numbers_of made)) }
 {
+    let left = left.listed(scratch)?;
+    joined_listed(join, left, right, bound, scratch)
+}
+
+/// The same where those on the left are listed.
+fn joined_listed<J: Join>(
+    join: &J,
+    left: Numbers,
+    right: Numbers,
+    bound: u128,
+    scratch: &mut Scratch,
+) -> Result<Numbers, Memory>
+    requires { CanJoin J.joins bound (numbers_of left) (numbers_of right) }
+    ensures { IfOk result (λ made.
+        AreJoined J.joins (numbers_of left) (numbers_of right) (numbers_of made)) }
+{
     match (left, right) {
         (Numbers::Narrow(left), Numbers::Narrow(right)) => {
             joined_narrow(join, left, right, bound, scratch)
+        },
+        (Numbers::Narrow(left), Numbers::Same(n, count)) => {
+            joined_same(join, left, n, count, bound, scratch)
         },
         (left, right) => joined_wide(join, left, right, scratch),
     }
@@ -125,6 +144,33 @@ fn joined_narrow<J: Join>(
     each_narrow(join, left.as_mut_slice(), right.as_slice());
     scratch.narrow.give(right);
     Ok(Numbers::Narrow(left))
+}
+
+/// The same where the number on the right is one so many times.
+fn joined_same<J: Join>(
+    join: &J,
+    left: Vec<i64>,
+    n: i64,
+    count: usize,
+    bound: u128,
+    scratch: &mut Scratch,
+) -> Result<Numbers, Memory>
+    requires { CanJoin J.joins bound left.items (replicate count n) }
+    ensures { IfOk result (λ made.
+        AreJoined J.joins left.items (replicate count n) (numbers_of made)) }
+{
+    if bound <= NARROW_MOST {
+        let mut left = left;
+        each_with(join, left.as_mut_slice(), n, count);
+        Ok(Numbers::Narrow(left))
+    } else {
+        joined_wide(
+            join,
+            Numbers::Narrow(left),
+            Numbers::Same(n, count),
+            scratch,
+        )
+    }
 }
 
 /// The same in 128 bits.
@@ -152,6 +198,16 @@ fn each_narrow<J: Join>(join: &J, left: &mut [i64], right: &[i64])
 {
     for i in 0..right.len() {
         left[i] = join.narrow(left[i], right[i]);
+    }
+}
+
+/// The same with one number, which stands there so many times.
+fn each_with<J: Join>(join: &J, left: &mut [i64], n: i64, count: usize)
+    requires { CanJoin J.joins NARROW_MOST left.old (replicate count n) }
+    ensures { AreJoined J.joins left.old (replicate count n) left.new }
+{
+    for i in 0..count {
+        left[i] = join.narrow(left[i], n);
     }
 }
 

@@ -1,6 +1,6 @@
 //! What is kept of one node of an expression: a number for each row, which of them are known, and how large they can be.
 ghost use Rattle.std.specs.Prelude.{◌≡◌, IfOk, length};
-ghost use Rattle.column_eval.specs.Lanes.{AreLanesJoined, CanJoin, numbers_of};
+ghost use Rattle.column_eval.specs.Lanes.{AreLanesJoined, CanJoin, IsListed, numbers_of};
 
 use crate::join::{Join, joined};
 use crate::mask::both;
@@ -17,6 +17,23 @@ pub(crate) struct Lane {
 }
 
 impl Lane {
+    /// The same with each number in a list.
+    pub(crate) fn listed(self, scratch: &mut Scratch) -> Result<Lane, Memory>
+        ensures { IfOk result (IsListed self) }
+    {
+        let Lane {
+            numbers,
+            known,
+            bound,
+        } = self;
+        let numbers = numbers.listed(scratch)?;
+        Ok(Lane {
+            numbers,
+            known,
+            bound,
+        })
+    }
+
     /// Gives the vectors back.
     pub(crate) fn give_back(self, scratch: &mut Scratch) {
         self.numbers.give_back(scratch);

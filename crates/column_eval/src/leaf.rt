@@ -14,14 +14,13 @@ use sky_row::Column;
 use sky_vector::limits::COORDINATE_MOST;
 use table_rules::limits::{FURTHER_MOST, ID_MOST};
 
-/// A number, the same on each of so many rows. Takes memory for it.
+/// A number, the same on each of so many rows. Takes memory for its flags.
 pub(crate) fn literal(n: i64, count: usize, scratch: &mut Scratch) -> Result<Lane, Memory>
     ensures { IfOk result (λ lane. IsRepeated n count lane) }
 {
-    let numbers = repeated(n, count, scratch.narrow.take(count)?);
     let known = repeated(true, count, scratch.flags.take(count)?);
     Ok(Lane {
-        numbers: Numbers::Narrow(numbers),
+        numbers: Numbers::Same(n, count),
         known,
         bound: u128::from(n.unsigned_abs()),
     })

@@ -5,8 +5,9 @@
 //! Inside, each node of the tree is one loop over vectors that are used again (`Scratch`). A value is a number, 0 in place of a
 //! NULL, and a flag that it is known. Numbers stay in 64 bits as long as the bounds of the columns say that they fit, and in 128
 //! from there on. A truth is two flags: true, and false.
-//! Below: `column_block` for the columns, `sql_bound` for the trees, `value_rules` for what they mean; of `expr_eval`,
-//! which evaluates one row at a time, area tests and the laws of the trees' layers. Above: the scan of a chunk.
+//! Below: `column_block` for the columns, `sql_bound` for the trees, `value_rules` for what they mean; `lane_filter`
+//! for comparisons with one number; of `expr_eval`, which evaluates one row at a time, area tests and the laws of the trees'
+//! layers. Above: the scan of a chunk.
 //! Not in it: pairs of rows, and tests of a column that `lane_filter` does faster.
 #![tactic(auto)]
 

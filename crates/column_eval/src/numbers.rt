@@ -1,15 +1,20 @@
 //! A number for each picked row, in 64 bits or in 128.
-ghost use Rattle.std.specs.Prelude.{◌≡◌, ◌<◌, ◌≤◌, ℕ, [], IfOk, length, get_or, pos, vec_capacity};
+//!
+//! What is the same on each row, as a number of the query, is kept once: a loop that meets it on its right need not read it
+//! from a list, and elsewhere it is listed.
+ghost use Rattle.std.specs.Prelude.{◌≡◌, ◌<◌, ◌≤◌, ℕ, [], IfOk, length, get_or, pos, replicate, vec_capacity};
 ghost use Rattle.column_eval.specs.Lanes.{numbers_of};
 
+use crate::leaf::repeated;
 use crate::scratch::{Pool, Scratch};
 use sky_io::Memory;
 
-/// Numbers of one width.
+/// Numbers of one width, or one number as often as there are rows.
 #[derive(Drop)]
 pub(crate) enum Numbers {
     Narrow(Vec<i64>),
     Wide(Vec<i128>),
+    Same(i64, usize),
 }
 
 impl Numbers {
@@ -20,6 +25,7 @@ impl Numbers {
         match self {
             Numbers::Narrow(numbers) => numbers.len(),
             Numbers::Wide(numbers) => numbers.len(),
+            Numbers::Same(_, count) => *count,
         }
     }
 
@@ -31,6 +37,7 @@ impl Numbers {
         match self {
             Numbers::Narrow(numbers) => i128::from(numbers[i]),
             Numbers::Wide(numbers) => numbers[i],
+            Numbers::Same(n, _) => i128::from(*n),
         }
     }
 
@@ -41,6 +48,17 @@ impl Numbers {
         match self {
             Numbers::Narrow(numbers) => widened(numbers, scratch),
             Numbers::Wide(numbers) => Ok(numbers),
+            Numbers::Same(n, count) => listed_wide(n, count, scratch),
+        }
+    }
+
+    /// The same numbers, each in a list.
+    pub(crate) fn listed(self, scratch: &mut Scratch) -> Result<Numbers, Memory>
+        ensures { IfOk result (λ made. numbers_of made ≡ numbers_of self) }
+    {
+        match self {
+            Numbers::Same(n, count) => listed_narrow(n, count, scratch),
+            other => Ok(other),
         }
     }
 
@@ -49,8 +67,24 @@ impl Numbers {
         match self {
             Numbers::Narrow(numbers) => scratch.narrow.give(numbers),
             Numbers::Wide(numbers) => scratch.wide.give(numbers),
+            Numbers::Same(_, _) => (),
         }
     }
+}
+
+/// A number so many times, in a list.
+fn listed_narrow(n: i64, count: usize, scratch: &mut Scratch) -> Result<Numbers, Memory>
+    ensures { IfOk result (λ made. numbers_of made ≡ replicate count n) }
+{
+    let numbers = repeated(n, count, scratch.narrow.take(count)?);
+    Ok(Numbers::Narrow(numbers))
+}
+
+/// The same in 128 bits.
+fn listed_wide(n: i64, count: usize, scratch: &mut Scratch) -> Result<Vec<i128>, Memory>
+    ensures { IfOk result (λ wide. wide.items ≡ replicate count n) }
+{
+    Ok(repeated(i128::from(n), count, scratch.wide.take(count)?))
 }
 
 /// Numbers of 64 bits in 128.

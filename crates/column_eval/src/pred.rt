@@ -1,5 +1,5 @@
 //! The truths of tests, a column at a time.
-ghost use Rattle.std.specs.Prelude.{◌≡◌, ◌+◌, ◌<◌, ◌≤◌, [], IfOk, IsTrue, All, length, get_or, pos, vec_capacity};
+ghost use Rattle.std.specs.Prelude.{◌≡◌, ◌+◌, ◌<◌, ◌≤◌, ℤ, [], IfOk, IsTrue, All, length, get_or, pos, vec_capacity};
 ghost use Rattle.sql_tree.specs.declared.cond.Cmp.TheVariants.{AtMost};
 ghost use Rattle.table_rules.specs.Objects.{IsRow};
 ghost use Rattle.value_rules.specs.Formulas.{Among, And, Compares, IsNull, negated_if};
@@ -18,6 +18,7 @@ use crate::mask::{both, copied};
 use crate::numbers::Numbers;
 use crate::picked::Picked;
 use crate::scratch::Scratch;
+use lane_filter::keep;
 use sky_io::Memory;
 use sql_bound::{BoundExpr, Cmp};
 
@@ -144,12 +145,36 @@ fn truths_of(op: Cmp, left: &Numbers, right: &Numbers, found: Vec<bool>) -> Vec<
         (Numbers::Narrow(left), Numbers::Narrow(right)) => {
             truths_of_narrow(op, left.as_slice(), right.as_slice(), found)
         },
+        (Numbers::Narrow(left), Numbers::Same(n, _)) => truths_with(op, left.as_slice(), *n, found),
+        (Numbers::Same(n, _), Numbers::Narrow(right)) => {
+            truths_with(turned(op), right.as_slice(), *n, found)
+        },
         _ => truths_of_wide(op, left, right, found),
     }
 }
 
-// The same of numbers of 64 bits.
+// The same of numbers of 64 bits. Each comparison has a loop of its own: with a choice among them in each turn it would not
+// become vector code.
 fn truths_of_narrow(op: Cmp, left: &[i64], right: &[i64], found: Vec<bool>) -> Vec<bool>
+    requires count { length right.now ≡ length left.now }
+    requires empty { found.items ≡ [] }
+    requires room { length left.now ≤ vec_capacity found }
+    ensures { IsMask (length left.now)
+        (λ k. compares op (get_or left.now k (pos 0)) (get_or right.now k (pos 0))) result.items }
+{
+    match op {
+        Cmp::Equal => truths_by(Cmp::Equal, left, right, found),
+        Cmp::Differs => truths_by(Cmp::Differs, left, right, found),
+        Cmp::Less => truths_by(Cmp::Less, left, right, found),
+        Cmp::AtMost => truths_by(Cmp::AtMost, left, right, found),
+        Cmp::More => truths_by(Cmp::More, left, right, found),
+        Cmp::AtLeast => truths_by(Cmp::AtLeast, left, right, found),
+    }
+}
+
+// The same by a comparison that is known where this is laid in.
+#[inline(always)]
+fn truths_by(op: Cmp, left: &[i64], right: &[i64], found: Vec<bool>) -> Vec<bool>
     requires count { length right.now ≡ length left.now }
     requires empty { found.items ≡ [] }
     requires room { length left.now ≤ vec_capacity found }
@@ -161,6 +186,32 @@ fn truths_of_narrow(op: Cmp, left: &[i64], right: &[i64], found: Vec<bool>) -> V
         found.push_reserved(compares(op, i128::from(left[i]), i128::from(right[i])));
     }
     found
+}
+
+// How numbers of 64 bits compare with one number.
+fn truths_with(op: Cmp, values: &[i64], n: i64, found: Vec<bool>) -> Vec<bool>
+    requires empty { found.items ≡ [] }
+    requires room { length values.now ≤ vec_capacity found }
+    ensures { IsMask (length values.now) (λ k. compares op (get_or values.now k (pos 0)) n)
+        result.items }
+{
+    let mut found = repeated(true, values.len(), found);
+    keep(values, op, n, found.as_mut_slice());
+    found
+}
+
+// The comparison that says the same with its sides exchanged.
+fn turned(op: Cmp) -> Cmp
+    ensures { (a b : ℤ) → compares result a b ≡ compares op b a }
+{
+    match op {
+        Cmp::Equal => Cmp::Equal,
+        Cmp::Differs => Cmp::Differs,
+        Cmp::Less => Cmp::More,
+        Cmp::AtMost => Cmp::AtLeast,
+        Cmp::More => Cmp::Less,
+        Cmp::AtLeast => Cmp::AtMost,
+    }
 }
 
 // The same of numbers of which some are wider.

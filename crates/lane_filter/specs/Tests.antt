@@ -1,5 +1,5 @@
 -- Plain tests of a value, and masks that are kept by one.
-use Rattle.std.specs.Prelude.{◌≡◌, ℕ, ◌*◌, ◌<◌, ◌≤ℤ◌, ℤ, pos, neg_ℤ, Bool, false, ◌&&◌, List, length, get_or, int_le, int_lt}
+use Rattle.std.specs.Prelude.{◌≡◌, ℕ, ◌*◌, ◌<◌, ◌≤ℤ◌, ℤ, pos, neg_ℤ, Bool, false, ◌&&◌, List, length, get_or, int_le}
 use Rattle.std.specs.List.{filter, range_with_len}
 use Rattle.sky_vector.specs.declared.limits.TheConstants.{PART_MOST}
 use Rattle.sky_vector.specs.Points.{Point, chord_squared}

@@ -6,6 +6,7 @@
 #![tactic(auto)]
 
 mod compare;
+mod narrow;
 mod near;
 mod pick;
 mod range;

@@ -2,6 +2,7 @@
 ghost use Rattle.std.specs.Prelude.{◌≡◌, length, get_or, pos};
 ghost use Rattle.lane_filter.specs.Tests.{IsKeptBy, is_from_to};
 
+use crate::narrow::keep_by_narrow;
 use crate::wide::{Between, keep_by};
 
 /// Clears the mask where the value is not from the first number to the last. Takes no memory.
@@ -21,16 +22,12 @@ pub fn keep_between_narrow(values: &[i32], first: i32, last: i32, mask: &mut [bo
     ensures each { IsKeptBy (λ k. is_from_to first last (get_or values.now k (pos 0)))
         mask.old mask.new }
 {
-    for i in 0..values.len() {
-        mask[i] = mask[i] & is_from_to_narrow(values[i], first, last);
-    }
-}
-
-/// Whether the value is from the first number to the last.
-#[inline(always)]
-#[tactic(auto, unfolding(crate::specs::Tests::is_from_to))]
-fn is_from_to_narrow(value: i32, first: i32, last: i32) -> bool
-    ensures { result ≡ is_from_to first last value }
-{
-    (first <= value) & (value <= last)
+    keep_by_narrow(
+        &Between {
+            first: i64::from(first),
+            last: i64::from(last),
+        },
+        values,
+        mask,
+    );
 }

@@ -9,7 +9,7 @@ ghost use Rattle.std.specs.Ordering.{int_eq};
 ghost use Rattle.lane_filter.specs.Tests.{IsKeptBy, is_from_to};
 
 /// How many rows are tested before their truths are packed.
-const BLOCK: usize = 16;
+pub(crate) const BLOCK: usize = 16;
 
 /// A test of a number.
 pub(crate) trait WideTest {
@@ -72,7 +72,7 @@ fn flags_of<T: WideTest>(test: &T, values: &[i64], from: usize) -> [i32; BLOCK]
 
 /// 1 for a truth, 0 else.
 #[inline(always)]
-fn flag(truth: bool) -> i32
+pub(crate) fn flag(truth: bool) -> i32
     ensures { result ≡ cond truth (pos 1) (pos 0) }
 {
     i32::from(truth)

@@ -8,8 +8,8 @@ use Rattle.column_eval.proofs.Reading.{lane_values, rows_there}
 use Rattle.column_eval.proofs.Sums.{sum_small}
 use Rattle.column_eval.proofs.expr.values.Goals as goal
 
-pub sum-requires-clause-rows : goal.sum-requires-clause-rows
-sum-requires-clause-rows c =
+pub listed_sum-requires-clause-rows : goal.listed_sum-requires-clause-rows
+listed_sum-requires-clause-rows c =
     subst (λ v. All IsRow v.objects) (sym c.new-rows.ensures)
     (rows_there c.args.block.now.objects c.args.picked.now c.len.ensures.rows c.requires.there)
 
