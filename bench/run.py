@@ -17,8 +17,10 @@ the sixth column is what the store costs for a million rows.
 
 With --targets it measures what is aimed at of the table: user seconds of reading 1,000,000 rows of six fields, in ascending
 and in random order, and of the store with its blocks over 256 chunks; the memory of 4,194,304 rows of sixteen fields, whose
-catalogue takes half a gigabyte in FOLDER; and then, by kernels.py, the kernels. Each line has the most that is wanted. It ends
-with 1 where a line has more. Only an idle machine tells anything.
+catalogue takes half a gigabyte in FOLDER; and then, by kernels.py, the kernels. Each line has the most that is wanted; those of
+reading also what load.c takes, which reads the same catalogue by plain loops in C, and how many times that they are. load.c is
+compiled with gcc for x86-64-v2 into FOLDER, its runs stand between those of the program, and its answer is compared with one
+computed here. It ends with 1 where a line has more than is wanted. Only an idle machine tells anything.
 """
 import argparse
 import bisect
@@ -177,19 +179,42 @@ def written_catalogue(folder, rows, order, further):
     return name
 
 
+def expected_sum(path):
+    """What load.c writes: how many rows there are, and a sum of all values by their rows' numbers in ascending id."""
+    with open(path) as file:
+        next(file)
+        rows = sorted(([int(value or 0) for value in line.strip().split(",")] for line in file), key=lambda row: row[0])
+    return f"{len(rows)} {sum(n * sum(row) for n, row in enumerate(rows, 1)) % (1 << 64)}\n"
+
+
+def reading_seconds(program, folder, name):
+    """User seconds of reading a catalogue, by the program and by load.c: of each the least of nine runs, in turns of three."""
+    made = os.path.join(os.path.abspath(folder), "load_in_c")
+    subprocess.run(["gcc", "-O3", "-march=x86-64-v2", "-o", made, os.path.join(HERE, "load.c")], check=True)
+    wanted, ours, in_c = expected_sum(os.path.join(folder, name)), [], []
+    for _ in range(3):
+        ours.append(measure(program, folder, ["query", "sky_256.txt", name, MISSING, "0"], CANNOT_BE_READ)[1])
+        _, seconds, _, told = measure(made, folder, [name])
+        if told != wanted:
+            sys.exit(f"{name}: load.c tells {told.strip()}, not {wanted.strip()}")
+        in_c.append(seconds)
+    return min(ours), min(in_c)
+
+
 def target_lines(program, folder):
     """The lines of what is aimed at, and whether each is met."""
-    lines, met = ["| what | measured | at most |", "|---|---|---|"], True
+    lines, met = ["| what | measured | at most | in C | times |", "|---|---|---|---|---|"], True
     for order, most in READING_MOST.items():
         name = written_catalogue(folder, 1_000_000, order, 2)
-        _, reading, _, _ = measure(program, folder, ["query", "sky_256.txt", name, MISSING, "0"], CANNOT_BE_READ)
+        reading, in_c = reading_seconds(program, folder, name)
         _, whole, _, _ = measure(program, folder, ["load", "sky_256.txt", name])
-        for what, seconds, limit in (("reading", reading, most), ("store", whole - reading, STORE_MOST)):
-            lines.append(f"| user s: {what}, 1000000 rows of six fields, {order} | {seconds:.2f} | {limit:.2f} |")
-            met = met and seconds <= limit
+        rows = f"1000000 rows of six fields, {order}"
+        lines.append(f"| user s: reading, {rows} | {reading:.2f} | {most:.2f} | {in_c:.2f} | {reading / in_c:.1f} |")
+        lines.append(f"| user s: store, {rows} | {whole - reading:.2f} | {STORE_MOST:.2f} | | |")
+        met = met and reading <= most and whole - reading <= STORE_MOST
     full = written_catalogue(folder, 4_194_304, "random", 12)
     _, _, kilobytes, _ = measure(program, folder, ["load", "sky_256.txt", full])
-    lines.append(f"| MB: load, 4194304 rows of sixteen fields, random | {kilobytes / 1024:.0f} | {FULL_MOST} |")
+    lines.append(f"| MB: load, 4194304 rows of sixteen fields, random | {kilobytes / 1024:.0f} | {FULL_MOST} | | |")
     return lines, met and kilobytes / 1024 <= FULL_MOST
 
 

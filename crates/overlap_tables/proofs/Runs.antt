@@ -1,12 +1,12 @@
 -- The three runs of wedges that a window leaves.
-use Rattle.std.proofs.Common.{◌≡◌, ℕ, ◌+◌, ◌-◌, ◌*◌, ◌/◌, ◌≤◌, ◌<◌, arith, refl, sym, ◌∙◌, subst, inl, inr, false, lt-ltb, le-ltb}
+use Rattle.std.proofs.Common.{◌≡◌, ℕ, ◌+◌, ◌-◌, ◌*◌, ◌/◌, ◌%◌, ◌≤◌, ◌<◌, arith, refl, sym, ◌∙◌, subst, inl, inr, false, lt-ltb, le-ltb}
 use Rattle.std.specs.Prelude.{min}
 use Rattle.std.proofs.lemmas.Bool.{cases_lt}
 use Rattle.sky_vector.specs.Points.{Point}
 use Rattle.wedge_rules.specs.Heading.{heading}
 use Rattle.wedge_rules.specs.Wedge.{InWedge}
 use Rattle.sky_rules.specs.Bounds.{near_side, near_sides, sides_of}
-use Rattle.overlap_tables.specs.Windows.{side_back, side_on, IsNarrow, straight, round, IsBetween, inside, behind_first, before_second, IsWindow, IsLeftOut, below, then, later, above, AreCandidates, IsGap, gap_below_opposite, gap_before, gap_after, gap_above_opposite, gap_round_after, gap_round_before, CoverWay}
+use Rattle.overlap_tables.specs.Windows.{side_back, side_on, IsNarrow, straight, round, IsBetween, inside, behind_first, before_second, IsWindow, IsLeftOut, below, then, later, above, AreCandidates, IsGap, gap_below_opposite, gap_before, gap_after, gap_above_opposite, gap_whole_opposite_back, gap_whole_opposite_on, gap_round_after, gap_round_before, CoverWay}
 use Rattle.overlap_tables.proofs.Turns.{direct}
 use Rattle.overlap_tables.proofs.Windows.{gap_not_near}
 
@@ -57,6 +57,46 @@ round_gaps n i j k h (below l) hk = absurd (omega (arith, l))
 round_gaps n i j k h (then l m) hk = gap_round_after h l (omega (arith, m))
 round_gaps n i j k h (later l m) hk = gap_round_before h (omega (arith, l)) (omega (arith, m))
 round_gaps n i j k h (above l) hk = absurd (omega (arith, l, hk))
+
+-- of an even number, a wedge before the one that is the whole way
+before_alone : (n half i k : ℕ) → n ≡ 2 * half → k < i → IsGap n i (i + 1) k
+before_alone n half i k is low = elim (cases_lt (2 * i) (2 * k + 2 + n)) [
+  | inl l ↦ elim (cases_lt (2 * k + n) (2 * i + 2)) [
+    | inl m ↦ gap_whole_opposite_back (omega arith) (omega (arith, low)) (omega (arith, is, m)) (omega (arith, is, l))
+    | inr m ↦ gap_before (omega arith) (omega (arith, low)) (omega (arith, m))
+  ]
+  | inr l ↦ gap_below_opposite (omega arith) (omega (arith, l))
+]
+
+-- and one behind it
+behind_alone : (n half i k : ℕ) → n ≡ 2 * half → i + 1 ≤ k → IsGap n i (i + 1) k
+behind_alone n half i k is low = elim (cases_lt (2 * i + n) (2 * k + 2)) [
+  | inl l ↦ elim (cases_lt (2 * k) (2 * i + 2 + n)) [
+    | inl m ↦ gap_whole_opposite_on (omega arith) low (omega (arith, is, m)) (omega (arith, is, l))
+    | inr m ↦ gap_above_opposite (omega arith) (omega (arith, m))
+  ]
+  | inr l ↦ gap_after (omega arith) low (omega (arith, l))
+]
+
+alone_gaps : (n i k : ℕ) → n % 2 ≡ 0 → IsLeftOut 0 0 i (i + 1) n n k → k < n → IsGap n i (i + 1) k
+alone_gaps n i k even (below l) hk = absurd (omega (arith, l))
+alone_gaps n i k even (then l m) hk = before_alone n (n / 2) i k (omega (arith, even)) m
+alone_gaps n i k even (later l m) hk = behind_alone n (n / 2) i k (omega (arith, even)) l
+alone_gaps n i k even (above l) hk = absurd (omega (arith, l, hk))
+
+-- of an even number, a wedge that is the whole way leaves none but itself
+pub alone_cover : (n i : ℕ) → n % 2 ≡ 0 → i < n → CoverWay n i (i + 1) 0 0 i (i + 1) n n
+alone_cover n i even hi = record {
+  row = record {
+    first = omega arith;
+    second = omega arith;
+    third = omega arith;
+    fourth = omega (arith, hi);
+    fifth = omega arith;
+    last = omega arith;
+  };
+  gaps = λ k hk out. alone_gaps n i k even out hk;
+}
 
 -- the other way is long
 wide : (n i j : ℕ) → IsNarrow n i j → j ≤ i → 2 * j + n < 2 * i

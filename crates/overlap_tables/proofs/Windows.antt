@@ -16,7 +16,7 @@ use Rattle.wedge_rules.proofs.OneWedge.{IsStep, here, round as round_step, is_st
 use Rattle.wedge_rules.proofs.Fine.{past_axis}
 use Rattle.wedge_rules.proofs.Exactly.{exactly_one_wedge}
 use Rattle.sky_rules.specs.Bounds.{near_side, near_sides, sides_of}
-use Rattle.overlap_tables.specs.Windows.{IsNarrow, straight, round, IsBetween, inside, behind_first, before_second, IsWindow, IsGap, gap_below_opposite, gap_before, gap_after, gap_above_opposite, gap_round_after, gap_round_before}
+use Rattle.overlap_tables.specs.Windows.{IsNarrow, straight, round, IsBetween, inside, behind_first, before_second, IsWindow, IsGap, gap_below_opposite, gap_before, gap_after, gap_above_opposite, gap_whole_opposite_back, gap_whole_opposite_on, gap_round_after, gap_round_before}
 use Rattle.overlap_tables.proofs.FarLines.{far_outside}
 use Rattle.overlap_tables.proofs.Turns.{IsBeyond, opposite_below, before, after, opposite_above, round_after, round_before, direct, beyond_alike}
 
@@ -145,6 +145,8 @@ first_beyond n a b k (gap_below_opposite g h) = opposite_below g (omega (arith, 
 first_beyond n a b k (gap_before g h l) = before g (omega (arith, h)) l
 first_beyond n a b k (gap_after g h l) = after g h (omega (arith, l))
 first_beyond n a b k (gap_above_opposite g h) = opposite_above g h
+first_beyond n a b k (gap_whole_opposite_back g h l m) = opposite_below g l
+first_beyond n a b k (gap_whole_opposite_on g h l m) = after g h l
 first_beyond n a b k (gap_round_after g h l) = round_after g h (omega (arith, l))
 first_beyond n a b k (gap_round_before g h l) = round_before g h (omega (arith, l))
 
@@ -153,6 +155,8 @@ second_beyond n a b k (gap_below_opposite g h) = opposite_below g h
 second_beyond n a b k (gap_before g h l) = before g h (omega (arith, l))
 second_beyond n a b k (gap_after g h l) = after g (omega (arith, h)) l
 second_beyond n a b k (gap_above_opposite g h) = opposite_above g (omega (arith, h))
+second_beyond n a b k (gap_whole_opposite_back g h l m) = before g h m
+second_beyond n a b k (gap_whole_opposite_on g h l m) = opposite_above g m
 second_beyond n a b k (gap_round_after g h l) = round_after g (omega (arith, h)) l
 second_beyond n a b k (gap_round_before g h l) = round_before g (omega (arith, h)) l
 
@@ -170,6 +174,12 @@ not_inside n a b k hb hk (gap_after g h l) (before_second wide high) = omega (ar
 not_inside n a b k hb hk (gap_above_opposite g h) (inside low high) = omega (arith, h, high)
 not_inside n a b k hb hk (gap_above_opposite g h) (behind_first wide low) = omega (arith, g, wide)
 not_inside n a b k hb hk (gap_above_opposite g h) (before_second wide high) = omega (arith, g, wide)
+not_inside n a b k hb hk (gap_whole_opposite_back g h l m) (inside low high) = omega (arith, h, low)
+not_inside n a b k hb hk (gap_whole_opposite_back g h l m) (behind_first wide low) = omega (arith, g, wide)
+not_inside n a b k hb hk (gap_whole_opposite_back g h l m) (before_second wide high) = omega (arith, g, wide)
+not_inside n a b k hb hk (gap_whole_opposite_on g h l m) (inside low high) = omega (arith, h, high)
+not_inside n a b k hb hk (gap_whole_opposite_on g h l m) (behind_first wide low) = omega (arith, g, wide)
+not_inside n a b k hb hk (gap_whole_opposite_on g h l m) (before_second wide high) = omega (arith, g, wide)
 not_inside n a b k hb hk (gap_round_after g h l) (inside low high) = omega (arith, h, high)
 not_inside n a b k hb hk (gap_round_after g h l) (behind_first wide low) = omega (arith, l, low)
 not_inside n a b k hb hk (gap_round_after g h l) (before_second wide high) = omega (arith, h, high)

@@ -55,17 +55,19 @@ pub record AreCandidates (n r : ℕ) (p : Point) (a b c d e f : ℕ) : Type 0 wh
   pub row : InARow n a b c d e f
   pub others : (k : ℕ) → k < n → IsLeftOut a b c d e f k → near_sides r (sides_of n k) p ≡ false
 
--- Wedge k of n lies outside of the way from side a to side b, and outside of the way opposite to it.
+-- Wedge k of n lies outside of the way from side a to side b, and outside of the way opposite to it or takes up all of that.
 pub data IsGap (n a b k : ℕ) : Type 0 where
   gap_below_opposite : a < b → 2 * (k + 1) + n ≤ 2 * a → IsGap n a b k
   gap_before : a < b → k + 1 ≤ a → 2 * b ≤ 2 * k + n → IsGap n a b k
   gap_after : a < b → b ≤ k → 2 * (k + 1) ≤ 2 * a + n → IsGap n a b k
   gap_above_opposite : a < b → 2 * b + n ≤ 2 * k → IsGap n a b k
+  gap_whole_opposite_back : a < b → k + 1 ≤ a → 2 * k + n ≤ 2 * a → 2 * b ≤ 2 * (k + 1) + n → IsGap n a b k
+  gap_whole_opposite_on : a < b → b ≤ k → 2 * k ≤ 2 * a + n → 2 * b + n ≤ 2 * (k + 1) → IsGap n a b k
   gap_round_after : 2 * b + n < 2 * a → b ≤ k → 2 * (k + 1) + n ≤ 2 * a → IsGap n a b k
   gap_round_before : 2 * b + n < 2 * a → 2 * b + n ≤ 2 * k → k + 1 ≤ a → IsGap n a b k
 
--- Three runs of n wedges follow each other, and leave out only what lies outside of the way from side i to side j and
--- outside of the way opposite to it.
+-- Three runs of n wedges follow each other, and leave out only what lies outside of the way from side i to side j, and
+-- outside of the way opposite to it or takes up all of that.
 pub record CoverWay (n i j a b c d e f : ℕ) : Type 0 where
   pub row : InARow n a b c d e f
   pub gaps : (k : ℕ) → k < n → IsLeftOut a b c d e f k → IsGap n i j k

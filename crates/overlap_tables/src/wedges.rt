@@ -4,10 +4,10 @@
 //! The walk goes from the wedge that holds the position to both ways, each up to the first side whose line the
 //! position is far from. Where the way between these two sides is less than half a turn, the position is far from
 //! each line that does not lead through it; so it can be near the wedges on that way, and those opposite to it, whose
-//! sides lie on the same lines. A longer way comes of few wedges, or of a position beside the axis: then all wedges
-//! are left.
+//! sides lie on the same lines. Where the way is one wedge of an even number, the wedge opposite has no line inside of it,
+//! and is left out. A longer way comes of few wedges, or of a position beside the axis: then all wedges are left.
 
-ghost use Rattle.std.specs.Prelude.{◌≡◌, ◌+◌, ◌*◌, ◌-◌, ◌/◌, ◌<◌, ◌≤◌, IfSome, false, min};
+ghost use Rattle.std.specs.Prelude.{◌≡◌, ◌+◌, ◌*◌, ◌-◌, ◌/◌, ◌%◌, ◌<◌, ◌≤◌, IfSome, false, min};
 ghost use Rattle.sky_vector.specs.Pos.{point};
 ghost use Rattle.wedge_rules.specs.Heading.{heading};
 ghost use Rattle.wedge_rules.specs.Wedge.{IsWedgeCount};
@@ -61,6 +61,26 @@ fn all(wedges: u32) -> Runs
     }
 }
 
+/// The wedge alone, of an even number: the one opposite to it has its sides on the same two lines, so that a position between
+/// these that is far from both is not near it.
+#[tactic(auto, using(crate::proofs::Runs::alone_cover))]
+fn alone(wedges: u32, wedge: u32) -> Runs
+    requires few { wedges ≤ STRIPE_CHUNKS_MOST }
+    requires even { wedges % 2 ≡ 0 }
+    requires there { wedge < wedges }
+    ensures { CoverWay wedges wedge (wedge + 1)
+        result.low result.low_end result.middle result.middle_end result.high result.high_end }
+{
+    Runs {
+        low: 0,
+        low_end: 0,
+        middle: wedge,
+        middle_end: wedge + 1,
+        high: wedges,
+        high_end: wedges,
+    }
+}
+
 /// The wedges between two sides that are less than half a turn apart, and those opposite to them.
 fn of_way(wedges: u32, first: u32, second: u32) -> Runs
     requires few { wedges ≤ STRIPE_CHUNKS_MOST }
@@ -72,7 +92,9 @@ fn of_way(wedges: u32, first: u32, second: u32) -> Runs
 {
     let half = wedges / 2;
     let other_half = wedges - half;
-    if first < second {
+    if first + 1 == second && wedges % 2 == 0 {
+        alone(wedges, first)
+    } else if first < second {
         Runs {
             low: first.saturating_sub(other_half),
             low_end: second.saturating_sub(half),
