@@ -33,7 +33,7 @@ pub(crate) fn lead(
     Ok(lead)
 }
 
-/// Puts them into an empty list with room for them. Takes no memory.
+/// Puts these values into an empty list with room for one of each row. Takes no memory.
 fn put_lead(lead: &mut Vec<Option<i64>>, block: &Block, keys: &[BoundCol], places: &[u32])
     requires empty { lead.old.items ≡ [] }
     requires room { length places.now ≤ vec_capacity lead.old }

@@ -3,9 +3,10 @@
 //! Callers see `mask` as a truth a row, and `scan` as a piece that stands for the chunk alone (`PieceFor`).
 //! Inside, conditions that a kernel of `lane_filter` knows clear a mask first; then the places that are left are listed, and
 //! the other conditions are judged by `column_eval` at these places alone. Of a grouping the places are put in an order in
-//! which rows of one key stand together, the values of its aggregates are computed a column at a time, and rows of one key that
-//! stand together are put into the piece as one group. Of rows the values that they are ordered by are computed so, and without
-//! a LIMIT those of the items too; with a LIMIT n a row that comes behind n others is passed over before its items are computed.
+//! which rows of one key stand together (`key_order`), the values of the first key column are copied in that order (`lead`),
+//! those of its aggregates are computed a column at a time (`worth`), and rows of one key that stand together (`runs`) are put
+//! into the piece as one group (`group_piece`). Of rows the values that they are ordered by are computed so, and without a
+//! LIMIT those of the items too; with a LIMIT n a row that comes behind n others is passed over before its items are computed.
 //! What a scan needs beside its piece stands in a `Scratch`, which its caller keeps for the next one.
 //! Below: `chunk_store` for the rows of a chunk and their columns, `lane_filter` and `column_eval` for what is computed a
 //! column at a time, `expr_eval` for the values of one row, `partial_merge` for the piece.

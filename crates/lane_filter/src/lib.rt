@@ -1,8 +1,10 @@
 //! Tests of a column at once: each clears a mask, a truth for each row, where its plain test is false.
 //!
-//! A loop here goes over equal slices, one row a turn, with no branch and no call that is not laid into it, since that is
-//! what the compiler turns into vector code. The places that are left are listed without a branch too.
-//! Below: `sky_vector` for positions and chords, `sql_tree` and `value_rules` for what a comparison is. Above: the scan of a chunk.
+//! A loop here goes over equal slices with no branch and no call that is not laid into it, since that is what the compiler
+//! turns into vector code: one row a turn, and for a comparison or a range sixteen (`wide`, and `narrow` for 32 bits). The
+//! places that are left are listed without a branch too.
+//! Below: `sky_vector` for positions and chords, `sql_tree` and `value_rules` for what a comparison is. Above: `chunk_scan`,
+//! and `column_eval` for comparisons with one number.
 #![tactic(auto)]
 
 mod compare;
