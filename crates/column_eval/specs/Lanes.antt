@@ -53,7 +53,7 @@ pub record IsRepeated (n : ℤ) (count : ℕ) (lane : Lane) : Type 0 where
   pub numbers : numbers_of lane.numbers ≡ replicate count n
   pub known : lane.known.items ≡ replicate count true
 
--- The second lane says what the first one says, however its numbers are kept.
+-- A lane of the same numbers.
 pub record IsListed (lane listed : Lane) : Type 0 where
   pub bound : listed.bound ≡ lane.bound
   pub numbers : numbers_of listed.numbers ≡ numbers_of lane.numbers

@@ -146,7 +146,7 @@ fn joined_narrow<J: Join>(
     Ok(Numbers::Narrow(left))
 }
 
-/// The same where those on the right are one number, so many times.
+/// The same where the number on the right is one so many times.
 fn joined_same<J: Join>(
     join: &J,
     left: Vec<i64>,

@@ -8,7 +8,7 @@
 //! Below: `column_block` for the columns, `sql_bound` for the trees, `value_rules` for what they mean; `lane_filter`
 //! for comparisons with one number; of `expr_eval`, which evaluates one row at a time, area tests and the laws of the trees'
 //! layers. Above: the scan of a chunk.
-//! Not in it: pairs of rows, and tests of whole columns, which the scan gives to `lane_filter`.
+//! Not in it: pairs of rows, and tests of a column that `lane_filter` does faster.
 #![tactic(auto)]
 
 mod aggregate;

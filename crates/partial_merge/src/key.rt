@@ -23,7 +23,7 @@ use std::marker::Model;
 /// The values of a key: in the key itself, where they are few.
 #[derive(Drop)]
 pub(crate) enum Values {
-    /// As many as `taken` says, from the front, each a number or, where none is present, NULL.
+    /// The first `taken` of them, each a number or, where none is present, NULL.
     Short {
         taken: u8,
         present: [bool; SHORT_KEY_MOST],

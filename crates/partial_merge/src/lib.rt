@@ -7,10 +7,9 @@
 //! `ranked` the others) or the first n (`heap`), as `kept` has them. Their values stand in one list (`kept_cells`, `cell`), from
 //! which those of rows that had to go are let go (`packing`). Pairs whose values are their own two ids have a list of their own
 //! (`id_pair`, `id_pairs`). A bag becomes a table in `bag_table`: of rows in `kept_table`, of such pairs in `pair_table`.
-//! Groups are a pile (`pile`, `mark`; `short_key` has the values of a key side by side). Those of another pile are added where
-//! hints lead to their keys (`taking`, `hints`), and a pile is settled now and then (`keeping`, `settle`). It becomes a table
-//! in `group_table`: the totals are tested (`totals`), the lines put in order (`lines`), and their items merged (`merged`,
-//! `average`).
+//! Groups are a pile (`pile`, `mark`, `short_key`). Those of another pile are added where hints lead to their keys (`taking`,
+//! `hints`), and a pile is settled now and then (`keeping`, `settle`). It becomes a table in `group_table`: the totals are
+//! tested (`totals`), the lines put in order (`lines`), and their items merged (`merged`, `average`).
 //! Below: `answer_rules` for what pieces mean and the laws that are used here, `expr_eval` for expressions of keys, and
 //! `scan_core` for `Work`, by which a board joins pieces (`work`). Above: `chunk_scan` and `near_join` fill pieces, a board
 //! joins them, and `czar` finishes them.

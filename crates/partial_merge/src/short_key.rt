@@ -1,4 +1,4 @@
-//! The values of a key side by side, as a slice: so they are compared value by value, and handed to calls of other crates.
+//! The values of a key side by side, as callers of other crates take them.
 
 ghost use Rattle.std.specs.Prelude.{◌≡◌, ◌≤◌, min};
 ghost use Rattle.partial_merge.specs.declared.limits.TheConstants.{SHORT_KEY_MOST};
@@ -12,7 +12,7 @@ use std::marker::Model;
 pub(crate) struct ShortKey {
     /// How many there are.
     taken: usize,
-    /// The values, and any others behind them.
+    /// The values, and others behind them.
     values: [Option<i64>; SHORT_KEY_MOST],
 }
 
