@@ -18,3 +18,4 @@ pub mod Computing
 pub mod Apart
 pub mod Stretches
 pub mod Dealing
+pub mod Leads

@@ -1,5 +1,5 @@
 -- The values of the first key column.
-use Rattle.std.specs.Prelude.{ℤ, List, [], ◌∷◌, map, Option}
+use Rattle.std.specs.Prelude.{◌≡◌, ℕ, ◌<◌, ℤ, List, [], ◌∷◌, get_or, length, map, None, Option}
 use Rattle.table_rules.specs.Objects.{Obj}
 use Rattle.sql_bound.specs.declared.expr.BoundCol.{BoundCol}
 use Rattle.value_rules.specs.Values.{cell_of, row}
@@ -8,3 +8,7 @@ use Rattle.value_rules.specs.Values.{cell_of, row}
 abbrev pub leading : List BoundCol → List Obj → List (Option ℤ)
 leading [] objects = []
 leading (k ∷ keys) objects = map (λ o. cell_of (row o) k) objects
+
+-- as far as the list goes, these values stand in it
+abbrev pub IsLead : List BoundCol → List Obj → List (Option ℤ) → Type 0
+IsLead keys objects lead = (j : ℕ) → j < length lead → get_or lead j None ≡ get_or (leading keys objects) j None

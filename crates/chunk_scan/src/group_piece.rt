@@ -14,13 +14,13 @@ ghost use Rattle.value_rules.specs.Values.{row};
 ghost use Rattle.answer_rules.specs.Keys.{key_of};
 ghost use Rattle.answer_rules.specs.Parts.{partials_of};
 ghost use Rattle.answer_rules.specs.Pieces.{OfGroups};
-ghost use Rattle.chunk_scan.specs.Leading.{leading};
+ghost use Rattle.chunk_scan.specs.Leading.{IsLead};
 ghost use Rattle.answer_rules.specs.SoundChunks.{IsSoundChunk};
 ghost use Rattle.partial_merge.specs.Groups.{group_by};
 ghost use Rattle.partial_merge.specs.Joining.{MayTakeGroup, with_group};
 
 use crate::key_order::by_key;
-use crate::lead::{cell, lead};
+use crate::lead::{cell, first_value, lead};
 use crate::part::fill;
 use crate::runs::{run_end, starts};
 use crate::scratch::Scratch;
@@ -98,7 +98,7 @@ fn group_piece<'w>(
 {
     let _count = block.len();
     let starts = starts(block, keys, places, scratch)?;
-    let lead = lead(block, keys, places, scratch)?;
+    let lead = lead(block, keys, places, starts.as_slice(), scratch)?;
     let worths = worths(alloc, block, query.items.as_slice(), places, scratch)?;
     let mut piece = Piece::empty(alloc, query);
     let mut cells = Vec::new(alloc);
@@ -146,8 +146,8 @@ fn push(
     piece.push_group(key, rows as u32, parts)
 }
 
-/// Puts the key of the row at this place of the list in place of what `cells` held; `None` is NULL. The first value of each
-/// row's key stands in `lead`.
+/// Puts the key of the row at this place of the list in place of what `cells` held; `None` is NULL. The first values of
+/// keys stand in `lead`, or nothing does.
 fn fill_key(
     cells: &mut Vec<Option<i64>>,
     block: &Block,
@@ -159,7 +159,7 @@ fn fill_key(
     requires there { All (λ place. place < length block.now.objects) places.now }
     requires sound { IsTrue (list_all (has_col (FIRST_COLUMNS + block.now.width) false) keys.now) }
     requires at { j < length places.now }
-    requires lead { lead.now ≡ leading keys.now (objects_at block.now.objects places.now) }
+    requires lead { IsLead keys.now (objects_at block.now.objects places.now) lead.now }
     ensures { OnOk result (cells.new.items
         ≡ key_of keys.now (row (get_or (objects_at block.now.objects places.now) j no_row))) }
 {
@@ -167,7 +167,7 @@ fn fill_key(
     match keys {
         [] => Ok(()),
         [_, rest @ ..] => {
-            push_cell(cells, lead[j])?;
+            push_cell(cells, first_value(block, keys, places, lead, j))?;
             push_cells(cells, block, rest, places[j])
         }
     }

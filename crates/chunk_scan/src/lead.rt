@@ -3,21 +3,56 @@
 //! A key is read once for each run of rows. In the column these rows stand anywhere, and much is done between two keys, so
 //! that each would be waited for; a short loop over all rows reads many of them at one time.
 
-ghost use Rattle.std.specs.Prelude.{◌≡◌, ◌+◌, ◌++◌, ◌<◌, ◌≤◌, [], All, IfOk, IsTrue, false, get_or, length, map, vec_capacity, vec_len};
+ghost use Rattle.std.specs.Prelude.{◌≡◌, ◌+◌, ◌++◌, ◌<◌, ◌≤◌, [], All, IfOk, IsTrue, None, false, get_or, length, map, vec_capacity, vec_len};
 ghost use Rattle.std.specs.List.{list_all};
 ghost use Rattle.table_rules.specs.declared.limits.TheConstants.{FIRST_COLUMNS};
 ghost use Rattle.sky_row.specs.Columns.{no_row, objects_at};
 ghost use Rattle.value_rules.specs.Sound.{has_col};
 ghost use Rattle.value_rules.specs.Values.{cell_of, row};
-ghost use Rattle.chunk_scan.specs.Leading.{leading};
+ghost use Rattle.chunk_scan.specs.Leading.{IsLead, leading};
 
 use crate::scratch::Scratch;
 use column_block::Block;
 use sky_io::Memory;
 use sql_bound::BoundCol;
 
-/// The values of the first key column of the rows at these places, in a vector of the scratch; none where there is no key.
+/// How many rows a run has at the most, on average, where the values are listed: in longer runs few keys are read.
+const LONG: usize = 8;
+
+/// The values of the first key column of the rows at these places, where runs are short, or none, in a vector of the scratch.
+/// `starts` tells where a run begins.
+#[tactic(auto, using(crate::proofs::Leads::full_leads, crate::proofs::Leads::none_leads))]
 pub(crate) fn lead(
+    block: &Block,
+    keys: &[BoundCol],
+    places: &[u32],
+    starts: &[bool],
+    scratch: &mut Scratch,
+) -> Result<Vec<Option<i64>>, Memory>
+    requires there { All (λ place. place < length block.now.objects) places.now }
+    requires sound { IsTrue (list_all (has_col (FIRST_COLUMNS + block.now.width) false) keys.now) }
+    ensures { IfOk result (λ lead.
+        IsLead keys.now (objects_at block.now.objects places.now) lead.items) }
+{
+    if are_many(starts) {
+        let lead = full_lead(block, keys, places, scratch)?;
+        return Ok(lead);
+    }
+    let none = scratch.cells.take(0)?;
+    Ok(none)
+}
+
+/// Whether so many runs begin that the values are worth a list.
+fn are_many(starts: &[bool]) -> bool {
+    let mut count = 0usize;
+    for start in starts {
+        count = count.saturating_add(usize::from(*start));
+    }
+    count > starts.len() / LONG
+}
+
+/// The values of the first key column of all these rows; none where there is no key.
+fn full_lead(
     block: &Block,
     keys: &[BoundCol],
     places: &[u32],
@@ -31,6 +66,29 @@ pub(crate) fn lead(
     let mut lead = scratch.cells.take(places.len())?;
     put_lead(&mut lead, block, keys, places);
     Ok(lead)
+}
+
+/// The value in the first key column of the row at this place of the list: as it is listed, or else from the column.
+#[tactic(auto, using(crate::proofs::Leads::leading_at))]
+pub(crate) fn first_value(
+    block: &Block,
+    keys: &[BoundCol],
+    places: &[u32],
+    lead: &[Option<i64>],
+    j: usize,
+) -> Option<i64>
+    requires some { 0 < length keys.now }
+    requires there { All (λ place. place < length block.now.objects) places.now }
+    requires sound { IsTrue (list_all (has_col (FIRST_COLUMNS + block.now.width) false) keys.now) }
+    requires at { j < length places.now }
+    requires lead { IsLead keys.now (objects_at block.now.objects places.now) lead.now }
+    ensures { result
+        ≡ get_or (leading keys.now (objects_at block.now.objects places.now)) j None }
+{
+    match lead.get(j) {
+        Some(value) => *value,
+        None => cell(block, &keys[0], places[j] as usize),
+    }
 }
 
 /// Puts these values into an empty list with room for one of each row. Takes no memory.

@@ -3,7 +3,7 @@
 //! Callers see `mask` as a truth a row, and `scan` as a piece that stands for the chunk alone (`PieceFor`).
 //! Inside, conditions that a kernel of `lane_filter` knows clear a mask first; then the places that are left are listed, and
 //! the other conditions are judged by `column_eval` at these places alone. Of a grouping the places are put in an order in
-//! which rows of one key stand together (`key_order`), the values of the first key column are copied in that order (`lead`),
+//! which rows of one key stand together (`key_order`), the first values of keys are copied in that order (`lead`),
 //! those of its aggregates are computed a column at a time (`worth`), and rows of one key that stand together (`runs`) are put
 //! into the piece as one group (`group_piece`). Of rows the values that they are ordered by are computed so, and without a
 //! LIMIT those of the items too; with a LIMIT n a row that comes behind n others is passed over before its items are computed.
