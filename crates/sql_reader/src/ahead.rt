@@ -42,7 +42,8 @@ fn is_same_sign(a: Sign, b: Sign) -> bool
     a == b
 }
 
-/// What was read before, beside what is read now; it is dropped where nothing is read.
+/// What was read before, beside what is read now; it is dropped where nothing is read. A tree that goes out of scope at a
+/// `?` would be dropped part by part there, and the function's proof be several times as long.
 pub(crate) fn beside<T: Drop, U>(held: T, answer: Result<U, ReadStop>) -> Result<(T, U), ReadStop>
     ensures { result ≡ beside held answer }
 {

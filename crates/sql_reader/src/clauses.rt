@@ -150,7 +150,10 @@ fn sorted<'a>(alloc: Global, ahead: &Ahead<'a>) -> Result<(Option<OrderBy>, Ahea
     let (key, rest) = col(alloc, ahead)?;
     match way(&rest) {
         Some((down, rest)) => Ok((Some(OrderBy { key, down }), rest)),
-        None => Err(ReadStop::Syntax),
+        None => {
+            drop(key);
+            Err(ReadStop::Syntax)
+        }
     }
 }
 

@@ -8,7 +8,7 @@ ghost use Rattle.sql_rules.specs.ReadConds.{other_with, pred_with};
 ghost use Rattle.sql_token.specs.declared.keyword.Keyword.TheVariants as keyword;
 ghost use Rattle.sql_reader.specs.Answers.{Gives};
 
-use crate::ahead::{Ahead, ReadStop};
+use crate::ahead::{Ahead, ReadStop, beside};
 use crate::preds::{area, chord, valued};
 use crate::skip::skip_expr;
 use sql_token::{Keyword, Sign};
@@ -44,7 +44,7 @@ fn any<'a>(
     ensures { Gives (any_with (expr_at levels) (cond_at (levels - 1)) ahead.now) result }
 {
     let (first, rest) = conj(alloc, ahead, levels)?;
-    let (rest, ahead) = more_conjs(alloc, &rest, levels)?;
+    let (first, (rest, ahead)) = beside(first, more_conjs(alloc, &rest, levels))?;
     Ok((Boxed::new(alloc, Cond { first, rest })?, ahead))
 }
 
@@ -82,7 +82,7 @@ fn conj<'a>(alloc: Global, ahead: &Ahead<'a>, levels: u32) -> Result<(Conj, Ahea
     ensures { Gives (conj_with (expr_at levels) (cond_at (levels - 1)) ahead.now) result }
 {
     let (first, rest) = neg(alloc, ahead, levels)?;
-    let (rest, ahead) = more_negs(alloc, &rest, levels)?;
+    let (first, (rest, ahead)) = beside(first, more_negs(alloc, &rest, levels))?;
     Ok((Conj { first, rest }, ahead))
 }
 

@@ -7,7 +7,7 @@ ghost use Rattle.sql_rules.specs.ReadExprs.{int_at, ints_at, more_ints_at, prod_
 ghost use Rattle.sql_token.specs.declared.sign.Sign.TheVariants as sign;
 ghost use Rattle.sql_reader.specs.Answers.{Gives, Shows};
 
-use crate::ahead::{Ahead, ReadStop};
+use crate::ahead::{Ahead, ReadStop, beside};
 use sql_token::Sign;
 use sql_tree::{Atom, Col, Expr, Factor, IntList, Prod, Signed, SignedInt};
 use sqlite_items::{Boxed, Items};
@@ -63,7 +63,7 @@ fn sum<'a>(alloc: Global, ahead: &Ahead<'a>, inner: u32) -> Result<(Expr, Ahead<
     ensures { Gives (sum_with (expr_at inner) ahead.now) result }
 {
     let (first, rest) = prod(alloc, ahead, inner)?;
-    let (rest, ahead) = more_prods(alloc, &rest, inner)?;
+    let (first, (rest, ahead)) = beside(first, more_prods(alloc, &rest, inner))?;
     Ok((Expr { first, rest }, ahead))
 }
 
@@ -113,7 +113,7 @@ fn prod<'a>(alloc: Global, ahead: &Ahead<'a>, inner: u32) -> Result<(Prod, Ahead
     ensures { Gives (prod_with (expr_at inner) ahead.now) result }
 {
     let (first, rest) = factor(alloc, ahead, inner)?;
-    let (rest, ahead) = more_factors(alloc, &rest, inner)?;
+    let (first, (rest, ahead)) = beside(first, more_factors(alloc, &rest, inner))?;
     Ok((Prod { first, rest }, ahead))
 }
 
@@ -179,7 +179,10 @@ fn bracket<'a>(alloc: Global, ahead: &Ahead<'a>, inner: u32) -> Result<(Atom, Ah
 {
     let (e, rest) = expr(alloc, ahead, inner)?;
     match rest.after_sign(Sign::Close) {
-        None => Err(ReadStop::Syntax),
+        None => {
+            drop(e);
+            Err(ReadStop::Syntax)
+        }
         Some(rest) => Ok((Atom::Bracket(Boxed::new(alloc, e)?), rest)),
     }
 }

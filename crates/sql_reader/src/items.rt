@@ -51,7 +51,10 @@ fn argument<'a>(
     let (e, rest) = expr(alloc, ahead, LEVELS_MOST)?;
     match rest.after_sign(Sign::Close) {
         Some(rest) => Ok((kind_by(call, e), rest)),
-        None => Err(ReadStop::Syntax),
+        None => {
+            drop(e);
+            Err(ReadStop::Syntax)
+        }
     }
 }
 

@@ -6,7 +6,7 @@ ghost use Rattle.sql_rules.specs.ReadConds.{null_at, range_with, said_with};
 ghost use Rattle.sql_reader.specs.Answers.{Gives};
 ghost use Rattle.sql_reader.specs.Preds.{valued_at};
 
-use crate::ahead::{Ahead, ReadStop};
+use crate::ahead::{Ahead, ReadStop, beside};
 use crate::exprs::{expr, ints};
 use sql_token::{Keyword, Sign, Span};
 use sql_tree::{AreaKind, Cmp, Expr, Name, Pred};
@@ -23,11 +23,12 @@ fn between<'a>(
 ) -> Result<(Pred, Ahead<'a>), ReadStop>
     ensures { Gives (between_with (expr_at levels) value not ahead.now) result }
 {
-    let (low, rest) = expr(alloc, ahead, levels)?;
+    let (value, (low, rest)) = beside(value, expr(alloc, ahead, levels))?;
     let Some(rest) = rest.after_key(Keyword::And) else {
+        drop((value, low));
         return Err(ReadStop::Syntax);
     };
-    let (high, rest) = expr(alloc, &rest, levels)?;
+    let ((value, low), (high, rest)) = beside((value, low), expr(alloc, &rest, levels))?;
     Ok((
         Pred::Between {
             not,
@@ -54,10 +55,13 @@ fn range<'a>(
         Some(rest) => between(alloc, &rest, value, not, levels),
         None => match ahead.after_key(Keyword::In) {
             Some(rest) => {
-                let (list, rest) = ints(alloc, &rest)?;
+                let (value, (list, rest)) = beside(value, ints(alloc, &rest))?;
                 Ok((Pred::Among { not, value, list }, rest))
             }
-            None => Err(ReadStop::Syntax),
+            None => {
+                drop(value);
+                Err(ReadStop::Syntax)
+            }
         },
     }
 }
@@ -70,7 +74,10 @@ fn null<'a>(ahead: &Ahead<'a>, value: Expr) -> Result<(Pred, Ahead<'a>), ReadSto
     let (not, rest) = ahead.maybe_key(Keyword::Not);
     match rest.after_key(Keyword::Null) {
         Some(rest) => Ok((Pred::IsNull { not, value }, rest)),
-        None => Err(ReadStop::Syntax),
+        None => {
+            drop(value);
+            Err(ReadStop::Syntax)
+        }
     }
 }
 
@@ -86,15 +93,8 @@ fn said<'a>(
 {
     match ahead.cmp() {
         Some((op, rest)) => {
-            let (right, rest) = expr(alloc, &rest, levels)?;
-            Ok((
-                Pred::Compare {
-                    left: value,
-                    op,
-                    right,
-                },
-                rest,
-            ))
+            let (left, (right, rest)) = beside(value, expr(alloc, &rest, levels))?;
+            Ok((Pred::Compare { left, op, right }, rest))
         }
         None => match ahead.after_key(Keyword::Is) {
             Some(rest) => null(&rest, value),
