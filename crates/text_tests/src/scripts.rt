@@ -30,19 +30,12 @@ fn a_query_has_its_line_as_its_text(rt: HostRuntime) -> Result<(), Fail> {
     let alloc = rt.alloc();
     let text = b"SELECT x FROM Object\r\n# a note\nSELECT y FROM Object\ncancel 2\nwait 1";
     let script = Script::read(alloc, text)?;
-    assert_eq!(rt; script.steps().len(), 4);
-    let mut texts = Vec::new(alloc);
-    for number in 1..=script.queries() {
-        texts.push(script.text_of(number))?;
+    if script.queries() != 2 {
+        panic!(rt; "two lines are queries")
     }
-    assert_eq!(rt;
-        texts.as_slice(),
-        [
-            b"SELECT x FROM Object".as_slice(),
-            b"SELECT y FROM Object".as_slice()
-        ]
-        .as_slice()
-    );
+    assert_eq!(rt; script.steps().len(), 4);
+    assert!(rt; script.text_of(1) == b"SELECT x FROM Object".as_slice());
+    assert!(rt; script.text_of(2) == b"SELECT y FROM Object".as_slice());
     Ok(())
 }
 

@@ -31,8 +31,19 @@ fn texts_at_the_limits_are_read_and_texts_past_them_refused(rt: HostRuntime) -> 
     Ok(())
 }
 
+// The kind of the one token of a text.
+fn kind_of(alloc: Global, text: &[u8]) -> Result<Option<TokenKind>, TokenStop>
+    requires { length text.now ≤ QUERY_TEXT_MOST }
+{
+    let tokens = Tokens::read(alloc, text)?;
+    match tokens.as_slice() {
+        [token] => Ok(Some(token.kind)),
+        _ => Ok(None),
+    }
+}
+
 #[test]
-fn each_token_has_its_kind(rt: HostRuntime) -> Result<(), Fail> {
+fn each_token_has_its_kind(rt: HostRuntime) {
     let alloc = rt.alloc();
     let most = Int::new(9223372036854775807).expect(&rt, "an int");
     let one = Int::new(1).expect(&rt, "an int");
@@ -49,13 +60,6 @@ fn each_token_has_its_kind(rt: HostRuntime) -> Result<(), Fail> {
         (b"!=".as_slice(), TokenKind::Sign(Sign::Differs)),
         (b"<>".as_slice(), TokenKind::Sign(Sign::Differs)),
     ] {
-        let tokens = Tokens::read(alloc, text)?;
-        let kinds: Vec<TokenKind> = tokens
-            .as_slice()
-            .iter()
-            .map(|token| token.kind)
-            .collect(alloc)?;
-        assert_eq!(rt; kinds.as_slice(), [want].as_slice());
+        assert_eq!(rt; kind_of(alloc, text), Ok(Some(want)));
     }
-    Ok(())
 }
