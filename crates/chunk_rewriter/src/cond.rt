@@ -1,4 +1,4 @@
-//! Copies of conditions. One function copies one layer.
+//! Copies of conditions. One function copies one layer, and its list first: where memory then ends, a list is let go as one.
 
 ghost use Rattle.std.specs.Prelude.{◌≡◌, IfOk};
 ghost use Rattle.sql_bound.specs.declared.cond.BoundPred.TheVariants.{Among, Between, Bracket, Compare, IsNull};
@@ -14,8 +14,8 @@ use std::alloc::{AllocError, Global};
 fn copied_any(alloc: Global, any: &BoundAny) -> Result<BoundAny, AllocError>
     ensures { IfOk result (λ copy. copy ≡ any.now) }
 {
-    let first = copied_all(alloc, &any.first)?;
     let rest = copied_alls(alloc, any.rest.as_slice())?;
+    let first = copied_all(alloc, &any.first)?;
     Ok(BoundAny { first, rest })
 }
 
@@ -38,8 +38,8 @@ fn copied_alls(alloc: Global, rest: &[BoundAll]) -> Result<Items<BoundAll>, Allo
 fn copied_all(alloc: Global, all: &BoundAll) -> Result<BoundAll, AllocError>
     ensures { IfOk result (λ copy. copy ≡ all.now) }
 {
-    let first = copied_cond(alloc, &all.first)?;
     let rest = copied_conds(alloc, all.rest.as_slice())?;
+    let first = copied_cond(alloc, &all.first)?;
     Ok(BoundAll { first, rest })
 }
 
@@ -137,8 +137,8 @@ fn between(
 fn among(alloc: Global, not: bool, value: &BoundExpr, list: &[i64]) -> Result<BoundPred, AllocError>
     ensures { IfOk result (λ copy. copy ≡ Among not value.now list.now) }
 {
-    let value = copied_expr(alloc, value)?;
     let list = Items::from_slice(alloc, list)?;
+    let value = copied_expr(alloc, value)?;
     Ok(BoundPred::Among { not, value, list })
 }
 

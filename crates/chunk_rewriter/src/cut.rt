@@ -29,8 +29,8 @@ fn rewritten(alloc: Global, bound: &Bound) -> Result<Rewritten, AllocError>
     let mut merged = Items::new(alloc);
     let items = bound.items.as_slice();
     cut_items(alloc, &bound.shape, items, &mut parts, &mut merged)?;
-    let chunk = chunk_query(alloc, bound, parts)?;
     let merge = merge_plan(alloc, bound, merged)?;
+    let chunk = chunk_query(alloc, bound, parts)?;
     Ok(Rewritten { chunk, merge })
 }
 
@@ -39,8 +39,8 @@ fn chunk_query(alloc: Global, bound: &Bound, items: ChunkItems) -> Result<ChunkQ
     requires { items ≡ flat_map (chunk_items_of bound.now.shape) bound.now.items }
     ensures { IfOk result (λ query. query ≡ chunk_query_of bound.now) }
 {
-    let shape = copied_shape(alloc, &bound.shape)?;
     let conds = copied_conds(alloc, bound.conds.as_slice())?;
+    let shape = copied_shape(alloc, &bound.shape)?;
     let order = chunk_order(alloc, &bound.shape, bound.items.as_slice(), bound.order)?;
     let limit = chunk_limit(&bound.shape, bound.limit);
     Ok(ChunkQuery {

@@ -1,4 +1,4 @@
-//! Copies of expressions. One function copies one layer.
+//! Copies of expressions. One function copies one layer, and its list first: where memory then ends, a list is let go as one.
 
 ghost use Rattle.std.specs.Prelude.{◌≡◌, IfOk};
 ghost use Rattle.answer_rules.specs.Rewriting.{of_col};
@@ -14,8 +14,8 @@ use std::alloc::{AllocError, Global};
 pub(crate) fn copied_expr(alloc: Global, e: &BoundExpr) -> Result<BoundExpr, AllocError>
     ensures { IfOk result (λ copy. copy ≡ e.now) }
 {
-    let first = copied_prod(alloc, &e.first)?;
     let rest = copied_signeds(alloc, e.rest.as_slice())?;
+    let first = copied_prod(alloc, &e.first)?;
     Ok(BoundExpr { first, rest })
 }
 
@@ -51,8 +51,8 @@ fn copied_signed(alloc: Global, signed: &BoundSigned) -> Result<BoundSigned, All
 fn copied_prod(alloc: Global, prod: &BoundProd) -> Result<BoundProd, AllocError>
     ensures { IfOk result (λ copy. copy ≡ prod.now) }
 {
-    let first = copied_factor(alloc, &prod.first)?;
     let rest = copied_factors(alloc, prod.rest.as_slice())?;
+    let first = copied_factor(alloc, &prod.first)?;
     Ok(BoundProd { first, rest })
 }
 

@@ -22,9 +22,9 @@ pub fn copy_of(alloc: Global, query: &ChunkQuery) -> Result<ChunkQuery, Memory>
 fn copied_query(alloc: Global, query: &ChunkQuery) -> Result<ChunkQuery, AllocError>
     ensures { IfOk result (λ copy. copy ≡ query.now) }
 {
-    let shape = copied_shape(alloc, &query.shape)?;
     let items = copied_items(alloc, query.items.as_slice())?;
     let conds = copied_conds(alloc, query.conds.as_slice())?;
+    let shape = copied_shape(alloc, &query.shape)?;
     let order = copied_order(alloc, &query.order)?;
     Ok(ChunkQuery {
         shape,
