@@ -53,7 +53,7 @@ pub record IsRepeated (n : ℤ) (count : ℕ) (lane : Lane) : Type 0 where
   pub numbers : numbers_of lane.numbers ≡ replicate count n
   pub known : lane.known.items ≡ replicate count true
 
--- A lane of the same numbers.
+-- A lane and the same one with each number in a list: what they hold does not differ, only how the numbers are kept.
 pub record IsListed (lane listed : Lane) : Type 0 where
   pub bound : listed.bound ≡ lane.bound
   pub numbers : numbers_of listed.numbers ≡ numbers_of lane.numbers

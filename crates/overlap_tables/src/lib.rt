@@ -2,7 +2,8 @@
 //!
 //! Callers see a near region as the test of `sky_rules`, and the chunks that need a position as a list of their numbers
 //! (`specs/Overlaps.antt`).
-//! Below: `sky_plan` for bounds and places. Above: the tables of each chunk, and the near-neighbour join.
+//! Below: `sky_plan` for bounds and places. Above: `chunk_store`, which gives each chunk its overlap and tests for a subchunk's;
+//! `near_join`, which asks whether a part holds a position; and `judge`, which writes the chunks near a position.
 //! No rows and no tables: one position at a time.
 #![tactic(auto)]
 
