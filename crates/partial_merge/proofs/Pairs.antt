@@ -26,9 +26,10 @@ use Rattle.answer_rules.proofs.Sorting.{Ascends, only_order}
 use Rattle.answer_rules.proofs.Totals.{row_total}
 use Rattle.partial_merge.specs.declared.id_pair.IdPair.{IdPair}
 use Rattle.partial_merge.specs.declared.kept.Kept.{Kept}
+use Rattle.partial_merge.specs.declared.kept.Kept.TheVariants as kept
 use Rattle.partial_merge.specs.declared.rank.Rank.{Rank}
 use Rattle.partial_merge.specs.declared.ranked.Ranked.{Ranked}
-use Rattle.partial_merge.specs.Bags.{IsTooLate, out_row, pushed_in, ranked_at, rows_in}
+use Rattle.partial_merge.specs.Bags.{ComesBeforeNone, IsTooLate, out_row, pushed_in, ranked_at, rows_in}
 use Rattle.partial_merge.specs.Rows.{row_of}
 use Rattle.partial_merge.specs.Pairs.{pair_order, pair_row, pair_values}
 use Rattle.partial_merge.specs.Tables.{IsShort, table_of}
@@ -91,6 +92,22 @@ pub late_for_all : (cells : List (Option ℤ)) (rank : Rank) (k : Kept) (ids : L
     → OnTrue late ((values : List (Option ℤ)) → KeepsFirst row_order (pushed_in k) ((rows_in cells k ++ map pair_row ids) ++ out_row rank values ∷ []) (rows_in cells k ++ map pair_row ids))
 late_for_all cells rank k ids true h = λ values. row_kept (pushed_in k) (rows_in cells k) (rows_in cells k) (map pair_row ids) (out_row rank values) (too_late cells values rank k h)
 late_for_all cells rank k ids false h = tt
+
+each_unmap : {X Y : Type 0} (P : Y → Type 0) (f : X → Y) (xs : List X) → Each P (map f xs) → Each (λ x. P (f x)) xs
+each_unmap P f [] h = tt
+each_unmap P f (x ∷ xs) h = (h.0, each_unmap P f xs h.1)
+
+-- and is told to be one where so many are kept, and it comes before none of them
+pub told_late : (cells : List (Option ℤ)) (rank : Rank) (k : Kept) (ids : List IdPair) (late : Bool)
+    → IfSome (pushed_in k) (λ n. ids ≡ []) → (IsTooLate (ranked_at rank 0 0) k → late ≡ true)
+    → IfSome (pushed_in k) (λ n. n ≤ length (rows_in cells k ++ map pair_row ids) → ComesBeforeNone rank (rows_in cells k ++ map pair_row ids) → late ≡ true)
+told_late cells rank (kept.All lot) ids late none told = tt
+told_late cells rank (kept.First limit heap) ids late none told = λ few before.
+    let rows : rows_in cells (kept.First limit heap) ++ map pair_row ids ≡ rows_in cells (kept.First limit heap) = ap (λ (l : List IdPair). rows_in cells (kept.First limit heap) ++ map pair_row l) none ∙ append-nil (rows_in cells (kept.First limit heap)) in
+    told (
+      omega (arith, few, ap length rows, length-map heap.data.items (row_of cells)),
+      each_unmap (λ m. is_lt (row_order (out_row rank []) m) ≡ false) (row_of cells) heap.data.items (subst (ComesBeforeNone rank) rows before),
+    )
 
 -- some of the rows that are apart are apart
 pub front_apart : (xs ys : List OutRow) → AreApart row_order (xs ++ ys) → AreApart row_order xs

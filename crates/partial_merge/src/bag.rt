@@ -9,12 +9,12 @@
 //! a limit and without an order key such a pair is kept as its two ids in a third list, and has no values elsewhere. The
 //! table is written from that list alone where the bag holds nothing else (`bag_table`).
 
-ghost use Rattle.std.specs.Prelude.{◌≡◌, ◌≤◌, ◌++◌, ◌∷◌, [], ℤ, length, IfOk, IfSome, List, None, OnErr, OnOk, Option};
+ghost use Rattle.std.specs.Prelude.{◌≡◌, ◌≤◌, ◌++◌, ◌∷◌, [], ℤ, length, IfOk, IfSome, List, None, OnErr, OnOk, Option, true};
 ghost use Rattle.std.specs.Bool.{OnTrue};
 ghost use Rattle.answer_rules.specs.Finish.{merged_rows};
 ghost use Rattle.answer_rules.specs.Keeps.{AreApart, KeepsFirst};
 ghost use Rattle.answer_rules.specs.Ranks.{row_order};
-ghost use Rattle.partial_merge.specs.Bags.{out_row, pushed_in};
+ghost use Rattle.partial_merge.specs.Bags.{ComesBeforeNone, out_row, pushed_in};
 ghost use Rattle.partial_merge.specs.Pairs.{pair_row};
 
 use crate::bag_table::bag_table;
@@ -83,10 +83,14 @@ impl Bag {
         }
     }
 
-    /// Whether so many rows are kept that one of this rank is none of the first, whatever its values. Takes no memory.
+    /// Whether so many rows are kept that one of this rank is none of the first, whatever its values: as soon as none of as many
+    /// rows as the limit comes after it. Takes no memory.
     pub(crate) fn is_too_late(&self, rank: &Rank) -> bool
-        ensures { OnTrue result ((values : List (Option ℤ)) → KeepsFirst row_order self.now.pushed
+        ensures late { OnTrue result ((values : List (Option ℤ)) →
+            KeepsFirst row_order self.now.pushed
             (self.now.rows ++ out_row rank.now values ∷ []) self.now.rows) }
+        ensures told { IfSome self.now.pushed (λ n. n ≤ length self.now.rows →
+            ComesBeforeNone rank.now self.now.rows → result ≡ true) }
     {
         is_too_late(&self.kept, &rank.at(0, 0))
     }

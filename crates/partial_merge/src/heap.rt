@@ -1,6 +1,6 @@
 //! The first n rows of those that were offered, as a heap whose top is the last of them.
 
-ghost use Rattle.std.specs.Prelude.{◌≡◌, ◌≤◌, ◌<◌, ◌+◌, ◌++◌, ◌∷◌, [], length, not, Some, IsPermutation};
+ghost use Rattle.std.specs.Prelude.{◌≡◌, ◌≤◌, ◌<◌, ◌+◌, ◌++◌, ◌∷◌, [], length, not, Some, true, IsPermutation};
 ghost use Rattle.std.specs.Bool.{OnTrue, OnFalse};
 ghost use Rattle.std.specs.Ordering.{is_lt};
 ghost use Rattle.std.specs.BinaryHeap.{heap_items, heap_len, heap_capacity, IsHeap};
@@ -37,6 +37,7 @@ pub(crate) fn offer(heap: &mut BinaryHeap<Ranked>, limit: usize, row: Ranked)
 pub(crate) fn comes_late(heap: &BinaryHeap<Ranked>, row: &Ranked) -> bool
     requires order { IsHeap rank_order (heap_items heap.now) }
     ensures late { OnTrue result (IsBehindAll row.now (heap_items heap.now)) }
+    ensures told { IsBehindAll row.now (heap_items heap.now) → result ≡ true }
     ensures before { OnFalse result (IsUpToFirst row.now (heap_items heap.now)) }
     ensures some { OnFalse result (0 < heap_len heap.now) }
 {

@@ -53,8 +53,6 @@ mod short_key;
 pub mod table;
 mod taking;
 pub mod tally;
-#[cfg(test)]
-mod tests;
 mod totals;
 mod work;
 

@@ -1,4 +1,5 @@
-//! The values of a key side by side, as callers of other crates take them.
+//! The values of a key side by side, as they are compared (`key`), hashed (`hints`), and read for a line of the table (`lines`,
+//! `merged`).
 
 ghost use Rattle.std.specs.Prelude.{◌≡◌, ◌≤◌, min};
 ghost use Rattle.partial_merge.specs.declared.limits.TheConstants.{SHORT_KEY_MOST};

@@ -14,7 +14,7 @@ pub returns-then-is_too_late-clause-kept : goal.returns-then-is_too_late-clause-
 returns-then-is_too_late-clause-kept c =
     subst (λ (v : BagView). KeepsFirst row_order v.pushed (v.rows ++ out_row c.args.rank.now c.args.values.now ∷ []) v.rows) c.self.view_is
     (row_kept (pushed_in c.self.inside.kept) (rows_in c.self.inside.cells.items c.self.inside.kept) (rows_in c.self.inside.cells.items c.self.inside.kept) (map pair_row c.self.inside.ids.items) (out_row c.args.rank.now c.args.values.now)
-    (too_late c.self.inside.cells.items c.args.values.now c.args.rank.now c.self.inside.kept (subst (λ (r : Ranked). IsTooLate r c.self.inside.kept) c.at.ensures c.if-is_too_late.ensures)))
+    (too_late c.self.inside.cells.items c.args.values.now c.args.rank.now c.self.inside.kept (subst (λ (r : Ranked). IsTooLate r c.self.inside.kept) c.at.ensures c.if-is_too_late.ensures.late)))
 
 pub returns-clause-kept : goal.returns-clause-kept
 returns-clause-kept c =
