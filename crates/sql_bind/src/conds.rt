@@ -1,7 +1,7 @@
 //! Conditions with columns in place of names, as a whole. One function binds one layer. A condition that holds a chord
 //! test, or an area test whose arguments do not fit, is none.
-ghost use Rattle.std.specs.Prelude.{◌≡◌, map, IfOk};
-ghost use Rattle.bind_rules.specs.Wholes.{all_there, bound_all, bound_any, bound_cond, bound_pred};
+ghost use Rattle.std.specs.Prelude.{◌≡◌, map, IfOk, IsOkAnd, Some};
+ghost use Rattle.bind_rules.specs.Wholes.{all_there, any_by, bound_all, bound_any, bound_cond, bound_pred, conj_by};
 
 use crate::preds::{among, area, between, compare, is_null};
 use crate::scope::Scope;
@@ -20,10 +20,20 @@ pub(crate) fn whole_cond(
 ) -> Result<Option<BoundAny>, AllocError>
     ensures { IfOk result (λ whole. whole ≡ bound_any scope.now cond.now) }
 {
-    let Some(first) = whole_conj(alloc, scope, &cond.first)? else {
-        return Ok(None);
-    };
-    match whole_conjs(alloc, scope, cond.rest.as_slice())? {
+    match whole_conj(alloc, scope, &cond.first)? {
+        Some(first) => any_with(first, whole_conjs(alloc, scope, cond.rest.as_slice())),
+        None => Ok(None),
+    }
+}
+
+// The disjunction of a conjunction and further ones, where these are there.
+fn any_with(
+    first: BoundAll,
+    rest: Result<Option<Items<BoundAll>>, AllocError>,
+) -> Result<Option<BoundAny>, AllocError>
+    ensures { IfOk result (λ whole. IsOkAnd rest (λ more. whole ≡ any_by (Some first) more)) }
+{
+    match rest? {
         Some(rest) => Ok(Some(BoundAny { first, rest })),
         None => Ok(None),
     }
@@ -55,10 +65,20 @@ fn whole_conjs(
 fn whole_conj(alloc: Global, scope: &Scope<'_>, conj: &Conj) -> Result<Option<BoundAll>, AllocError>
     ensures { IfOk result (λ whole. whole ≡ bound_all scope.now conj.now) }
 {
-    let Some(first) = whole_neg(alloc, scope, &conj.first)? else {
-        return Ok(None);
-    };
-    match whole_negs(alloc, scope, conj.rest.as_slice())? {
+    match whole_neg(alloc, scope, &conj.first)? {
+        Some(first) => all_with(first, whole_negs(alloc, scope, conj.rest.as_slice())),
+        None => Ok(None),
+    }
+}
+
+// The conjunction of a predicate and further ones, where these are there.
+fn all_with(
+    first: BoundCond,
+    rest: Result<Option<Items<BoundCond>>, AllocError>,
+) -> Result<Option<BoundAll>, AllocError>
+    ensures { IfOk result (λ whole. IsOkAnd rest (λ more. whole ≡ conj_by (Some first) more)) }
+{
+    match rest? {
         Some(rest) => Ok(Some(BoundAll { first, rest })),
         None => Ok(None),
     }
