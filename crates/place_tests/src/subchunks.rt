@@ -12,6 +12,7 @@ use sky_plan::SkyPlan;
 use sky_row::{Columns, Row, Rows, Schema};
 use sky_vector::{Pos, length_ok};
 use std::alloc::Global;
+use std::process::Abort;
 use std::test::Fail;
 
 /// Three stripes of 6, 1 and 8 fine wedges, and of 3, 2 and 2 substripes.
@@ -134,12 +135,28 @@ fn found(
     }
 }
 
-#[test]
-fn subchunks_have_what_a_test_of_all_rows_finds(rt: HostRuntime) -> Result<(), Fail> {
-    let alloc = rt.alloc();
-    let Some(store) = drawn_store(alloc)? else {
-        panic!(rt; "no store");
+// How many rows a subchunk of a chunk holds and how many it needs beside them, where there is one and the store's lists are those
+// that a test of all rows finds.
+fn counted(
+    alloc: Global,
+    store: &Store,
+    at: (u32, u32),
+    chunk: &Part,
+    sub: &Part,
+) -> Result<Option<(usize, usize)>, Fail> {
+    let want = wanted(alloc, store.rows(), chunk, sub)?;
+    let Some(found) = found(alloc, store, at.0, at.1)? else {
+        return Ok(None);
     };
+    if found.0.as_slice() == want.0.as_slice() && found.1.as_slice() == want.1.as_slice() {
+        Ok(Some((want.0.len(), want.1.len())))
+    } else {
+        Ok(None)
+    }
+}
+
+// How many rows all subchunks hold and how many they need beside them.
+fn totals(rt: &impl Abort, alloc: Global, store: &Store) -> Result<(usize, usize), Fail> {
     let (mut held, mut beside): (usize, usize) = (0, 0);
     let mut chunk = 0;
     for (side, columns, bound, rows, radius) in CHUNKS {
@@ -153,19 +170,24 @@ fn subchunks_have_what_a_test_of_all_rows_finds(rt: HostRuntime) -> Result<(), F
                 let Some(one) = cut(side, 1, bound.wrapping_add(row), 1, radius) else {
                     panic!(rt; "{chunk} {sub}");
                 };
-                let want = wanted(alloc, store.rows(), &whole, &one)?;
-                let Some(found) = found(alloc, &store, chunk, sub)? else {
+                let Some(count) = counted(alloc, store, (chunk, sub), &whole, &one)? else {
                     panic!(rt; "{chunk} {sub}");
                 };
-                assert_eq!(rt; found.0.as_slice(), want.0.as_slice(), "{chunk} {sub}");
-                assert_eq!(rt; found.1.as_slice(), want.1.as_slice(), "{chunk} {sub}");
-                held = held.wrapping_add(want.0.len());
-                beside = beside.wrapping_add(want.1.len());
+                held = held.wrapping_add(count.0);
+                beside = beside.wrapping_add(count.1);
                 sub = sub.wrapping_add(1);
             }
         }
         chunk = chunk.wrapping_add(1);
     }
-    assert_eq!(rt; (held, beside), (281, 297));
+    Ok((held, beside))
+}
+
+#[test]
+fn subchunks_have_what_a_test_of_all_rows_finds(rt: HostRuntime) -> Result<(), Fail> {
+    let Some(store) = drawn_store(rt.alloc())? else {
+        panic!(rt; "no store");
+    };
+    assert_eq!(rt; totals(&rt, rt.alloc(), &store)?, (281, 297));
     Ok(())
 }
