@@ -64,3 +64,24 @@ returns-clause-whole g t c w =
     pieces_joined g.P.Work.asks (g.P.Work.stands c.args.seat.root.root) c.join-other.result.1.2 c.join.new.seat c.join-other.result.1.1.items c.join.ensures.own_seen (returns-clause-manned g t c).lawful.run.run
     (subst (λ r. PiecesStand (g.P.Work.stands r.root) c.join-other.result.1.2.seen c.join-other.result.1.1.items) root
     (c.join-other.ensures.second.1.1.1.0 (subst (λ r. PiecesStand (g.P.Work.stands r.root) c.split-other.new.seat.seen c.args.ends.items) (sym root) moved)))
+
+pub returns-then-workers-eq0-clause-leaves : goal.returns-then-workers-eq0-clause-leaves
+returns-then-workers-eq0-clause-leaves g t c = c.alone.ensures.leaves
+
+pub returns-then-workers-eq0-clause-known : goal.returns-then-workers-eq0-clause-known
+returns-then-workers-eq0-clause-known g t c = c.alone.ensures.known
+
+pub returns-then-workers-eq0-clause-more : goal.returns-then-workers-eq0-clause-more
+returns-then-workers-eq0-clause-more g t c = c.alone.ensures.more
+
+pub returns-then-workers-eq0-clause-whole : goal.returns-then-workers-eq0-clause-whole
+returns-then-workers-eq0-clause-whole g t c = c.alone.ensures.whole
+
+pub returns-then-workers-eq0-clause-manned : goal.returns-then-workers-eq0-clause-manned
+returns-then-workers-eq0-clause-manned g t c = c.alone.ensures.manned
+
+pub returns-clause-known : goal.returns-clause-known
+returns-clause-known g t c = c.join-other.ensures.second.1.0
+
+pub returns-clause-more : goal.returns-clause-more
+returns-clause-more g t c = c.join-other.ensures.second.1.1.0

@@ -1,5 +1,5 @@
 use Rattle.std.proofs.Common.{◌≡◌, [], drop, length, sym, subst, rules, List, Option}
-use Rattle.scan_session.specs.KnownEnds.{known_in, Marks, Ready}
+use Rattle.scan_session.specs.KnownEnds.{known_in, AllKnown, Marks, MoreKnown, PiecesStand, Ready}
 use Rattle.scan_session.specs.Driven.{Going}
 use Rattle.scan_session.specs.Crews.{Leaves}
 use Rattle.scan_session.specs.declared.end.End.{End}
@@ -21,3 +21,28 @@ returns-clause-leaves g c plan marks ready d =
 
 pub returns-clause-manned : goal.returns-clause-manned
 returns-clause-manned g c = manned_alone g.P.Work.asks c.args.seat c.czar-outcome.result.1 c.czar-outcome.ensures.stays c.czar-outcome.ensures.closed
+
+pub returns-clause-known : goal.returns-clause-known
+returns-clause-known g c went =
+    let new = c.czar-outcome.new.ends in
+    let len : length new ≡ c.args.ends.len = search rules in
+    subst (λ (l : List (Option (End g.row.P.Denot))). AllKnown l) (sym (take_seam new (drop (length new) c.args.ends.items) c.args.ends.len len)) (c.czar-outcome.ensures.known went)
+
+pub returns-clause-more : goal.returns-clause-more
+returns-clause-more g c =
+    let new = c.czar-outcome.new.ends in
+    let len : length new ≡ c.args.ends.len = search rules in
+    let e : c.as_mut_slice-2.result.now ≡ c.args.ends.items = search rules in
+    subst (λ (l : List (Option (End g.row.P.Denot))). MoreKnown c.args.ends.items l) (sym (take_seam new (drop (length new) c.args.ends.items) c.args.ends.len len))
+    (subst (λ (l : List (Option (End g.row.P.Denot))). MoreKnown l new) e c.czar-outcome.ensures.more)
+
+pub returns-clause-whole : goal.returns-clause-whole
+returns-clause-whole g c w =
+    let new = c.czar-outcome.new.ends in
+    let len : length new ≡ c.args.ends.len = search rules in
+    let e : c.as_mut_slice-2.result.now ≡ c.args.ends.items = search rules in
+    subst (λ (l : List (Option (End g.row.P.Denot))). PiecesStand (g.P.Work.stands c.args.seat.root.root) c.czar-outcome.result.1.seen l) (sym (take_seam new (drop (length new) c.args.ends.items) c.args.ends.len len))
+    (c.czar-outcome.ensures.whole (subst (λ (l : List (Option (End g.row.P.Denot))). PiecesStand (g.P.Work.stands c.args.seat.root.root) c.args.seat.seen l) (sym e) w))
+
+pub returns-clause-made : goal.returns-clause-made
+returns-clause-made g c = c.czar-outcome.ensures.stays.made

@@ -1,4 +1,4 @@
-use Rattle.std.proofs.Common.{◌≤◌, ◌+◌, arith, length, rules}
+use Rattle.std.proofs.Common.{◌≤◌, ◌+◌, arith, length, rules, sym, ◌∙◌, ap}
 use Rattle.scan_session.specs.declared.end.Outcome.TheVariants.{Went, Odd}
 use Rattle.scan_session.proofs.Calling.{stays_on}
 use Rattle.scan_session.proofs.Listing.{more_on, marks_on}
@@ -33,3 +33,24 @@ loop-place-preserved g c =
 
 pub returns-clause-known : goal.returns-clause-known
 returns-clause-known g c w = record { each = λ q h low. c.loop-place.invariant.known q h (let full : length c.loop-place.ends ≤ c.loop-place.place = search rules in omega (arith, low, full)) }
+
+pub await_end-outcome-requires-clause-own : goal.await_end-outcome-requires-clause-own
+await_end-outcome-requires-clause-own g c = c.loop-place.invariant.stays.turn ∙ c.requires.own
+
+pub await_end-outcome-requires-clause-czar : goal.await_end-outcome-requires-clause-czar
+await_end-outcome-requires-clause-czar g c = c.loop-place.invariant.stays.czar
+
+pub await_end-outcome-requires-clause-engine : goal.await_end-outcome-requires-clause-engine
+await_end-outcome-requires-clause-engine g c = c.requires.engine ∙ sym (ap (λ r. r.root) c.loop-place.invariant.stays.root)
+
+pub returns-in-Memory-clause-stays : goal.returns-in-Memory-clause-stays
+returns-in-Memory-clause-stays g c = stays_on g.P.Work.asks c.args.seat c.loop-place.seat c.await_end-outcome.result.1 c.loop-place.invariant.stays c.await_end-outcome.ensures.stays
+
+pub returns-in-Memory-clause-whole : goal.returns-in-Memory-clause-whole
+returns-in-Memory-clause-whole g c w = whole_step g.P.Work.asks g.P.Work.stands c.args.seat c.loop-place.seat c.loop-place.seat.seen c.await_end-outcome.result.1.seen c.loop-place.ends c.await_end-outcome.new.ends c.loop-place.invariant.stays c.await_end-outcome.ensures.whole (c.loop-place.invariant.whole w)
+
+pub returns-in-Odd-clause-stays : goal.returns-in-Odd-clause-stays
+returns-in-Odd-clause-stays g c = stays_on g.P.Work.asks c.args.seat c.loop-place.seat c.await_end-outcome.result.1 c.loop-place.invariant.stays c.await_end-outcome.ensures.stays
+
+pub returns-in-Odd-clause-whole : goal.returns-in-Odd-clause-whole
+returns-in-Odd-clause-whole g c w = whole_step g.P.Work.asks g.P.Work.stands c.args.seat c.loop-place.seat c.loop-place.seat.seen c.await_end-outcome.result.1.seen c.loop-place.ends c.await_end-outcome.new.ends c.loop-place.invariant.stays c.await_end-outcome.ensures.whole (c.loop-place.invariant.whole w)

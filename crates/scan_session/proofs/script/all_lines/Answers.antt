@@ -1,4 +1,4 @@
-use Rattle.std.proofs.Common.{◌≡◌, arith, length, take, ◌∙◌, subst, List}
+use Rattle.std.proofs.Common.{◌≡◌, arith, length, take, ◌∙◌, sym, ap, subst, List}
 use Rattle.session_script.specs.declared.step.Step.{Step}
 use Rattle.session_script.specs.declared.step.Step.TheVariants.{Query}
 use Rattle.scan_session.specs.Driven.{Driving, Going}
@@ -58,3 +58,18 @@ returns-clause-goes g c plan marks ready d =
     let off = c.loop-step-test.false in
     let all : take c.loop-step.step-index c.args.steps.now ≡ c.args.steps.now = take_whole c.args.steps.now c.loop-step.step-index (λ lt. absurd (omega (arith, lt, off))) in
     subst (λ (l : List Step). Driving plan l c.loop-step.seat.seen (known_in c.loop-step.ends)) all (c.loop-step.invariant.drives plan marks ready d).drives
+
+pub line-outcome-requires-clause-own : goal.line-outcome-requires-clause-own
+line-outcome-requires-clause-own g c = c.loop-step.invariant.stays.turn ∙ c.requires.own
+
+pub line-outcome-requires-clause-czar : goal.line-outcome-requires-clause-czar
+line-outcome-requires-clause-czar g c = c.loop-step.invariant.stays.czar
+
+pub line-outcome-requires-clause-engine : goal.line-outcome-requires-clause-engine
+line-outcome-requires-clause-engine g c = c.requires.engine ∙ sym (ap (λ r. r.root) c.loop-step.invariant.stays.root)
+
+pub returns-in-Memory-clause-whole : goal.returns-in-Memory-clause-whole
+returns-in-Memory-clause-whole g c w = whole_step g.P.Work.asks g.P.Work.stands c.args.seat c.loop-step.seat c.loop-step.seat.seen c.line-outcome.result.1.seen c.loop-step.ends c.line-outcome.new.ends c.loop-step.invariant.stays c.line-outcome.ensures.whole (c.loop-step.invariant.whole w)
+
+pub returns-in-Odd-clause-whole : goal.returns-in-Odd-clause-whole
+returns-in-Odd-clause-whole g c w = whole_step g.P.Work.asks g.P.Work.stands c.args.seat c.loop-step.seat c.loop-step.seat.seen c.line-outcome.result.1.seen c.loop-step.ends c.line-outcome.new.ends c.loop-step.invariant.stays c.line-outcome.ensures.whole (c.loop-step.invariant.whole w)

@@ -3,7 +3,7 @@ use Rattle.session_script.specs.declared.step.Step.{Step}
 use Rattle.scan_session.specs.KnownEnds.{known_in, Ready}
 use Rattle.scan_session.specs.Driven.{Going}
 use Rattle.scan_session.specs.Goes.{Goes, IsNext}
-use Rattle.scan_session.proofs.Listing.{whole_on, goes_wait, marks_on}
+use Rattle.scan_session.proofs.Listing.{more_here, whole_on, goes_wait, marks_on}
 use Rattle.scan_session.proofs.script.line.Goals as goal
 
 pub returns-in-Query-clause-goes : goal.returns-in-Query-clause-goes
@@ -27,3 +27,36 @@ returns-in-Wait-clause-goes g c plan done next marks ready d =
 
 pub returns-in-Cancel-clause-whole : goal.returns-in-Cancel-clause-whole
 returns-in-Cancel-clause-whole g c w = whole_on g.P.Work.asks (g.P.Work.stands c.args.seat.root.root) c.args.seat c.cancel_line.result c.args.ends.now c.cancel_line.ensures.stays w
+
+pub returns-in-Query-clause-fit : goal.returns-in-Query-clause-fit
+returns-in-Query-clause-fit g c = c.query_line.ensures.fit
+
+pub returns-in-Query-clause-len : goal.returns-in-Query-clause-len
+returns-in-Query-clause-len g c = c.query_line.ensures.len
+
+pub returns-in-Query-clause-more : goal.returns-in-Query-clause-more
+returns-in-Query-clause-more g c = more_here c.args.ends.now
+
+pub returns-in-Query-clause-stays : goal.returns-in-Query-clause-stays
+returns-in-Query-clause-stays g c = c.query_line.ensures.stays
+
+pub returns-in-Wait-clause-fit : goal.returns-in-Wait-clause-fit
+returns-in-Wait-clause-fit g c = c.requires.fit
+
+pub returns-in-Wait-clause-more : goal.returns-in-Wait-clause-more
+returns-in-Wait-clause-more g c = c.await_end.ensures.more
+
+pub returns-in-Wait-clause-whole : goal.returns-in-Wait-clause-whole
+returns-in-Wait-clause-whole g c = c.await_end.ensures.whole
+
+pub returns-in-Wait-clause-stays : goal.returns-in-Wait-clause-stays
+returns-in-Wait-clause-stays g c = c.await_end.ensures.stays
+
+pub returns-in-Cancel-clause-fit : goal.returns-in-Cancel-clause-fit
+returns-in-Cancel-clause-fit g c = c.requires.fit
+
+pub returns-in-Cancel-clause-more : goal.returns-in-Cancel-clause-more
+returns-in-Cancel-clause-more g c = more_here c.args.ends.now
+
+pub returns-in-Cancel-clause-stays : goal.returns-in-Cancel-clause-stays
+returns-in-Cancel-clause-stays g c = c.cancel_line.ensures.stays

@@ -2,6 +2,7 @@ use Rattle.std.proofs.Common.{◌≡◌, ◌-◌, Some, None, rules, ◌∙◌, 
 use Rattle.scan_session.specs.KnownEnds.{at_query, PlansFit}
 use Rattle.scan_session.specs.declared.end.Planned.{Planned}
 use Rattle.scan_session.proofs.Listing.{at_read, ready_none, ready_some, ready_set, fit_set}
+use Rattle.scan_session.proofs.Calling.{stays_here}
 use Rattle.scan_session.proofs.Keeping.{going_refused}
 use Rattle.scan_session.proofs.script.query_line.Goals as goal
 
@@ -28,3 +29,9 @@ returns-in-Some-clause-fit g c =
     let gone : c.take.new.self ≡ None = search rules in
     subst (λ (o : Option (Planned g.row.P.Denot)). PlansFit g.P.Work.stands g.P.Work.asks c.args.seat.root.ring c.args.seat.root.root (slice_set c.args.plans.now (c.args.q - 1) o)) (sym gone)
     (fit_set g.P.Work.stands g.P.Work.asks c.args.seat.root.ring c.args.seat.root.root c.args.plans.now c.args.q c.requires.from_1 c.requires.low c.requires.fit)
+
+pub returns-in-None-clause-stays : goal.returns-in-None-clause-stays
+returns-in-None-clause-stays g c = stays_here g.P.Work.asks c.args.seat c.requires.czar
+
+pub returns-in-Some-clause-stays : goal.returns-in-Some-clause-stays
+returns-in-Some-clause-stays g c = c.start.ensures.stays

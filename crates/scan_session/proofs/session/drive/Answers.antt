@@ -4,6 +4,7 @@ use Rattle.scan_session.specs.KnownEnds.{plan_in, known_in, MarksPlans}
 use Rattle.scan_session.specs.Crews.{Promises}
 use Rattle.scan_session.specs.declared.end.Outcome.{Outcome}
 use Rattle.scan_session.proofs.Ending.{script_of, session_ends, session_promises}
+use Rattle.scan_session.proofs.Manning.{manned_alone}
 use Rattle.scan_session.proofs.Finishing.{first_czar}
 use Rattle.scan_session.proofs.session.drive.Goals as goal
 
@@ -54,3 +55,15 @@ unreachable-requires g c =
     let m = c.teamed-outcome in
     let p = session_promises g.P.Work.asks c.args.workers c.args.seat m.result.2 plans first m.result.1.items c.args.steps.now c.requires.numbered each len marks m.ensures.more m.result.0 c.requires.first.3 c.requires.first.1 m.ensures.manned m.ensures.made m.ensures.known m.ensures.leaves in
     subst (λ (r : Outcome). Promises c.args.workers (plan_in plans) c.args.steps.now m.result.2.seen (known_in m.result.1.items) r) c.in-Odd.is p
+
+pub returns-in-Went-clause-manned : goal.returns-in-Went-clause-manned
+returns-in-Went-clause-manned g c = c.teamed-outcome.ensures.manned
+
+pub returns-in-Memory-clause-manned : goal.returns-in-Memory-clause-manned
+returns-in-Memory-clause-manned g c = c.teamed-outcome.ensures.manned
+
+pub returns-in_default-clause-manned : goal.returns-in_default-clause-manned
+returns-in_default-clause-manned g c = manned_alone g.P.Work.asks c.args.seat c.close.result c.close.ensures.stays c.close.ensures.closed
+
+pub returns-in_default-first_ends-clause-manned : goal.returns-in_default-first_ends-clause-manned
+returns-in_default-first_ends-clause-manned g c = manned_alone g.P.Work.asks c.args.seat c.close-in_default-first_ends.result c.close-in_default-first_ends.ensures.stays c.close-in_default-first_ends.ensures.closed
