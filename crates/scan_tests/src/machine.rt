@@ -8,7 +8,6 @@ use scan_core::{Attach, Board, ChunkSet, Collect, Take, Task, Work};
 use sky_io::{Lineage, Memory};
 use std::alloc::Global;
 use std::process::Abort;
-use std::test::Fail;
 
 /// The sum of a query's chunks, each as 1000 times the query's number and the chunk's.
 #[derive(Drop)]
@@ -43,6 +42,27 @@ fn two_chunks(alloc: Global, first: u32, last: u32) -> Result<ChunkSet, Memory>
     Ok(set)
 }
 
+// What an attach answered, without what it hands back.
+#[derive(Clone, Copy)]
+enum Answer {
+    Attached,
+    Closed,
+    Again,
+    Full,
+    Memory,
+}
+
+// What was answered, and drops what is handed back.
+fn answer_of(attach: Attach<Sum>) -> Answer {
+    match attach {
+        Attach::Attached => Answer::Attached,
+        Attach::Closed { .. } => Answer::Closed,
+        Attach::Again { .. } => Answer::Again,
+        Attach::Full { .. } => Answer::Full,
+        Attach::Memory { .. } => Answer::Memory,
+    }
+}
+
 // Attaches a query to a board of ring 8, and tasks stay in flight.
 fn attach(
     alloc: Global,
@@ -50,7 +70,7 @@ fn attach(
     q: u32,
     first: u32,
     last: u32,
-) -> Result<Attach<Sum>, Memory>
+) -> Result<Answer, Memory>
     requires ring { board.old.ring ≡ 8 }
     requires query { (1 ≤ q) × (q ≤ 255) }
     requires chunks { (first < last) × (last < 8) }
@@ -59,7 +79,7 @@ fn attach(
         → InFlight board.old.past s t → InFlight board.new.past s t }
 {
     let chunks = two_chunks(alloc, first, last)?;
-    Ok(board.attach(0, q, chunks, Sum { total: 0 }))
+    Ok(answer_of(board.attach(0, q, chunks, Sum { total: 0 })))
 }
 
 // Takes, and other tasks stay in flight.
@@ -130,84 +150,120 @@ fn sums_of(alloc: Global, task: &Task) -> Result<Vec<Option<Sum>>, Memory>
     Ok(sums)
 }
 
+// Whether this is the task of that ticket and chunk, for those queries.
+fn is_task(task: &Task, ticket: u32, chunk: u32, queries: &[u32]) -> bool {
+    task.ticket() == ticket && task.chunk() == chunk && task.queries() == queries
+}
+
 #[test]
-fn a_late_query_is_served_what_it_missed_on_the_next_round(rt: HostRuntime) -> Result<(), Fail> {
-    let alloc = rt.alloc();
-    let Ok(mut board) = Board::new(alloc, 8, 0u8) else {
+fn a_late_query_is_served_what_it_missed_on_the_next_round(rt: HostRuntime) {
+    let Ok(mut board) = Board::new(rt.alloc(), 8, 0u8) else {
         panic!(rt; "a board is made")
     };
-    assert!(rt; matches!(attach(alloc, &mut board, 1, 0, 4), Ok(Attach::Attached)));
-    let Take::Task(first) = take(&mut board, 1) else {
+    begin_late_query(&rt, rt.alloc(), &mut board);
+}
+
+// Query 2 is attached to an empty board of ring 8 while the first chunk of query 1 is out.
+fn begin_late_query<R: Abort>(rt: &R, alloc: Global, board: &mut Board<Sum>)
+    requires ring { board.old.ring ≡ 8 }
+{
+    assert!(rt; matches!(attach(alloc, board, 1, 0, 4), Ok(Answer::Attached)));
+    let Take::Task(first) = take(board, 1) else {
         panic!(rt; "chunk 0 is next")
     };
-    assert_eq!(rt; first.ticket(), 0);
-    assert_eq!(rt; first.chunk(), 0);
-    assert_eq!(rt; first.queries(), [1].as_slice());
-    assert!(rt; matches!(attach(alloc, &mut board, 2, 0, 4), Ok(Attach::Attached)));
-    let Take::Task(second) = take(&mut board, 2) else {
+    assert!(rt; is_task(&first, 0, 0, [1].as_slice()));
+    assert!(rt; matches!(attach(alloc, board, 2, 0, 4), Ok(Answer::Attached)));
+    serve_late_query(rt, alloc, board, first);
+}
+
+// Both queries' next chunk is taken and delivered before the first one is.
+fn serve_late_query<R: Abort>(rt: &R, alloc: Global, board: &mut Board<Sum>, first: Task)
+    requires ring { board.old.ring ≡ 8 }
+    requires flight { InFlight board.old.past 1 first }
+{
+    let Take::Task(second) = take(board, 2) else {
         panic!(rt; "chunk 4 is next")
     };
     if first.ticket() == second.ticket() {
         panic!(rt; "each take has its own ticket")
     }
-    assert_eq!(rt; second.ticket(), 1);
-    assert_eq!(rt; second.chunk(), 4);
-    assert_eq!(rt; second.queries(), [1, 2].as_slice());
-    assert_eq!(rt; deliver(alloc, &mut board, 2, second), Ok(()));
-    assert!(rt; is_not_yet(&mut board, 1));
-    assert_eq!(rt; deliver(alloc, &mut board, 1, first), Ok(()));
-    finish_late_query(&rt, alloc, &mut board)
+    assert!(rt; is_task(&second, 1, 4, [1, 2].as_slice()));
+    assert!(rt; deliver(alloc, board, 2, second).is_ok());
+    assert!(rt; is_not_yet(board, 1));
+    assert!(rt; deliver(alloc, board, 1, first).is_ok());
+    finish_late_query(rt, alloc, board);
+    end_late_query(rt, alloc, board);
 }
 
 // What is done with the board above once both tasks are delivered.
-fn finish_late_query<R: Abort>(rt: &R, alloc: Global, board: &mut Board<Sum>) -> Result<(), Fail>
+fn finish_late_query<R: Abort>(rt: &R, alloc: Global, board: &mut Board<Sum>)
     requires ring { board.old.ring ≡ 8 }
+    ensures ring { board.new.ring ≡ 8 }
 {
     let Take::Task(third) = take(board, 1) else {
         panic!(rt; "chunk 0 is next")
     };
-    assert_eq!(rt; third.ticket(), 2);
-    assert_eq!(rt; third.chunk(), 0);
-    assert_eq!(rt; third.queries(), [2].as_slice());
+    assert!(rt; is_task(&third, 2, 0, [2].as_slice()));
     assert!(rt; matches!(take(board, 2), Take::Idle));
-    assert_eq!(rt; deliver(alloc, board, 1, third), Ok(()));
-    assert_eq!(rt; piece_of(board, 1), Some(2004));
-    assert_eq!(rt; piece_of(board, 1), None);
-    assert_eq!(rt; piece_of(board, 2), Some(4004));
-    assert!(rt; matches!(attach(alloc, board, 1, 0, 4), Ok(Attach::Again { .. })));
+    assert!(rt; deliver(alloc, board, 1, third).is_ok());
+}
+
+// The ends of both queries of the board above, and its close.
+fn end_late_query<R: Abort>(rt: &R, alloc: Global, board: &mut Board<Sum>)
+    requires ring { board.old.ring ≡ 8 }
+{
+    assert!(rt; piece_of(board, 1) == Some(2004));
+    assert!(rt; piece_of(board, 1).is_none());
+    assert!(rt; piece_of(board, 2) == Some(4004));
+    assert!(rt; matches!(attach(alloc, board, 1, 0, 4), Ok(Answer::Again)));
     close(board);
-    assert!(rt; matches!(attach(alloc, board, 3, 0, 4), Ok(Attach::Closed { .. })));
-    assert!(rt; matches!(take(board, 1), Take::Ended));
-    assert_eq!(rt; board.past_len(), 11);
-    Ok(())
+    assert!(rt; matches!(attach(alloc, board, 3, 0, 4), Ok(Answer::Closed)));
+    assert!(rt; is_ended(board));
+    assert!(rt; board.past_len() == 11);
+}
+
+// Whether nothing is left to take, and the board is closed.
+fn is_ended(board: &mut Board<Sum>) -> bool {
+    matches!(board.take(1), Take::Ended)
 }
 
 #[test]
-fn a_full_board_takes_no_query_until_one_has_ended(rt: HostRuntime) -> Result<(), Fail> {
-    let alloc = rt.alloc();
-    let Ok(mut board) = Board::new(alloc, 8, 0u8) else {
+fn a_full_board_takes_no_query_until_one_has_ended(rt: HostRuntime) {
+    let Ok(mut board) = Board::new(rt.alloc(), 8, 0u8) else {
         panic!(rt; "a board is made")
     };
+    fill(&rt, rt.alloc(), &mut board);
+    assert!(rt; matches!(attach(rt.alloc(), &mut board, 65, 0, 1), Ok(Answer::Full)));
+    assert_eq!(rt; (board.cancel(0, 64), board.cancel(0, 64)), (true, false));
+    assert!(rt; is_cancelled(&mut board, 64));
+}
+
+// Attaches as many queries as may run at once.
+fn fill<R: Abort>(rt: &R, alloc: Global, board: &mut Board<Sum>)
+    requires ring { board.old.ring ≡ 8 }
+    ensures ring { board.new.ring ≡ 8 }
+{
     for q in 1..65u32 {
         assert!(rt;
-            matches!(attach(alloc, &mut board, q, 0, 1), Ok(Attach::Attached)),
+            matches!(attach(alloc, board, q, 0, 1), Ok(Answer::Attached)),
             "query {q}"
         );
     }
-    assert!(rt; matches!(attach(alloc, &mut board, 65, 0, 1), Ok(Attach::Full { .. })));
-    assert_eq!(rt; (board.cancel(0, 64), board.cancel(0, 64)), (true, false));
-    assert!(rt; matches!(board.collect(0, 64), Collect::Cancelled));
-    Ok(())
+}
+
+// Whether the query was cancelled: its end is collected.
+fn is_cancelled(board: &mut Board<Sum>, q: u32) -> bool {
+    matches!(board.collect(0, q), Collect::Cancelled)
 }
 
 fn sends<X: Send>(_sent: &X) {}
 
 // Attaches query 1 to a board of ring 2, with both chunks.
-fn attach_both(alloc: Global, board: &mut Board<Sum>) -> Result<Attach<Sum>, Memory>
+fn attach_both(alloc: Global, board: &mut Board<Sum>) -> Result<Answer, Memory>
     requires ring { board.old.ring ≡ 2 }
 {
     let chunks = two_chunks(alloc, 0, 1)?;
-    Ok(board.attach(0, 1, chunks, Sum { total: 0 }))
+    Ok(answer_of(board.attach(0, 1, chunks, Sum { total: 0 })))
 }
 
 // Delivers a task of one query without a piece.
@@ -222,24 +278,46 @@ fn deliver_none(alloc: Global, board: &mut Board<Sum>, task: Task) -> Result<(),
 }
 
 #[test]
-fn a_query_without_a_piece_is_spent(rt: HostRuntime) -> Result<(), Fail> {
-    let alloc = rt.alloc();
-    let Ok(mut board) = Board::new(alloc, 2, 0u8) else {
+fn a_query_without_a_piece_is_spent(rt: HostRuntime) {
+    let Ok(mut board) = Board::new(rt.alloc(), 2, 0u8) else {
         panic!(rt; "a board is made")
     };
-    assert!(rt; matches!(attach_both(alloc, &mut board), Ok(Attach::Attached)));
-    let Take::Task(task) = take(&mut board, 0) else {
+    sends(&board);
+    spend(&rt, rt.alloc(), &mut board);
+}
+
+// Query 1 is attached to an empty board of ring 2, and its first chunk is delivered without a piece.
+fn spend<R: Abort>(rt: &R, alloc: Global, board: &mut Board<Sum>)
+    requires ring { board.old.ring ≡ 2 }
+{
+    assert!(rt; matches!(attach_both(alloc, board), Ok(Answer::Attached)));
+    let Take::Task(task) = take(board, 0) else {
         panic!(rt; "chunk 0 is next")
     };
-    assert_eq!(rt; (task.ticket(), task.chunk()), (0, 0));
-    assert_eq!(rt; task.queries(), [1].as_slice());
-    assert_eq!(rt; deliver_none(alloc, &mut board, task), Ok(()));
-    sends(&board);
-    assert!(rt; matches!(board.take(0), Take::Idle));
-    assert!(rt; matches!(board.collect(0, 1), Collect::Spent));
-    assert!(rt; matches!(board.collect(0, 1), Collect::Gone));
-    assert_eq!(rt; board.past_len(), 4);
-    Ok(())
+    assert!(rt; is_task(&task, 0, 0, [1].as_slice()));
+    if task.queries().is_empty() {
+        panic!(rt; "the task has a query")
+    }
+    assert!(rt; deliver_none(alloc, board, task).is_ok());
+    assert!(rt; is_idle(board));
+    assert!(rt; is_lost(board));
+    assert!(rt; is_gone(board));
+    assert!(rt; board.past_len() == 4);
+}
+
+// Whether nothing is left to take, and the board is open.
+fn is_idle(board: &mut Board<Sum>) -> bool {
+    matches!(board.take(0), Take::Idle)
+}
+
+// Whether query 1 was lost: its end is collected.
+fn is_lost(board: &mut Board<Sum>) -> bool {
+    matches!(board.collect(0, 1), Collect::Spent)
+}
+
+// Whether the end of query 1 was collected before.
+fn is_gone(board: &mut Board<Sum>) -> bool {
+    matches!(board.collect(0, 1), Collect::Gone)
 }
 
 // Cancels query 1 where that is asked for, and tasks stay in flight. Whether it ran.
@@ -299,16 +377,23 @@ fn both_ends(board: &mut Board<Sum>, ran: bool) -> Result<Cancelled, Memory> {
 // The late query's board, with a cancel of query 1 behind so many of its lines.
 fn cancelled_behind(alloc: Global, lines: u32) -> Result<Cancelled, Memory> {
     let mut board = Board::new(alloc, 8, 0u8)?;
-    let unknown = cancel_where(&mut board, lines == 0);
-    let _attached = attach(alloc, &mut board, 1, 0, 4)?;
-    let ran = cancel_where(&mut board, lines == 1);
-    let Take::Task(first) = take(&mut board, 1) else {
-        return after_an_idle_take(alloc, &mut board, unknown || ran);
+    cancelled_on(alloc, &mut board, lines)
+}
+
+// The same on this board, which is empty.
+fn cancelled_on(alloc: Global, board: &mut Board<Sum>, lines: u32) -> Result<Cancelled, Memory>
+    requires ring { board.old.ring ≡ 8 }
+{
+    let unknown = cancel_where(board, lines == 0);
+    let _attached = attach(alloc, board, 1, 0, 4)?;
+    let ran = cancel_where(board, lines == 1);
+    let Take::Task(first) = take(board, 1) else {
+        return after_an_idle_take(alloc, board, unknown || ran);
     };
-    let ran = cancel_where(&mut board, lines == 2) || ran;
-    let _attached = attach(alloc, &mut board, 2, 0, 4)?;
-    let ran = cancel_where(&mut board, lines == 3) || unknown || ran;
-    after_both_attaches(alloc, &mut board, first, lines, ran)
+    let ran = cancel_where(board, lines == 2) || ran;
+    let _attached = attach(alloc, board, 2, 0, 4)?;
+    let ran = cancel_where(board, lines == 3) || unknown || ran;
+    after_both_attaches(alloc, board, first, lines, ran)
 }
 
 // Where query 1 was cancelled before its first chunk was taken: query 2 alone.
@@ -407,28 +492,40 @@ fn run_out(alloc: Global, board: &mut Board<Sum>) -> Result<u32, Memory>
 }
 
 #[test]
-fn a_session_of_255_queries_goes_over_16384_chunks_64_at_a_time(
-    rt: HostRuntime,
-) -> Result<(), Fail> {
-    let alloc = rt.alloc();
-    let Ok(mut board) = Board::new(alloc, 16384, 0u8) else {
+fn a_session_of_255_queries_goes_over_16384_chunks_64_at_a_time(rt: HostRuntime) {
+    let Ok(mut board) = Board::new(rt.alloc(), 16384, 0u8) else {
         panic!(rt; "a board is made")
     };
+    let tasks = run_all(&rt, rt.alloc(), &mut board);
+    assert_eq!(rt; tasks, 4 * 16384, "four laps");
+    collect_all(&rt, &mut board);
+    assert_eq!(rt; board.past_len(), 255 + 2 * 4 * 16384 + 255);
+}
+
+// Attaches 255 queries with all chunks, and runs out of tasks after each 64 of them and at the end. How many there were.
+fn run_all<R: Abort>(rt: &R, alloc: Global, board: &mut Board<Sum>) -> u64
+    requires ring { board.old.ring ≡ 16384 }
+    ensures ring { board.new.ring ≡ 16384 }
+{
     let mut tasks = 0u64;
     for q in 1..256u32 {
-        assert_eq!(rt; attach_whole(alloc, &mut board, q), Ok(true), "query {q}");
+        assert_eq!(rt; attach_whole(alloc, board, q), Ok(true), "query {q}");
         if q % 64 == 0 || q == 255 {
-            let Ok(more) = run_out(alloc, &mut board) else {
+            let Ok(more) = run_out(alloc, board) else {
                 panic!(rt; "there is memory for all pieces")
             };
             tasks = tasks.saturating_add(u64::from(more));
         }
     }
-    assert_eq!(rt; tasks, 4 * 16384, "four laps");
+    tasks
+}
+
+// Each of the 255 queries has the sum of all chunks.
+fn collect_all<R: Abort>(rt: &R, board: &mut Board<Sum>)
+    requires ring { board.old.ring ≡ 16384 }
+{
     for q in 1..256u32 {
         let want = 16384 * (1000 * u64::from(q)) + 134_209_536;
-        assert_eq!(rt; piece_of(&mut board, q), Some(want), "query {q}");
+        assert_eq!(rt; piece_of(board, q), Some(want), "query {q}");
     }
-    assert_eq!(rt; board.past_len(), 255 + 2 * 4 * 16384 + 255);
-    Ok(())
 }
