@@ -1,11 +1,11 @@
 //! Two seats at one board on one thread: that calls succeed, and each finds what the other added.
-ghost use Rattle.std.specs.Prelude.{◌≡◌, [], ◌∷◌, ◌<◌, ◌≤◌, IfOk};
+ghost use Rattle.std.specs.Prelude.{◌≡◌, ◌≢◌, [], ◌∷◌, ◌<◌, ◌≤◌, IfOk};
 
 use scan_board::{Attach, Board, ChunkSet, Collect, Seat, SharedBoard, Take, Work};
 use sky_io::Memory;
 use std::alloc::Global;
+use std::process::Abort;
 use std::sync::Wait;
-use std::test::Fail;
 
 /// How many chunks a query's work was done on.
 #[derive(Drop)]
@@ -102,8 +102,92 @@ fn take_and_deliver<R: Wait>(
     }
 }
 
+// Whether the query was lost: its end is collected.
+fn is_spent<R: Wait>(
+    rt: &R,
+    board: &SharedBoard<Count>,
+    seat: Seat<Board<Count>>,
+    q: u32,
+) -> (bool, Seat<Board<Count>>)
+    requires own { seat.turn ≡ board.now }
+    ensures own { result.1.turn ≡ board.now }
+{
+    let (end, seat) = board.collect(rt, seat, q);
+    (matches!(end, Collect::Spent), seat)
+}
+
+// Whether the query was cancelled: its end is collected.
+fn is_cancelled<R: Wait>(
+    rt: &R,
+    board: &SharedBoard<Count>,
+    seat: Seat<Board<Count>>,
+    q: u32,
+) -> (bool, Seat<Board<Count>>)
+    requires own { seat.turn ≡ board.now }
+    ensures own { result.1.turn ≡ board.now }
+{
+    let (end, seat) = board.collect(rt, seat, q);
+    (matches!(end, Collect::Cancelled), seat)
+}
+
+// Whether nothing is left to take, and the board is closed.
+fn is_ended<R: Wait>(
+    rt: &R,
+    board: &SharedBoard<Count>,
+    seat: Seat<Board<Count>>,
+) -> (bool, Seat<Board<Count>>)
+    requires own { seat.turn ≡ board.now }
+    ensures own { result.1.turn ≡ board.now }
+    ensures number { result.1.number ≡ seat.number }
+{
+    let (taken, seat) = board.take(rt, seat);
+    (matches!(taken, Take::Ended), seat)
+}
+
+// Each of two seats ends what the other began: query 1 is delivered without a piece, and query 2 runs.
+fn end_both<R: Abort + Wait>(
+    rt: &R,
+    board: &SharedBoard<Count>,
+    seat: Seat<Board<Count>>,
+    other: Seat<Board<Count>>,
+)
+    requires own { (seat.turn ≡ board.now) × (other.turn ≡ board.now) }
+    requires not_first { other.number ≢ 0 }
+{
+    let (spent, seat) = is_spent(rt, board, seat, 1);
+    assert!(rt; spent, "it was delivered without a piece");
+    let (cancelled, other) = board.cancel(rt, other, 2);
+    assert!(rt; cancelled);
+    let mut seat = board.close(rt, seat);
+    let (ended, other) = is_ended(rt, board, other);
+    assert!(rt; ended);
+    board.join(&mut seat, other);
+    assert!(rt; is_cancelled(rt, board, seat, 2).0);
+}
+
+// Seat 0 attaches a query before it splits another seat off and one after that, and the other seat takes a chunk.
+fn begin_both<R: Abort + Wait>(
+    alloc: Global,
+    rt: &R,
+    board: &SharedBoard<Count>,
+    seat: Seat<Board<Count>>,
+)
+    requires own { seat.turn ≡ board.now }
+    requires ring { seat.root.ring ≡ 8 }
+    requires first { (seat.number ≡ 0) × (seat.made ≡ 1) }
+{
+    let (first, mut seat) = attach(alloc, rt, board, seat, 1, 0, 4);
+    let other = board.split(&mut seat);
+    crosses(board, &other);
+    let (second, seat) = attach(alloc, rt, board, seat, 2, 4, 5);
+    assert!(rt; first && second);
+    let (told, other) = take_and_deliver(alloc, rt, board, other);
+    assert_eq!(rt; told, Some((0, 1)));
+    end_both(rt, board, seat, other)
+}
+
 #[test]
-fn each_seat_finds_what_the_other_added(rt: HostRuntime) -> Result<(), Fail> {
+fn each_seat_finds_what_the_other_added(rt: HostRuntime) {
     let alloc = rt.alloc();
     let Ok(board) = Board::new(alloc, 8, 0u8) else {
         panic!(rt; "a board is made")
@@ -111,27 +195,5 @@ fn each_seat_finds_what_the_other_added(rt: HostRuntime) -> Result<(), Fail> {
     let Ok((board, seat)) = SharedBoard::<Count>::new(alloc, board) else {
         panic!(rt; "a turn is made")
     };
-    let (first, mut seat) = attach(alloc, &rt, &board, seat, 1, 0, 4);
-    let other = board.split(&mut seat);
-    crosses(&board, &other);
-    let (second, seat) = attach(alloc, &rt, &board, seat, 2, 4, 5);
-    assert_eq!(rt; (first, second), (true, true));
-    let (told, other) = take_and_deliver(alloc, &rt, &board, other);
-    assert_eq!(rt; told, Some((0, 1)));
-    let (answer, seat) = board.collect(&rt, seat, 1);
-    assert!(rt;
-        matches!(answer, Collect::Spent),
-        "it was delivered without a piece"
-    );
-    let (cancelled, other) = board.cancel(&rt, other, 2);
-    assert!(rt; cancelled);
-    let seat = board.close(&rt, seat);
-    let (answer, other) = board.take(&rt, other);
-    assert!(rt; matches!(answer, Take::Ended));
-    let mut seat = seat;
-    board.join(&mut seat, other);
-    let (answer, seat) = board.collect(&rt, seat, 2);
-    assert!(rt; matches!(answer, Collect::Cancelled));
-    drop(seat);
-    Ok(())
+    begin_both(alloc, &rt, &board, seat)
 }
