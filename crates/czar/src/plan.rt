@@ -1,4 +1,7 @@
 //! What is planned for a query before it is run.
+//!
+//! What holds a tree where an arm ends early drops it by name: that is one call, where what goes out of scope is dropped part by
+//! part, and the function's proof is many times as long.
 
 ghost use Rattle.std.specs.Prelude.{◌≡◌, ◌+◌, ◌<◌, ◌≤◌, All, IfOk, None, OnOk, length, take};
 ghost use Rattle.text_rules.specs.declared.limits.TheConstants.{QUERIES_MOST, QUERY_TEXT_MOST};
@@ -92,7 +95,11 @@ fn plan_understood(
 {
     match understanding {
         Understanding::Unknown(why) => Ok(Plan::Refused(why)),
-        Understanding::Known { tree, bound } => plan_known(alloc, world, tree, &bound),
+        Understanding::Known { tree, bound } => {
+            let plan = plan_known(alloc, world, tree, &bound);
+            drop(bound);
+            plan
+        }
     }
 }
 
@@ -102,7 +109,10 @@ fn plan_known(alloc: Global, world: &Store, tree: Query, bound: &Bound) -> Resul
 {
     match chunks_of(alloc, world, bound) {
         Ok(chunks) => plan_over(alloc, world, tree, bound, chunks),
-        Err(Memory) => Err(Memory),
+        Err(Memory) => {
+            drop(tree);
+            Err(Memory)
+        }
     }
 }
 
@@ -134,7 +144,10 @@ fn plan_over(
 {
     match radius_ok(bound, world.plan(), &chunks) {
         Ok(()) => cut_over(alloc, tree, bound, chunks),
-        Err(far) => Ok(Plan::Refused(Refusal::Radius(far))),
+        Err(far) => {
+            drop((chunks, tree));
+            Ok(Plan::Refused(Refusal::Radius(far)))
+        }
     }
 }
 
@@ -148,6 +161,10 @@ fn cut_over(alloc: Global, tree: Query, bound: &Bound, chunks: ChunkSet) -> Resu
             query,
             chunks,
         }),
-        Err(Memory) => Err(Memory),
+        Err(Memory) => {
+            drop(chunks);
+            drop(tree);
+            Err(Memory)
+        }
     }
 }

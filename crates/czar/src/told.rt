@@ -1,4 +1,6 @@
 //! What a query is told, by its plan and by how it ended at the board.
+//!
+//! What a plan still holds is dropped by name, as in `plan`.
 
 ghost use Rattle.std.specs.Prelude.{◌≡◌, ◌≤◌, ◌++◌, ◌∷◌, [], IfErr, IfOk, OnOk, length};
 ghost use Rattle.std.specs.Vec.Iter.{into_iter_items, into_iter_len};
@@ -39,7 +41,10 @@ fn answer_of(
             table,
             chunks: chunks.as_slice().len() as u32,
         }),
-        Err(stop) => out_of_range(stop),
+        Err(stop) => {
+            drop(head);
+            out_of_range(stop)
+        }
     }
 }
 
@@ -63,7 +68,11 @@ fn finished_by(plan: Plan, piece: Piece<'_>) -> Result<End, Memory>
             head,
             query,
             chunks,
-        } => answer_of(head, &query.merge, &chunks, piece),
+        } => {
+            let end = answer_of(head, &query.merge, &chunks, piece);
+            drop((chunks, query));
+            end
+        }
         Plan::Refused(_) => unreachable!(),
     }
 }
@@ -80,16 +89,18 @@ fn refused_by(plan: Plan) -> End
 }
 
 /// What a query is told that was cancelled.
-fn cancelled_by(_plan: Plan) -> End
+fn cancelled_by(plan: Plan) -> End
     ensures { result ≡ End.Cancelled }
 {
+    drop(plan);
     End::Cancelled
 }
 
 /// What a query is told whose work wanted for memory.
-fn spent_by(_plan: Plan) -> End
+fn spent_by(plan: Plan) -> End
     ensures { result ≡ End.Spent }
 {
+    drop(plan);
     End::Spent
 }
 

@@ -53,7 +53,10 @@ fn bound_over(alloc: Global, schema: &Schema, tree: Query) -> Result<Understandi
 {
     match bind(alloc, &tree, schema) {
         Ok(bound) => Ok(Understanding::Known { tree, bound }),
-        Err(stop) => unbound(stop),
+        Err(stop) => {
+            drop(tree);
+            unbound(stop)
+        }
     }
 }
 

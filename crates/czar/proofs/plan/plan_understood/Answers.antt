@@ -6,4 +6,4 @@ returns-in-Unknown c = unknown c.args.world.now.plan c.args.world.now.rows c.arg
 
 pub returns-in-Known : goal.returns-in-Known
 returns-in-Known c =
-    known c.args.world.now.plan c.args.world.now.rows c.args.understanding c.in-Known.tree c.in-Known.bound _ c.in-Known.is c.plan_known.ensures
+    known c.args.world.now.plan c.args.world.now.rows c.args.understanding c.in-Known.tree c.in-Known.bound _ c.in-Known.is c.plan_known-plan.ensures

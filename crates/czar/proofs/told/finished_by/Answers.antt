@@ -7,4 +7,4 @@ use Rattle.czar.proofs.told.finished_by.Goals as goal
 
 pub returns : goal.returns
 returns c =
-    subst (λ (p : Plan). IfOk c.answer_of.result (λ end. end ≡ finished_end p c.args.piece)) (sym c.in-Planned.is) c.answer_of.ensures
+    subst (λ (p : Plan). IfOk c.answer_of-end.result (λ end. end ≡ finished_end p c.args.piece)) (sym c.in-Planned.is) c.answer_of-end.ensures
