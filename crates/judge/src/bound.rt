@@ -5,8 +5,9 @@ use sky_io::{Put, Sink, Stop};
 use sky_row::Schema;
 use sql_bind::{BindFault, bind};
 use sql_bound::{Bound, BoundKey, BoundOrder, Int, Shape};
-use sql_reader::read;
+use sql_reader::{SqlFault, read};
 use sql_token::Span;
+use sql_tree::Query;
 use std::alloc::Global;
 use text_rules::limits::QUERY_TEXT_MOST;
 
@@ -103,17 +104,43 @@ fn put_fault<K: Sink>(sink: &mut K, fault: BindFault) -> Put {
     }
 }
 
+// Writes what a query comes to: it is borrowed here, as in the next two, so that each tree is dropped at one place.
+fn put_answer<K: Sink>(sink: &mut K, answer: &Result<Bound, Stop<BindFault>>) -> Put {
+    match answer {
+        Ok(bound) => put_query(sink, bound),
+        Err(Stop::Bad(fault)) => put_fault(sink, *fault),
+        Err(Stop::Memory) => sink.put(b"out of memory"),
+    }
+}
+
+// Writes what a query comes to over a table.
+fn put_over<K: Sink>(sink: &mut K, alloc: Global, schema: &Schema, query: &Query) -> Put {
+    let answer = bind(alloc, query, schema);
+    let put = put_answer(sink, &answer);
+    drop(answer);
+    put
+}
+
+// Writes what is read of a text comes to over a table.
+fn put_read<K: Sink>(
+    sink: &mut K,
+    alloc: Global,
+    schema: &Schema,
+    answer: &Result<Query, Stop<SqlFault>>,
+) -> Put {
+    match answer {
+        Ok(query) => put_over(sink, alloc, schema, query),
+        Err(_) => sink.put(b"no query"),
+    }
+}
+
 /// Writes what a text comes to over a table.
 pub(crate) fn put_bound<K: Sink>(sink: &mut K, alloc: Global, schema: &Schema, text: &[u8]) -> Put {
     if text.len() > QUERY_TEXT_MOST {
         return sink.put(b"too long");
     }
-    let Ok(query) = read(alloc, text) else {
-        return sink.put(b"no query");
-    };
-    match bind(alloc, &query, schema) {
-        Ok(bound) => put_query(sink, &bound),
-        Err(Stop::Bad(fault)) => put_fault(sink, fault),
-        Err(Stop::Memory) => sink.put(b"out of memory"),
-    }
+    let answer = read(alloc, text);
+    let put = put_read(sink, alloc, schema, &answer);
+    drop(answer);
+    put
 }

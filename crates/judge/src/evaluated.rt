@@ -21,10 +21,15 @@ fn bound_over(alloc: Global, schema: &Schema, query: &Query) -> Option<Bound>
     requires { HasCounts query.now }
     ensures { IfSome result (IsSound (FIRST_COLUMNS + length schema.now)) }
 {
-    match bind(alloc, query, schema) {
-        Ok(bound) => Some(bound),
-        Err(_) => None,
-    }
+    bind(alloc, query, schema).ok()
+}
+
+// A text as a query, where it is one and there is memory.
+fn query_of(alloc: Global, text: &[u8]) -> Option<Query>
+    requires { length text.now ≤ QUERY_TEXT_MOST }
+    ensures { IfSome result HasCounts }
+{
+    read(alloc, text).ok()
 }
 
 // A text as a query over the schema, where it is one that fits it and there is memory.
@@ -32,33 +37,65 @@ fn bound_by(alloc: Global, schema: &Schema, text: &[u8]) -> Option<Bound>
     requires { length text.now ≤ QUERY_TEXT_MOST }
     ensures { IfSome result (IsSound (FIRST_COLUMNS + length schema.now)) }
 {
-    match read(alloc, text) {
-        Ok(query) => bound_over(alloc, schema, &query),
-        Err(_) => None,
-    }
+    let query = query_of(alloc, text)?;
+    let bound = bound_over(alloc, schema, &query);
+    drop(query);
+    bound
 }
 
-// The turns in which the condition is true of the row of the turn's number, of its truths at all places.
+// Whether the condition is true of the row of the turn's number, of its truths at all places.
+fn is_true_in(
+    block: &Block,
+    c: &BoundCond,
+    places: &[u32],
+    turn: u32,
+    scratch: &mut Scratch,
+) -> Result<bool, Memory>
+    requires there { All (λ place. place < length block.now.objects) places.now }
+    requires sound { IsTrue (is_sound_cond (has_col (FIRST_COLUMNS + block.now.width) false)
+        c.now) }
+{
+    let truths = truths(block, c, places, scratch)?;
+    let is_true = truths.holds().get((turn % 4096) as usize) == Some(&true);
+    truths.give_back(scratch);
+    Ok(is_true)
+}
+
+// The turns in which it is true.
 fn true_turns(
-    alloc: Global,
     block: &Block,
     c: &BoundCond,
     places: &[u32],
     times: u32,
+    scratch: &mut Scratch,
 ) -> Result<i128, Memory>
     requires there { All (λ place. place < length block.now.objects) places.now }
     requires sound { IsTrue (is_sound_cond (has_col (FIRST_COLUMNS + block.now.width) false)
         c.now) }
 {
-    let mut scratch = Scratch::new(alloc);
     let mut found = 0i128;
     for turn in 0..times {
-        let truths = truths(block, c, places, &mut scratch)?;
-        let is_true = truths.holds().get((turn % 4096) as usize) == Some(&true);
-        truths.give_back(&mut scratch);
+        let is_true = is_true_in(block, c, places, turn, scratch)?;
         found = found.wrapping_add(i128::from(is_true));
     }
     Ok(found)
+}
+
+// The same, of the only condition of a query.
+fn turns_of(
+    block: &Block,
+    bound: &Bound,
+    places: &[u32],
+    times: u32,
+    scratch: &mut Scratch,
+) -> Result<Option<i128>, Memory>
+    requires there { All (λ place. place < length block.now.objects) places.now }
+    requires sound { IsSound (FIRST_COLUMNS + block.now.width) bound.now }
+{
+    match (&bound.shape, bound.conds.as_slice()) {
+        (Shape::Rows, [c]) => Ok(Some(true_turns(block, c, places, times, scratch)?)),
+        _ => Ok(None),
+    }
 }
 
 /// The turns in which `flux*2+kind>7` is true of the row of the turn's number, of its truths at all places.
@@ -75,10 +112,11 @@ pub(crate) fn truths_taken(
     let Some(bound) = bound_by(alloc, schema, b"SELECT x FROM Object WHERE flux*2+kind>7") else {
         return Ok(None);
     };
-    match (&bound.shape, bound.conds.as_slice()) {
-        (Shape::Rows, [c]) => Ok(Some(true_turns(alloc, block, c, places, times)?)),
-        _ => Ok(None),
-    }
+    let mut scratch = Scratch::new(alloc);
+    let taken = turns_of(block, &bound, places, times, &mut scratch);
+    drop(bound);
+    drop(scratch);
+    taken
 }
 
 // The sum of the values, without the NULLs. There are never more of them than rows of a catalogue.
@@ -90,26 +128,60 @@ fn total(values: &ValueList) -> i128 {
     }
 }
 
-// The sum in all turns of the expression at the places.
-fn sum_of_turns(
-    alloc: Global,
+// The sum of the expression at the places.
+fn sum_at(
     block: &Block,
     e: &BoundExpr,
     places: &[u32],
-    times: u32,
+    scratch: &mut Scratch,
 ) -> Result<i128, Memory>
     requires there { All (λ place. place < length block.now.objects) places.now }
     requires sound { IsTrue (is_sound_expr (has_col (FIRST_COLUMNS + block.now.width) false)
         e.now) }
 {
-    let mut scratch = Scratch::new(alloc);
+    let values = values(block, e, places, scratch)?;
+    let sum = total(&values);
+    values.give_back(scratch);
+    Ok(sum)
+}
+
+// The sum of it in all turns.
+fn sum_of_turns(
+    block: &Block,
+    e: &BoundExpr,
+    places: &[u32],
+    times: u32,
+    scratch: &mut Scratch,
+) -> Result<i128, Memory>
+    requires there { All (λ place. place < length block.now.objects) places.now }
+    requires sound { IsTrue (is_sound_expr (has_col (FIRST_COLUMNS + block.now.width) false)
+        e.now) }
+{
     let mut found = 0i128;
-    for turn in 0..times {
-        let values = values(block, e, places, &mut scratch)?;
-        found = found.wrapping_add(total(&values));
-        values.give_back(&mut scratch);
+    for _ in 0..times {
+        let sum = sum_at(block, e, places, scratch)?;
+        found = found.wrapping_add(sum);
     }
     Ok(found)
+}
+
+// The same, of the only item of a query.
+fn sums_of(
+    block: &Block,
+    bound: &Bound,
+    places: &[u32],
+    times: u32,
+    scratch: &mut Scratch,
+) -> Result<Option<i128>, Memory>
+    requires there { All (λ place. place < length block.now.objects) places.now }
+    requires sound { IsSound (FIRST_COLUMNS + block.now.width) bound.now }
+{
+    match (&bound.shape, bound.items.as_slice()) {
+        (Shape::Rows, [BoundItem::Plain(e)]) => Ok(Some(sum_of_turns(
+            block, e, places, times, scratch,
+        )?)),
+        _ => Ok(None),
+    }
 }
 
 /// The sum in all turns of flux at the places.
@@ -126,10 +198,9 @@ pub(crate) fn summed(
     let Some(bound) = bound_by(alloc, schema, b"SELECT flux FROM Object") else {
         return Ok(None);
     };
-    match (&bound.shape, bound.items.as_slice()) {
-        (Shape::Rows, [BoundItem::Plain(e)]) => Ok(Some(sum_of_turns(
-            alloc, block, e, places, times,
-        )?)),
-        _ => Ok(None),
-    }
+    let mut scratch = Scratch::new(alloc);
+    let sums = sums_of(block, &bound, places, times, &mut scratch);
+    drop(bound);
+    drop(scratch);
+    sums
 }

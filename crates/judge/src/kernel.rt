@@ -10,7 +10,7 @@ use column_block::Block;
 use lane_filter::{keep, keep_between, keep_between_narrow, keep_narrow, keep_near, picked};
 use sky_generate::rows_of;
 use sky_io::{Memory, Put, Sink};
-use sky_row::Schema;
+use sky_row::{Rows, Schema};
 use sky_text::{put_int, read_int};
 use sky_vector::Pos;
 use sql_bound::Cmp;
@@ -118,6 +118,36 @@ fn picked_in_all(alloc: Global, block: &Block, times: u32) -> Result<i128, Memor
     Ok(found)
 }
 
+// What the turns of the truths come to, at all places.
+fn truths_of_all(
+    alloc: Global,
+    schema: &Schema,
+    block: &Block,
+    count: u32,
+    times: u32,
+) -> Result<Option<i128>, Memory>
+    requires width { block.now.width ≡ length schema.now }
+    requires all { count ≡ length block.now.objects }
+{
+    let places = places_below(alloc, count, 1)?;
+    truths_taken(alloc, schema, block, places.as_slice(), times)
+}
+
+// What the turns of the sum come to, at every second place.
+fn sum_of_half(
+    alloc: Global,
+    schema: &Schema,
+    block: &Block,
+    count: u32,
+    times: u32,
+) -> Result<Option<i128>, Memory>
+    requires width { block.now.width ≡ length schema.now }
+    requires all { count ≡ length block.now.objects }
+{
+    let places = places_below(alloc, count, 2)?;
+    summed(alloc, schema, block, places.as_slice(), times)
+}
+
 // What the turns of a kernel come to over a block of rows with the schema.
 fn run_over(
     alloc: Global,
@@ -132,22 +162,40 @@ fn run_over(
     let Ok(count) = u32::try_from(block.len()) else {
         return Ok(None);
     };
-    let all = places_below(alloc, count, 1)?;
-    let half = places_below(alloc, count, 2)?;
     match kernel {
         Kernel::Picked => Ok(Some(picked_in_all(alloc, block, times)?)),
-        Kernel::Truths => truths_taken(alloc, schema, block, all.as_slice(), times),
-        Kernel::Sum => summed(alloc, schema, block, half.as_slice(), times),
+        Kernel::Truths => truths_of_all(alloc, schema, block, count, times),
+        Kernel::Sum => sum_of_half(alloc, schema, block, count, times),
         _ => Ok(Some(cleared(alloc, kernel, block, times)?)),
     }
+}
+
+// The block of all rows.
+fn block_of(alloc: Global, rows: &Rows) -> Result<Block, Memory>
+    ensures { IfOk result (λ block. block.width ≡ length rows.now.names) }
+{
+    let places = places_below(alloc, rows.len(), 1)?;
+    let block = Block::build(alloc, rows, places.as_slice());
+    drop(places);
+    block
+}
+
+// What the turns of a kernel come to over rows: they are borrowed here, so that they are dropped at one place.
+fn run_rows(alloc: Global, kernel: Kernel, rows: &Rows, times: u32) -> Result<Option<i128>, Memory>
+    requires { 0 < length rows.now.names }
+{
+    let block = block_of(alloc, rows)?;
+    let told = run_over(alloc, kernel, rows.schema(), &block, times);
+    drop(block);
+    told
 }
 
 // What the turns of a kernel come to.
 fn run(alloc: Global, kernel: Kernel, times: u32) -> Result<Option<i128>, Memory> {
     let rows = rows_of(alloc, ROWS, 1)?;
-    let places = places_below(alloc, rows.len(), 1)?;
-    let block = Block::build(alloc, &rows, places.as_slice())?;
-    run_over(alloc, kernel, rows.schema(), &block, times)
+    let told = run_rows(alloc, kernel, &rows, times);
+    drop(rows);
+    told
 }
 
 // The kernel and the count of turns on a line.

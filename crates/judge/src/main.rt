@@ -82,18 +82,30 @@ fn take_line<S: Shelf, K: Sink>(
     }
 }
 
-// Judges all lines.
-fn judge(rt: &HostRuntime, sink: &mut OutSink) -> io::Result<Put> {
+// Judges all lines, by the form that stands before each.
+fn judge_lines<S: Shelf>(
+    rt: &HostRuntime,
+    form: &mut Option<Form>,
+    shelf: &mut S,
+    sink: &mut OutSink,
+) -> io::Result<Put> {
     let alloc = rt.alloc();
-    let mut shelf = FolderShelf::new(rt, alloc);
-    let mut form = None;
     for line in rt.lines(alloc) {
         let line = line?;
-        if take_line(&mut form, &mut shelf, sink, alloc, line.as_str()) == Put::Failed {
+        if take_line(form, shelf, sink, alloc, line.as_str()) == Put::Failed {
             return Ok(Put::Failed);
         }
     }
     Ok(sink.flush_out())
+}
+
+// Judges all lines. No form stands before the first.
+fn judge(rt: &HostRuntime, sink: &mut OutSink) -> io::Result<Put> {
+    let mut shelf = FolderShelf::new(rt, rt.alloc());
+    let mut form = None;
+    let put = judge_lines(rt, &mut form, &mut shelf, sink);
+    drop(form);
+    put
 }
 
 fn main(rt: HostRuntime) -> ExitCode {

@@ -27,14 +27,22 @@ fn put_read<K: Sink>(sink: &mut K, query: &Query, prints: bool) -> Put {
     }
 }
 
+// Writes what was read of a text: it is borrowed here, so that its tree is dropped at one place.
+fn put_answer<K: Sink>(sink: &mut K, answer: &Result<Query, Stop<SqlFault>>, prints: bool) -> Put {
+    match answer {
+        Ok(query) => put_read(sink, query, prints),
+        Err(Stop::Memory) => sink.put(b"out of memory"),
+        Err(Stop::Bad(fault)) => put_fault(sink, *fault),
+    }
+}
+
 /// Writes what a text is: `query`, or with `prints` its printed text, or its first fault.
 pub(crate) fn put_text<K: Sink>(sink: &mut K, alloc: Global, text: &[u8], prints: bool) -> Put {
     if text.len() > QUERY_TEXT_MOST {
         return sink.put(b"too long");
     }
-    match read(alloc, text) {
-        Ok(query) => put_read(sink, &query, prints),
-        Err(Stop::Memory) => sink.put(b"out of memory"),
-        Err(Stop::Bad(fault)) => put_fault(sink, fault),
-    }
+    let answer = read(alloc, text);
+    let put = put_answer(sink, &answer, prints);
+    drop(answer);
+    put
 }
