@@ -79,6 +79,9 @@ fn answer_demo<R: Threads + Wait + Sync, K: Sink, G: Gate + Sync>(
     demo_script_is_accepted();
     match Script::read(alloc, demo_script()) {
         Ok(script) => answer_queries(alloc, rt, inputs, &script, workers, sink, gate),
-        Err(_) => Outcome::Memory,
+        Err(_) => {
+            drop(inputs);
+            Outcome::Memory
+        }
     }
 }

@@ -61,7 +61,10 @@ pub fn fetch_all<S: Shelf>(
     match fetch_survey(alloc, shelf, sky, catalogue) {
         Err(outcome) => Err(outcome),
         Ok(inputs) => match fetch_whole(alloc, shelf, script, SCRIPT_TEXT_MOST, Which::Script) {
-            Err(outcome) => Err(outcome),
+            Err(outcome) => {
+                drop(inputs);
+                Err(outcome)
+            }
             Ok(text) => Ok((inputs, text)),
         },
     }

@@ -1,5 +1,6 @@
 //! The work of a form whose texts were fetched, and its writing.
 //!
+//! What holds the rows is dropped by name: that is one call, where what goes out of scope is dropped part by part.
 //! Whatever takes memory is done before the first byte is written: the store, the answers, and the list of how the queries
 //! ended. A script is judged before the store is built.
 ghost use Rattle.std.specs.Prelude.{◌≡◌, ◌≤◌, ◌^◌, ℕ, [], length, map};
@@ -34,7 +35,11 @@ pub fn report<K: Sink>(alloc: Global, inputs: Inputs, sink: &mut K) -> Outcome
 {
     let Inputs { plan, rows } = inputs;
     match Store::build(alloc, plan, rows) {
-        Ok(store) => write_report(alloc, &store, sink),
+        Ok(store) => {
+            let outcome = write_report(alloc, &store, sink);
+            drop(store);
+            outcome
+        }
         Err(_) => Outcome::Memory,
     }
 }
@@ -56,8 +61,14 @@ pub fn do_task<R: Threads + Wait + Sync, K: Sink, G: Gate + Sync>(
 {
     match Script::read(alloc, text) {
         Ok(script) => do_script(alloc, rt, task, inputs, &script, sink, gate),
-        Err(Stop::Bad(fault)) => Outcome::BadScript { fault },
-        Err(Stop::Memory) => Outcome::Memory,
+        Err(Stop::Bad(fault)) => {
+            drop(inputs);
+            Outcome::BadScript { fault }
+        }
+        Err(Stop::Memory) => {
+            drop(inputs);
+            Outcome::Memory
+        }
     }
 }
 
@@ -99,7 +110,11 @@ pub fn answer_queries<R: Threads + Wait + Sync, K: Sink, G: Gate + Sync>(
 {
     let Inputs { plan, rows } = inputs;
     match Store::build(alloc, plan, rows) {
-        Ok(store) => answer_over(alloc, rt, &store, script, workers, sink, gate),
+        Ok(store) => {
+            let outcome = answer_over(alloc, rt, &store, script, workers, sink, gate);
+            drop(store);
+            outcome
+        }
         Err(_) => Outcome::Memory,
     }
 }
@@ -136,7 +151,11 @@ fn explain_queries<K: Sink>(
 {
     let Inputs { plan, rows } = inputs;
     match Store::build(alloc, plan, rows) {
-        Ok(store) => explain_over(alloc, &store, script, sink),
+        Ok(store) => {
+            let outcome = explain_over(alloc, &store, script, sink);
+            drop(store);
+            outcome
+        }
         Err(_) => Outcome::Memory,
     }
 }
