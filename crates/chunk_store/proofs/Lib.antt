@@ -2,6 +2,7 @@ pub mod Ranges
 pub mod Merging
 pub mod Pushing
 pub mod Filled
+pub mod Begun
 pub mod ChunkBlocks
 pub mod Subs
 pub mod SubLaws

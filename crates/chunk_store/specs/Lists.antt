@@ -9,7 +9,8 @@ use Rattle.sky_rules.specs.Bounds.{in_chunk, in_sub}
 use Rattle.overlap_tables.specs.Overlaps.{in_full_overlap}
 use Rattle.chunk_rules.specs.Filled.{filled_chunks}
 use Rattle.chunk_rules.specs.Places.{passes}
-use Rattle.sky_row.specs.Columns.{objects_at}
+use Rattle.sky_row.specs.Columns.{Parts, no_rows, objects_at}
+use Rattle.sky_row.specs.Filling.{AreBegun}
 use Rattle.column_block.specs.Blocks.{Stored}
 use Rattle.chunk_store.specs.Places.{chunk_block}
 
@@ -56,6 +57,11 @@ overlap_test g c o = in_full_overlap g c o.at
 -- the rows at these places as columns
 abbrev pub block_at : Catalogue → List ℕ → Stored
 block_at table places = record { width = length table.names; objects = objects_at table.objects places }
+
+-- For each of the chunks the columns of the first of its rows.
+pub record AreBegunBlocks (table : Parts) (lists : List (List ℕ)) (chunks : List ℕ) (blocks : List Parts) : Type 0 where
+  pub count : length blocks ≡ length chunks
+  pub each : (k : ℕ) → k < length chunks → AreBegun table (get_or lists (get_or chunks k 0) []) (get_or blocks k (no_rows 0))
 
 -- What a store keeps beside the plan and the rows: each list is the one that is meant, and so is each block.
 pub record IsStored (g : Partition) (table : Catalogue) (rows near : List (List ℕ)) (kept : List ℕ) (columns : List Stored) : Type 0 where

@@ -1,14 +1,24 @@
 //! The blocks of the chunks that hold a row.
+//!
+//! Rows of one chunk stand far apart in the table. So all blocks are filled by turns from a part of the table that stays near
+//! the processor meanwhile: a block gets those of its rows that stand in the part, some tens, and then the next block does.
 
-ghost use Rattle.std.specs.Prelude.{◌≡◌, ◌<◌, [], IfOk, All, AllPairs, get_or, length, map};
+ghost use Rattle.std.specs.Prelude.{◌≡◌, ◌<◌, [], IfOk, OnOk, All, AllPairs, get_or, length, map};
 ghost use Rattle.std.specs.List.{Contains};
-ghost use Rattle.chunk_store.specs.Lists.{block_at};
+ghost use Rattle.sky_row.specs.Columns.{AreAligned, AreRows, objects_at, objects_of};
+ghost use Rattle.sky_row.specs.Filling.{AreBegun};
+ghost use Rattle.chunk_store.specs.Lists.{AreBegunBlocks, block_at};
 
 use crate::lists::Lists;
 use column_block::Block;
 use sky_io::Memory;
-use sky_row::Rows;
+use sky_row::{Lists as RowLists, Rows};
 use std::alloc::Global;
+use table_rules::limits::FIRST_COLUMNS;
+
+/// How many rows of the table a part of it has for each block: few, so that the part stays near the processor, and enough to be
+/// worth the walk over all blocks.
+const ROWS_A_TURN: usize = 64;
 
 /// The block of each of the chunks, in their order. Takes memory for their columns.
 pub(crate) fn blocks_of(
@@ -22,11 +32,121 @@ pub(crate) fn blocks_of(
     ensures { IfOk result (λ blocks. blocks.items
         ≡ map (λ chunk. block_at rows.now (get_or own.now chunk [])) chunks.now) }
 {
+    let table = rows.lists();
+    let begun = begun_blocks(alloc, rows, table, own, chunks)?;
     let mut blocks = Vec::with_capacity(alloc, chunks.len())?;
-    for chunk in chunks {
-        blocks.push_reserved(Block::build(alloc, rows, own.of(*chunk))?);
+    for lists in begun {
+        let block = finished(table, own, chunks, blocks.len(), lists)?;
+        blocks.push_reserved(block);
     }
     Ok(blocks)
+}
+
+/// The block of the chunk with this number, from 0, among the chunks, from the columns of its first rows.
+fn finished(
+    table: &RowLists,
+    own: &Lists,
+    chunks: &[u32],
+    k: usize,
+    begun: RowLists,
+) -> Result<Block, Memory>
+    requires there { k < length chunks.now }
+    requires chunks { All (λ chunk. chunk < length own.now) chunks.now }
+    requires rows { AreRows table.now }
+    requires places { All (λ list. All (λ place. place < length table.now.ids) list) own.now }
+    requires begun { AreBegun table.now (get_or own.now (get_or chunks.now k 0) []) begun }
+    ensures { IfOk result (λ block. block ≡ record {
+      width = length table.now.further;
+      objects = objects_at (objects_of table.now) (get_or own.now (get_or chunks.now k 0) []);
+    }) }
+{
+    Block::finish(table, own.of(chunks[k]), begun)
+}
+
+/// For each of the chunks the columns of its first rows: those that stand in a whole part of the table. What is behind the last
+/// of these is less than a part.
+fn begun_blocks(
+    alloc: Global,
+    rows: &Rows,
+    table: &RowLists,
+    own: &Lists,
+    chunks: &[u32],
+) -> Result<Vec<RowLists>, Memory>
+    requires chunks { All (λ chunk. chunk < length own.now) chunks.now }
+    requires aligned { AreAligned table.now }
+    requires there { All (λ list. All (λ place. place < length table.now.ids) list) own.now }
+    requires wide { length table.now.further ≡ length rows.now.names }
+    ensures { IfOk result (λ blocks. AreBegunBlocks table.now own.now chunks.now blocks.items) }
+{
+    let width = rows.schema().width() - FIRST_COLUMNS as u32;
+    let mut blocks = empty_blocks(alloc, table, width, own, chunks)?;
+    let part = ROWS_A_TURN.saturating_mul(chunks.len()).max(1);
+    for turn in 0..rows.len() as usize / part {
+        fill_turn(
+            table,
+            own,
+            chunks,
+            part.saturating_mul(turn + 1),
+            &mut blocks,
+        )?;
+    }
+    Ok(blocks)
+}
+
+/// For each of the chunks columns over no row, with room for its rows.
+fn empty_blocks(
+    alloc: Global,
+    table: &RowLists,
+    width: u32,
+    own: &Lists,
+    chunks: &[u32],
+) -> Result<Vec<RowLists>, Memory>
+    requires chunks { All (λ chunk. chunk < length own.now) chunks.now }
+    requires wide { length table.now.further ≡ width }
+    ensures { IfOk result (λ blocks. AreBegunBlocks table.now own.now chunks.now blocks.items) }
+{
+    let mut blocks = Vec::with_capacity(alloc, chunks.len())?;
+    for chunk in chunks {
+        blocks.push_reserved(RowLists::new(alloc, width, own.of(*chunk).len())?);
+    }
+    Ok(blocks)
+}
+
+/// Puts behind the rows of each of the chunks those of its next ones that stand before this place in the table.
+fn fill_turn(
+    table: &RowLists,
+    own: &Lists,
+    chunks: &[u32],
+    end: usize,
+    blocks: &mut Vec<RowLists>,
+) -> Result<(), Memory>
+    requires chunks { All (λ chunk. chunk < length own.now) chunks.now }
+    requires aligned { AreAligned table.now }
+    requires there { All (λ list. All (λ place. place < length table.now.ids) list) own.now }
+    requires begun { AreBegunBlocks table.now own.now chunks.now blocks.old.items }
+    ensures { OnOk result (AreBegunBlocks table.now own.now chunks.now blocks.new.items) }
+{
+    for k in 0..chunks.len() {
+        fill_before(table, own.of(chunks[k]), end, &mut blocks[k])?;
+    }
+    Ok(())
+}
+
+/// Puts behind the rows of a chunk those at the next of its places that stand before this one in the table.
+fn fill_before(
+    table: &RowLists,
+    places: &[u32],
+    end: usize,
+    block: &mut RowLists,
+) -> Result<(), Memory>
+    requires aligned { AreAligned table.now }
+    requires there { All (λ place. place < length table.now.ids) places.now }
+    requires begun { AreBegun table.now places.now block.old }
+    ensures { OnOk result (AreBegun table.now places.now block.new) }
+{
+    let done = block.ids().len();
+    let next = places[done..].partition_point(|place| (*place as usize) < end);
+    block.fill(table, places, done + next)
 }
 
 /// The number, from 0, of a chunk in an ascending list that has it.

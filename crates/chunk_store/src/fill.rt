@@ -34,10 +34,11 @@ pub(crate) fn empty_parts(alloc: Global, plan: &SkyPlan, chunk: u32) -> Result<L
     Lists::empty(alloc, plan.subs(chunk))
 }
 
-/// Puts the place of a row at a position behind the lists of the chunks that it is near, where its own chunk is known; `near`
-/// is room for their numbers.
+/// Puts the place of a row at a position behind the lists of the chunks that it is near, where its own stripe and chunk are known;
+/// `near` is room for their numbers.
 fn push_near(
     plan: &SkyPlan,
+    stripe: usize,
     own: u32,
     at: &Pos,
     place: u32,
@@ -45,12 +46,13 @@ fn push_near(
     lists: &mut Lists,
 ) -> Result<(), Memory>
     requires admissible { IsAdmissible (point at.now) }
+    requires stripe { stripe < length plan.now.stripes }
     requires own { IsOwn plan.now own (point at.now) }
     requires all { length lists.old ≡ chunk_count plan.now }
     ensures { OnOk result (Pushed (near_others plan.now (point at.now)) place lists.old lists.new) }
 {
     near.clear();
-    push_near_others(plan, own, at, near)?;
+    push_near_others(plan, stripe, own, at, near)?;
     lists.push_all(near.as_slice(), place)
 }
 
@@ -71,9 +73,10 @@ pub(crate) fn row_lists(
     let mut near = Vec::new(alloc);
     for place in 0..rows.len() {
         let at = rows.position(place);
-        let chunk = plan.chunk_of(&at);
+        let stripe = plan.stripe_of(&at);
+        let chunk = plan.chunk_in(stripe, &at);
         own.push(chunk, place)?;
-        push_near(plan, chunk, &at, place, &mut near, &mut overlap)?;
+        push_near(plan, stripe, chunk, &at, place, &mut near, &mut overlap)?;
     }
     Ok((own, overlap))
 }

@@ -3,7 +3,8 @@ ghost use Rattle.std.specs.Prelude.{◌≡◌, ◌+◌, ◌<◌, ◌≤◌, leng
 ghost use Rattle.sky_vector.specs.Points.{IsWithin};
 ghost use Rattle.table_rules.specs.Objects.{IsRow};
 ghost use Rattle.table_rules.specs.declared.limits.TheConstants.{FIRST_COLUMNS};
-ghost use Rattle.sky_row.specs.Columns.{column_in, objects_at};
+ghost use Rattle.sky_row.specs.Columns.{AreRows, column_in, objects_at, objects_of};
+ghost use Rattle.sky_row.specs.Filling.{AreBegun};
 
 use sky_io::Memory;
 use sky_row::{Column, Lists, Rows};
@@ -39,7 +40,25 @@ impl Block {
           objects = objects_at rows.now.objects places.now;
         }) }
     {
-        let lists = rows.lists().at(alloc, places)?;
+        let width = rows.schema().width() - FIRST_COLUMNS as u32;
+        let begun = Lists::new(alloc, width, places.len())?;
+        Block::finish(rows.lists(), places, begun)
+    }
+
+    /// The block of the rows at these places in a table, counted from 0, in the order of the places, of which the first have been
+    /// gathered: the others are put behind them. Takes memory where the room for them is not there, or a NULL is a column's first;
+    /// where there is none, the first ones are dropped.
+    pub fn finish(table: &Lists, places: &[u32], begun: Lists) -> Result<Block, Memory>
+        requires rows { AreRows table.now }
+        requires there { All (λ place. place < length table.now.ids) places.now }
+        requires begun { AreBegun table.now places.now begun }
+        ensures { IfOk result (λ block. block ≡ record {
+          width = length table.now.further;
+          objects = objects_at (objects_of table.now) places.now;
+        }) }
+    {
+        let mut lists = begun;
+        lists.fill(table, places, places.len())?;
         Ok(Block { lists })
     }
 

@@ -1,6 +1,6 @@
 //! The chunks that need a position as overlap.
 
-ghost use Rattle.std.specs.Prelude.{◌≡◌, [], ◌∷◌, ◌++◌, ◌<◌, ◌≤◌, IfErr, IfOk, if◌then◌else◌};
+ghost use Rattle.std.specs.Prelude.{◌≡◌, [], ◌∷◌, ◌++◌, ◌<◌, ◌≤◌, IfErr, IfOk, if◌then◌else◌, length};
 ghost use Rattle.sky_vector.specs.Points.{IsAdmissible};
 ghost use Rattle.sky_vector.specs.Pos.{point};
 ghost use Rattle.sky_rules.specs.Partition.{chunk_count};
@@ -32,27 +32,31 @@ pub fn push_near_chunks(plan: &SkyPlan, p: &Pos, into: &mut Vec<u32>) -> Result<
     ensures part { AddsFront into.old.items into.new.items (near_others plan.now (point p.now)) }
 {
     if length_ok(p) {
-        push_near_others(plan, plan.chunk_of(p), p, into)
+        let stripe = plan.stripe_of(p);
+        push_near_others(plan, stripe, plan.chunk_in(stripe, p), p, into)
     } else {
         push_by_test(plan, p, into)
     }
 }
 
 /// Puts the numbers of the chunks whose full overlap holds an admissible position, whose own chunk is known, behind those
-/// of a list, ascending; for want of memory a front of them may stand there.
+/// of a list, ascending; for want of memory a front of them may stand there. The stripe is where their stripes are looked for
+/// first: any will do, and the one that has the position is mostly where they are found.
 pub fn push_near_others(
     plan: &SkyPlan,
+    stripe: usize,
     own: u32,
     p: &Pos,
     into: &mut Vec<u32>,
 ) -> Result<(), Memory>
     requires admissible { IsAdmissible (point p.now) }
+    requires stripe { stripe < length plan.now.stripes }
     requires own { IsOwn plan.now own (point p.now) }
     ensures all { IfOk result (λ _.
         into.new.items ≡ into.old.items ++ near_others plan.now (point p.now)) }
     ensures part { AddsFront into.old.items into.new.items (near_others plan.now (point p.now)) }
 {
-    let (from, to) = stripes_near(plan, p);
+    let (from, to) = stripes_near(plan, stripe, p);
     push_in_stripes(plan, own, from, to, p, into)
 }
 

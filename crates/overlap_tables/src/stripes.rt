@@ -15,15 +15,17 @@ use sky_plan::SkyPlan;
 use sky_rules::limits::{SKY_BOTTOM, SKY_END};
 use sky_vector::Pos;
 
-/// The stripes, from a number up to and without another, that have each chunk near an admissible position. They are
-/// looked for within the greatest overlap radius, since a chunk reaches as far as that of its own stripe.
-pub(crate) fn stripes_near(plan: &SkyPlan, p: &Pos) -> (usize, usize)
-    requires { IsAdmissible (point p.now) }
+/// The stripes, from a number up to and without another, that have each chunk near an admissible position. They are looked for
+/// within the greatest overlap radius, since a chunk reaches as far as that of its own stripe, and in the given stripe first:
+/// mostly the one that has the position is all of them.
+pub(crate) fn stripes_near(plan: &SkyPlan, stripe: usize, p: &Pos) -> (usize, usize)
+    requires admissible { IsAdmissible (point p.now) }
+    requires stripe { stripe < length plan.now.stripes }
     ensures { HaveOthers plan.now (point p.now) result.0 result.1 }
 {
     let reach = plan.greatest_radius();
-    let from = plan.stripe_at(lowest(p.z, reach));
-    let last = plan.stripe_at(highest(p.z, reach));
+    let from = plan.stripe_beside(stripe, lowest(p.z, reach));
+    let last = plan.stripe_beside(stripe, highest(p.z, reach));
     (from, last + 1)
 }
 

@@ -64,12 +64,31 @@ fn has_kind(block: &Block) -> bool
     kind.values() == [1, 0, 1].as_slice() && kind.present() == Some([true, false, true].as_slice())
 }
 
+// Whether its second further column has the values of the last two rows, and keeps no presence, though the table's does.
+fn has_no_null(block: &Block) -> bool
+    requires { block.now.width ≡ 2 }
+{
+    let kind = block.further(5);
+    kind.values() == [3, 1].as_slice() && kind.present().is_none()
+}
+
 // The block of the last row, the first and the last again.
 fn block_of(alloc: Global, rows: &Rows) -> Result<Option<Block>, Memory>
     ensures { IfOk result (λ block. IfSome block (λ b. b.width ≡ 2)) }
 {
     if rows.len() == 3 && rows.schema().width() == 6 {
         Ok(Some(Block::build(alloc, rows, &[2, 0, 2])?))
+    } else {
+        Ok(None)
+    }
+}
+
+// The block of the last two rows.
+fn last_block_of(alloc: Global, rows: &Rows) -> Result<Option<Block>, Memory>
+    ensures { IfOk result (λ block. IfSome block (λ b. b.width ≡ 2)) }
+{
+    if rows.len() == 3 && rows.schema().width() == 6 {
+        Ok(Some(Block::build(alloc, rows, &[1, 2])?))
     } else {
         Ok(None)
     }
@@ -89,5 +108,20 @@ fn a_block_has_the_rows_at_its_places(rt: HostRuntime) -> Result<(), Fail> {
     assert!(rt; has_rows(&block));
     assert!(rt; has_flux(&block));
     assert!(rt; has_kind(&block));
+    Ok(())
+}
+
+#[test]
+fn a_block_keeps_no_presence_of_rows_without_a_null(rt: HostRuntime) -> Result<(), Fail> {
+    let Some(schema) = two_columns(rt.alloc()) else {
+        panic!(rt; "no schema");
+    };
+    let Some(rows) = table(rt.alloc(), schema)? else {
+        panic!(rt; "no table");
+    };
+    let Some(block) = last_block_of(rt.alloc(), &rows)? else {
+        panic!(rt; "another table");
+    };
+    assert!(rt; has_no_null(&block));
     Ok(())
 }

@@ -1,9 +1,10 @@
--- What the two bisections find: the stripe of a chunk, and the stripe of a height.
-use Rattle.std.proofs.Common.{◌≡◌, ℕ, ℤ, ◌+◌, ◌-◌, ◌<◌, ◌≤◌, ◌≤ℤ◌, ◌<ℤ◌, arith, inl, inr, subst, sym, true, false, leb, leb-true, int_le, List, length, take, drop, get_or}
+-- What is found of stripes by number and by height: the stripe of a chunk, and the stripe of a height.
+use Rattle.std.proofs.Common.{◌≡◌, ℕ, ℤ, ◌+◌, ◌-◌, ◌<◌, ◌≤◌, ◌≤ℤ◌, ◌<ℤ◌, arith, inl, inr, subst, sym, true, false, leb, leb-true, int_le, List, length, take, drop, get_or, Bool, ap, ◌∙◌, if◌then◌else◌}
+use Rattle.std.specs.List.{AllWithin}
 use Rattle.std.specs.List.Sorted.{IsPartitionedBy, IsPartitionPoint}
 use Rattle.std.proofs.lemmas.Bool.{cases_lt, leb-false}
 use Rattle.std.proofs.lemmas.Int.{ints}
-use Rattle.std.proofs.lemmas.List.{take_all, drop_all}
+use Rattle.std.proofs.lemmas.List.{take_all, drop_all, get_or_default}
 use Rattle.std.proofs.lemmas.List.Sorted.{IsPartitionedBy-leb}
 use Rattle.wedge_rules.proofs.Tests.{le_from, le_to}
 use Rattle.sky_rules.specs.Partition.{Stripe, Partition, floor_of, sky_end, sky_bottom, chunks_in, chunk_count, nowhere}
@@ -94,6 +95,37 @@ height_some g z r sky low point = elim (cases_lt 0 r) [
       let bottom = sky.bottom in
       let none = above_if_not (get_or g.stripes 0 nowhere.stripe).z_low z (point.1 0 nowhere.stripe l sky.some) in omega (arith, ints, first, bottom, low, none)
 ]
+
+-- one element more is counted where it passes, of elements of which none passes behind one that fails
+pub counted_more : {X : Type 0} (p : X → Bool) (xs : List X) (i n m : ℕ) (x : X) → IsPartitionedBy p xs → i < length xs → x ≡ get_or xs i x → n ≤ i
+    → AllWithin (λ y. p y ≡ true) xs 0 n → AllWithin (λ y. p y ≡ false) xs n i → (b : Bool) → p x ≡ b → m ≡ n + (if b then 1 else 0)
+    → (m ≤ i + 1) × (AllWithin (λ y. p y ≡ true) xs 0 m × AllWithin (λ y. p y ≡ false) xs m (i + 1))
+counted_more {X} p xs i n m x parted low own few below above false fails is =
+    let at : (d : X) → get_or xs i d ≡ x = λ d. get_or_default xs i d x low ∙ sym own in (
+      omega (arith, is, few),
+      (
+        (λ k d le lt. below k d le (omega (arith, lt, is))),
+        (λ k d le lt. elim (cases_lt k i) [
+          | inl before ↦ above k d (omega (arith, le, is)) before
+          | inr behind ↦ let here : k ≡ i = omega (arith, lt, behind) in ap p (ap (λ k. get_or xs k d) here ∙ at d) ∙ fails
+        ]),
+      ),
+    )
+counted_more {X} p xs i n m x parted low own few below above true passes is =
+    let at : (d : X) → get_or xs i d ≡ x = λ d. get_or_default xs i d x low ∙ sym own in
+    let all : n ≡ i = elim (cases_lt n i) [
+      | inl before ↦ absurd (cc (above n x (omega arith) before, parted n i x few low (ap p (at x) ∙ passes)))
+      | inr behind ↦ omega (arith, few, behind)
+    ] in (
+      omega (arith, is, all),
+      (
+        (λ k d le lt. elim (cases_lt k n) [
+          | inl before ↦ below k d le before
+          | inr behind ↦ let here : k ≡ i = omega (arith, lt, behind, is, all) in ap p (ap (λ k. get_or xs k d) here ∙ at d) ∙ passes
+        ]),
+        (λ k d le lt. absurd (omega (arith, le, lt, is, all))),
+      ),
+    )
 
 -- the height is below the stripe there
 height_below : (g : Partition) (z : ℤ) (r : ℕ) → z <ℤ sky_end

@@ -1,4 +1,4 @@
-//! The plan of the sky: its stripes in memory, and the chunk and the subchunk of a position by bisection and division.
+//! The plan of the sky: its stripes in memory, and the chunk and the subchunk of a position by its height and a division.
 //!
 //! Callers see a `SkyPlan` as a `Partition`, a `Stripe` as a stripe of it, and a `Region` as its bounds
 //! (`specs/Regions.antt`).
@@ -6,6 +6,7 @@
 //! No rows and no overlap: which positions are near a chunk is not told here.
 #![tactic(auto)]
 
+mod heights;
 pub mod plan;
 mod reading;
 pub mod region;

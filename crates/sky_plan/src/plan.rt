@@ -14,6 +14,7 @@ ghost use Rattle.sky_plan.specs.Places.{IsOnlyChunk, SubHolds};
 ghost use Rattle.sky_plan.specs.Regions.{bounds_shown};
 ghost use Rattle.sky_plan.specs.Sites.{SpansHeight, end_numbered, site_numbered};
 
+use crate::heights::stripes_below;
 use crate::region::Region;
 use crate::site::Site;
 use crate::stripe::Stripe;
@@ -158,7 +159,15 @@ impl SkyPlan {
         requires { IsAdmissible (point p.now) }
         ensures { IsOnlyPlace self.now result.chunk result.sub (point p.now) }
     {
-        let number = self.stripe_at(p.z);
+        self.place_in(self.stripe_of(p), p)
+    }
+
+    /// The same of a position in the stripe with this number.
+    fn place_in(&self, number: usize, p: &Pos) -> SubPlace
+        requires admissible { IsAdmissible (point p.now) }
+        requires spans { SpansHeight self.now number p.now.z }
+        ensures { IsOnlyPlace self.now result.chunk result.sub (point p.now) }
+    {
         let stripe = self.stripe_numbered(number);
         let fine = wedge_of(stripe.chunks * stripe.columns, p);
         let wedge = fine / stripe.columns;
@@ -178,6 +187,17 @@ impl SkyPlan {
         ensures only { IsOnlyChunk self.now result (point p.now) }
     {
         self.place_of(p).chunk
+    }
+
+    /// The number of the chunk that holds an admissible position in the stripe with this number. Takes no memory.
+    pub fn chunk_in(&self, number: usize, p: &Pos) -> u32
+        requires admissible { IsAdmissible (point p.now) }
+        requires spans { SpansHeight self.now number p.now.z }
+        ensures there { result < chunk_count self.now }
+        ensures holds { IsTrue (in_chunk self.now result (point p.now)) }
+        ensures only { IsOnlyChunk self.now result (point p.now) }
+    {
+        self.place_in(number, p).chunk
     }
 
     /// The number of the subchunk that holds an admissible position, in the chunk that holds it. Takes no memory.
@@ -252,6 +272,30 @@ impl SkyPlan {
         requires end { z <ℤ sky_end }
         ensures { SpansHeight self.now result z }
     {
-        self.stripes.partition_point(|stripe| stripe.z_low <= z) - 1
+        stripes_below(self.stripes.as_slice(), z) - 1
+    }
+
+    /// The number of the stripe that has an admissible position, from 0. Takes no memory.
+    pub fn stripe_of(&self, p: &Pos) -> usize
+        requires { IsAdmissible (point p.now) }
+        ensures { SpansHeight self.now result p.now.z }
+    {
+        self.stripe_at(p.z)
+    }
+
+    /// The number of the stripe that has the height, from 0. The stripe with the given number, which may be any, is looked at
+    /// before the others. Takes no memory.
+    pub fn stripe_beside(&self, number: usize, z: i64) -> usize
+        requires number { number < length self.now.stripes }
+        requires bottom { sky_bottom ≤ℤ z }
+        requires end { z <ℤ sky_end }
+        ensures { SpansHeight self.now result z }
+    {
+        let stripe = &self.stripes[number];
+        if stripe.z_low <= z && z < self.end_of(number) {
+            number
+        } else {
+            self.stripe_at(z)
+        }
     }
 }

@@ -4,9 +4,11 @@
 ghost use Rattle.std.specs.Prelude.{ℕ, true, ◌≡◌, ◌≤◌, ◌<◌, ◌^◌, [], ◌∷◌, ◌++◌, All, IfOk, IfSome, IfNone, OnOk, OnErr, IsTrue, Some, None, ◌⊎◌};
 ghost use Rattle.std.specs.Prelude.{length, map, take, get_or, slice_get};
 ghost use Rattle.std.specs.Option.{is_some};
-ghost use Rattle.sky_row.specs.Columns.{cell_at, cells_of, or_zero, IsKept, IsPresenceAt};
+ghost use Rattle.sky_row.specs.Columns.{cell_at, cells_of, or_zero, IsFront, IsKept};
+ghost use Rattle.sky_row.specs.Filling.{IsFilled, IsPresenceUpTo};
 
-use crate::places::gather;
+use crate::nulls::{fill_presence, is_whole, presence_at};
+use crate::places::{fill, gather, make_room};
 use sky_io::Memory;
 use std::alloc::Global;
 use std::marker::Model;
@@ -100,6 +102,43 @@ impl Column {
         Ok(of_parts(values, present))
     }
 
+    /// A column over no row, with room for so many. Takes memory for their numbers once.
+    pub(crate) fn with_room(alloc: Global, count: usize) -> Result<Column, Memory>
+        ensures { IfOk result (λ column. column ≡ []) }
+    {
+        Ok(Column {
+            values: Vec::with_capacity(alloc, count)?,
+            present: Vec::new(alloc),
+        })
+    }
+
+    /// Puts the values of the rows at the next places behind those of the first ones, up to so many in all. Takes memory where
+    /// the room is not there, or a NULL is the first; where there is none, nothing changes.
+    pub(crate) fn fill(
+        &mut self,
+        table: &Column,
+        places: &[u32],
+        count: usize,
+    ) -> Result<(), Memory>
+        requires there { All (λ place. place < length table.now) places.now }
+        requires few { count ≤ length places.now }
+        requires more { length self.old ≤ count }
+        requires so_far { IsFilled (length self.old) table.now places.now self.old }
+        ensures ok { OnOk result (IsFilled count table.now places.now self.new) }
+        ensures front { IsFront self.old self.new }
+    {
+        let values = table.values.as_slice();
+        let present = table.present.as_slice();
+        fill_lists(
+            &mut self.values,
+            &mut self.present,
+            values,
+            present,
+            places,
+            count,
+        )
+    }
+
     /// Cuts the column behind so many rows. Takes no memory.
     pub fn truncate(&mut self, count: usize)
         ensures { self.new ≡ take count self.old }
@@ -117,35 +156,38 @@ fn of_parts(values: Vec<i64>, present: Vec<bool>) -> Column
     Column { values, present }
 }
 
-/// The presence, or none where each row has a value.
-#[tactic(auto, using(crate::proofs::Presence::whole_is_true))]
-fn unless_whole(found: Vec<bool>) -> Vec<bool>
-    ensures presence { (result.items ≡ []) ⊎ (length result.items ≡ length found.items) }
-    ensures each { (k : ℕ) → get_or result.items k true ≡ get_or found.items k true }
-{
-    let mut kept = found;
-    if kept.iter().all(|present| *present) {
-        kept.clear();
-    }
-    kept
-}
-
-/// The presence of the rows at these places, and none where each row has a value.
-fn presence_at(
-    alloc: Global,
+/// Puts the numbers and the presence of the rows at the next places behind those of the first ones, or neither.
+#[tactic(auto, using(crate::proofs::Filling::still_whole))]
+fn fill_lists(
+    found: &mut Vec<i64>,
+    found_present: &mut Vec<bool>,
+    values: &[i64],
     present: &[bool],
     places: &[u32],
     count: usize,
-) -> Result<Vec<bool>, Memory>
-    requires presence { (present.now ≡ []) ⊎ (length present.now ≡ count) }
-    requires there { All (λ place. place < count) places.now }
-    ensures { IfOk result (λ found. IsPresenceAt present.now places.now found.items) }
+) -> Result<(), Memory>
+    requires there { All (λ place. place < length values.now) places.now }
+    requires few { count ≤ length places.now }
+    requires more { length found.old.items ≤ count }
+    requires so_far { IsFilled (length found.old.items) values.now places.now found.old.items }
+    requires present { IsPresenceUpTo (length found.old.items) present.now places.now
+        found_present.old.items }
+    ensures filled { OnOk result (IsFilled count values.now places.now found.new.items) }
+    ensures present { OnOk result
+        (IsPresenceUpTo count present.now places.now found_present.new.items) }
+    ensures err { OnErr result (found.new.items ≡ found.old.items) }
+    ensures err_present { OnErr result (found_present.new.items ≡ found_present.old.items) }
 {
-    if present.is_empty() {
-        return Ok(Vec::new(alloc));
+    make_room(found, count)?;
+    let from = found.len();
+    if found_present.is_empty() && is_whole(present, places, from, count) {
+        fill(found, values, places, count);
+        return Ok(());
     }
-    let found = gather(alloc, present, places)?;
-    Ok(unless_whole(found))
+    make_room(found_present, places.len())?;
+    fill(found, values, places, count);
+    fill_presence(found_present, present, places, from, count);
+    Ok(())
 }
 
 /// The value at a place.

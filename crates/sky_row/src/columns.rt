@@ -43,7 +43,7 @@ impl Columns {
     pub fn new(alloc: Global, schema: Schema) -> Result<Columns, Memory>
         ensures { IfOk result (λ columns. columns ≡ record { names = schema; objects = [] }) }
     {
-        let lists = Lists::new(alloc, schema.width() - FIRST_COLUMNS as u32)?;
+        let lists = Lists::new(alloc, schema.width() - FIRST_COLUMNS as u32, 0)?;
         Ok(Columns { schema, lists })
     }
 

@@ -1,22 +1,22 @@
 //! The columns of rows: a list for each, of which the same place is the same row.
-ghost use Rattle.std.specs.Prelude.{◌≡◌, ◌+◌, ◌<◌, ◌≤◌, ◌^◌, ℕ, ℤ, List, [], ◌∷◌, ◌++◌, length, map, take, get_or, replicate, All};
-ghost use Rattle.std.specs.Prelude.{IfOk, IsTrue, OnOk, OnErr, None, pos};
-ghost use Rattle.std.specs.List.{list_all};
+ghost use Rattle.std.specs.Prelude.{◌≡◌, ◌+◌, ◌<◌, ◌≤◌, [], ◌∷◌, ◌++◌, length, get_or, All};
+ghost use Rattle.std.specs.Prelude.{IfOk, OnOk, OnErr, pos};
 ghost use Rattle.sky_vector.specs.Points.{IsWithin};
 ghost use Rattle.sky_vector.specs.Pos.{point};
-ghost use Rattle.table_rules.specs.Objects.{is_further};
-ghost use Rattle.sky_row.specs.Columns.{AreAligned, AreRows, Begins, IsFront, cells_in, first_rows, no_rows, row_at, row_behind, rows_at};
+ghost use Rattle.sky_row.specs.Filling.{AreBegun, AreFilled};
+ghost use Rattle.sky_row.specs.Columns.{AreAligned, AreRows, Begins, IsFront, first_rows, no_rows, row_at, row_behind, rows_at};
 ghost use Rattle.table_rules.specs.declared.limits.TheConstants.{FURTHER_COLUMNS_MOST};
 
-use crate::cells::Cells;
 use crate::column::Column;
-use crate::places::gather;
+use crate::further::{
+    cells_at, columns_at, empty_columns, fill_columns, push_cells, truncate_cells,
+};
+use crate::places::{fill_list, gather};
 use crate::row::Row;
 use sky_io::Memory;
 use sky_vector::Pos;
 use std::alloc::Global;
 use std::marker::Model;
-use table_rules::limits::FIRST_COLUMNS;
 
 /// The ids of rows, the parts of their positions, and their further columns.
 #[derive(Drop)]
@@ -37,16 +37,17 @@ impl Model for Lists {
 }
 
 impl Lists {
-    /// So many further columns over no row. Takes memory for the list of them.
-    pub(crate) fn new(alloc: Global, width: u32) -> Result<Lists, Memory>
+    /// So many further columns over no row, with room for so many rows. Takes memory for the list of them, and for each column
+    /// once where there is to be room.
+    pub fn new(alloc: Global, width: u32, room: usize) -> Result<Lists, Memory>
         ensures { IfOk result (λ lists. lists ≡ no_rows width) }
     {
-        let further = empty_columns(alloc, width)?;
+        let further = empty_columns(alloc, width, room)?;
         Ok(Lists {
-            ids: Vec::new(alloc),
-            xs: Vec::new(alloc),
-            ys: Vec::new(alloc),
-            zs: Vec::new(alloc),
+            ids: Vec::with_capacity(alloc, room)?,
+            xs: Vec::with_capacity(alloc, room)?,
+            ys: Vec::with_capacity(alloc, room)?,
+            zs: Vec::with_capacity(alloc, room)?,
             further,
         })
     }
@@ -127,6 +128,25 @@ impl Lists {
         })
     }
 
+    /// Puts the rows at the next places in a table behind those at the first ones, up to so many in all: so rows are gathered by
+    /// turns, for one list of places after the other, while what they are taken from is near the processor. Takes memory where the
+    /// room is not there, or a NULL is a column's first; where there is none, some columns have the next values and some don't.
+    pub fn fill(&mut self, table: &Lists, places: &[u32], count: usize) -> Result<(), Memory>
+        requires aligned { AreAligned table.now }
+        requires there { All (λ place. place < length table.now.ids) places.now }
+        requires few { count ≤ length places.now }
+        requires more { length self.old.ids ≤ count }
+        requires begun { AreBegun table.now places.now self.old }
+        ensures ok { OnOk result (AreFilled count table.now places.now self.new) }
+        ensures err { OnErr result (Begins self.old self.new) }
+    {
+        fill_list(&mut self.ids, table.ids.as_slice(), places, count)?;
+        fill_list(&mut self.xs, table.xs.as_slice(), places, count)?;
+        fill_list(&mut self.ys, table.ys.as_slice(), places, count)?;
+        fill_list(&mut self.zs, table.zs.as_slice(), places, count)?;
+        fill_columns(&mut self.further, table.further.as_slice(), places, count)
+    }
+
     /// The ids. Takes no memory.
     pub fn ids(&self) -> &[i64]
         ensures { result.now ≡ self.now.ids }
@@ -199,45 +219,6 @@ fn point_of(x: i32, y: i32, z: i32) -> Pos
     }
 }
 
-/// The values of one row in each of the columns.
-fn cells_at(columns: &[Column], i: usize) -> Cells
-    requires few { length columns.now ≤ FURTHER_COLUMNS_MOST }
-    requires there { All (λ column. i < length column) columns.now }
-    requires further { IsTrue (list_all is_further (cells_in columns.now i)) }
-    ensures { result ≡ cells_in columns.now i }
-{
-    let mut cells = Cells::new();
-    for column in columns {
-        cells.push(column.get(i));
-    }
-    cells
-}
-
-/// The columns of the rows at these places.
-fn columns_at(alloc: Global, columns: &[Column], places: &[u32]) -> Result<Vec<Column>, Memory>
-    requires { All (λ column. All (λ place. place < length column) places.now) columns.now }
-    ensures { IfOk result (λ found. found.items
-        ≡ map (λ column. map (λ place. get_or column place None) places.now) columns.now) }
-{
-    let mut found = Vec::new(alloc);
-    for column in columns {
-        found.push(column.at(alloc, places)?)?;
-    }
-    Ok(found)
-}
-
-/// So many columns over no row.
-#[tactic(auto, using(crate::proofs::Gathering::replicate_more))]
-fn empty_columns(alloc: Global, width: u32) -> Result<Vec<Column>, Memory>
-    ensures { IfOk result (λ columns. columns.items ≡ replicate width []) }
-{
-    let mut columns = Vec::new(alloc);
-    for turn in 0..width {
-        columns.push(Column::new(alloc))?;
-    }
-    Ok(columns)
-}
-
 /// Puts an id behind the others.
 #[tactic(auto, using(crate::proofs::Gathering::front_same, crate::proofs::Gathering::front_more))]
 fn push_id(ids: &mut Vec<i64>, id: i64) -> Result<(), Memory>
@@ -257,41 +238,4 @@ fn push_part(parts: &mut Vec<i32>, part: i64) -> Result<(), Memory>
 {
     parts.push(part as i32)?;
     Ok(())
-}
-
-/// Puts the further values of a row behind their columns. Where there is no memory, some columns have theirs.
-fn push_cells(columns: &mut Vec<Column>, row: &Row) -> Result<(), Memory>
-    requires few { length row.now.further ≤ FURTHER_COLUMNS_MOST }
-    requires wide { length row.now.further ≡ length columns.old.items }
-    ensures len { length columns.new.items ≡ length columns.old.items }
-    ensures ok { OnOk result ((k : ℕ) → k < length columns.old.items
-        → get_or columns.new.items k [] ≡ get_or columns.old.items k [] ++ get_or row.now.further k None ∷ []) }
-    ensures err { OnErr result ((k : ℕ) → k < length columns.old.items
-        → IsFront (get_or columns.old.items k []) (get_or columns.new.items k [])) }
-{
-    for k in 0..columns.len() {
-        push_cell(&mut columns[k], row, k as u32)?;
-    }
-    Ok(())
-}
-
-/// Puts the further value of a row with this number, from 0, behind its column.
-#[tactic(auto, using(crate::proofs::Gathering::further_cell, crate::proofs::Gathering::front_same, crate::proofs::Gathering::front_more))]
-fn push_cell(column: &mut Column, row: &Row, k: u32) -> Result<(), Memory>
-    requires few { length row.now.further ≤ FURTHER_COLUMNS_MOST }
-    requires there { k < length row.now.further }
-    ensures ok { OnOk result (column.new ≡ column.old ++ get_or row.now.further k None ∷ []) }
-    ensures front { IsFront column.old column.new }
-{
-    column.push(row.value(FIRST_COLUMNS as u32 + k))
-}
-
-/// Cuts columns behind so many rows.
-#[tactic(auto, using(crate::proofs::Gathering::all_cut))]
-fn truncate_cells(columns: &mut Vec<Column>, count: usize)
-    ensures { columns.new.items ≡ map (take count) columns.old.items }
-{
-    for k in 0..columns.len() {
-        columns[k].truncate(count);
-    }
 }

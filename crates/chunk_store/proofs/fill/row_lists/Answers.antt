@@ -11,7 +11,7 @@ use Rattle.chunk_store.proofs.Pushing.{lists_more, near_often, own_often}
 use Rattle.chunk_store.proofs.fill.row_lists.Goals as goal
 
 pub push_near-requires-clause-own : goal.push_near-requires-clause-own
-push_near-requires-clause-own c = record { holds = c.chunk_of-chunk.ensures.holds; only = c.chunk_of-chunk.ensures.only }
+push_near-requires-clause-own c = record { holds = c.chunk_in-chunk.ensures.holds; only = c.chunk_in-chunk.ensures.only }
 
 pub push_near-requires-clause-all : goal.push_near-requires-clause-all
 push_near-requires-clause-all c = c.loop-place.invariant.overlap.all
@@ -25,9 +25,9 @@ loop-place-preserved c =
     let low : place < length objects = search rules in
     let is = slice_get-get_or objects place no_row low in
     let at = c.position-at.ensures.value in
-    let d = c.chunk_of-chunk.result in
-    let holds = subst (λ (p : Point). IsTrue (in_chunk g d p)) at c.chunk_of-chunk.ensures.holds in
-    let only = subst (λ (p : Point). IsOnlyChunk g d p) at c.chunk_of-chunk.ensures.only in
+    let d = c.chunk_in-chunk.result in
+    let holds = subst (λ (p : Point). IsTrue (in_chunk g d p)) at c.chunk_in-chunk.ensures.holds in
+    let only = subst (λ (p : Point). IsOnlyChunk g d p) at c.chunk_in-chunk.ensures.only in
     let near = subst (λ (p : Point). Pushed (near_others g p) place c.loop-place.overlap c.push_near.new.lists) at c.in_ok-push_near.ensures in
     record {
       own = lists_more (own_test g) (chunk_count g) objects place (d ∷ []) c.loop-place.own c.push.new.self

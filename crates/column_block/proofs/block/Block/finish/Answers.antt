@@ -1,0 +1,17 @@
+use Rattle.std.proofs.Common.{◌≡◌, ◌∙◌, ap, sym, subst, length}
+use Rattle.sky_row.specs.Columns.{AreRows, objects_of, rows_at}
+use Rattle.sky_row.proofs.Filling.{filled_whole}
+use Rattle.sky_row.proofs.Rowed.{objects_are, rows_at_places, width_at_places}
+use Rattle.column_block.proofs.Storing.{stored_same}
+use Rattle.column_block.proofs.block.Block.finish.Goals as goal
+
+pub invariant_of-result : goal.invariant_of-result
+invariant_of-result c =
+    let whole : c.fill.new.self ≡ rows_at c.args.table.now c.args.places.now = filled_whole _ _ _ c.in_ok-fill.ensures.ok in
+    subst AreRows (sym whole) (rows_at_places c.args.table.now c.args.places.now c.requires.rows c.requires.there)
+
+pub returns : goal.returns
+returns c =
+    let whole : c.fill.new.self ≡ rows_at c.args.table.now c.args.places.now = filled_whole _ _ _ c.in_ok-fill.ensures.ok in
+    stored_same _ _ _ _ (ap (λ p. length p.further) whole ∙ width_at_places c.args.table.now c.args.places.now)
+    (ap objects_of whole ∙ objects_are c.args.table.now c.args.places.now c.requires.there)

@@ -1,0 +1,88 @@
+//! Which rows of a column have a value: a list of that, or none where each row has one.
+ghost use Rattle.std.specs.Prelude.{ℕ, true, ◌≡◌, ◌≤◌, ◌<◌, [], All, IfOk, IsTrue, ◌⊎◌, ◌↔◌, length, get_or, vec_capacity};
+ghost use Rattle.sky_row.specs.Columns.{IsPresenceAt};
+ghost use Rattle.sky_row.specs.Filling.{IsPresenceUpTo};
+
+use crate::places::gather;
+use sky_io::Memory;
+use std::alloc::Global;
+
+/// Whether the row at a place has a value.
+fn is_present(present: &[bool], place: u32) -> bool
+    ensures { result ≡ get_or present.now place true }
+{
+    *present.get(place as usize).unwrap_or(&true)
+}
+
+/// The presence, or none where each row has a value.
+#[tactic(auto, using(crate::proofs::Presence::whole_is_true))]
+fn unless_whole(found: Vec<bool>) -> Vec<bool>
+    ensures presence { (result.items ≡ []) ⊎ (length result.items ≡ length found.items) }
+    ensures each { (k : ℕ) → get_or result.items k true ≡ get_or found.items k true }
+{
+    let mut kept = found;
+    if kept.iter().all(|present| *present) {
+        kept.clear();
+    }
+    kept
+}
+
+/// The presence of the rows at these places, and none where each row has a value.
+pub(crate) fn presence_at(
+    alloc: Global,
+    present: &[bool],
+    places: &[u32],
+    count: usize,
+) -> Result<Vec<bool>, Memory>
+    requires presence { (present.now ≡ []) ⊎ (length present.now ≡ count) }
+    requires there { All (λ place. place < count) places.now }
+    ensures { IfOk result (λ found. IsPresenceAt present.now places.now found.items) }
+{
+    if present.is_empty() {
+        return Ok(Vec::new(alloc));
+    }
+    let found = gather(alloc, present, places)?;
+    Ok(unless_whole(found))
+}
+
+/// Whether each row at the places from one up to and without another has a value.
+pub(crate) fn is_whole(present: &[bool], places: &[u32], from: usize, count: usize) -> bool
+    requires few { count ≤ length places.now }
+    ensures { IsTrue result ↔ ((k : ℕ) → from ≤ k → k < count
+        → get_or present.now (get_or places.now k 0) true ≡ true) }
+{
+    if present.is_empty() {
+        return true;
+    }
+    for k in from..count {
+        if !is_present(present, places[k]) {
+            return false;
+        }
+    }
+    true
+}
+
+/// Puts the presence of the rows at the next places behind that of the first ones, up to so many in all: where none was kept,
+/// one is from now on. Takes no memory.
+#[tactic(auto, using(crate::proofs::Filling::push_true, crate::proofs::Filling::no_more))]
+pub(crate) fn fill_presence(
+    found: &mut Vec<bool>,
+    present: &[bool],
+    places: &[u32],
+    from: usize,
+    count: usize,
+)
+    requires few { count ≤ length places.now }
+    requires more { from ≤ count }
+    requires room { count ≤ vec_capacity found.old }
+    requires so_far { IsPresenceUpTo from present.now places.now found.old.items }
+    ensures full { length found.new.items ≡ count }
+    ensures filled { IsPresenceUpTo count present.now places.now found.new.items }
+{
+    for earlier in found.len()..from {
+        found.push_reserved(true);
+    }
+    for k in from..count {
+        found.push_reserved(is_present(present, places[k]));
+    }
+}
