@@ -4,8 +4,9 @@
     scripts/fail_allocations.py FOLDER [--program FILE] [--workers N ..] [--session] [--processes N]
 
 The run is small: six rows, and a script with a query of every kind and one of every refusal. Each form of the command line
-is run: load, explain, query and demo, the last two with each number of workers (0). First the Nth request of the run is
-refused, for N from 1 until a run makes fewer, and then the Nth and all behind it. A run has to end so:
+is run: load, explain, query and demo, the last two with each number of workers (0); and query over 150 rows of one chunk, whose
+columns are gathered in three parts, with a first NULL in the second. First the Nth request of the run is refused, for N from 1
+until a run makes fewer, and then the Nth and all behind it. A run has to end so:
 - with the whole right text and status 0;
 - with the right text but for `out of memory` in the place of an answer that wants chunks to be scanned, and status 0;
 - or with nothing written, `out of memory` on standard error, and status 9.
@@ -15,7 +16,7 @@ The right texts are computed here from the flat table. With --session the script
 and the C library stands a small library in C that refuses the requests; it is compiled with cc into a folder that goes again.
 
 FILE is the built program, by default .qserv/qserv, where ./qserv leaves it. FOLDER is made where it isn't there, and gets the
-texts sky, csv and script.
+texts sky, csv and script, and one, many and asked for the chunk of 150 rows.
 """
 import collections
 import concurrent.futures
@@ -110,6 +111,14 @@ SCRIPT = [
 ]
 # behind the script where it is a session: a late cancel, one of a refused query, and one in time behind a wait for another
 SESSION = ["wait 2", "cancel 2", "cancel 12", "cancel 8", "SELECT MAX(flux) FROM Object GROUP BY g", "cancel 25", "wait 9"]
+# a chunk of 150 rows, and what is asked of it
+ONE = "overlap 16\nstripe -268435472 1 1 1\n"
+MANY = [[id, EDGE, 7 * id, 0, id % 5, None if id == 100 else id] for id in range(1, 151)]
+ASKED = [
+    "SELECT COUNT(*),COUNT(g),SUM(g),MIN(y),MAX(objectId) FROM Object",
+    "SELECT objectId,g,y FROM Object WHERE objectId>=98 ORDER BY g LIMIT 4",
+    "SELECT flux,COUNT(g) FROM Object GROUP BY flux",
+]
 KINDS = ["right text", "right but for queries out of memory", "out of memory, nothing written"]
 
 
@@ -129,8 +138,8 @@ class Form:
         return KINDS[1] if session_ends.SPENT in ends else KINDS[0]
 
 
-def forms(world, script, workers):
-    """The forms that are run over the texts."""
+def forms(world, many, script, workers):
+    """The forms that are run over the texts of the two worlds."""
     whole = {
         ("load", "sky", "csv"): flat_answers.report(world),
         ("explain", "sky", "csv", "script"): flat_answers.explanation(world, [line for line in script if line.startswith("S")]),
@@ -141,7 +150,13 @@ def forms(world, script, workers):
     for number in workers:
         found.append(Form(["query", "sky", "csv", "script", str(number)], session_ends.choices(world, script, number, True)))
         found.append(Form(["demo", "5", "7", str(number)], session_ends.choices(demo, lines, number, True)))
+        found.append(Form(["query", "one", "many", "asked", str(number)], session_ends.choices(many, ASKED, number, True)))
     return found
+
+
+def lines_of(rows):
+    """The lines of a catalogue, from the last row, so that they have to be put in order."""
+    return [",".join(NAMES), *(",".join("" if value is None else str(value) for value in row) for row in reversed(rows))]
 
 
 def compiled(folder):
@@ -197,14 +212,14 @@ def main():
     folder = os.path.abspath(words.folder)
     os.makedirs(folder, exist_ok=True)
     world, script = random_worlds.World(random_worlds.SKIES[0], NAMES, ROWS), SCRIPT + SESSION * words.session
-    # from the last, so that the rows have to be put in order
-    catalogue = [",".join("" if value is None else str(value) for value in row) for row in reversed(ROWS)]
-    texts = {"sky": [random_worlds.SKIES[0].rstrip()], "csv": [",".join(NAMES), *catalogue], "script": script}
+    many = random_worlds.World(ONE, NAMES, MANY)
+    texts = {"sky": [random_worlds.SKIES[0].rstrip()], "csv": lines_of(ROWS), "script": script}
+    texts |= {"one": [ONE.rstrip()], "many": lines_of(MANY), "asked": ASKED}
     compare_answers.write(folder, {name: "\n".join(lines) + "\n" for name, lines in texts.items()})
     wrong = 0
     with tempfile.TemporaryDirectory() as made, concurrent.futures.ThreadPoolExecutor(words.processes) as pool:
         refuser = compiled(made)
-        for form in forms(world, script, words.workers):
+        for form in forms(world, many, script, words.workers):
             ends = [end for is_one in (True, False) for end in numbered(pool, words, form, folder, refuser, is_one)]
             counts = collections.Counter(ends)
             others = [end for end in counts if end not in KINDS]
