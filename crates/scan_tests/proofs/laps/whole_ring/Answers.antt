@@ -2,7 +2,7 @@ use Rattle.std.proofs.Common.{IfSome, None, ◌<◌, ◌+◌, List, ℕ, All, ar
 use Rattle.std.specs.List.{last_or}
 use Rattle.std.proofs.lemmas.List.Elements.{All-push}
 use Rattle.scan_rules.proofs.Lists.{last_push}
-use Rattle.scan_tests.proofs.machine.whole_ring.Goals as goal
+use Rattle.scan_tests.proofs.laps.whole_ring.Goals as goal
 
 pub loop-chunk-preserved : goal.loop-chunk-preserved
 loop-chunk-preserved c =
