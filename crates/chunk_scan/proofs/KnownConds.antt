@@ -20,10 +20,11 @@ use Rattle.value_rules.specs.Values.{cell_of, row, value_at}
 use Rattle.value_rules.specs.Widths.{most, widest_at}
 use Rattle.value_rules.proofs.ColumnTests.{mirrored_compares}
 use Rattle.expr_eval.proofs.Layers.{cond_parts}
+use Rattle.column_eval.specs.PickedColumns.{first_col}
 use Rattle.chunk_scan.specs.declared.known.Early.{Early}
 use Rattle.chunk_scan.specs.declared.known.Known.{Known}
 use Rattle.chunk_scan.specs.declared.known.Known.TheVariants.{Compare, Range, Present, Absent, Near}
-use Rattle.chunk_scan.specs.Asking.{IsEarly, IsThere, asks, first_col, holds_on, is_compared, is_in_range}
+use Rattle.chunk_scan.specs.Asking.{IsEarly, IsThere, asks, holds_on, is_compared, is_in_range}
 
 -- a question that is the whole of its formula
 exact : (f : Formula) (test : Known) → ((o : Obj) → asks test o ≡ holds_on f o)

@@ -3,7 +3,6 @@ use Rattle.std.specs.Prelude.{◌≡◌, ℕ, ◌<◌, ◌≤◌, ℤ, Bool, tru
 use Rattle.table_rules.specs.Objects.{Obj, cell}
 use Rattle.sql_tree.specs.declared.cond.Cmp.{Cmp}
 use Rattle.sql_bound.specs.declared.area.AreaTest.TheVariants.{Cap}
-use Rattle.sql_bound.specs.declared.expr.BoundCol.{BoundCol}
 use Rattle.value_rules.specs.Areas.{area_holds}
 use Rattle.value_rules.specs.ColumnTests.{is_within, passes}
 use Rattle.value_rules.specs.Formulas.{Formula}
@@ -41,10 +40,6 @@ IsThere columns (Near centre n) = Unit {0}
 -- the formula holds on a row
 abbrev pub holds_on : Formula → Obj → Bool
 holds_on f o = is_true (truth_at (cell_of (row o)) o.at f)
-
--- a column of the first row
-abbrev pub first_col : ℕ → BoundCol
-first_col col = record { second = false; col = col }
 
 -- A question that is answered with yes wherever the formula holds and, where it is the whole of it, nowhere else; its
 -- column is there where the formula can be computed.

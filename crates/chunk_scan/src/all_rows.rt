@@ -27,7 +27,7 @@ pub(crate) fn all_rows<'w>(
     alloc: Global,
     block: &Block,
     query: &ChunkQuery,
-    keys: &Option<ValueList>,
+    keys: &Option<ValueList<'_>>,
     places: &[u32],
     scratch: &mut Scratch,
 ) -> Result<Piece<'w>, Memory>
@@ -57,7 +57,7 @@ pub(crate) fn all_rows<'w>(
 fn push_at(
     piece: &mut Piece<'_>,
     values: &mut Vec<Option<Num>>,
-    columns: &[ValueList],
+    columns: &[ValueList<'_>],
     rank: &Rank,
     i: usize,
 ) -> Result<(), Memory>

@@ -22,12 +22,12 @@ use std::alloc::Global;
 
 /// The values that the rows at these places are ordered by, if there is an order. Takes memory where the scratch has no
 /// vector with enough room.
-pub(crate) fn keys(
-    block: &Block,
+pub(crate) fn keys<'a>(
+    block: &'a Block,
     order: &Option<ChunkOrder>,
-    places: &[u32],
+    places: &'a [u32],
     scratch: &mut Scratch,
-) -> Result<Option<ValueList>, Memory>
+) -> Result<Option<ValueList<'a>>, Memory>
     requires there { All (λ place. place < length block.now.objects) places.now }
     requires sound { IsTrue
         (is_sound_chunk_order (FIRST_COLUMNS + block.now.width) Rows order.now) }
@@ -41,12 +41,12 @@ pub(crate) fn keys(
 }
 
 /// The same where there is an order.
-fn keys_by(
-    block: &Block,
+fn keys_by<'a>(
+    block: &'a Block,
     order: &ChunkOrder,
-    places: &[u32],
+    places: &'a [u32],
     scratch: &mut Scratch,
-) -> Result<Option<ValueList>, Memory>
+) -> Result<Option<ValueList<'a>>, Memory>
     requires there { All (λ place. place < length block.now.objects) places.now }
     requires sound { IsTrue
         (is_sound_chunk_order (FIRST_COLUMNS + block.now.width) Rows (Some order.now)) }
@@ -58,13 +58,13 @@ fn keys_by(
 
 /// For each of these items its values on the rows at these places. Takes memory for a list of them, and where the scratch
 /// has no vector with enough room.
-pub(crate) fn columns(
+pub(crate) fn columns<'a>(
     alloc: Global,
-    block: &Block,
+    block: &'a Block,
     items: &[ChunkItem],
-    places: &[u32],
+    places: &'a [u32],
     scratch: &mut Scratch,
-) -> Result<Vec<ValueList>, Memory>
+) -> Result<Vec<ValueList<'a>>, Memory>
     requires there { All (λ place. place < length block.now.objects) places.now }
     requires sound { IsTrue (list_all (is_sound_part (FIRST_COLUMNS + block.now.width) Rows)
         items.now) }
@@ -79,33 +79,33 @@ pub(crate) fn columns(
 }
 
 /// Puts the column behind the others.
-fn put(columns: &mut Vec<ValueList>, column: ValueList) -> Result<(), Memory>
-    ensures { OnOk result (columns.new.items ≡ columns.old.items ++ column ∷ []) }
+fn put<'a>(columns: &mut Vec<ValueList<'a>>, column: ValueList<'a>) -> Result<(), Memory>
+    ensures { OnOk result (columns.new.items ≡ columns.old.items ++ column.entry ∷ []) }
 {
     Ok(columns.push(column)?)
 }
 
 /// Gives the values of the items back to the scratch. Takes no memory.
-pub(crate) fn give_back(columns: Vec<ValueList>, scratch: &mut Scratch) {
+pub(crate) fn give_back(columns: Vec<ValueList<'_>>, scratch: &mut Scratch) {
     for column in columns {
         column.give_back(&mut scratch.columns);
     }
 }
 
 /// Gives the values that rows are ordered by back to the scratch. Takes no memory.
-pub(crate) fn give_keys_back(keys: Option<ValueList>, scratch: &mut Scratch) {
+pub(crate) fn give_keys_back(keys: Option<ValueList<'_>>, scratch: &mut Scratch) {
     if let Some(keys) = keys {
         keys.give_back(&mut scratch.columns);
     }
 }
 
 /// The values of an item, which is an expression of the row.
-fn column(
-    block: &Block,
+fn column<'a>(
+    block: &'a Block,
     item: &ChunkItem,
-    places: &[u32],
+    places: &'a [u32],
     scratch: &mut Scratch,
-) -> Result<ValueList, Memory>
+) -> Result<ValueList<'a>, Memory>
     requires there { All (λ place. place < length block.now.objects) places.now }
     requires sound { IsTrue (is_sound_part (FIRST_COLUMNS + block.now.width) Rows item.now) }
     ensures { IfOk result (λ column. column
@@ -118,7 +118,7 @@ fn column(
 }
 
 /// The value that the row with this number is ordered by; without an order all rows stand alike.
-fn key_at(keys: &Option<ValueList>, i: usize) -> Option<Num>
+fn key_at(keys: &Option<ValueList<'_>>, i: usize) -> Option<Num>
     requires { IsReady (i + 1) keys.now }
     ensures { result ≡ key_in keys.now i }
 {
@@ -131,7 +131,7 @@ fn key_at(keys: &Option<ValueList>, i: usize) -> Option<Num>
 /// The place in the order of the row with this number, which stands at this place among those of the block. Takes no memory.
 pub(crate) fn rank_at(
     down: bool,
-    keys: &Option<ValueList>,
+    keys: &Option<ValueList<'_>>,
     ids: &[i64],
     place: u32,
     i: usize,
@@ -147,7 +147,7 @@ pub(crate) fn rank_at(
 /// fewer.
 pub(crate) fn fill_at(
     values: &mut Vec<Option<Num>>,
-    columns: &[ValueList],
+    columns: &[ValueList<'_>],
     i: usize,
 ) -> Result<(), Memory>
     requires ready { AreReady i columns.now }
@@ -161,7 +161,7 @@ pub(crate) fn fill_at(
 }
 
 /// The value of the row with this number.
-fn value_at(column: &ValueList, i: usize) -> Option<Num>
+fn value_at(column: &ValueList<'_>, i: usize) -> Option<Num>
     requires there { i < length column.now }
     requires sized { All (IsOfSize most) column.now }
     ensures { result ≡ get_or column.now i None }

@@ -7,13 +7,14 @@ ghost use Rattle.sql_tree.specs.declared.cond.Cmp.TheVariants.{AtMost};
 ghost use Rattle.sql_bound.specs.declared.expr.BoundCol.{BoundCol};
 ghost use Rattle.value_rules.specs.ColumnTests.{mirrored};
 ghost use Rattle.value_rules.specs.Formulas.{And, Compares, IsNull, formula_of, formula_of_pred, negated_if};
-ghost use Rattle.value_rules.specs.Terms.{Column, term_of, term_of_factor};
+ghost use Rattle.value_rules.specs.Terms.{term_of, term_of_factor};
 ghost use Rattle.value_rules.specs.Values.{value_at};
-ghost use Rattle.chunk_scan.specs.Asking.{IsEarly, first_col};
+ghost use Rattle.chunk_scan.specs.Asking.{IsEarly};
 
 use crate::early_area::of_area;
 use crate::known::{Early, Known};
-use sql_bound::{BoundAtom, BoundCol, BoundCond, BoundExpr, BoundFactor, BoundPred};
+use column_eval::column_of;
+use sql_bound::{BoundAtom, BoundCond, BoundExpr, BoundFactor, BoundPred};
 use sql_tree::Cmp;
 
 /// What a kernel can do for the condition, if one knows it.
@@ -128,29 +129,6 @@ fn factor_of(e: &BoundExpr) -> Option<&BoundFactor>
         Some(&e.first.first)
     } else {
         None
-    }
-}
-
-/// The column of the first row that the expression is, by its number.
-fn column_of(e: &BoundExpr) -> Option<u32>
-    ensures { IfSome result (λ col. term_of e.now ≡ Column (first_col col)) }
-{
-    let factor = factor_of(e)?;
-    match &factor.atom {
-        BoundAtom::Col(col) => first_column(factor.minus, col),
-        _ => None,
-    }
-}
-
-/// The number of a column of the first row, without a minus before it.
-fn first_column(minus: bool, col: &BoundCol) -> Option<u32>
-    ensures is { IfSome result (λ found. first_col found ≡ col.now) }
-    ensures plus { IfSome result (λ found. minus ≡ false) }
-{
-    if minus || col.second {
-        None
-    } else {
-        Some(col.col)
     }
 }
 

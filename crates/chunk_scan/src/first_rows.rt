@@ -32,7 +32,7 @@ pub(crate) fn first_rows<'w>(
     rows: &Rows,
     own: &[u32],
     query: &ChunkQuery,
-    keys: &Option<ValueList>,
+    keys: &Option<ValueList<'_>>,
     places: &[u32],
 ) -> Result<Piece<'w>, Memory>
     requires shape { query.now.shape ≡ OfRows }

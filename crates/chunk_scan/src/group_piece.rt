@@ -2,7 +2,8 @@
 //!
 //! The rows are put in an order in which those of one key stand together. Rows of one key that stand one after the other are a
 //! run, and a run is put into the piece as one group. Without keys all rows are one run, in any order. The values of the
-//! aggregates' expressions are computed a column at a time before.
+//! aggregates' expressions are computed a column at a time before; without keys those of a column alone may be read as they are
+//! added up.
 
 ghost use Rattle.std.specs.Prelude.{◌≡◌, ◌+◌, ◌++◌, ◌<◌, ◌≤◌, ◌∷◌, [], All, IfOk, IsTrue, OnOk, false, get_or, length, map};
 ghost use Rattle.std.specs.List.{list_all};
@@ -99,7 +100,9 @@ fn group_piece<'w>(
     let _count = block.len();
     let starts = starts(block, keys, places, scratch)?;
     let lead = lead(block, keys, places, starts.as_slice(), scratch)?;
-    let worths = worths(alloc, block, query.items.as_slice(), places, scratch)?;
+    let listed = !keys.is_empty();
+    let items = query.items.as_slice();
+    let worths = worths(alloc, block, items, places, listed, scratch)?;
     let mut piece = Piece::empty(alloc, query);
     let mut cells = Vec::new(alloc);
     let mut parts = Vec::new(alloc);

@@ -18,7 +18,7 @@ use sky_io::Memory;
 pub(crate) fn fill(
     parts: &mut Vec<Tally>,
     items: &[ChunkItem],
-    worths: &[Option<ValueList>],
+    worths: &[Option<ValueList<'_>>],
     from: usize,
     to: usize,
 ) -> Result<(), Memory>
@@ -45,7 +45,7 @@ fn push(parts: &mut Vec<Tally>, part: Tally) -> Result<(), Memory>
 }
 
 /// The part of the rows from one place up to another; NULL is not counted, and COUNT(*) counts the rows.
-fn part(item: &ChunkItem, worth: &Option<ValueList>, from: usize, to: usize) -> Tally
+fn part(item: &ChunkItem, worth: &Option<ValueList<'_>>, from: usize, to: usize) -> Tally
     requires order { from ≤ to }
     requires few { to ≤ ROWS_MOST }
     requires ready { IsReady to worth.now }
@@ -62,7 +62,7 @@ fn part(item: &ChunkItem, worth: &Option<ValueList>, from: usize, to: usize) -> 
 }
 
 /// The count of the values.
-fn counted(worth: &Option<ValueList>, from: usize, to: usize) -> Tally
+fn counted(worth: &Option<ValueList<'_>>, from: usize, to: usize) -> Tally
     requires order { from ≤ to }
     requires few { to ≤ ROWS_MOST }
     requires ready { IsReady to worth.now }
@@ -75,7 +75,7 @@ fn counted(worth: &Option<ValueList>, from: usize, to: usize) -> Tally
 }
 
 /// The count of the values and their sum.
-fn summed(worth: &Option<ValueList>, from: usize, to: usize) -> Tally
+fn summed(worth: &Option<ValueList<'_>>, from: usize, to: usize) -> Tally
     requires order { from ≤ to }
     requires few { to ≤ ROWS_MOST }
     requires ready { IsReady to worth.now }
@@ -88,7 +88,7 @@ fn summed(worth: &Option<ValueList>, from: usize, to: usize) -> Tally
 }
 
 /// The same where there is a list of values; of none there is no sum.
-fn sum_of(found: &ValueList, from: usize, to: usize) -> Tally
+fn sum_of(found: &ValueList<'_>, from: usize, to: usize) -> Tally
     requires order { from ≤ to }
     requires few { to ≤ ROWS_MOST }
     requires there { to ≤ length found.now }
@@ -103,7 +103,7 @@ fn sum_of(found: &ValueList, from: usize, to: usize) -> Tally
 }
 
 /// The count of the values and the least of them.
-fn least(worth: &Option<ValueList>, from: usize, to: usize) -> Tally
+fn least(worth: &Option<ValueList<'_>>, from: usize, to: usize) -> Tally
     requires order { from ≤ to }
     requires few { to ≤ ROWS_MOST }
     requires ready { IsReady to worth.now }
@@ -116,7 +116,7 @@ fn least(worth: &Option<ValueList>, from: usize, to: usize) -> Tally
 }
 
 /// The count of the values and the greatest of them.
-fn greatest(worth: &Option<ValueList>, from: usize, to: usize) -> Tally
+fn greatest(worth: &Option<ValueList<'_>>, from: usize, to: usize) -> Tally
     requires order { from ≤ to }
     requires few { to ≤ ROWS_MOST }
     requires ready { IsReady to worth.now }

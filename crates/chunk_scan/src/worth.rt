@@ -11,20 +11,21 @@ ghost use Rattle.table_rules.specs.declared.limits.TheConstants.{FIRST_COLUMNS};
 use crate::scratch::Scratch;
 use answer_rules::ChunkItem;
 use column_block::Block;
-use column_eval::{ValueList, values};
+use column_eval::{ValueList, listed_values, values};
 use sky_io::Memory;
 use sql_bound::BoundExpr;
 use std::alloc::Global;
 
-/// For each of these aggregates the values of its expression on the rows at these places; COUNT(*) has none. Takes memory
-/// for a list of them, and where the scratch has no vector with enough room.
-pub(crate) fn worths(
+/// For each of these aggregates the values of its expression on the rows at these places, `listed` where they are read run by
+/// run; COUNT(*) has none. Takes memory for a list of them, and where the scratch has no vector with enough room.
+pub(crate) fn worths<'a>(
     alloc: Global,
-    block: &Block,
+    block: &'a Block,
     items: &[ChunkItem],
-    places: &[u32],
+    places: &'a [u32],
+    listed: bool,
     scratch: &mut Scratch,
-) -> Result<Vec<Option<ValueList>>, Memory>
+) -> Result<Vec<Option<ValueList<'a>>>, Memory>
     requires there { All (λ place. place < length block.now.objects) places.now }
     requires sound { IsTrue (list_all (is_sound_total (FIRST_COLUMNS + block.now.width))
         items.now) }
@@ -33,20 +34,23 @@ pub(crate) fn worths(
 {
     let mut worths = Vec::new(alloc);
     for item in items {
-        push(&mut worths, worth(block, item, places, scratch)?)?;
+        push(&mut worths, worth(block, item, places, listed, scratch)?)?;
     }
     Ok(worths)
 }
 
 /// Puts the values behind the others.
-fn push(worths: &mut Vec<Option<ValueList>>, worth: Option<ValueList>) -> Result<(), Memory>
-    ensures { OnOk result (worths.new.items ≡ worths.old.items ++ worth ∷ []) }
+fn push<'a>(
+    worths: &mut Vec<Option<ValueList<'a>>>,
+    worth: Option<ValueList<'a>>,
+) -> Result<(), Memory>
+    ensures { OnOk result (worths.new.items ≡ worths.old.items ++ worth.entry ∷ []) }
 {
     Ok(worths.push(worth)?)
 }
 
 /// Gives the values back to the scratch. Takes no memory.
-pub(crate) fn give_back(worths: Vec<Option<ValueList>>, scratch: &mut Scratch) {
+pub(crate) fn give_back(worths: Vec<Option<ValueList<'_>>>, scratch: &mut Scratch) {
     for worth in worths {
         if let Some(found) = worth {
             found.give_back(&mut scratch.columns);
@@ -55,12 +59,13 @@ pub(crate) fn give_back(worths: Vec<Option<ValueList>>, scratch: &mut Scratch) {
 }
 
 /// The values of the aggregate's expression, if it has one.
-fn worth(
-    block: &Block,
+fn worth<'a>(
+    block: &'a Block,
     item: &ChunkItem,
-    places: &[u32],
+    places: &'a [u32],
+    listed: bool,
     scratch: &mut Scratch,
-) -> Result<Option<ValueList>, Memory>
+) -> Result<Option<ValueList<'a>>, Memory>
     requires there { All (λ place. place < length block.now.objects) places.now }
     requires sound { IsTrue (is_sound_total (FIRST_COLUMNS + block.now.width) item.now) }
     ensures { IfOk result (λ worth. worth
@@ -69,25 +74,31 @@ fn worth(
     match item {
         ChunkItem::Plain(_) => Ok(None),
         ChunkItem::Count => Ok(None),
-        ChunkItem::CountOf(e) => of_expr(block, e, places, scratch),
-        ChunkItem::Sum(e) => of_expr(block, e, places, scratch),
-        ChunkItem::Min(e) => of_expr(block, e, places, scratch),
-        ChunkItem::Max(e) => of_expr(block, e, places, scratch),
+        ChunkItem::CountOf(e) => of_expr(block, e, places, listed, scratch),
+        ChunkItem::Sum(e) => of_expr(block, e, places, listed, scratch),
+        ChunkItem::Min(e) => of_expr(block, e, places, listed, scratch),
+        ChunkItem::Max(e) => of_expr(block, e, places, listed, scratch),
     }
 }
 
 /// The values of an expression.
-fn of_expr(
-    block: &Block,
+fn of_expr<'a>(
+    block: &'a Block,
     e: &BoundExpr,
-    places: &[u32],
+    places: &'a [u32],
+    listed: bool,
     scratch: &mut Scratch,
-) -> Result<Option<ValueList>, Memory>
+) -> Result<Option<ValueList<'a>>, Memory>
     requires there { All (λ place. place < length block.now.objects) places.now }
     requires sound { IsTrue (is_sound_expr (has_col (FIRST_COLUMNS + block.now.width) false)
         e.now) }
     ensures { IfOk result (λ worth. worth
         ≡ Some (values_on e.now (objects_at block.now.objects places.now))) }
 {
-    Ok(Some(values(block, e, places, &mut scratch.columns)?))
+    let found = if listed {
+        listed_values(block, e, places, &mut scratch.columns)
+    } else {
+        values(block, e, places, &mut scratch.columns)
+    };
+    Ok(Some(found?))
 }

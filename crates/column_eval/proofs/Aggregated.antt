@@ -35,6 +35,12 @@ numbers_more values from i order low =
     ∙ (flat_map-append option_to_list (slice_range values from i) (get_or values i None ∷ [])
     ∙ ap (λ l. numbers_between values from i ++ l) (append-nil (option_to_list (get_or values i None))))
 
+-- one more that is a number
+pub number_more : (values : List (Option ℤ)) (from i : ℕ) (z : ℤ) → from ≤ i → i < length values → get_or values i None ≡ Some z
+    → numbers_between values from (i + 1) ≡ numbers_between values from i ++ z ∷ []
+number_more values from i z order low is =
+    numbers_more values from i order low ∙ ap (λ v. numbers_between values from i ++ option_to_list v) is
+
 -- up to a place, and from there on
 pub numbers_parted : (values : List (Option ℤ)) (from at to : ℕ) → from ≤ at → at ≤ to → numbers_between values from to ≡ numbers_between values from at ++ numbers_between values at to
 numbers_parted values from at to low high =
@@ -58,8 +64,7 @@ value_null numbers known i low is =
 pub known_more : (numbers : List ℤ) (known : List Bool) (from i : ℕ) → from ≤ i → i < length known → get_or known i false ≡ true
     → numbers_between (values_in numbers known) from (i + 1) ≡ numbers_between (values_in numbers known) from i ++ get_or numbers i (pos 0) ∷ []
 known_more numbers known from i order low is =
-    numbers_more (values_in numbers known) from i order (omega (arith, low, values_count numbers known))
-    ∙ ap (λ v. numbers_between (values_in numbers known) from i ++ option_to_list v) (value_known numbers known i low is)
+    number_more (values_in numbers known) from i (get_or numbers i (pos 0)) order (omega (arith, low, values_count numbers known)) (value_known numbers known i low is)
 
 pub null_more : (numbers : List ℤ) (known : List Bool) (from i : ℕ) → from ≤ i → i < length known → get_or known i false ≡ false
     → numbers_between (values_in numbers known) from (i + 1) ≡ numbers_between (values_in numbers known) from i
@@ -70,13 +75,19 @@ null_more numbers known from i order low is =
 
 -- ---- one number more is joined
 
+pub joined_number : (op : ℤ → ℤ → ℤ) (first total : ℤ) (values : List (Option ℤ)) (from i : ℕ) (z : ℤ) → from ≤ i → i < length values → get_or values i None ≡ Some z
+    → total ≡ joined_from op first (numbers_between values from i) → op total z ≡ joined_from op first (numbers_between values from (i + 1))
+joined_number op first total values from i z order low is before =
+    sym (ap (joined_from op first) (number_more values from i z order low is)
+    ∙ (joined_append op first (numbers_between values from i) (z ∷ [])
+    ∙ ap (λ t. op t z) (sym before)))
+
 pub joined_known : (op : ℤ → ℤ → ℤ) (first total : ℤ) (numbers : List ℤ) (known : List Bool) (from i : ℕ) → from ≤ i → i < length known → get_or known i false ≡ true
     → total ≡ joined_from op first (numbers_between (values_in numbers known) from i)
     → op total (get_or numbers i (pos 0)) ≡ joined_from op first (numbers_between (values_in numbers known) from (i + 1))
 joined_known op first total numbers known from i order low is before =
-    sym (ap (joined_from op first) (known_more numbers known from i order low is)
-    ∙ (joined_append op first (numbers_between (values_in numbers known) from i) (get_or numbers i (pos 0) ∷ [])
-    ∙ ap (λ t. op t (get_or numbers i (pos 0))) (sym before)))
+    joined_number op first total (values_in numbers known) from i (get_or numbers i (pos 0)) order (omega (arith, low, values_count numbers known))
+    (value_known numbers known i low is) before
 
 pub joined_null : (op : ℤ → ℤ → ℤ) (first total : ℤ) (numbers : List ℤ) (known : List Bool) (from i : ℕ) → from ≤ i → i < length known → get_or known i false ≡ false
     → total ≡ joined_from op first (numbers_between (values_in numbers known) from i)
@@ -85,12 +96,19 @@ joined_null op first total numbers known from i order low is before =
     before ∙ ap (joined_from op first) (sym (null_more numbers known from i order low is))
 
 -- what is joined then has the size that all fronts have
+pub number_size : (op : ℤ → ℤ → ℤ) (limit : ℕ) (first total : ℤ) (values : List (Option ℤ)) (from i to : ℕ) (z : ℤ) → from ≤ i → i < to → i < length values
+    → get_or values i None ≡ Some z → StaysWithin op limit first values from to
+    → total ≡ joined_from op first (numbers_between values from i) → nat_abs (op total z) ≤ limit
+number_size op limit first total values from i to z order high low is stays before =
+    subst (λ z. nat_abs z ≤ limit) (sym (joined_number op first total values from i z order low is before))
+    (stays (i + 1) (omega (arith, order)) (omega (arith, high)))
+
 pub known_size : (op : ℤ → ℤ → ℤ) (limit : ℕ) (first total : ℤ) (numbers : List ℤ) (known : List Bool) (from i to : ℕ) → from ≤ i → i < to → i < length known
     → get_or known i false ≡ true → StaysWithin op limit first (values_in numbers known) from to
     → total ≡ joined_from op first (numbers_between (values_in numbers known) from i) → nat_abs (op total (get_or numbers i (pos 0))) ≤ limit
 known_size op limit first total numbers known from i to order high low is stays before =
-    subst (λ z. nat_abs z ≤ limit) (sym (joined_known op first total numbers known from i order low is before))
-    (stays (i + 1) (omega (arith, order)) (omega (arith, high)))
+    number_size op limit first total (values_in numbers known) from i to (get_or numbers i (pos 0)) order high (omega (arith, low, values_count numbers known))
+    (value_known numbers known i low is) stays before
 
 -- the same by the flag
 pub joined_flagged : (op : ℤ → ℤ → ℤ) (first total : ℤ) (numbers : List ℤ) (known : List Bool) (from i : ℕ) (flag : Bool) → from ≤ i → i < length known → get_or known i false ≡ flag
@@ -237,13 +255,19 @@ sum_more values from at to total part low high before is =
     ∙ (joined_append (λ a b. a +ℤ b) (pos 0) (numbers_between values from at) (numbers_between values at to)
     ∙ sum_from (sum_of (numbers_between values from at)) (numbers_between values at to))))
 
--- ---- the first that is known
+-- ---- the first that is a number
+
+pub first_number : (op : ℤ → ℤ → ℤ) (values : List (Option ℤ)) (from at to : ℕ) (z : ℤ) → from ≤ at → at < to → at < length values → get_or values at None ≡ Some z
+    → numbers_between values from at ≡ []
+    → Some (joined_from op z (numbers_between values (at + 1) to)) ≡ joined_all op (numbers_between values from to)
+first_number op values from at to z low high there is none =
+    sym (ap (joined_all op)
+    (numbers_parted values from (at + 1) to (omega (arith, low)) (omega (arith, high))
+    ∙ ap (λ l. l ++ numbers_between values (at + 1) to) (number_more values from at z low there is ∙ ap (λ l. l ++ z ∷ []) none)))
 
 pub first_more : (op : ℤ → ℤ → ℤ) (numbers : List ℤ) (known : List Bool) (from at to : ℕ) → from ≤ at → at < to → at < length known → get_or known at false ≡ true
     → numbers_between (values_in numbers known) from at ≡ []
     → Some (joined_from op (get_or numbers at (pos 0)) (numbers_between (values_in numbers known) (at + 1) to)) ≡ joined_all op (numbers_between (values_in numbers known) from to)
 first_more op numbers known from at to low high there is none =
-    let values = values_in numbers known in
-    sym (ap (joined_all op)
-    (numbers_parted values from (at + 1) to (omega (arith, low)) (omega (arith, high))
-    ∙ ap (λ l. l ++ numbers_between values (at + 1) to) (known_more numbers known from at low there is ∙ ap (λ l. l ++ get_or numbers at (pos 0) ∷ []) none)))
+    first_number op (values_in numbers known) from at to (get_or numbers at (pos 0)) low high (omega (arith, there, values_count numbers known))
+    (value_known numbers known at there is) none

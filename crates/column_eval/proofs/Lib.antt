@@ -6,3 +6,5 @@ pub mod Flagged
 pub mod Judging
 pub mod Masked
 pub mod Aggregated
+pub mod PickedColumns
+pub mod SingleColumns

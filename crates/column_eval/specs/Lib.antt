@@ -4,3 +4,5 @@ pub mod Masks
 pub mod Lanes
 pub mod Flags
 pub mod Aggregates
+pub mod PickedColumns
+pub mod Sources

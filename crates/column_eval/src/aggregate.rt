@@ -14,7 +14,7 @@ use crate::lane::Lane;
 use crate::numbers::Numbers;
 
 /// How many rows a stretch has where the numbers are small, as those of a column are, and where they are larger.
-const LONG: usize = 4096;
+pub(crate) const LONG: usize = 4096;
 
 const SHORT: usize = 64;
 

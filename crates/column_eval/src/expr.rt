@@ -9,10 +9,12 @@ ghost use Rattle.value_rules.specs.Values.{row, value_of};
 ghost use Rattle.column_eval.specs.Lanes.{AreLanesJoined, CanJoin, IsLane, IsSigned, IsSmall, numbers_of, with_sign};
 ghost use Rattle.column_eval.specs.Seen.{IsSoundFor};
 
+use crate::alone::whole_column;
 use crate::join::{Less, Plus, Times};
 use crate::lane::{Lane, lanes_joined};
 use crate::leaf::literal;
 use crate::picked::Picked;
+use crate::picked_column::PickedColumn;
 use crate::scratch::Scratch;
 use crate::value_list::ValueList;
 use column_block::Block;
@@ -20,13 +22,34 @@ use sky_io::Memory;
 use sql_bound::{BoundAtom, BoundCol, BoundExpr, BoundFactor, BoundProd, Int};
 
 /// The values of the expression on the rows of the block at the picked places, counted from 0, in the order of the places;
-/// `None` is NULL. Takes memory for each node of the expression, where the scratch has no free vector.
-pub fn values(
-    block: &Block,
+/// `None` is NULL. A further column without a NULL is read where it stands, as its values are asked for; for another
+/// expression it takes memory for each node, where the scratch has no free vector.
+pub fn values<'a>(
+    block: &'a Block,
     e: &BoundExpr,
-    picked: &[u32],
+    picked: &'a [u32],
     scratch: &mut Scratch,
-) -> Result<ValueList, Memory>
+) -> Result<ValueList<'a>, Memory>
+    requires there { All (λ place. place < length block.now.objects) picked.now }
+    requires sound { IsTrue
+        (is_sound_expr (has_col (FIRST_COLUMNS + block.now.width) false) e.now) }
+    ensures { IfOk result (λ found. found
+        ≡ map (λ o. value_of e.now (row o)) (objects_at block.now.objects picked.now)) }
+{
+    match whole_column(block, e) {
+        Some(column) => Ok(ValueList::picked(PickedColumn::new(column, picked))),
+        None => listed_values(block, e, picked, scratch),
+    }
+}
+
+/// The same, each value in a list: for values that are read one by one, with much else done in between. Takes memory for each
+/// node of the expression, where the scratch has no free vector.
+pub fn listed_values<'a>(
+    block: &'a Block,
+    e: &BoundExpr,
+    picked: &'a [u32],
+    scratch: &mut Scratch,
+) -> Result<ValueList<'a>, Memory>
     requires there { All (λ place. place < length block.now.objects) picked.now }
     requires sound { IsTrue
         (is_sound_expr (has_col (FIRST_COLUMNS + block.now.width) false) e.now) }

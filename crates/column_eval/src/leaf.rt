@@ -1,5 +1,5 @@
 //! The leaves of an expression: a number is the same on each row, and a column is read at the picked places.
-ghost use Rattle.std.specs.Prelude.{◌≡◌, ◌+◌, ◌<◌, ◌≤◌, [], Some, IfOk, All, length, map, nat_abs, replicate, vec_capacity, is_some};
+ghost use Rattle.std.specs.Prelude.{◌≡◌, ◌+◌, ◌<◌, ◌≤◌, [], Some, IfOk, IfSome, All, length, map, nat_abs, replicate, vec_capacity, is_some};
 ghost use Rattle.column_eval.specs.Lanes.{IsRead, IsRepeated};
 ghost use Rattle.sky_row.specs.Columns.{IsGathered, column_in};
 ghost use Rattle.table_rules.specs.Objects.{column_bound};
@@ -101,6 +101,16 @@ pub(crate) fn further(
         known,
         bound: u128::from(FURTHER_MOST),
     })
+}
+
+/// The numbers of a column, if none of its values is NULL.
+pub(crate) fn numbers_if_whole(column: &Column) -> Option<&[i64]>
+    ensures { IfSome result (λ values. map Some values.now ≡ column.now) }
+{
+    match column.present() {
+        Some(_) => None,
+        None => Some(column.values()),
+    }
 }
 
 /// Where a further column has a value, of these places, in an empty vector that has room for them.

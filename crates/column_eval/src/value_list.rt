@@ -1,47 +1,71 @@
 //! The values of an expression on some rows.
-ghost use Rattle.std.specs.Prelude.{◌≡◌, ◌<◌, ◌≤◌, None, length, get_or};
+ghost use Rattle.std.specs.Prelude.{◌≡◌, ◌<◌, ◌≤◌, None, Some, length, get_or, map};
 ghost use Rattle.table_rules.specs.declared.limits.TheConstants.{ROWS_MOST};
-ghost use Rattle.column_eval.specs.Aggregates.{greater, joined_all, lesser, numbers_between, sum_of};
+ghost use Rattle.column_eval.specs.Aggregates.{IsNoLarger, greater, joined_all, lesser, numbers_between, sum_of};
 ghost use Rattle.column_eval.specs.Lanes.{IsSmall, numbers_of, value_in, values_in};
 
 use crate::aggregate::{Greater, Lesser, chosen, count, sum};
+use crate::join::Join;
 use crate::lane::Lane;
 use crate::numbers::Numbers;
+use crate::picked_column::PickedColumn;
 use crate::scratch::Scratch;
 use std::marker::Model;
 
 /// Values, of which `None` is NULL, one a row.
 #[derive(Drop)]
-pub struct ValueList {
-    /// A number for each row, which has no meaning where the row has no value, and which rows have one.
-    lane: Lane,
+pub struct ValueList<'a> {
+    source: Source<'a>,
 }
 
-impl Model for ValueList {
-    ghost use Rattle.std.specs.Prelude.{◌≡◌, ℤ, List, Option, length};
-    ghost use Rattle.column_eval.specs.Lanes.{IsSmall, numbers_of, values_in};
+/// Where values stand.
+#[derive(Drop)]
+pub(crate) enum Source<'a> {
+    /// A number for each row, which has no meaning where the row has no value, and which rows have one.
+    Lane(Lane),
+    /// A column of the block, at the places of the rows.
+    Column(PickedColumn<'a>),
+}
+
+impl<'a> Model for ValueList<'a> {
+    ghost use Rattle.std.specs.Prelude.{ℤ, List, Option};
+    ghost use Rattle.column_eval.specs.Sources.{IsWithinBound, values_of};
 
     ghost Value = { List (Option ℤ) };
 
-    ghost view = { λ v. values_in (numbers_of v.lane.numbers) v.lane.known.items };
+    ghost view = { λ v. values_of v.source };
 
-    ghost invariant = { λ v. IsSmall v.lane };
+    ghost invariant = { λ v. IsWithinBound v.source };
 }
 
-impl ValueList {
+impl<'a> ValueList<'a> {
     /// The values of a lane.
-    pub(crate) fn of(lane: Lane) -> ValueList
+    pub(crate) fn of(lane: Lane) -> ValueList<'a>
         requires { IsSmall lane }
         ensures { result ≡ values_in (numbers_of lane.numbers) lane.known.items }
     {
-        ValueList { lane }
+        ValueList {
+            source: Source::Lane(lane),
+        }
+    }
+
+    /// The numbers of a column at picked places.
+    pub(crate) fn picked(numbers: PickedColumn<'a>) -> ValueList<'a>
+        ensures { result ≡ map Some numbers.entry }
+    {
+        ValueList {
+            source: Source::Column(numbers),
+        }
     }
 
     /// How many rows there are. Takes no memory.
     pub fn len(&self) -> usize
         ensures { result ≡ length self.now }
     {
-        self.lane.known.len()
+        match &self.source {
+            Source::Lane(lane) => lane.known.len(),
+            Source::Column(numbers) => numbers.len(),
+        }
     }
 
     /// The value of the row with this number, from 0; `None` is NULL. Takes no memory.
@@ -49,7 +73,10 @@ impl ValueList {
         requires { i < length self.now }
         ensures { result ≡ get_or self.now i None }
     {
-        value_at(&self.lane.numbers, self.lane.known.as_slice(), i)
+        match &self.source {
+            Source::Lane(lane) => value_at(&lane.numbers, lane.known.as_slice(), i),
+            Source::Column(numbers) => Some(i128::from(numbers.get(i))),
+        }
     }
 
     /// How many of the values from one place up to another are not NULL. Takes no memory.
@@ -59,7 +86,10 @@ impl ValueList {
         requires few { to ≤ ROWS_MOST }
         ensures { result ≡ length (numbers_between self.now from to) }
     {
-        count(self.lane.known.as_slice(), from, to)
+        match &self.source {
+            Source::Lane(lane) => count(lane.known.as_slice(), from, to),
+            Source::Column(_) => (to - from) as u32,
+        }
     }
 
     /// Their sum, 0 where there is none. Takes no memory.
@@ -69,7 +99,10 @@ impl ValueList {
         requires few { to ≤ ROWS_MOST }
         ensures { result ≡ sum_of (numbers_between self.now from to) }
     {
-        sum(&self.lane, from, to)
+        match &self.source {
+            Source::Lane(lane) => sum(lane, from, to),
+            Source::Column(numbers) => numbers.sum(from, to),
+        }
     }
 
     /// The least of them, if there is one. Takes no memory.
@@ -78,7 +111,7 @@ impl ValueList {
         requires there { to ≤ length self.now }
         ensures { result ≡ joined_all lesser (numbers_between self.now from to) }
     {
-        chosen(&Lesser, &self.lane, from, to)
+        self.chosen(&Lesser, from, to)
     }
 
     /// The greatest of them, if there is one. Takes no memory.
@@ -87,12 +120,28 @@ impl ValueList {
         requires there { to ≤ length self.now }
         ensures { result ≡ joined_all greater (numbers_between self.now from to) }
     {
-        chosen(&Greater, &self.lane, from, to)
+        self.chosen(&Greater, from, to)
+    }
+
+    /// The least or the greatest of them, by the one of two that is taken.
+    fn chosen<J: Join>(&self, join: &J, from: usize, to: usize) -> Option<i128>
+        requires order { from ≤ to }
+        requires there { to ≤ length self.now }
+        requires chooses { IsNoLarger J.joins }
+        ensures { result ≡ joined_all J.joins (numbers_between self.now from to) }
+    {
+        match &self.source {
+            Source::Lane(lane) => chosen(join, lane, from, to),
+            Source::Column(numbers) => numbers.chosen(join, from, to),
+        }
     }
 
     /// Gives the vectors back to the scratch, for the next evaluation. Takes no memory.
     pub fn give_back(self, scratch: &mut Scratch) {
-        self.lane.give_back(scratch);
+        match self.source {
+            Source::Lane(lane) => lane.give_back(scratch),
+            Source::Column(_) => (),
+        }
     }
 }
 

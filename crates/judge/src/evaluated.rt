@@ -120,7 +120,7 @@ pub(crate) fn truths_taken(
 }
 
 // The sum of the values, without the NULLs. There are never more of them than rows of a catalogue.
-fn total(values: &ValueList) -> i128 {
+fn total(values: &ValueList<'_>) -> i128 {
     if values.len() <= ROWS_MOST {
         values.sum(0, values.len())
     } else {

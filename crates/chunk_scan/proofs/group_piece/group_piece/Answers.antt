@@ -20,7 +20,7 @@ use Rattle.chunk_scan.proofs.group_piece.group_piece.Goals as goal
 
 pub worths-requires-clause-sound : goal.worths-requires-clause-sound
 worths-requires-clause-sound c =
-    subst (λ (l : List ChunkItem). list_all (is_sound_total (4 + c.args.block.now.width)) l ≡ true) (sym c.as_slice-2.ensures)
+    subst (λ (l : List ChunkItem). list_all (is_sound_total (4 + c.args.block.now.width)) l ≡ true) (sym c.as_slice-items.ensures)
     (totals_sound (4 + c.args.block.now.width) c.args.keys.now c.args.query.now.items
     (subst (λ (s : Shape). list_all (is_sound_part (4 + c.args.block.now.width) s) c.args.query.now.items ≡ true) c.requires.shape c.requires.sound.items))
 
@@ -30,12 +30,12 @@ fill-requires-clause-ready c =
     let rows : All IsRow objects = rows_there c.args.block.now.objects c.args.places.now c.len-count.ensures.rows c.requires.there in
     let there : c.run_end-to.result ≤ length objects =
     omega (arith, c.run_end-to.ensures.most, ap length c.as_slice-in-loop-from.ensures.value, c.in_ok-starts.ensures.len, length-map c.args.places.now (λ place. get_or c.args.block.now.objects place no_row)) in
-    let sound : list_all (is_sound_total (4 + c.args.block.now.width)) c.as_slice-2.result.now ≡ true =
-    subst (λ (l : List ChunkItem). list_all (is_sound_total (4 + c.args.block.now.width)) l ≡ true) (sym c.as_slice-2.ensures)
+    let sound : list_all (is_sound_total (4 + c.args.block.now.width)) c.as_slice-items.result.now ≡ true =
+    subst (λ (l : List ChunkItem). list_all (is_sound_total (4 + c.args.block.now.width)) l ≡ true) (sym c.as_slice-items.ensures)
     (totals_sound (4 + c.args.block.now.width) c.args.keys.now c.args.query.now.items
     (subst (λ (s : Shape). list_all (is_sound_part (4 + c.args.block.now.width) s) c.args.query.now.items ≡ true) c.requires.shape c.requires.sound.items)) in
     subst (All (IsReady c.run_end-to.result)) (sym (c.as_slice-in-loop-from-4.ensures.value ∙ c.in_ok-worths.ensures))
-    (ready (4 + c.args.block.now.width) c.run_end-to.result objects c.as_slice-2.result.now sound rows there)
+    (ready (4 + c.args.block.now.width) c.run_end-to.result objects c.as_slice-items.result.now sound rows there)
 
 pub push-requires-clause-may : goal.push-requires-clause-may
 push-requires-clause-may c =
@@ -46,7 +46,7 @@ push-requires-clause-may c =
     let sound : list_all (is_sound_total (4 + c.args.block.now.width)) c.args.query.now.items ≡ true =
     totals_sound (4 + c.args.block.now.width) c.args.keys.now c.args.query.now.items
     (subst (λ (s : Shape). list_all (is_sound_part (4 + c.args.block.now.width) s) c.args.query.now.items ≡ true) c.requires.shape c.requires.sound.items) in
-    let worths = c.as_slice-in-loop-from-4.ensures.value ∙ (c.in_ok-worths.ensures ∙ (ap (map (worth_of objects)) c.as_slice-2.ensures ∙ ap (map (worth_of objects)) (sym c.as_slice-in-loop-from-3.ensures))) in
+    let worths = c.as_slice-in-loop-from-4.ensures.value ∙ (c.in_ok-worths.ensures ∙ (ap (map (worth_of objects)) c.as_slice-items.ensures ∙ ap (map (worth_of objects)) (sym c.as_slice-in-loop-from-3.ensures))) in
     run_may c.args.keys.now c.args.query.now.items objects c.loop-from.from c.run_end-to.result c.as_slice-in-loop-from-5.result.now c.as_slice-in-loop-from-6.result.now c.loop-from.piece
     (omega (arith, c.run_end-to.ensures.more)) there (omega (arith, there, long, c.requires.few))
     (c.as_slice-in-loop-from-6.ensures.value ∙ (c.in_ok-fill.ensures objects there worths
@@ -58,7 +58,7 @@ loop-from-preserved c =
     let objects = objects_at c.args.block.now.objects c.args.places.now in
     let long : length objects ≡ length c.args.places.now = length-map c.args.places.now (λ place. get_or c.args.block.now.objects place no_row) in
     let there : c.run_end-to.result ≤ length objects = omega (arith, c.run_end-to.ensures.most, ap length c.as_slice-in-loop-from.ensures.value, c.in_ok-starts.ensures.len, long) in
-    let worths = c.as_slice-in-loop-from-4.ensures.value ∙ (c.in_ok-worths.ensures ∙ (ap (map (worth_of objects)) c.as_slice-2.ensures ∙ ap (map (worth_of objects)) (sym c.as_slice-in-loop-from-3.ensures))) in
+    let worths = c.as_slice-in-loop-from-4.ensures.value ∙ (c.in_ok-worths.ensures ∙ (ap (map (worth_of objects)) c.as_slice-items.ensures ∙ ap (map (worth_of objects)) (sym c.as_slice-in-loop-from-3.ensures))) in
     record {
       inside = omega (arith, there, long);
       piece =
