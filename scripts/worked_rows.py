@@ -11,7 +11,8 @@ indented lines behind it are its block; lines with a # at their head say why it 
 it is answered with 0, 1, 4 and 16 workers, and explained. A few texts are too long to be written down, and are made here.
 Runs of other kinds stand in scripts/worked_runs.py: sky plans and catalogues with their reports or their first faults, scripts
 that wait and cancel, the demo, words of no form, and an outcome of each status that a run can be brought to. A larger sky, whose
-rows are drawn, stands in scripts/worked_world.py, and catalogues of certain lengths in scripts/worked_lanes.py.
+rows are drawn, stands in scripts/worked_world.py, catalogues of certain lengths in scripts/worked_lanes.py, and what the demo of
+20,000 objects has to write in scripts/worked_demo.py.
 
 It prints a line for each run that ended otherwise, with the row and with what is wanted, and then how many rows it has
 compared. The status is 0 where none differs, and 1 else, also where there is no program.

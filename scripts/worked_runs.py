@@ -7,6 +7,7 @@ script.
 import collections
 import itertools
 
+import worked_demo
 import worked_world
 
 # the words of a run, and the texts that it reads, by their names and in pieces, or as how many zeros one is; its status, its
@@ -97,6 +98,8 @@ def in_chunk_4(count):
 
 
 THOUSAND = rows_of(" ".join(f"{number:03}" for number in range(999, -1, -1)))
+# the ids 1 to 2110 out of order: more than the 2,047 up to which they are sorted without bins
+SHUFFLED = rows_of(" ".join(str(1009 * number % 2111) for number in range(1, 2111)))
 FURTHER = "a,b,c,d,e,f,g,h,i,j,k,l"
 ACCEPTED = [
     (rows_of(""), NONE),
@@ -104,6 +107,7 @@ ACCEPTED = [
     (rows_of("3 1 2"), in_chunk_4(3)),
     (rows_of("5 9 2 0 7 1"), in_chunk_4(6)),
     (THOUSAND, in_chunk_4(1000)),
+    (SHUFFLED, in_chunk_4(2110)),
     # twelve further columns, a NULL among their values
     (f"objectId,x,y,z,{FURTHER}\n9,268435456,0,0,1,,-3,4,5,,7,-8,9,,11,12\n", in_chunk_4(1)),
     ("objectId,x,y,z,flux\n1,268435456,0,0,", in_chunk_4(1)),
@@ -154,6 +158,7 @@ CSV_FAULTS = [
     (rows_of(f"1 {MOST_ID} 2 0 {MOST_ID}"), "row 5: repeated id " + MOST_ID),
     (THOUSAND + "500,268435456,0,0\n", "row 1001: repeated id 500"),
     (THOUSAND + "500,268435456,0,0\n999,0,0,0\n", "row 1001: repeated id 500"),
+    (SHUFFLED + "7,268435456,0,0\n3,268435456,0,0\n3,268435456,0,0\n", "row 2111: repeated id 7"),
 ]
 # a catalogue of 57 bytes, and what it is when it is cut behind its first bytes, up to a number of them and without it
 WHOLE = "objectId,x,y,z,flux\n7,268435456,0,0,\n3,0,0,-268435456,-5\n"
@@ -287,8 +292,12 @@ a.objectId,b.objectId
 0 rows, 0 chunks
 """
 DEMOS = [
-    done(["demo", count, "1", workers], told)
-    for count, told in [("1", OF_ONE_OBJECT), ("0", OF_NO_OBJECT)]
+    done(["demo", count, seed, workers], told)
+    for count, seed, told in [
+        ("1", "1", OF_ONE_OBJECT),
+        ("0", "1", OF_NO_OBJECT),
+        (str(worked_demo.COUNT), str(worked_demo.SEED), worked_demo.transcript()),
+    ]
     for workers in ["0", "4"]
 ]
 
