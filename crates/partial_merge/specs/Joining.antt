@@ -1,5 +1,5 @@
 -- What a piece that takes in another one stands for, and when it may be finished.
-use Rattle.std.specs.Prelude.{◌≡◌, ℕ, ℤ, List, ◌++◌, [], ◌∷◌, Option}
+use Rattle.std.specs.Prelude.{◌≡◌, ◌≤◌, ℕ, ℤ, Bool, true, List, length, ◌++◌, [], ◌∷◌, Option, IfSome}
 use Rattle.table_rules.specs.Objects.{Obj}
 use Rattle.sky_rules.specs.Partition.{Partition}
 use Rattle.sql_bound.specs.declared.query.Bound.{Bound}
@@ -18,7 +18,7 @@ use Rattle.answer_rules.specs.Ranks.{row_order}
 use Rattle.answer_rules.specs.Rewriting.{chunk_query_of, merge_plan_of}
 use Rattle.answer_rules.specs.Small.{IsSmallGroup}
 use Rattle.partial_merge.specs.declared.rank.Rank.{Rank}
-use Rattle.partial_merge.specs.Bags.{out_row}
+use Rattle.partial_merge.specs.Bags.{ComesBeforeNone, out_row}
 use Rattle.partial_merge.specs.Groups.{MayGather}
 
 -- Both stand for one chunk query of one base, over disjoint sets of chunks.
@@ -46,6 +46,12 @@ TakesRow old row new = ⊥
 -- a row of this rank is none of the first n, whatever its values: a piece that takes it in may stay as it is
 abbrev pub IsNoneOfFirst : PieceView → Rank → Type 0
 IsNoneOfFirst view rank = (values : List (Option ℤ)) → TakesRow view (out_row rank values) view
+
+-- that a row of this rank is too late is told as soon as as many rows as the limit are held and none of them comes after it
+abbrev pub IsToldLate : PieceView → Rank → Bool → Type 0
+IsToldLate (OfRows pushed rows) rank told =
+    IfSome pushed (λ n. n ≤ length rows → ComesBeforeNone rank rows → told ≡ true)
+IsToldLate (OfGroups parts) rank told = Unit {0}
 
 -- the piece is of rows
 abbrev pub IsOfRows : PieceView → Type 0

@@ -6,7 +6,7 @@ ghost use Rattle.answer_rules.specs.PieceLaws.{empty_view};
 ghost use Rattle.answer_rules.specs.Rows.{limit_of};
 ghost use Rattle.partial_merge.specs.Held.{MayTake, Took, view_in};
 ghost use Rattle.partial_merge.specs.Bags.{out_row};
-ghost use Rattle.partial_merge.specs.Joining.{IsNoneOfFirst, IsOfRows, MayTakeGroup, TakesRow, with_group};
+ghost use Rattle.partial_merge.specs.Joining.{IsNoneOfFirst, IsOfRows, IsToldLate, MayTakeGroup, TakesRow, with_group};
 ghost use Rattle.partial_merge.specs.Groups.{group_by};
 ghost use Rattle.partial_merge.specs.Sizes.{IsWithin, size_of};
 ghost use Rattle.answer_rules.specs.Finish.{finished};
@@ -66,7 +66,8 @@ pub(crate) fn take_in(held: &mut Held, other: Held) -> Result<(), Memory>
 
 /// Whether a row of this rank is none of the first that are kept, whatever its values.
 pub(crate) fn is_too_late(held: &Held, rank: &Rank) -> bool
-    ensures { OnTrue result (IsNoneOfFirst (view_in held.now) rank.now) }
+    ensures late { OnTrue result (IsNoneOfFirst (view_in held.now) rank.now) }
+    ensures told { IsToldLate (view_in held.now) rank.now result }
 {
     match held {
         Held::Rows(bag) => bag.is_too_late(rank),

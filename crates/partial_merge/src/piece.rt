@@ -12,8 +12,8 @@ ghost use Rattle.answer_rules.specs.Finish.{finished};
 ghost use Rattle.answer_rules.specs.PieceLaws.{empty_view};
 ghost use Rattle.answer_rules.specs.Rows.{limit_of};
 ghost use Rattle.partial_merge.specs.Bags.{out_row};
-ghost use Rattle.partial_merge.specs.Joining.{IsNoneOfFirst, IsOfRows, Joins, MayFinish, MayJoin};
-ghost use Rattle.partial_merge.specs.Joining.{MayTakeGroup, TakesRow, with_group};
+ghost use Rattle.partial_merge.specs.Joining.{IsNoneOfFirst, IsOfRows, IsToldLate, Joins, MayFinish};
+ghost use Rattle.partial_merge.specs.Joining.{MayJoin, MayTakeGroup, TakesRow, with_group};
 ghost use Rattle.partial_merge.specs.Groups.{group_by};
 ghost use Rattle.partial_merge.specs.Sizes.{IsWithin, size_of};
 ghost use Rattle.sky_io.specs.Stops.{IfBad};
@@ -59,10 +59,11 @@ impl<'w> Piece<'w> {
         }
     }
 
-    /// Whether a row of this rank is none of the first n of a chunk query with LIMIT n, whatever its values: n rows are held
-    /// that do not come after it. Such a row need not be pushed, nor its values be computed. Takes no memory.
+    /// Whether a row of this rank is none of the first n of a chunk query with LIMIT n, whatever its values: as soon as n rows
+    /// are held of which none comes after it. Such a row need not be pushed, nor its values be computed. Takes no memory.
     pub fn is_too_late(&self, rank: &Rank) -> bool
-        ensures { OnTrue result (IsNoneOfFirst self.now rank.now) }
+        ensures late { OnTrue result (IsNoneOfFirst self.now rank.now) }
+        ensures told { IsToldLate self.now rank.now result }
     {
         is_too_late(&self.held, rank)
     }
