@@ -1,4 +1,4 @@
-//! Judges texts and positions: for each line of standard input a line. A line `judge FORM` gives none: it says how those
+//! Judges texts, positions and kernels: for each line of standard input a line. A line `judge FORM` gives none: it says how those
 //! behind it are judged, where FORM is one of
 //!
 //! - `read`: `query`, or the first fault of the text;

@@ -1,5 +1,6 @@
 //! Tests of a column at once: each clears a mask, a truth for each row, where its plain test is false.
 //!
+//! Callers see a mask as a list of truths; each call says which of them are left (`specs/Tests.antt`).
 //! A loop here goes over equal slices with no branch and no call that is not laid into it, since that is what the compiler
 //! turns into vector code: one row a turn, and for a comparison or a range sixteen (`wide`, and `narrow` for 32 bits). The
 //! places that are left are listed without a branch too.

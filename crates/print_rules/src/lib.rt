@@ -3,7 +3,7 @@
 //! Callers see the law of `specs/ReadBack.antt`, and on the way to it a printed text as the symbols
 //! that it was written of, each with or without a space before it (`specs/Spaced.antt`,
 //! `specs/Gaps.antt`, `specs/Laws.antt`).
-//! Below: `sql_token` for tokens, `sql_rules` for what is read and printed. Above: nothing yet.
+//! Below: `sql_token` for tokens, `sql_rules` for what is read and printed. Above: nothing.
 //! No printer: definitions and laws.
 #![tactic(auto)]
 

@@ -1,39 +1,23 @@
 //! Answers or explains a script of queries over a sky plan and a catalogue, by the words of its command line.
 //!
-//! The top call `qserv` is generic over the shelf that holds the texts and the sink that takes the answers; its contract
-//! (`specs/Explained.antt`) says what each outcome means and which outcome must come.
-//! Below: `sky_plan`, `catalogue_load` and `session_script` read the texts, `sky_generate` makes those of the demo, `czar`
-//! runs and writes the queries, `sky_io` is the outside. Above: nothing, this is the program.
-//! No reading of a text, no SQL, no sky and no thread here: the order of the work, the outcomes, and what is told of them.
+//! The words, the files of the current folder and the standard streams are handed to the top call, `top_call::qserv`, and
+//! what is told of its outcome goes to standard error.
+//! Below: `top_call`, and the adapters of `sky_io`. Above: nothing, this is the program.
 #![tactic(auto)]
 
-mod demo;
-mod ends;
-mod fault_lines;
-mod inputs;
-mod limits;
-mod outcome;
-mod script_lines;
-mod task;
 #[cfg(test)]
 mod tests;
-mod told;
-mod top;
-mod words;
-mod work;
 #[cfg(test)]
 mod worked;
 #[cfg(test)]
 mod worker_tests;
 
-use outcome::{Outcome, status};
 use sky_io::{ErrSink, FolderShelf, OpenGate, OutSink, Sink};
 use std::io::ErrorKind;
 use std::process::ExitCode;
 use std::rt::Env;
 use std::{env, io};
-use told::put_outcome;
-use top::qserv;
+use top_call::{Outcome, put_outcome, qserv, status};
 
 fn main(rt: HostRuntime) -> ExitCode {
     let words = match words_of(&rt) {

@@ -1,12 +1,11 @@
 //! What no clause says: what an output that fails comes to, at whichever call, and what is told of an outcome.
-use crate::outcome::{Outcome, Which, status};
-use crate::top::qserv;
 use crate::worked::{CATALOGUE, QUERY, SKY, line_of, texts_of, words_of};
 use session_rules::Ends;
 use session_script::ScriptFault;
 use sky_io::{MemSink, OpenGate, PlainShelf};
 use std::alloc::Global;
 use std::test::Fail;
+use top_call::{Outcome, Which, qserv, status};
 
 const SCRIPT: &str = "SELECT objectId FROM Object\n";
 

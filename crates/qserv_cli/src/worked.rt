@@ -1,12 +1,10 @@
 //! Worked texts, and the top call over them.
-use crate::outcome::{Outcome, status};
-use crate::told::put_outcome;
-use crate::top::qserv;
 use sky_io::{Gate, MemSink, PlainShelf};
 use std::alloc::Global;
 use std::sync::Wait;
 use std::test::Fail;
 use std::thread::Threads;
+use top_call::{Outcome, put_outcome, qserv, status};
 
 pub const SKY: &str = "overlap 5\nstripe -268435472 4 2 2\nstripe 0 4 2 2\n";
 

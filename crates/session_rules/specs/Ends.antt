@@ -11,7 +11,7 @@ use Rattle.session_rules.specs.declared.end.EndKind.TheVariants.{Answered, Refus
 
 -- What holds of a query, however its session goes.
 pub record Judged : Type 0 where
-  -- it is refused for its grammar or for its radius
+  -- it is refused for its grammar, its binding or its radius
   pub early : Bool
   -- it is refused for a total out of range
   pub total : Bool

@@ -16,7 +16,7 @@ ghost use Rattle.transcript_examples.specs.Worked.{bare, bright, cancelling, lar
 ghost use Rattle.transcript_rules.specs.Explained.{explained};
 ghost use Rattle.transcript_rules.specs.Transcripts.{FitEnds, judged_of, transcript};
 
-/// Whether a query is refused for its grammar or its radius, whether for a total, and whether its plan is empty.
+/// Whether a query is refused for its grammar, its binding or its radius, whether for a total, and whether its plan is empty.
 pub fn what_holds_of_a_query()
     ensures plain { judged_of halves bright (codes "SELECT objectId FROM Object") ≡ plain }
     ensures grammar { judged_of halves bright (codes "SELECT FROM Object")

@@ -1,5 +1,0 @@
-use Rattle.sky_io.proofs.Writes.{wrote_two}
-use Rattle.qserv_cli.proofs.fault_lines.put_valued.Goals as goal
-
-pub returns-in-Done : goal.returns-in-Done
-returns-in-Done g c = wrote_two _ _ _ (c.args.before.now) _ _ c.in-Done.ensures c.put_last.ensures

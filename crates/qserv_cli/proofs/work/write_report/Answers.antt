@@ -1,6 +1,0 @@
-use Rattle.qserv_cli.specs.Jobs.{Reports}
-use Rattle.qserv_cli.proofs.Writing.{written}
-use Rattle.qserv_cli.proofs.work.write_report.Goals as goal
-
-pub returns-in-Done : goal.returns-in-Done
-returns-in-Done g c = written (Reports c.args.store.now) _ _ _ _ _ c.no_ends-ends.ensures c.in-Done.ensures c.send.ensures

@@ -1,0 +1,67 @@
+-- What the work on the demo's script comes to explains the outcome.
+use Rattle.std.proofs.Common.{◌≡◌, ℕ, ◌≤◌, List, length, Ok, refl, subst, ◌∙◌}
+use Rattle.text_rules.specs.declared.limits.TheConstants.{SCRIPT_TEXT_MOST}
+use Rattle.table_rules.specs.declared.limits.TheConstants.{ROWS_MOST}
+use Rattle.sky_rules.specs.SkyText.{sky_of}
+use Rattle.demo_rules.specs.DemoTexts.{demo_script, demo_sky}
+use Rattle.demo_laws.specs.DemoInput.{demo_plan, demo_steps}
+use Rattle.demo_answers.specs.Laws.{DemoIsAnswered}
+use Rattle.session_script.specs.Scripts.{script_of}
+use Rattle.session_script.specs.Views.{ScriptView}
+use Rattle.sky_io.specs.Shelves.{ShelfState}
+use Rattle.sky_io.specs.Sinks.{SinkState}
+use Rattle.chunk_store.specs.Survey.{Survey}
+use Rattle.top_call.specs.Words.{Demo}
+use Rattle.top_call.specs.Reached.{IsScriptOf}
+use Rattle.top_call.specs.Jobs.{Runs, IsDemoSurvey}
+use Rattle.top_call.specs.Explained.{ExplainedOf, shown}
+use Rattle.top_call.specs.Steps.{IsDemoOver, IsWritten}
+use Rattle.top_call.specs.declared.outcome.Outcome.{Outcome}
+use Rattle.top_call.specs.declared.outcome.Outcome.TheVariants.{Done, Usage, BadSky, BadCatalogue, BadScript}
+use Rattle.top_call.specs.declared.outcome.Outcome.TheVariants.{TooLong, ShelfFault, SinkFault, Memory}
+use Rattle.top_call.proofs.DemoEnds.{demo_told}
+use Rattle.top_call.proofs.Writing.{job_explained}
+
+-- What is read of a text that is the same is the script of this one.
+pub same_script : (text named : List ℕ) (view : ScriptView) → text ≡ named → length named ≤ SCRIPT_TEXT_MOST
+    → view.text ≡ text → script_of text ≡ Ok view.steps → IsScriptOf named view
+same_script text named view is short same steps = record {
+  short = short;
+  same = same ∙ is;
+  read = subst (λ t. script_of t ≡ Ok view.steps) is steps;
+}
+
+-- What the writing of its transcript comes to is what the work on the demo's script comes to.
+pub demo_over : (workers : ℕ) (survey : Survey) (view : ScriptView) (old new : SinkState) (outcome : Outcome)
+    → IsScriptOf demo_script view → IsWritten (Runs workers survey view) old new outcome
+    → IsDemoOver workers survey old new outcome
+demo_over workers survey view old new (Done ends) read h = record { view = view; read = read; work = h }
+demo_over workers survey view old new (SinkFault ends) read h = record { view = view; read = read; work = h }
+demo_over workers survey view old new Usage read h = absurd h
+demo_over workers survey view old new (BadSky fault) read h = absurd h
+demo_over workers survey view old new (BadCatalogue fault) read h = absurd h
+demo_over workers survey view old new (BadScript fault) read h = absurd h
+demo_over workers survey view old new (TooLong which) read h = absurd h
+demo_over workers survey view old new (ShelfFault which) read h = absurd h
+demo_over workers survey view old new Memory read h = h
+
+-- What the work on the demo's script comes to explains the outcome, whatever the shelf.
+pub demo_explained : DemoIsAnswered → sky_of demo_sky ≡ Ok demo_plan → script_of demo_script ≡ Ok demo_steps
+    → (count seed workers : ℕ) → count ≤ ROWS_MOST → (survey : Survey) (old new : SinkState) (outcome : Outcome) (shelf : ShelfState)
+    → IsDemoSurvey count seed survey → IsDemoOver workers survey old new outcome
+    → ExplainedOf (Demo count seed workers) (shown shelf shelf old new) outcome
+demo_explained law sky steps count seed workers few survey old new (Done ends) shelf is h =
+    job_explained (Demo count seed workers) (Runs workers survey h.view) shelf shelf old new (Done ends)
+    (survey, h.view, refl, is, h.read)
+    (λ ended fits. demo_told law sky steps count seed workers few survey h.view ended is h.read fits) refl h.work
+demo_explained law sky steps count seed workers few survey old new (SinkFault ends) shelf is h =
+    job_explained (Demo count seed workers) (Runs workers survey h.view) shelf shelf old new (SinkFault ends)
+    (survey, h.view, refl, is, h.read)
+    (λ ended fits. demo_told law sky steps count seed workers few survey h.view ended is h.read fits) refl h.work
+demo_explained law sky steps count seed workers few survey old new Usage shelf is h = absurd h.work
+demo_explained law sky steps count seed workers few survey old new (BadSky fault) shelf is h = absurd h.work
+demo_explained law sky steps count seed workers few survey old new (BadCatalogue fault) shelf is h = absurd h.work
+demo_explained law sky steps count seed workers few survey old new (BadScript fault) shelf is h = absurd h.work
+demo_explained law sky steps count seed workers few survey old new (TooLong which) shelf is h = absurd h.work
+demo_explained law sky steps count seed workers few survey old new (ShelfFault which) shelf is h = absurd h.work
+demo_explained law sky steps count seed workers few survey old new Memory shelf is h = (refl, h)

@@ -1,0 +1,52 @@
+-- Which outcome of the top call must come.
+use Rattle.std.specs.Prelude.{◌≡◌, Option, None, Some}
+use Rattle.sky_io.specs.Sinks.{Rose}
+use Rattle.top_call.specs.Words.{Form, Load, Asks, Demo, Names, names_of}
+use Rattle.top_call.specs.Reached.{Texts, IfTold, text_at, IsAccepted, HasText, AreEarlierAccepted}
+use Rattle.top_call.specs.Reached.{AreAccepted, AreStill, AreAllStill}
+use Rattle.top_call.specs.Explained.{Shown}
+use Rattle.top_call.specs.declared.outcome.Which.{Which}
+use Rattle.top_call.specs.declared.outcome.Which.TheVariants.{Sky, Catalogue, Script}
+use Rattle.top_call.specs.declared.outcome.Outcome.{Outcome}
+use Rattle.top_call.specs.declared.outcome.Outcome.TheVariants.{Done, BadSky, BadCatalogue, BadScript, TooLong, Memory}
+
+-- the outcome refuses this text, or is want of memory
+abbrev pub IsRefusalOrMemory : Which → Outcome → Type 0
+IsRefusalOrMemory which (BadSky fault) = which ≡ Sky
+IsRefusalOrMemory which (BadCatalogue fault) = which ≡ Catalogue
+IsRefusalOrMemory which (BadScript fault) = which ≡ Script
+IsRefusalOrMemory which (TooLong named) = named ≡ which
+IsRefusalOrMemory which Memory = Unit {0}
+IsRefusalOrMemory which _ = ⊥
+
+-- the outcome is Done, or want of memory
+abbrev pub IsDoneOrMemory : Outcome → Type 0
+IsDoneOrMemory (Done ends) = Unit {0}
+IsDoneOrMemory Memory = Unit {0}
+IsDoneOrMemory _ = ⊥
+
+-- Which outcome must come over these texts, of a form with these names.
+pub record Completes (names : Names) (shown : Shown) (outcome : Outcome) (texts : Texts) : Type 0 where
+  -- a text that is reached and isn't accepted is refused
+  pub refused :
+      (which : Which) → HasText names which → AreEarlierAccepted names texts which →
+      (IsAccepted which (text_at names texts which) → ⊥) →
+      AreStill names shown.shelf_old.failed shown.shelf_new.failed which → IsRefusalOrMemory which outcome
+  -- all being accepted, and nothing having failed, the work is done
+  pub done :
+      AreAccepted names texts → AreAllStill names shown.shelf_old.failed shown.shelf_new.failed →
+      (Rose shown.sink_old.faults shown.sink_new.faults → ⊥) → IsDoneOrMemory outcome
+
+-- the same, where the shelf tells the texts that the form names; a demo names none, so what the shelf tells plays no part
+abbrev pub CompleteOf : Form → Shown → Outcome → Type 0
+CompleteOf (Load sky catalogue) shown outcome =
+    IfTold shown.shelf_old.texts (Completes (names_of (Load sky catalogue)) shown outcome)
+CompleteOf (Asks task sky catalogue script) shown outcome =
+    IfTold shown.shelf_old.texts (Completes (names_of (Asks task sky catalogue script)) shown outcome)
+CompleteOf (Demo count seed workers) shown outcome =
+    (texts : Texts) → Completes (names_of (Demo count seed workers)) shown outcome texts
+
+-- the same, where the words are a form
+abbrev pub Complete : Option Form → Shown → Outcome → Type 0
+Complete None shown outcome = Unit {0}
+Complete (Some form) shown outcome = CompleteOf form shown outcome

@@ -1,0 +1,81 @@
+-- What is to be done, and what is written of it.
+use Rattle.std.specs.Prelude.{◌≡◌, ℕ, List, [], All, Option, Ok}
+use Rattle.sky_io.specs.Shelves.{named_text}
+use Rattle.sky_rules.specs.SkyText.{sky_of}
+use Rattle.demo_rules.specs.DemoRows.{IsDemoCatalogue}
+use Rattle.demo_rules.specs.DemoTexts.{demo_script, demo_sky}
+use Rattle.chunk_store.specs.Survey.{Survey}
+use Rattle.answer_text.specs.Report.{report}
+use Rattle.session_script.specs.Views.{ScriptView}
+use Rattle.session_rules.specs.declared.end.EndKind.{EndKind}
+use Rattle.session_rules.specs.declared.end.EndKind.TheVariants.{Answered, Refused, Cancelled, Spent}
+use Rattle.transcript_rules.specs.Transcripts.{FitEnds, transcript}
+use Rattle.transcript_rules.specs.Explained.{explained}
+use Rattle.top_call.specs.Words.{Form, Load, Asks, Demo}
+use Rattle.top_call.specs.Reached.{Texts, IfTold, IsCatalogueOf, IsScriptOf, IsSkyOf}
+use Rattle.top_call.specs.declared.task.Task.{Task}
+use Rattle.top_call.specs.declared.task.Task.TheVariants.{Answer, Explain}
+
+-- What is to be done.
+pub data Job : Type 0 where
+  -- to report how the rows of a survey lie in its chunks
+  Reports : Survey → Job
+  -- to answer the queries of a script over a survey, with so many workers
+  Runs : (workers : ℕ) → Survey → ScriptView → Job
+  -- to explain them
+  Explains : Survey → ScriptView → Job
+
+-- the text of a job whose queries end so
+abbrev pub text_of_job : Job → List EndKind → List ℕ
+text_of_job (Reports survey) ends = report survey.plan survey.rows.objects
+text_of_job (Runs workers survey view) ends = transcript survey.plan survey.rows view ends
+text_of_job (Explains survey view) ends = explained survey.plan survey.rows view
+
+-- the queries of the job may end so, with its workers; a job that runs none has no ends
+abbrev pub EndsFit : Job → List EndKind → Type 0
+EndsFit (Reports survey) ends = ends ≡ []
+EndsFit (Runs workers survey view) ends = FitEnds workers survey.plan survey.rows view ends
+EndsFit (Explains survey view) ends = ends ≡ []
+
+-- the query was answered, or memory was wanting in its own work
+abbrev pub IsAnsweredOrSpent : EndKind → Type 0
+IsAnsweredOrSpent Answered = Unit {0}
+IsAnsweredOrSpent Refused = ⊥
+IsAnsweredOrSpent Cancelled = ⊥
+IsAnsweredOrSpent Spent = Unit {0}
+
+-- of a demo no query is refused, and none is cancelled
+abbrev pub DemoIsTold : Form → List EndKind → Type 0
+DemoIsTold (Load sky catalogue) ends = Unit {0}
+DemoIsTold (Asks task sky catalogue script) ends = Unit {0}
+DemoIsTold (Demo count seed workers) ends = All IsAnsweredOrSpent ends
+
+-- the named sky plan and catalogue are accepted as this survey
+abbrev pub IsSurveyOf : (sky catalogue : List ℕ) → Survey → Texts → Type 0
+IsSurveyOf sky catalogue survey texts =
+    IsSkyOf (named_text sky texts) survey.plan × IsCatalogueOf (named_text catalogue texts) survey.rows
+
+-- the named texts are accepted as this survey and this script
+abbrev pub AreSurveyAndScript : (sky catalogue script : List ℕ) → Survey → ScriptView → Texts → Type 0
+AreSurveyAndScript sky catalogue script survey view texts =
+    IsSurveyOf sky catalogue survey texts × IsScriptOf (named_text script texts) view
+
+-- what is asked of a script over a survey
+abbrev pub job_on : Task → Survey → ScriptView → Job
+job_on (Answer workers) survey view = Runs workers survey view
+job_on Explain survey view = Explains survey view
+
+-- the survey is the demo's: its sky plan, and so many objects that are drawn from a seed
+abbrev pub IsDemoSurvey : ℕ → ℕ → Survey → Type 0
+IsDemoSurvey count seed survey = (sky_of demo_sky ≡ Ok survey.plan) × IsDemoCatalogue count seed survey.rows
+
+-- This is what the form asks for, where the shelf tells its texts; the demo asks for none of them.
+abbrev pub IsJobOf : Form → Option Texts → Job → Type 0
+IsJobOf (Load sky catalogue) told job =
+    (survey : Survey) × (job ≡ Reports survey) × IfTold told (IsSurveyOf sky catalogue survey)
+IsJobOf (Asks task sky catalogue script) told job =
+    (survey : Survey) × (view : ScriptView) × (job ≡ job_on task survey view)
+    × IfTold told (AreSurveyAndScript sky catalogue script survey view)
+IsJobOf (Demo count seed workers) told job =
+    (survey : Survey) × (view : ScriptView) × (job ≡ Runs workers survey view) × IsDemoSurvey count seed survey
+    × IsScriptOf demo_script view

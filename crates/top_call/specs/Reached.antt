@@ -1,0 +1,109 @@
+-- Which of the named texts is reached: they are fetched and judged one by one, sky, catalogue, script.
+use Rattle.std.specs.Prelude.{◌≡◌, ℕ, ◌≤◌, ◌<◌, List, length, Option, None, Some, IsSome, Ok, Err}
+use Rattle.text_rules.specs.declared.limits.TheConstants.{SCRIPT_TEXT_MOST, SKY_TEXT_MOST, TEXT_MOST}
+use Rattle.sky_io.specs.Shelves.{named_text, times}
+use Rattle.sky_rules.specs.Partition.{Partition}
+use Rattle.sky_rules.specs.SkyText.{sky_of}
+use Rattle.sky_rules.specs.declared.fault.SkyFault.{SkyFault}
+use Rattle.table_rules.specs.Objects.{Catalogue as Table}
+use Rattle.table_rules.specs.declared.fault.LoadFault.{LoadFault}
+use Rattle.catalogue_load.specs.Catalogue.{catalogue_of}
+use Rattle.session_script.specs.Scripts.{script_of}
+use Rattle.session_script.specs.Views.{ScriptView}
+use Rattle.session_script.specs.declared.fault.ScriptFault.{ScriptFault}
+use Rattle.top_call.specs.Words.{Names}
+use Rattle.top_call.specs.Outcomes.{name_at, name_of}
+use Rattle.top_call.specs.declared.outcome.Which.{Which}
+use Rattle.top_call.specs.declared.outcome.Which.TheVariants.{Sky, Catalogue, Script}
+
+-- the texts that a shelf tells, by their names
+abbrev pub Texts : Type 0
+Texts = List (List ℕ × List ℕ)
+
+-- a fact of the texts, where the shelf tells them
+abbrev pub IfTold : Option Texts → (Texts → Type 0) → Type 0
+IfTold None P = Unit {0}
+IfTold (Some texts) P = P texts
+
+-- the text of a name of the form
+abbrev pub text_at : Names → Texts → Which → List ℕ
+text_at names texts which = named_text (name_of names which) texts
+
+-- the longest text of its kind, in bytes
+abbrev pub limit_of : Which → ℕ
+limit_of Sky = SKY_TEXT_MOST
+limit_of Catalogue = TEXT_MOST
+limit_of Script = SCRIPT_TEXT_MOST
+
+-- the text is longer than its limit
+abbrev pub IsLong : Which → List ℕ → Type 0
+IsLong which text = limit_of which < length text
+
+-- the text is accepted as this plan of the sky
+abbrev pub IsSkyOf : List ℕ → Partition → Type 0
+IsSkyOf text plan = (length text ≤ SKY_TEXT_MOST) × (sky_of text ≡ Ok plan)
+
+-- the text is within its limit, and has this first fault
+abbrev pub IsSkyFault : List ℕ → SkyFault → Type 0
+IsSkyFault text fault = (length text ≤ SKY_TEXT_MOST) × (sky_of text ≡ Err fault)
+
+-- the text is accepted as this catalogue
+abbrev pub IsCatalogueOf : List ℕ → Table → Type 0
+IsCatalogueOf text table = (length text ≤ TEXT_MOST) × (catalogue_of text ≡ Ok table)
+
+-- the text is within its limit, and has this first fault
+abbrev pub IsCatalogueFault : List ℕ → LoadFault → Type 0
+IsCatalogueFault text fault = (length text ≤ TEXT_MOST) × (catalogue_of text ≡ Err fault)
+
+-- The text is accepted as this script.
+pub record IsScriptOf (text : List ℕ) (view : ScriptView) : Type 0 where
+  pub short : length text ≤ SCRIPT_TEXT_MOST
+  pub same : view.text ≡ text
+  pub read : script_of text ≡ Ok view.steps
+
+-- the text is within its limit, and has this first fault
+abbrev pub IsScriptFault : List ℕ → ScriptFault → Type 0
+IsScriptFault text fault = (length text ≤ SCRIPT_TEXT_MOST) × (script_of text ≡ Err fault)
+
+-- the text is accepted
+abbrev pub IsAccepted : Which → List ℕ → Type 0
+IsAccepted Sky text = (plan : Partition) × IsSkyOf text plan
+IsAccepted Catalogue text = (table : Table) × IsCatalogueOf text table
+IsAccepted Script text = (view : ScriptView) × IsScriptOf text view
+
+-- the sky plan is accepted
+abbrev pub IsSkyAccepted : Names → Texts → Type 0
+IsSkyAccepted names texts = (plan : Partition) × IsSkyOf (text_at names texts Sky) plan
+
+-- the catalogue is accepted
+abbrev pub IsCatalogueAccepted : Names → Texts → Type 0
+IsCatalogueAccepted names texts = (table : Table) × IsCatalogueOf (text_at names texts Catalogue) table
+
+-- each text before this one is accepted
+abbrev pub AreEarlierAccepted : Names → Texts → Which → Type 0
+AreEarlierAccepted names texts Sky = Unit {0}
+AreEarlierAccepted names texts Catalogue = IsSkyAccepted names texts
+AreEarlierAccepted names texts Script = IsSkyAccepted names texts × IsCatalogueAccepted names texts
+
+-- the form has the text
+abbrev pub HasText : Names → Which → Type 0
+HasText names which = IsSome (name_at names which)
+
+-- each text of the form is accepted
+abbrev pub AreAccepted : Names → Texts → Type 0
+AreAccepted names texts = (which : Which) → HasText names which → IsAccepted which (text_at names texts which)
+
+-- the count of a text's failures is what it was
+abbrev pub IsStill : Names → List (List ℕ) → List (List ℕ) → Which → Type 0
+IsStill names old new which = times (name_of names which) new ≡ times (name_of names which) old
+
+-- neither this text's count of failures nor an earlier one's has risen
+abbrev pub AreStill : Names → List (List ℕ) → List (List ℕ) → Which → Type 0
+AreStill names old new Sky = IsStill names old new Sky
+AreStill names old new Catalogue = IsStill names old new Sky × IsStill names old new Catalogue
+AreStill names old new Script =
+    IsStill names old new Sky × IsStill names old new Catalogue × IsStill names old new Script
+
+-- the count of no text's failures has risen
+abbrev pub AreAllStill : Names → List (List ℕ) → List (List ℕ) → Type 0
+AreAllStill names old new = (which : Which) → HasText names which → IsStill names old new which

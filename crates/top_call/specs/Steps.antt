@@ -1,0 +1,137 @@
+-- What each step of the top call says, from the fetch of one text to the writing of a job.
+use Rattle.std.specs.Prelude.{◌≡◌, ◌<◌, ◌≤◌, ℕ, List, false, length, Option, Ok, Err}
+use Rattle.sky_io.specs.Shelves.{ShelfState, GivesText, GrewBy, named_text, times}
+use Rattle.sky_io.specs.Sinks.{SinkState, Appended, AppendedPart, Rose, Flushed}
+use Rattle.sky_io.specs.declared.sink.Put.TheVariants as Put
+use Rattle.demo_rules.specs.DemoTexts.{demo_script}
+use Rattle.chunk_store.specs.Survey.{Survey}
+use Rattle.session_script.specs.Scripts.{script_of}
+use Rattle.session_script.specs.Views.{ScriptView}
+use Rattle.session_rules.specs.declared.end.EndKind.{EndKind}
+use Rattle.top_call.specs.Words.{Demo, names_from}
+use Rattle.top_call.specs.Reached.{Texts, IfTold, IsScriptOf, IsSkyFault, IsCatalogueFault, IsLong, limit_of}
+use Rattle.top_call.specs.Jobs.{Job, Runs, EndsFit, IsSurveyOf, job_on, text_of_job}
+use Rattle.top_call.specs.Explained.{ExplainedOf, IsStop, shown}
+use Rattle.top_call.specs.declared.task.Task.{Task}
+use Rattle.top_call.specs.declared.outcome.Which.{Which}
+use Rattle.top_call.specs.declared.outcome.Which.TheVariants.{Sky, Catalogue, Script}
+use Rattle.top_call.specs.declared.outcome.Outcome.{Outcome}
+use Rattle.top_call.specs.declared.outcome.Outcome.TheVariants.{Done, BadSky, BadCatalogue, BadScript, TooLong}
+use Rattle.top_call.specs.declared.outcome.Outcome.TheVariants.{ShelfFault, SinkFault, Memory}
+
+-- The text was given, and the shelf is as it was.
+pub record IsGiven (name : List ℕ) (limit : ℕ) (text : List ℕ) (old new : ShelfState) : Type 0 where
+  pub same : new ≡ old
+  pub given : GivesText old.texts name limit text
+
+-- A fetch of this name has failed, and of no other.
+pub record HasFailed (name : List ℕ) (old new : ShelfState) : Type 0 where
+  pub grew : GrewBy name old.failed new.failed
+  pub cause : times name old.failed < times name new.failed
+
+-- why a text was not given: it could not be fetched, or memory was wanting
+abbrev pub IsFetchFault : List ℕ → Which → ShelfState → ShelfState → Outcome → Type 0
+IsFetchFault name which old new (ShelfFault named) = (named ≡ which) × HasFailed name old new
+IsFetchFault name which old new Memory = new ≡ old
+IsFetchFault name which old new _ = ⊥
+
+-- Something holds of the texts, where they are told, and the shelf is as it was.
+pub record IsRead (Holds : Texts → Type 0) (old new : ShelfState) : Type 0 where
+  pub same : new ≡ old
+  pub holds : IfTold old.texts Holds
+
+-- something holds of the named text
+abbrev pub OfNamed : List ℕ → (List ℕ → Type 0) → Texts → Type 0
+OfNamed name Holds texts = Holds (named_text name texts)
+
+-- The whole of a text within its limit was given, and the shelf is as it was.
+pub record IsWhole (name : List ℕ) (which : Which) (text : List ℕ) (old new : ShelfState) : Type 0 where
+  pub short : length text ≤ limit_of which
+  pub read : IsRead (OfNamed name (λ whole. whole ≡ text)) old new
+
+-- why the whole of a text was not given: it is too long, it could not be fetched, or memory was wanting
+abbrev pub IsWholeStop : List ℕ → Which → ShelfState → ShelfState → Outcome → Type 0
+IsWholeStop name which old new (TooLong named) = (named ≡ which) × IsRead (OfNamed name (IsLong which)) old new
+IsWholeStop name which old new (ShelfFault named) = (named ≡ which) × HasFailed name old new
+IsWholeStop name which old new Memory = new ≡ old
+IsWholeStop name which old new _ = ⊥
+
+-- why a sky plan was not read
+abbrev pub IsSkyStop : List ℕ → ShelfState → ShelfState → Outcome → Type 0
+IsSkyStop name old new (BadSky fault) = IsRead (OfNamed name (λ text. IsSkyFault text fault)) old new
+IsSkyStop name old new outcome = IsWholeStop name Sky old new outcome
+
+-- why a catalogue was not read
+abbrev pub IsCatalogueStop : List ℕ → ShelfState → ShelfState → Outcome → Type 0
+IsCatalogueStop name old new (BadCatalogue fault) = IsRead (OfNamed name (λ text. IsCatalogueFault text fault)) old new
+IsCatalogueStop name old new outcome = IsWholeStop name Catalogue old new outcome
+
+-- the shelf alone explains the outcome, of a form with these names: over any sink that nothing was done to
+abbrev pub IsShelfStop : (sky catalogue : List ℕ) → Option (List ℕ) → ShelfState → ShelfState → Outcome → Type 0
+IsShelfStop sky catalogue script old new outcome =
+    (sink : SinkState) → IsStop (names_from sky catalogue script) (shown old new sink sink) outcome
+
+-- the same, of any form with a sky plan and a catalogue of these names
+abbrev pub IsSurveyStop : (sky catalogue : List ℕ) → ShelfState → ShelfState → Outcome → Type 0
+IsSurveyStop sky catalogue old new outcome =
+    (script : Option (List ℕ)) → IsShelfStop sky catalogue script old new outcome
+
+-- The named texts are a survey and this text of a script, which is within its limit.
+pub record AreGiven (sky catalogue script : List ℕ) (survey : Survey) (text : List ℕ) (old new : ShelfState) : Type 0 where
+  pub short : length text ≤ limit_of Script
+  pub read : IsRead (λ texts. IsSurveyOf sky catalogue survey texts × (named_text script texts ≡ text)) old new
+
+-- All was written and sent.
+pub record IsSent (job : Job) (ends : List EndKind) (old new : SinkState) : Type 0 where
+  pub fits : EndsFit job ends
+  pub written : Appended old.written (text_of_job job ends) new.written
+  pub calm : new.faults ≡ old.faults
+  pub sent : new.held ≡ false
+
+-- The sink failed, with a front of the text written.
+pub record IsTorn (job : Job) (ends : List EndKind) (old new : SinkState) : Type 0 where
+  pub fits : EndsFit job ends
+  pub written : AppendedPart old.written (text_of_job job ends) new.written
+  pub cause : Rose old.faults new.faults
+
+-- what the writing of a job comes to
+abbrev pub IsWritten : Job → SinkState → SinkState → Outcome → Type 0
+IsWritten job old new (Done ends) = IsSent job ends old new
+IsWritten job old new (SinkFault ends) = IsTorn job ends old new
+IsWritten job old new Memory = new ≡ old
+IsWritten job old new _ = ⊥
+
+-- what is held back was sent, or the sink failed
+abbrev pub IsFlushed : List EndKind → SinkState → SinkState → Outcome → Type 0
+IsFlushed ends old new (Done told) = (told ≡ ends) × Flushed old new Put.Done
+IsFlushed ends old new (SinkFault told) = (told ≡ ends) × Flushed old new Put.Failed
+IsFlushed ends old new _ = ⊥
+
+-- The text is read as the script of which the job is written so.
+pub record IsTaskAsRead (task : Task) (survey : Survey) (text : List ℕ) (old new : SinkState) (outcome : Outcome) : Type 0 where
+  pub view : ScriptView
+  pub same : view.text ≡ text
+  pub steps : script_of text ≡ Ok view.steps
+  pub work : IsWritten (job_on task survey view) old new outcome
+
+-- what the work on the text of a script comes to: the text has a fault, or it is read and worked on
+abbrev pub IsTaskOver : Task → Survey → List ℕ → SinkState → SinkState → Outcome → Type 0
+IsTaskOver task survey text old new (BadScript fault) = (script_of text ≡ Err fault) × (new ≡ old)
+IsTaskOver task survey text old new Memory = new ≡ old
+IsTaskOver task survey text old new outcome = IsTaskAsRead task survey text old new outcome
+
+-- The job on the demo's script over a survey is written so.
+pub record IsDemoWritten (workers : ℕ) (survey : Survey) (old new : SinkState) (outcome : Outcome) : Type 0 where
+  pub view : ScriptView
+  pub read : IsScriptOf demo_script view
+  pub work : IsWritten (Runs workers survey view) old new outcome
+
+-- what the work on the demo's script over a survey comes to
+abbrev pub IsDemoOver : (workers : ℕ) → Survey → SinkState → SinkState → Outcome → Type 0
+IsDemoOver workers survey old new Memory = new ≡ old
+IsDemoOver workers survey old new outcome = IsDemoWritten workers survey old new outcome
+
+-- whatever the shelf, the outcome is that of the demo, and the shelf is as it was
+abbrev pub IsDemo : (count seed workers : ℕ) → SinkState → SinkState → Outcome → Type 0
+IsDemo count seed workers old new outcome =
+    (shelf : ShelfState) → ExplainedOf (Demo count seed workers) (shown shelf shelf old new) outcome

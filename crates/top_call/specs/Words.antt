@@ -1,0 +1,91 @@
+-- The forms of the command line.
+use Rattle.std.specs.Prelude.{ℕ, ◌≤◌, ◌&&◌, List, [], ◌∷◌, Option, None, Some, map, codes}
+use Rattle.std.specs.Prelude.{if◌then◌else◌, nat_le, String}
+use Rattle.std.specs.String.{string_bytes}
+use Rattle.std.specs.Str.{bytes_eq}
+use Rattle.std.specs.declared.alloc.Global.{Global}
+use Rattle.text_rules.specs.Numbers.{natural}
+use Rattle.table_rules.specs.declared.limits.TheConstants.{ROWS_MOST}
+use Rattle.demo_rules.specs.declared.limits.TheConstants.{SEED_MOST}
+use Rattle.session_rules.specs.declared.limits.TheConstants.{WORKERS_MOST}
+use Rattle.top_call.specs.declared.limits.TheConstants.{WORD_DIGITS_MOST}
+use Rattle.top_call.specs.declared.task.Task.{Task}
+use Rattle.top_call.specs.declared.task.Task.TheVariants.{Answer, Explain}
+
+-- What the words ask for, with the names of the texts.
+pub data Form : Type 0 where
+  -- to report how the rows of a catalogue lie in the chunks of a sky plan
+  Load : (sky catalogue : List ℕ) → Form
+  -- to answer or to explain the queries of a script over them
+  Asks : (task : Task) (sky catalogue script : List ℕ) → Form
+  -- to answer the queries of the demo's script over its sky plan and so many objects, drawn from a seed, with so many
+  -- workers
+  Demo : (count seed workers : ℕ) → Form
+
+-- The names of the texts of a form, of those that it has.
+pub record Names : Type 0 where
+  pub sky : Option (List ℕ)
+  pub catalogue : Option (List ℕ)
+  pub script : Option (List ℕ)
+
+-- the names of a sky plan and a catalogue, and of a script where there is one
+abbrev pub names_from : (sky catalogue : List ℕ) → Option (List ℕ) → Names
+names_from sky catalogue script = record { sky = Some sky; catalogue = Some catalogue; script = script }
+
+-- the names of the texts of a form
+abbrev pub names_of : Form → Names
+names_of (Load sky catalogue) = names_from sky catalogue None
+names_of (Asks task sky catalogue script) = names_from sky catalogue (Some script)
+names_of (Demo count seed workers) = record { sky = None; catalogue = None; script = None }
+
+-- the workers beside the czar, where the task has any, are at most 16
+abbrev pub IsManned : Task → Type 0
+IsManned (Answer workers) = workers ≤ WORKERS_MOST
+IsManned Explain = Unit {0}
+
+-- the number, where it is there and lies between two others
+abbrev pub number_between : (least most : ℕ) → Option ℕ → Option ℕ
+number_between least most None = None
+number_between least most (Some n) = if nat_le least n && nat_le n most then Some n else None
+
+-- the number of workers that a word gives: 1 to 10 digits, of value 0 to 16
+abbrev pub workers_by : List ℕ → Option ℕ
+workers_by word = number_between 0 WORKERS_MOST (natural WORD_DIGITS_MOST word)
+
+-- the answers of the named script, where the number of workers is there
+abbrev pub query_of : (sky catalogue script : List ℕ) (workers : Option ℕ) → Option Form
+query_of sky catalogue script (Some workers) = Some (Asks (Answer workers) sky catalogue script)
+query_of sky catalogue script None = None
+
+-- the demo of this count and this seed, where they and the number of workers are there
+abbrev pub demo_of : (count seed workers : Option ℕ) → Option Form
+demo_of (Some count) (Some seed) (Some workers) = Some (Demo count seed workers)
+demo_of (Some count) (Some seed) None = None
+demo_of (Some count) None workers = None
+demo_of None seed workers = None
+
+-- the demo of a count up to 2^22, a seed from 1 to 2^31 - 2 and a number of workers, of 1 to 10 digits each
+abbrev pub demo_by : (count seed workers : List ℕ) → Option Form
+demo_by count seed workers =
+    demo_of (number_between 0 ROWS_MOST (natural WORD_DIGITS_MOST count))
+    (number_between 1 SEED_MOST (natural WORD_DIGITS_MOST seed)) (workers_by workers)
+
+-- the form of four words, by the first
+abbrev pub form_of_four : (word second third fourth : List ℕ) → Option Form
+form_of_four word second third fourth =
+    if bytes_eq word (codes "explain") then Some (Asks Explain second third fourth)
+    else if bytes_eq word (codes "demo") then demo_by second third fourth
+    else None
+
+-- the forms `load SKY CSV`, `explain SKY CSV SCRIPT`, `query SKY CSV SCRIPT WORKERS` and `demo COUNT SEED WORKERS`, of which the
+-- numbers are 1 to 10 digits and WORKERS is 0 to 16; None of all other words
+abbrev pub form_of : List (List ℕ) → Option Form
+form_of (word ∷ sky ∷ catalogue ∷ []) = if bytes_eq word (codes "load") then Some (Load sky catalogue) else None
+form_of (word ∷ second ∷ third ∷ fourth ∷ []) = form_of_four word second third fourth
+form_of (word ∷ sky ∷ catalogue ∷ script ∷ workers ∷ []) =
+    if bytes_eq word (codes "query") then query_of sky catalogue script (workers_by workers) else None
+form_of _ = None
+
+-- the bytes of each word
+abbrev pub bytes_of : List (String Global) → List (List ℕ)
+bytes_of words = map string_bytes words

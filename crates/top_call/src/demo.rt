@@ -1,0 +1,87 @@
+//! The demo, whose texts are made and not fetched: a sky plan, a catalogue that is drawn from a seed, and a script.
+ghost use Rattle.std.specs.Prelude.{◌≡◌, ◌≤◌, ◌^◌, IfOk};
+ghost use Rattle.table_rules.specs.declared.limits.TheConstants.{ROWS_MOST};
+ghost use Rattle.demo_rules.specs.declared.limits.TheConstants.{SEED_MOST};
+ghost use Rattle.top_call.specs.Inputs.{survey_of};
+ghost use Rattle.top_call.specs.Jobs.{IsDemoSurvey};
+ghost use Rattle.top_call.specs.Steps.{IsDemo, IsDemoOver};
+ghost use Rattle.session_rules.specs.declared.limits.TheConstants.{WORKERS_MOST};
+
+use crate::inputs::Inputs;
+use crate::outcome::Outcome;
+use crate::work::answer_queries;
+use demo_answers::laws::demo_is_answered;
+use demo_laws::texts::{demo_script_is_accepted, demo_sky_is_accepted};
+use session_script::Script;
+use sky_generate::{demo_script, demo_sky, rows_of};
+use sky_io::{Gate, Memory, Sink};
+use sky_plan::SkyPlan;
+use std::alloc::Global;
+use std::sync::Wait;
+use std::thread::Threads;
+
+/// Answers the queries of the demo's script over its sky plan and so many objects, drawn from a seed, with so many workers.
+/// Takes memory, and waits. The shelf plays no part.
+pub fn run_demo<R: Threads + Wait + Sync, K: Sink, G: Gate + Sync>(
+    alloc: Global,
+    rt: &R,
+    count: u32,
+    seed: u32,
+    workers: u32,
+    sink: &mut K,
+    gate: &G,
+) -> Outcome
+    requires few { count ≤ ROWS_MOST }
+    requires first { 1 ≤ seed }
+    requires last { seed ≤ SEED_MOST }
+    requires manned { workers ≤ WORKERS_MOST }
+    ensures { IsDemo count seed workers (K.state sink.old) (K.state sink.new) result }
+{
+    // None of its queries is refused.
+    demo_is_answered();
+    demo_sky_is_accepted();
+    demo_script_is_accepted();
+    match demo_inputs(alloc, count, seed) {
+        Ok(inputs) => answer_demo(alloc, rt, inputs, workers, sink, gate),
+        Err(_) => Outcome::Memory,
+    }
+}
+
+// The demo's sky plan and catalogue.
+fn demo_inputs(alloc: Global, count: u32, seed: u32) -> Result<Inputs, Memory>
+    requires few { count ≤ ROWS_MOST }
+    requires first { 1 ≤ seed }
+    requires last { seed ≤ SEED_MOST }
+    ensures { IfOk result (λ inputs. IsDemoSurvey count seed (survey_of inputs)) }
+{
+    // The text is a sky plan, so nothing but memory can be wanting.
+    demo_sky_is_accepted();
+    let Ok(plan) = SkyPlan::read(alloc, demo_sky()) else {
+        return Err(Memory);
+    };
+    let rows = rows_of(alloc, count, seed)?;
+    Ok(Inputs { plan, rows })
+}
+
+// Answers the queries of the demo's script.
+fn answer_demo<R: Threads + Wait + Sync, K: Sink, G: Gate + Sync>(
+    alloc: Global,
+    rt: &R,
+    inputs: Inputs,
+    workers: u32,
+    sink: &mut K,
+    gate: &G,
+) -> Outcome
+    requires { workers ≤ WORKERS_MOST }
+    ensures { IsDemoOver workers (survey_of inputs) (K.state sink.old) (K.state sink.new) result }
+{
+    // The text is a script, so nothing but memory can be wanting.
+    demo_script_is_accepted();
+    match Script::read(alloc, demo_script()) {
+        Ok(script) => answer_queries(alloc, rt, inputs, &script, workers, sink, gate),
+        Err(_) => {
+            drop(inputs);
+            Outcome::Memory
+        }
+    }
+}

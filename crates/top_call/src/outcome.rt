@@ -1,0 +1,56 @@
+//! How the top call ends.
+ghost use Rattle.std.specs.Prelude.{◌≡◌};
+ghost use Rattle.top_call.specs.Outcomes.{status_of};
+
+use session_rules::Ends;
+use session_script::ScriptFault;
+use sky_rules::SkyFault;
+use table_rules::LoadFault;
+
+/// One of the texts of a form, in the order in which they are fetched.
+#[derive(Clone, Copy, Debug, PartialEq, Eq)]
+pub enum Which {
+    Sky,
+    Catalogue,
+    Script,
+}
+
+/// How the top call ends.
+#[derive(Drop)]
+pub enum Outcome {
+    /// All was written and sent. Where queries were run there is an end for each.
+    Done { ends: Ends },
+    /// The words are none of the forms.
+    Usage,
+    /// The sky plan isn't accepted; its first fault.
+    BadSky { fault: SkyFault },
+    /// The catalogue isn't accepted; its first fault.
+    BadCatalogue { fault: LoadFault },
+    /// The script isn't accepted; its first fault.
+    BadScript { fault: ScriptFault },
+    /// A text is longer than its limit.
+    TooLong { which: Which },
+    /// A text could not be fetched.
+    ShelfFault { which: Which },
+    /// The output failed, and a front of it may have been written.
+    SinkFault { ends: Ends },
+    /// Memory was wanting, and nothing was written.
+    Memory,
+}
+
+/// The exit status. Takes no memory.
+pub fn status(outcome: &Outcome) -> u8
+    ensures { result ≡ status_of outcome.now }
+{
+    match outcome {
+        Outcome::Done { .. } => 0,
+        Outcome::Usage => 2,
+        Outcome::BadSky { .. } => 3,
+        Outcome::BadCatalogue { .. } => 4,
+        Outcome::BadScript { .. } => 5,
+        Outcome::TooLong { .. } => 6,
+        Outcome::ShelfFault { .. } => 7,
+        Outcome::SinkFault { .. } => 8,
+        Outcome::Memory => 9,
+    }
+}

@@ -1,0 +1,115 @@
+//! The top call: words, then the texts, then the work, then the writing.
+ghost use Rattle.std.specs.Prelude.{◌≡◌, ◌↔◌, None};
+ghost use Rattle.top_call.specs.Words.{Load, Asks, IsManned, form_of, bytes_of};
+ghost use Rattle.top_call.specs.WordForms.{IsWithin, asked_by};
+ghost use Rattle.top_call.specs.Explained.{Explained, ExplainedOf, shown};
+ghost use Rattle.top_call.specs.Completes.{Complete};
+
+use crate::demo::run_demo;
+use crate::inputs::{fetch_all, fetch_survey};
+use crate::outcome::Outcome;
+use crate::task::Task;
+use crate::words::{Form, read_words};
+use crate::work::{do_task, report};
+use sky_io::{Gate, Shelf, Sink};
+use std::alloc::Global;
+use std::sync::Wait;
+use std::thread::Threads;
+
+/// Does what the words ask: fetches the texts from the shelf, reports how the rows lie in the chunks, or answers or explains
+/// the queries of the script, and writes to the sink. All texts are accepted and all answers made before the first byte is
+/// written, and writing takes no memory. Takes memory for the texts, the rows and their chunks, and the answers. Queries are
+/// answered by so many threads beside this one as the words ask for, of which the one that takes a chunk passes the gate
+/// before the work on it, and it waits for them; a thread that can't be started costs no answer.
+pub fn qserv<R: Threads + Wait + Sync, S: Shelf, K: Sink, G: Gate + Sync>(
+    rt: &R,
+    alloc: Global,
+    words: &[String],
+    shelf: &mut S,
+    sink: &mut K,
+    gate: &G,
+) -> Outcome
+    ensures usage { (result ≡ Outcome.Usage) ↔ (form_of (bytes_of words.now) ≡ None) }
+    ensures explained { Explained (form_of (bytes_of words.now))
+        (shown (S.state shelf.old) (S.state shelf.new) (K.state sink.old) (K.state sink.new))
+        result }
+    ensures complete { Complete (form_of (bytes_of words.now))
+        (shown (S.state shelf.old) (S.state shelf.new) (K.state sink.old) (K.state sink.new))
+        result }
+{
+    match read_words(words) {
+        None => Outcome::Usage,
+        Some(form) => run_form(alloc, rt, &form, shelf, sink, gate),
+    }
+}
+
+// Does what a form asks.
+fn run_form<R: Threads + Wait + Sync, S: Shelf, K: Sink, G: Gate + Sync>(
+    alloc: Global,
+    rt: &R,
+    form: &Form<'_>,
+    shelf: &mut S,
+    sink: &mut K,
+    gate: &G,
+) -> Outcome
+    requires { IsWithin form.now }
+    ensures { ExplainedOf (asked_by form.now)
+        (shown (S.state shelf.old) (S.state shelf.new) (K.state sink.old) (K.state sink.new))
+        result }
+{
+    match form {
+        Form::Load { sky, catalogue } => run_load(alloc, sky, catalogue, shelf, sink),
+        Form::Asks {
+            task,
+            sky,
+            catalogue,
+            script,
+        } => run_task(alloc, rt, *task, sky, catalogue, script, shelf, sink, gate),
+        Form::Demo {
+            count,
+            seed,
+            workers,
+        } => run_demo(alloc, rt, *count, *seed, *workers, sink, gate),
+    }
+}
+
+// Reports how the rows of the named catalogue lie in the chunks of the named sky plan.
+fn run_load<S: Shelf, K: Sink>(
+    alloc: Global,
+    sky: &str,
+    catalogue: &str,
+    shelf: &mut S,
+    sink: &mut K,
+) -> Outcome
+    ensures { ExplainedOf (Load sky.now catalogue.now)
+        (shown (S.state shelf.old) (S.state shelf.new) (K.state sink.old) (K.state sink.new))
+        result }
+{
+    match fetch_survey(alloc, shelf, sky, catalogue) {
+        Ok(inputs) => report(alloc, inputs, sink),
+        Err(outcome) => outcome,
+    }
+}
+
+// Does what is asked of the named script over the named sky plan and catalogue.
+fn run_task<R: Threads + Wait + Sync, S: Shelf, K: Sink, G: Gate + Sync>(
+    alloc: Global,
+    rt: &R,
+    task: Task,
+    sky: &str,
+    catalogue: &str,
+    script: &str,
+    shelf: &mut S,
+    sink: &mut K,
+    gate: &G,
+) -> Outcome
+    requires { IsManned task }
+    ensures { ExplainedOf (Asks task sky.now catalogue.now script.now)
+        (shown (S.state shelf.old) (S.state shelf.new) (K.state sink.old) (K.state sink.new))
+        result }
+{
+    match fetch_all(alloc, shelf, sky, catalogue, script) {
+        Ok((inputs, text)) => do_task(alloc, rt, task, inputs, text.as_slice(), sink, gate),
+        Err(outcome) => outcome,
+    }
+}

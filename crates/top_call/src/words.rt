@@ -1,0 +1,146 @@
+//! The forms of the command line.
+ghost use Rattle.std.specs.Prelude.{◌≡◌, ◌≤◌, ◌^◌, [], ◌∷◌, None, Some, IfNone, IfSome};
+ghost use Rattle.text_rules.specs.Numbers.{natural};
+ghost use Rattle.top_call.specs.declared.limits.TheConstants.{WORD_DIGITS_MOST};
+ghost use Rattle.top_call.specs.Words.{bytes_of, demo_by, form_of, form_of_four, number_between};
+ghost use Rattle.top_call.specs.WordForms.{IsWithin, asked_by};
+
+use crate::limits::WORD_DIGITS_MOST;
+use crate::task::Task;
+use demo_rules::limits::SEED_MOST;
+use session_rules::limits::WORKERS_MOST;
+use sky_text::read_natural;
+use table_rules::limits::ROWS_MOST;
+
+/// What the words ask for, with the names of the texts as the words give them.
+#[derive(Clone, Copy)]
+pub enum Form<'a> {
+    /// To report how the rows of a catalogue lie in the chunks of a sky plan.
+    Load {
+        sky: &'a str,
+        catalogue: &'a str,
+    },
+    /// To answer or to explain the queries of a script over them.
+    Asks {
+        task: Task,
+        sky: &'a str,
+        catalogue: &'a str,
+        script: &'a str,
+    },
+    /// To answer the queries of the demo's script over its sky plan and so many objects, drawn from a seed, with so many
+    /// workers.
+    Demo {
+        count: u32,
+        seed: u32,
+        workers: u32,
+    },
+}
+
+/// The form of the words, or `None` where they are no form. Takes no memory.
+pub fn read_words(words: &[String]) -> Option<Form<'_>>
+    ensures none { IfNone result (form_of (bytes_of words.now) ≡ None) }
+    ensures form { IfSome result (λ form. form_of (bytes_of words.now) ≡ Some (asked_by form)) }
+    ensures within { IfSome result IsWithin }
+{
+    match words {
+        [word, sky, catalogue] => read_load(word, sky, catalogue),
+        [word, second, third, fourth] => read_four(word, second, third, fourth),
+        [word, sky, catalogue, script, workers] => {
+            read_query(word, sky, catalogue, script, workers)
+        }
+        _ => None,
+    }
+}
+
+// The form `load SKY CSV`.
+fn read_load<'a>(word: &str, sky: &'a str, catalogue: &'a str) -> Option<Form<'a>>
+    ensures none { IfNone result
+        (form_of (word.now ∷ sky.now ∷ catalogue.now ∷ []) ≡ None) }
+    ensures form { IfSome result (λ form.
+        form_of (word.now ∷ sky.now ∷ catalogue.now ∷ []) ≡ Some (asked_by form)) }
+    ensures within { IfSome result IsWithin }
+{
+    if word != "load" {
+        return None;
+    }
+    Some(Form::Load { sky, catalogue })
+}
+
+// The form of four words: `explain SKY CSV SCRIPT` or `demo COUNT SEED WORKERS`.
+fn read_four<'a>(word: &str, second: &'a str, third: &'a str, fourth: &'a str) -> Option<Form<'a>>
+    ensures none { IfNone result
+        (form_of_four word.now second.now third.now fourth.now ≡ None) }
+    ensures form { IfSome result (λ form.
+        form_of_four word.now second.now third.now fourth.now ≡ Some (asked_by form)) }
+    ensures within { IfSome result IsWithin }
+{
+    if word == "explain" {
+        return Some(Form::Asks {
+            task: Task::Explain,
+            sky: second,
+            catalogue: third,
+            script: fourth,
+        });
+    }
+    if word != "demo" {
+        return None;
+    }
+    read_demo(second.as_bytes(), third.as_bytes(), fourth.as_bytes())
+}
+
+// The form of a demo, of which these are the numbers.
+fn read_demo<'a>(count: &[u8], seed: &[u8], workers: &[u8]) -> Option<Form<'a>>
+    ensures none { IfNone result (demo_by count.now seed.now workers.now ≡ None) }
+    ensures form { IfSome result (λ form.
+        demo_by count.now seed.now workers.now ≡ Some (asked_by form)) }
+    ensures within { IfSome result IsWithin }
+{
+    let count = read_between(count, 0, ROWS_MOST as u32)?;
+    let seed = read_between(seed, 1, SEED_MOST)?;
+    let workers = read_between(workers, 0, WORKERS_MOST)?;
+    Some(Form::Demo {
+        count,
+        seed,
+        workers,
+    })
+}
+
+// The word is a number in few enough digits, and lies between two others.
+fn read_between(word: &[u8], least: u32, most: u32) -> Option<u32>
+    ensures number { result ≡ number_between least most (natural WORD_DIGITS_MOST word.now) }
+    ensures from { IfSome result (λ n. least ≤ n) }
+    ensures to { IfSome result (λ n. n ≤ most) }
+{
+    let n = read_natural(word, WORD_DIGITS_MOST)?;
+    if n < u64::from(least) || u64::from(most) < n {
+        return None;
+    }
+    Some(n as u32)
+}
+
+// The form `query SKY CSV SCRIPT WORKERS`.
+fn read_query<'a>(
+    word: &str,
+    sky: &'a str,
+    catalogue: &'a str,
+    script: &'a str,
+    workers: &str,
+) -> Option<Form<'a>>
+    ensures none { IfNone result (form_of
+        (word.now ∷ sky.now ∷ catalogue.now ∷ script.now ∷ workers.now ∷ []) ≡ None) }
+    ensures form { IfSome result (λ form. form_of
+        (word.now ∷ sky.now ∷ catalogue.now ∷ script.now ∷ workers.now ∷ [])
+        ≡ Some (asked_by form)) }
+    ensures within { IfSome result IsWithin }
+{
+    if word != "query" {
+        return None;
+    }
+    let workers = read_between(workers.as_bytes(), 0, WORKERS_MOST)?;
+    Some(Form::Asks {
+        task: Task::Answer { workers },
+        sky,
+        catalogue,
+        script,
+    })
+}

@@ -1,0 +1,235 @@
+//! The work of a form whose texts were fetched, and its writing.
+//!
+//! What holds the rows is dropped by name: that is one call, where what goes out of scope is dropped part by part.
+//! Whatever takes memory is done before the first byte is written: the store, the answers, and the list of how the queries
+//! ended. A script is judged before the store is built.
+ghost use Rattle.std.specs.Prelude.{◌≡◌, ◌≤◌, ◌^◌, ℕ, [], length, map};
+ghost use Rattle.text_rules.specs.declared.limits.TheConstants.{SCRIPT_TEXT_MOST};
+ghost use Rattle.session_script.specs.Views.{query_lines};
+ghost use Rattle.transcript_rules.specs.Transcripts.{FitEnds};
+ghost use Rattle.czar.specs.Ends.{EndsShow, kind_of};
+ghost use Rattle.czar.specs.Plans.{ArePlans};
+ghost use Rattle.top_call.specs.Inputs.{survey_of};
+ghost use Rattle.top_call.specs.Jobs.{Explains, Reports, Runs, job_on};
+ghost use Rattle.top_call.specs.Steps.{IsFlushed, IsTaskOver, IsWritten};
+ghost use Rattle.top_call.specs.Words.{IsManned};
+ghost use Rattle.session_rules.specs.declared.limits.TheConstants.{WORKERS_MOST};
+
+use crate::ends::{kinds_of, no_ends};
+use crate::inputs::Inputs;
+use crate::outcome::Outcome;
+use crate::task::Task;
+use answer_text::put_report;
+use chunk_store::Store;
+use czar::{End, Plan, explain, put_explained, put_transcript, run_session};
+use session_rules::Ends;
+use session_script::Script;
+use sky_io::{Gate, Put, Sink, Stop};
+use std::alloc::Global;
+use std::sync::Wait;
+use std::thread::Threads;
+
+/// Writes the report of the rows in their chunks. Takes memory.
+pub fn report<K: Sink>(alloc: Global, inputs: Inputs, sink: &mut K) -> Outcome
+    ensures { IsWritten (Reports (survey_of inputs)) (K.state sink.old) (K.state sink.new) result }
+{
+    let Inputs { plan, rows } = inputs;
+    match Store::build(alloc, plan, rows) {
+        Ok(store) => {
+            let outcome = write_report(alloc, &store, sink);
+            drop(store);
+            outcome
+        }
+        Err(_) => Outcome::Memory,
+    }
+}
+
+/// Reads a script and does what is asked of it. Takes memory, and waits.
+pub fn do_task<R: Threads + Wait + Sync, K: Sink, G: Gate + Sync>(
+    alloc: Global,
+    rt: &R,
+    task: Task,
+    inputs: Inputs,
+    text: &[u8],
+    sink: &mut K,
+    gate: &G,
+) -> Outcome
+    requires short { length text.now ≤ SCRIPT_TEXT_MOST }
+    requires manned { IsManned task }
+    ensures { IsTaskOver task (survey_of inputs) text.now
+        (K.state sink.old) (K.state sink.new) result }
+{
+    match Script::read(alloc, text) {
+        Ok(script) => do_script(alloc, rt, task, inputs, &script, sink, gate),
+        Err(Stop::Bad(fault)) => {
+            drop(inputs);
+            Outcome::BadScript { fault }
+        }
+        Err(Stop::Memory) => {
+            drop(inputs);
+            Outcome::Memory
+        }
+    }
+}
+
+// Does what is asked of a script.
+fn do_script<R: Threads + Wait + Sync, K: Sink, G: Gate + Sync>(
+    alloc: Global,
+    rt: &R,
+    task: Task,
+    inputs: Inputs,
+    script: &Script<'_>,
+    sink: &mut K,
+    gate: &G,
+) -> Outcome
+    requires { IsManned task }
+    ensures { IsWritten (job_on task (survey_of inputs) script.now)
+        (K.state sink.old) (K.state sink.new) result }
+{
+    match task {
+        Task::Answer { workers } => {
+            answer_queries(alloc, rt, inputs, script, workers, sink, gate)
+        }
+        Task::Explain => explain_queries(alloc, inputs, script, sink),
+    }
+}
+
+/// Answers the queries of a script with so many workers, and writes their transcript. Takes memory, and waits.
+pub fn answer_queries<R: Threads + Wait + Sync, K: Sink, G: Gate + Sync>(
+    alloc: Global,
+    rt: &R,
+    inputs: Inputs,
+    script: &Script<'_>,
+    workers: u32,
+    sink: &mut K,
+    gate: &G,
+) -> Outcome
+    requires { workers ≤ WORKERS_MOST }
+    ensures { IsWritten (Runs workers (survey_of inputs) script.now)
+        (K.state sink.old) (K.state sink.new) result }
+{
+    let Inputs { plan, rows } = inputs;
+    match Store::build(alloc, plan, rows) {
+        Ok(store) => {
+            let outcome = answer_over(alloc, rt, &store, script, workers, sink, gate);
+            drop(store);
+            outcome
+        }
+        Err(_) => Outcome::Memory,
+    }
+}
+
+// Answers the queries of a script over a store, and writes their transcript.
+fn answer_over<R: Threads + Wait + Sync, K: Sink, G: Gate + Sync>(
+    alloc: Global,
+    rt: &R,
+    store: &Store,
+    script: &Script<'_>,
+    workers: u32,
+    sink: &mut K,
+    gate: &G,
+) -> Outcome
+    requires { workers ≤ WORKERS_MOST }
+    ensures { IsWritten (Runs workers store.now script.now)
+        (K.state sink.old) (K.state sink.new) result }
+{
+    match run_session(alloc, rt, store, script, workers, gate) {
+        Ok(ends) => write_transcript(alloc, store, script, ends.as_slice(), sink),
+        Err(_) => Outcome::Memory,
+    }
+}
+
+// Explains the queries of a script, and writes what explains them.
+fn explain_queries<K: Sink>(
+    alloc: Global,
+    inputs: Inputs,
+    script: &Script<'_>,
+    sink: &mut K,
+) -> Outcome
+    ensures { IsWritten (Explains (survey_of inputs) script.now)
+        (K.state sink.old) (K.state sink.new) result }
+{
+    let Inputs { plan, rows } = inputs;
+    match Store::build(alloc, plan, rows) {
+        Ok(store) => {
+            let outcome = explain_over(alloc, &store, script, sink);
+            drop(store);
+            outcome
+        }
+        Err(_) => Outcome::Memory,
+    }
+}
+
+// Explains the queries of a script over a store, and writes what explains them.
+fn explain_over<K: Sink>(alloc: Global, store: &Store, script: &Script<'_>, sink: &mut K) -> Outcome
+    ensures { IsWritten (Explains store.now script.now)
+        (K.state sink.old) (K.state sink.new) result }
+{
+    match explain(alloc, store, script) {
+        Ok(plans) => write_explained(alloc, store, script, plans.as_slice(), sink),
+        Err(_) => Outcome::Memory,
+    }
+}
+
+// Writes the report of a store and sends it.
+fn write_report<K: Sink>(alloc: Global, store: &Store, sink: &mut K) -> Outcome
+    ensures { IsWritten (Reports store.now) (K.state sink.old) (K.state sink.new) result }
+{
+    let ends = no_ends(alloc);
+    match put_report(sink, store) {
+        Put::Failed => Outcome::SinkFault { ends },
+        Put::Done => send(sink, ends),
+    }
+}
+
+// Writes the transcript of a script whose queries ended so, and sends it: what is written is that of any number of workers
+// with which they may end so. The list of how they ended is made before the first byte is written.
+fn write_transcript<K: Sink>(
+    alloc: Global,
+    store: &Store,
+    script: &Script<'_>,
+    ends: &[End],
+    sink: &mut K,
+) -> Outcome
+    requires { EndsShow store.now.plan store.now.rows (query_lines script.now) ends.now }
+    ensures { (workers : ℕ)
+        → FitEnds workers store.now.plan store.now.rows script.now (map kind_of ends.now)
+        → IsWritten (Runs workers store.now script.now) (K.state sink.old) (K.state sink.new) result }
+{
+    let Ok(kinds) = kinds_of(alloc, ends) else {
+        return Outcome::Memory;
+    };
+    match put_transcript(sink, store, script, ends) {
+        Put::Failed => Outcome::SinkFault { ends: kinds },
+        Put::Done => send(sink, kinds),
+    }
+}
+
+// Writes what explains a script with these plans, and sends it.
+fn write_explained<K: Sink>(
+    alloc: Global,
+    store: &Store,
+    script: &Script<'_>,
+    plans: &[Plan],
+    sink: &mut K,
+) -> Outcome
+    requires { ArePlans store.now.plan store.now.rows (query_lines script.now) plans.now }
+    ensures { IsWritten (Explains store.now script.now)
+        (K.state sink.old) (K.state sink.new) result }
+{
+    let ends = no_ends(alloc);
+    match put_explained(sink, store, script, plans) {
+        Put::Failed => Outcome::SinkFault { ends },
+        Put::Done => send(sink, ends),
+    }
+}
+
+// Sends what is held back, once all is written.
+fn send<K: Sink>(sink: &mut K, ends: Ends) -> Outcome
+    ensures { IsFlushed ends (K.state sink.old) (K.state sink.new) result }
+{
+    match sink.flush_out() {
+        Put::Failed => Outcome::SinkFault { ends },
+        Put::Done => Outcome::Done { ends },
+    }
+}
