@@ -12,7 +12,8 @@ use Rattle.answer_rules.specs.declared.rewritten.ChunkQuery.{ChunkQuery}
 use Rattle.answer_rules.specs.PieceLaws.{IsPushed, limited}
 use Rattle.answer_rules.specs.Rewriting.{chunk_query_of}
 
--- the item may stand in a chunk query of this shape: an expression of a row or a pair, or an aggregate of a grouping
+-- the item may stand in a chunk query of this shape: an expression of a row or a pair, or an aggregate of a grouped
+-- query
 abbrev pub is_sound_part : ℕ → Shape → ChunkItem → Bool
 is_sound_part columns shape (Plain e) = is_sound_expr (is_plain_col columns shape) e
 is_sound_part columns shape Count = is_grouping shape

@@ -13,7 +13,7 @@ ghost use Rattle.answer_rules.specs.PlanLaws.{RadiusReaches, RadiusReachesOver};
 ghost use Rattle.answer_rules.specs.Small.{JoinIsSmall, PieceIsSmall};
 ghost use Rattle.answer_rules.specs.SoundChunks.{ChunkIsSound, CutIsSound};
 
-/// Ranks compare as keys do: NULL before every number, all turned round where the order goes down.
+/// Ranks compare as keys do: NULL before every number, all turned round where the order is descending.
 #[tactic(auto, using(crate::proofs::Totals::ranks_are_keys))]
 pub fn ranks_are_keys()
     ensures { RanksAreKeys }
@@ -45,13 +45,13 @@ pub fn rows_are_grouped()
     ensures { RowsAreGrouped }
 {}
 
-/// A plain item of a grouping has on a group's key the value that it has on each of the group's rows.
+/// A plain item of a grouped query has on a group's key the value that it has on each of the group's rows.
 pub fn value_is_told()
     ensures { ValueIsTold }
 {}
 
 /// What the rows or pairs of a query that can be run are ordered by, what its chunk query computes of them, and what a
-/// plain item of a grouping computes on a group's key, is NULL or within ±2^100.
+/// plain item of a grouped query computes on a group's key, is NULL or within ±2^100.
 pub fn keys_are_in_range()
     ensures order { OrderIsInRange }
     ensures chunk { ChunkIsInRange }

@@ -30,7 +30,7 @@ use Rattle.transcript_rules.specs.Tables.{by_commas}
 abbrev pub kind_text : Item → Bytes
 kind_text i = print_kind i.what
 
--- what an item of a grouping gives to the chunk query
+-- what an item of a grouped query gives to the chunk query
 abbrev pub parts_of : Item → List Bytes
 parts_of i = part_texts i.what
 
@@ -69,7 +69,7 @@ from_keys m = clause (codes " GROUP BY ") (place_names 0 (length (keys_by m.shap
 abbrev pub from_merged : MergePlan → Bytes
 from_merged m = by_commas (merged_texts m) ++ (codes " FROM pieces" ++ from_keys m)
 
--- ---- a plain item of a grouping
+-- ---- a plain item of a grouped query
 
 -- an atom
 unfoldable pub key_atom_text : List BoundCol → BoundAtom → Bytes

@@ -34,7 +34,7 @@ fn put_dotted<K: Sink>(sink: &mut K, side: &[u8], dot: &[u8], name: &[u8]) -> Pu
     }
 }
 
-/// Writes a further column, and the comma before it.
+/// Writes a extra column, and the comma before it.
 pub(crate) fn put_further_column<K: Sink>(sink: &mut K, side: &[u8], dot: &[u8], name: &[u8]) -> Put
     ensures { Wrote (K.state sink.old) (K.state sink.new)
         (codes "," ++ dotted side.now dot.now name.now) result }

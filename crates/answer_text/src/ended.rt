@@ -7,7 +7,7 @@ ghost use Rattle.transcript_rules.specs.RefusalLines.{line};
 use crate::pieces::put_number_line;
 use sky_io::{Put, Sink};
 
-/// Writes the block of query `number`, which was cancelled. Takes no memory.
+/// Writes the block of query `number`, which was cancelled. Does not allocate.
 pub fn put_cancelled<K: Sink>(sink: &mut K, number: u32) -> Put
     ensures { Wrote (K.state sink.old) (K.state sink.new)
         (number_line number ++ line (codes "cancelled")) result }

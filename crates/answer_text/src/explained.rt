@@ -26,7 +26,7 @@ pub struct Explained<'a> {
     pub chunks: &'a ChunkSet,
 }
 
-/// Writes the block that explains query `number`. Takes no memory.
+/// Writes the block that explains query `number`. Does not allocate.
 pub fn put_explain<K: Sink>(sink: &mut K, number: u32, what: &Explained<'_>) -> Put
     ensures { Wrote (K.state sink.old) (K.state sink.new)
         (number_line number

@@ -1,4 +1,4 @@
-//! Plain items of a grouping as the merge has them: each column is that of its key. One function writes one rule.
+//! Plain items of a grouped query as the merge has them: each column is that of its key. One function writes one rule.
 ghost use Rattle.std.specs.Prelude.{◌≡◌, ◌++◌, ◌+◌, ◌-◌, ◌<◌, ◌≤◌, ◌^◌, [], codes, if◌then◌else◌, length, map};
 ghost use Rattle.std.specs.List.{position};
 ghost use Rattle.sky_io.specs.Sinks.{Wrote};

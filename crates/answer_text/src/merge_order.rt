@@ -124,7 +124,7 @@ fn put_ties<K: Sink>(sink: &mut K, merge: &MergePlan) -> Put
     put_places(sink, tie_start(merge), tie_end(merge))
 }
 
-// The key: the column behind the ids, a merged item, or the column of a grouping's key.
+// The key: the column behind the ids, a merged item, or the column of a grouped query's key.
 fn put_key<K: Sink>(sink: &mut K, merge: &MergePlan, key: &MergeKey) -> Put
     ensures { Wrote (K.state sink.old) (K.state sink.new)
         (order_key_text merge.now key.now) result }

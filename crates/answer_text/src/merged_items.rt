@@ -13,7 +13,7 @@ use answer_rules::MergeItem;
 use sky_io::{Put, Sink};
 use sql_bound::{BoundCol, Shape};
 
-/// The keys of a grouping.
+/// The keys of a grouped query.
 pub(crate) fn keys_by(shape: &Shape) -> &[BoundCol]
     ensures { result.now ≡ keys_by shape.now }
 {

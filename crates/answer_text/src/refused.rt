@@ -15,7 +15,7 @@ use sql_rules::SqlFault;
 use sql_token::Span;
 use transcript_rules::Refusal;
 
-/// Writes the block of query `number`, which is refused; `text` is its line. Takes no memory.
+/// Writes the block of query `number`, which is refused; `text` is its line. Does not allocate.
 pub fn put_refusal<K: Sink>(sink: &mut K, number: u32, what: &Refusal, text: &[u8]) -> Put
     ensures { Wrote (K.state sink.old) (K.state sink.new)
         (number_line number ++ refusal_line text.now what.now) result }

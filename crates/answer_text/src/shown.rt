@@ -25,7 +25,7 @@ pub struct Shown<'a> {
     pub chunks: u32,
 }
 
-/// Writes the block of query `number`, which is answered. Takes no memory.
+/// Writes the block of query `number`, which is answered. Does not allocate.
 pub fn put_table<K: Sink>(sink: &mut K, number: u32, what: &Shown<'_>) -> Put
     ensures { Wrote (K.state sink.old) (K.state sink.new)
         (number_line number

@@ -18,8 +18,8 @@ use sky_plan::SkyPlan;
 use sql_bound::{AreaTest, Bound};
 use std::alloc::Global;
 
-/// The chunks that a query needs, of those that hold a row: each passes the query's area tests, and holds one of the ids
-/// of each of its id tests. Takes memory for the chunks, and for a mark a chunk while it looks ids up.
+/// The chunks that a query needs, of those that hold a row: each passes the query's area tests, and holds one of the
+/// ids of each of its id tests. Allocates memory for the chunks, and for a mark a chunk while it looks ids up.
 pub fn plan(
     alloc: Global,
     bound: &Bound,
@@ -38,8 +38,8 @@ pub fn plan(
     with_ids(alloc, index, bound.ids.as_slice(), chunks)
 }
 
-/// The chunks that a query without id tests needs, of those that hold a row: no index is asked for them. Takes memory for
-/// the chunks.
+/// The chunks that a query without id tests needs, of those that hold a row: no index is asked for them. Allocates
+/// memory for the chunks.
 pub fn plan_by_areas(
     alloc: Global,
     bound: &Bound,

@@ -12,7 +12,7 @@ use sky_plan::SkyPlan;
 use sql_bound::{Bound, Shape};
 
 /// Whether a join's limit is at most the square of the least overlap radius of these chunks, or of all where there is
-/// none; a refusal has the limit and that square, in squared grid units. Takes no memory.
+/// none; a refusal has the limit and that square, in squared grid units. Does not allocate.
 pub fn radius_ok(bound: &Bound, sky: &SkyPlan, chunks: &ChunkSet) -> Result<(), Radius>
     requires { All (λ c. c < chunk_count sky.now) chunks.now }
     ensures ok { IfOk result (λ _.

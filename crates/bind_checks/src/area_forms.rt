@@ -48,7 +48,7 @@ impl Gather for FirstBad {
     }
 }
 
-/// Where the word of the first area test stands that has not its form. Takes no memory.
+/// Where the word of the first area test stands that has not its form. Does not allocate.
 pub(crate) fn first_bad_area(query: &Query) -> Option<Span>
     ensures { option_map fault.AreaForm result ≡ area_form query.now }
 {

@@ -9,7 +9,7 @@ use sky_vector::{Dir, Pos, turn};
 use sql_bound::{AreaTest, SquaredRadius};
 use sql_tree::{AreaKind, IntList, SignedInt};
 
-/// The int as a number. Takes no memory.
+/// The int as a number. Does not allocate.
 pub fn int_value(int: &SignedInt) -> i64
     ensures { result ≡ int_value int.now }
 {
@@ -46,7 +46,7 @@ fn pos_of(x: &SignedInt, y: &SignedInt, z: &SignedInt) -> Option<Pos>
 }
 
 /// The test of an area function with these arguments, or `None` where they are not as many as it takes or outside their
-/// limits. Takes no memory.
+/// limits. Does not allocate.
 pub fn area_test(kind: AreaKind, args: &IntList) -> Option<AreaTest>
     ensures { result ≡ area_test kind (values_of args.now) }
 {

@@ -69,7 +69,7 @@ fn from_grouping(query: &Query, schema: &Schema) -> Option<BindFault>
     }
 }
 
-/// The first fault of a query over a schema. Takes no memory.
+/// The first fault of a query over a schema. Does not allocate.
 #[tactic(auto, unfolding(bind_rules::specs::Checks::bind_fault, crate::specs::Faults::from_grouping, crate::specs::Faults::from_join, crate::specs::Faults::from_areas, crate::specs::Faults::from_widths))]
 pub fn first_fault(query: &Query, schema: &Schema) -> Option<BindFault>
     ensures { result ≡ bind_fault schema.now query.now }

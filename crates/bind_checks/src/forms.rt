@@ -162,7 +162,7 @@ fn is_join_of(query: &Query, second: &TableRef) -> bool
         && !is_grouped(query)
 }
 
-/// Whether the query has the form of a join, or is none and has no chord test. Takes no memory.
+/// Whether the query has the form of a join, or is none and has no chord test. Does not allocate.
 #[tactic(auto, unfolding(bind_rules::specs::Forms::join_form))]
 pub(crate) fn has_join_form(query: &Query) -> bool
     ensures { join_form query.now ≡ (if result then None else Some fault.JoinForm) }

@@ -1,4 +1,4 @@
-//! The first place of a grouping that has no one value for a group.
+//! The first place of a grouped query that has no one value for a group.
 ghost use Rattle.std.specs.Prelude.{◌≡◌, not};
 ghost use Rattle.std.specs.List.{flat_map, list_any};
 ghost use Rattle.std.specs.Option.{option_map};
@@ -136,7 +136,7 @@ fn ungrouped_in_selection(query: &Query, items: &Selection) -> Option<Span>
     }
 }
 
-/// Where the star, or the first column, of a grouping stands that has no one value for a group. Takes no memory.
+/// Where the star, or the first column, of a grouped query stands that has no one value for a group. Does not allocate.
 #[tactic(auto, unfolding(bind_rules::specs::Names::not_grouped))]
 pub(crate) fn first_ungrouped(query: &Query) -> Option<Span>
     ensures { option_map NotGrouped result ≡ not_grouped query.now }

@@ -111,7 +111,7 @@ fn unknown_mention(query: &Query, schema: &Schema) -> Option<Span>
     }
 }
 
-/// Where the first name of a query stands that is not known; the order key is not looked at. Takes no memory.
+/// Where the first name of a query stands that is not known; the order key is not looked at. Does not allocate.
 pub(crate) fn first_unknown(query: &Query, schema: &Schema) -> Option<Span>
     ensures { option_map UnknownName result ≡ unknown_name schema.now query.now }
 {

@@ -55,7 +55,7 @@ fn place_in(name: &Name, items: &Selection) -> Option<usize>
     }
 }
 
-/// The place, from 0, of the first item whose alias the key is. Takes no memory.
+/// The place, from 0, of the first item whose alias the key is. Does not allocate.
 pub fn alias_place(query: &Query, col: &Col) -> Option<usize>
     ensures { result ≡ alias_place query.now col.now }
 {
@@ -97,7 +97,7 @@ fn bad_key(query: &Query, schema: &Schema, order: &OrderBy) -> Option<Span>
     }
 }
 
-/// Where the order key stands, if it is neither an alias nor a column to order by. Takes no memory.
+/// Where the order key stands, if it is neither an alias nor a column to order by. Does not allocate.
 #[tactic(auto, unfolding(bind_rules::specs::Checks::order_name))]
 pub(crate) fn bad_order_key(query: &Query, schema: &Schema) -> Option<Span>
     ensures { option_map OrderName result ≡ order_name schema.now query.now }

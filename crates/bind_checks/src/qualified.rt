@@ -42,7 +42,7 @@ fn are_cols_qualified(cols: &[Col]) -> bool
     first_of_columns(&Bare, cols).is_none()
 }
 
-/// Whether each column of a query, but for the order key, has a qualifier. Takes no memory.
+/// Whether each column of a query, but for the order key, has a qualifier. Does not allocate.
 #[tactic(auto, using(crate::proofs::QualifiedLaws::query_qualified))]
 pub(crate) fn is_query_qualified(query: &Query) -> bool
     ensures { result ≡ list_all (λ c. is_some c.table) (columns_in query.now) }

@@ -40,7 +40,7 @@ pub enum TestRef<'a> {
 
 /// What gathers something from tests, one after another.
 pub trait Gather {
-    /// Whether nothing was lost for want of memory.
+    /// Whether nothing was lost because an allocation failed.
     ghost kept: { Self → Bool };
 
     /// What it is after one more test.

@@ -23,7 +23,7 @@ impl ExprTest for Wide<'_> {
     }
 }
 
-/// Whether some number that the query computes may be above 2^100 in size. Takes no memory.
+/// Whether some number that the query computes may be above 2^100 in size. Does not allocate.
 #[tactic(auto, unfolding(bind_rules::specs::Checks::too_wide))]
 pub(crate) fn is_some_too_wide(query: &Query, schema: &Schema) -> bool
     ensures { (if result then Some TooWide else None) ≡ too_wide schema.now query.now }

@@ -117,6 +117,6 @@ abbrev pub by_fault : Option BindFault → Bound → Result Bound BindFault
 by_fault (Some f) b = Err f
 by_fault None b = Ok b
 
--- what a query comes to over the schema of these further columns
+-- what a query comes to over the schema of these extra columns
 unfoldable pub bound_of : List (List ℕ) → Query → Result Bound BindFault
 bound_of names q = by_fault (bind_fault names q) (bound_query (record { names = names; second = q.second }) q)

@@ -1,4 +1,4 @@
--- What the texts of worked examples are bound to, over a schema of two further columns.
+-- What the texts of worked examples are bound to, over a schema of two extra columns.
 use Rattle.std.specs.Prelude.{ℕ, pos, negsuc, true, false, List, [], ◌∷◌, Option, None, Some, Result, Ok, Err, codes}
 use Rattle.sky_vector.specs.declared.position.Pos.{Pos}
 use Rattle.sql_bound.specs.declared.area.AreaTest.TheVariants.{Band, Cap}

@@ -18,7 +18,7 @@ use Rattle.sql_tree.specs.declared.query.TableRef.{TableRef}
 use Rattle.table_rules.specs.Names.{column_names, column_of}
 use Rattle.bind_rules.specs.Columns.{qualifier}
 
--- What a query's names are read by: the further columns, and the second table of a join.
+-- What a query's names are read by: the extra columns, and the second table of a join.
 pub record Scope : Type 0 where
   pub names : List (List ℕ)
   pub second : Option TableRef

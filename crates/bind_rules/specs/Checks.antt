@@ -34,7 +34,7 @@ is_named n (Some a) = bytes_eq a.text n.text
 abbrev pub alias_place : Query → Col → Option ℕ
 alias_place q c = if is_some c.table then None else position (λ i. is_named c.name i.alias) (items_of q.items)
 
--- the key is a column to order by: of the table, or qualified in a join, or of a grouping one of its keys
+-- the key is a column to order by: of the table, or qualified in a join, or of a grouped query one of its keys
 abbrev pub is_sortable : List (List ℕ) → Query → Col → Bool
 is_sortable names q c =
     is_known names (tables q) c && (not (is_join q) || is_some c.table) && (not (is_grouped q) || is_key q c)
@@ -52,7 +52,7 @@ order_name names q = order_fault names q q.order
 
 -- ---- all checks
 
--- the first fault of a query over the schema of these further columns
+-- the first fault of a query over the schema of these extra columns
 unfoldable pub bind_fault : List (List ℕ) → Query → Option BindFault
 bind_fault names q =
     option_or (unknown_name names q) (option_or (not_grouped q) (option_or (join_form q) (option_or (area_form q)

@@ -1,4 +1,4 @@
--- Texts of worked examples, and their faults over a schema of two further columns.
+-- Texts of worked examples, and their faults over a schema of two extra columns.
 use Rattle.std.specs.Prelude.{ℕ, List, [], ◌∷◌, Option, None, Some, Result, Ok, Err, codes}
 use Rattle.sql_token.specs.declared.token.Span.{Span}
 use Rattle.sql_tree.specs.declared.query.Query.{Query}
@@ -7,7 +7,7 @@ use Rattle.bind_rules.specs.declared.fault.BindFault.{BindFault}
 use Rattle.sql_rules.specs.Trees.{tree_of}
 use Rattle.bind_rules.specs.Checks.{bind_fault}
 
--- the further columns
+-- the extra columns
 abbrev pub two_columns : List (List ℕ)
 two_columns = codes "flux" ∷ codes "g" ∷ []
 

@@ -1,4 +1,4 @@
--- Names that are not known, and columns of a grouping that are no keys.
+-- Names that are not known, and columns of a grouped query that are no keys.
 use Rattle.std.specs.Prelude.{ℕ, Bool, true, false, ◌&&◌, ◌||◌, not, if◌then◌else◌}
 use Rattle.std.specs.Prelude.{List, [], ◌∷◌, Option, None, Some, codes}
 use Rattle.std.specs.List.{list_any, find, flat_map}
@@ -69,7 +69,7 @@ ungrouped q (selection.List l) =
     option_map col_span
     (find (λ c. not (is_key q c)) (flat_map (λ i. plain_columns i.what) (items_of (selection.List l))))
 
--- the first place of a grouping that has no one value for a group
+-- the first place of a grouped query that has no one value for a group
 unfoldable pub not_grouped : Query → Option BindFault
 not_grouped q =
     if not (is_join q) && is_grouped q then option_map fault.NotGrouped (ungrouped q q.items) else None

@@ -86,7 +86,7 @@ pub fn too_wide()
     ensures zero_first { judged (codes "SELECT 0*flux*flux*flux FROM Object") ≡ Binds }
 {}
 
-/// The order key is an alias or a column, of a grouping one of its keys.
+/// The order key is an alias or a column, of a grouped query one of its keys.
 pub fn order_keys()
     ensures unknown { judged (codes "SELECT x FROM Object ORDER BY mag")
         ≡ Refused (OrderName (span 30 33)) }

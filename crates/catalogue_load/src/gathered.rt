@@ -48,7 +48,7 @@ fn next_row(
 #[derive(Drop)]
 pub(crate) struct Gathered {
     columns: Columns,
-    /// Where the further values of a record are read, before they are copied into its row.
+    /// Where the extra values of a record are read, before they are copied into its row.
     cells: Vec<Option<i64>>,
 }
 
@@ -106,7 +106,7 @@ impl Gathered {
         in_order(alloc, columns)
     }
 
-    /// The first fault of the rows and of the record behind them, which has this one; or want of memory.
+    /// The first fault of the rows and of the record behind them, which has this one; or an allocation failure.
     pub(crate) fn first_fault(&self, alloc: Global, behind: LoadFault) -> Stop<LoadFault>
         ensures { IfBad result (λ fault. IsFirstFault self.now.objects behind fault) }
     {

@@ -72,9 +72,9 @@ fn rows_under(
     }
 }
 
-/// Reads a catalogue from a text of at most 2^29 bytes: its rows in ascending id, or its first fault. Takes memory for the
-/// rows, for their ids where they don't ascend, and for the ids with their places to tell a fault of such rows; after an
-/// error nothing is kept.
+/// Reads a catalogue from a text of at most 2^29 bytes: its rows in ascending id, or its first fault. Allocates memory
+/// for the rows, for their ids where they don't ascend, and for the ids with their places to tell a fault of such rows;
+/// after an error nothing is kept.
 pub fn load(alloc: Global, text: &[u8]) -> Result<Rows, Stop<LoadFault>>
     requires { length text.now ≤ TEXT_MOST }
     ensures ok { IfOk result (λ rows. catalogue_of text.now ≡ Ok rows) }

@@ -43,7 +43,7 @@ fn copied_all(alloc: Global, all: &BoundAll) -> Result<BoundAll, AllocError>
     Ok(BoundAll { first, rest })
 }
 
-/// The same conditions once more. Takes memory for them.
+/// The same conditions once more. Allocates memory for them.
 #[cycle(again)]
 #[tactic(auto, using(crate::proofs::Loops::one_more))]
 pub(crate) fn copied_conds(alloc: Global, conds: &[BoundCond]) -> Result<BoundConds, AllocError>

@@ -14,7 +14,7 @@ use sql_bound::Bound;
 use sqlite_items::Items;
 use std::alloc::{AllocError, Global};
 
-/// What each chunk is asked, and how what the chunks give becomes the answer. Takes memory for both.
+/// What each chunk is asked, and how what the chunks give becomes the answer. Allocates memory for both.
 pub fn rewrite(alloc: Global, bound: &Bound) -> Result<Rewritten, Memory>
     ensures { IfOk result (λ cut. cut ≡ rewritten bound.now) }
 {

@@ -8,7 +8,7 @@ use sql_bound::{BoundAtom, BoundCol, BoundExpr, BoundFactor, BoundProd, BoundSig
 use sqlite_items::{Boxed, Items};
 use std::alloc::{AllocError, Global};
 
-/// The same expression once more. Takes memory for it.
+/// The same expression once more. Allocates memory for it.
 #[cycle(copied)]
 #[tactic(auto, using(crate::proofs::Layers::expr_again))]
 pub(crate) fn copied_expr(alloc: Global, e: &BoundExpr) -> Result<BoundExpr, AllocError>
@@ -103,7 +103,7 @@ fn copied_bracket(alloc: Global, e: &BoundExpr) -> Result<BoundAtom, AllocError>
     Ok(BoundAtom::Bracket(Boxed::new(alloc, inner)?))
 }
 
-/// A column as an expression. Takes no memory.
+/// A column as an expression. Does not allocate.
 #[tactic(auto, using(crate::proofs::Layers::col_alone))]
 pub(crate) fn of_col(alloc: Global, col: BoundCol) -> BoundExpr
     ensures { result ≡ of_col col }

@@ -85,7 +85,8 @@ fn put_row_part(alloc: Global, item: &BoundItem, chunk: &mut ChunkItems) -> Resu
     }
 }
 
-/// Puts the parts of an item of a grouping behind the others: an aggregate is its own part, and AVG a total and a count.
+/// Puts the parts of an item of a grouped query behind the others: an aggregate is its own part, and AVG a total and a
+/// count.
 #[tactic(auto, using(crate::proofs::Loops::nothing_more))]
 fn put_group_parts(
     alloc: Global,
@@ -154,7 +155,7 @@ fn merged_item(
     }
 }
 
-/// The same of an item of a grouping; a plain one is computed from the keys.
+/// The same of an item of a grouped query; a plain one is computed from the keys.
 fn merged_group_item(
     alloc: Global,
     item: &BoundItem,

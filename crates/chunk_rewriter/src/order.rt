@@ -98,7 +98,7 @@ fn merge_key(shape: &Shape, key: BoundKey) -> MergeKey
     }
 }
 
-/// What the merge of a grouping is ordered by.
+/// What the merge of a grouped query is ordered by.
 fn group_key(keys: &[BoundCol], key: BoundKey) -> MergeKey
     ensures { result ≡ group_key_of keys.now key }
 {

@@ -11,7 +11,7 @@ use sql_bound::{Int, Shape};
 use sqlite_items::Items;
 use std::alloc::{AllocError, Global};
 
-/// The same chunk query once more, with trees of its own. Takes memory for them.
+/// The same chunk query once more, with trees of its own. Allocates memory for them.
 pub fn copy_of(alloc: Global, query: &ChunkQuery) -> Result<ChunkQuery, Memory>
     ensures { IfOk result (λ copy. copy ≡ query.now) }
 {
@@ -35,7 +35,7 @@ fn copied_query(alloc: Global, query: &ChunkQuery) -> Result<ChunkQuery, AllocEr
     })
 }
 
-/// The same shape once more. Takes memory for its keys.
+/// The same shape once more. Allocates memory for its keys.
 pub(crate) fn copied_shape(alloc: Global, shape: &Shape) -> Result<Shape, AllocError>
     ensures { IfOk result (λ copy. copy ≡ shape.now) }
 {
@@ -87,7 +87,8 @@ fn copied_order(alloc: Global, order: &Option<ChunkOrder>) -> Result<Option<Chun
     }
 }
 
-/// The LIMIT of the chunk query: that of the query, and none of a grouping, whose groups may go on in other chunks.
+/// The LIMIT of the chunk query: that of the query, and none of a grouped query, whose groups may go on in other
+/// chunks.
 pub(crate) fn chunk_limit(shape: &Shape, limit: Option<Int>) -> Option<Int>
     ensures { result ≡ chunk_limit_of shape.now limit }
 {

@@ -21,8 +21,8 @@ use sky_io::Memory;
 use sky_vector::Num;
 use std::alloc::Global;
 
-/// The piece of the rows at these places, which have these keys. Takes memory for what the piece keeps, for a few words an
-/// item, and where the scratch has no vector with enough room.
+/// The piece of the rows at these places, which have these keys. Allocates memory for what the piece keeps, for a few
+/// words an item, and where the scratch has no vector with enough room.
 pub(crate) fn all_rows<'w>(
     alloc: Global,
     block: &Block,

@@ -25,8 +25,8 @@ use sky_row::Rows;
 use sql_bound::Shape;
 use std::alloc::Global;
 
-/// What the query finds in the chunk alone, whatever the scratch was used for before. Takes memory for what the piece keeps,
-/// for a few words a key and item, and where the scratch has no vector with enough room.
+/// What the query finds in the chunk alone, whatever the scratch was used for before. Allocates memory for what the
+/// piece keeps, for a few words a key and item, and where the scratch has no vector with enough room.
 pub fn scan<'w>(
     alloc: Global,
     store: &'w Store,

@@ -20,8 +20,8 @@ use sky_io::Memory;
 use sky_vector::Num;
 use std::alloc::Global;
 
-/// The values that the rows at these places are ordered by, if there is an order. Takes memory where the scratch has no
-/// vector with enough room.
+/// The values that the rows at these places are ordered by, if there is an order. Allocates memory where the scratch
+/// has no vector with enough room.
 pub(crate) fn keys<'a>(
     block: &'a Block,
     order: &Option<ChunkOrder>,
@@ -56,8 +56,8 @@ fn keys_by<'a>(
     Ok(Some(values(block, &order.key, places, &mut scratch.columns)?))
 }
 
-/// For each of these items its values on the rows at these places. Takes memory for a list of them, and where the scratch
-/// has no vector with enough room.
+/// For each of these items its values on the rows at these places. Allocates memory for a list of them, and where the
+/// scratch has no vector with enough room.
 pub(crate) fn columns<'a>(
     alloc: Global,
     block: &'a Block,
@@ -85,14 +85,14 @@ fn put<'a>(columns: &mut Vec<ValueList<'a>>, column: ValueList<'a>) -> Result<()
     Ok(columns.push(column)?)
 }
 
-/// Gives the values of the items back to the scratch. Takes no memory.
+/// Gives the values of the items back to the scratch. Does not allocate.
 pub(crate) fn give_back(columns: Vec<ValueList<'_>>, scratch: &mut Scratch) {
     for column in columns {
         column.give_back(&mut scratch.columns);
     }
 }
 
-/// Gives the values that rows are ordered by back to the scratch. Takes no memory.
+/// Gives the values that rows are ordered by back to the scratch. Does not allocate.
 pub(crate) fn give_keys_back(keys: Option<ValueList<'_>>, scratch: &mut Scratch) {
     if let Some(keys) = keys {
         keys.give_back(&mut scratch.columns);
@@ -128,7 +128,8 @@ fn key_at(keys: &Option<ValueList<'_>>, i: usize) -> Option<Num>
     }
 }
 
-/// The place in the order of the row with this number, which stands at this place among those of the block. Takes no memory.
+/// The place in the order of the row with this number, which stands at this place among those of the block. Does not
+/// allocate.
 pub(crate) fn rank_at(
     down: bool,
     keys: &Option<ValueList<'_>>,
@@ -143,8 +144,8 @@ pub(crate) fn rank_at(
     rank_of(down, &key_at(keys, i), ids[place as usize])
 }
 
-/// Puts the values of the items on the row with this number in place of what the list held. Takes memory only where it held
-/// fewer.
+/// Puts the values of the items on the row with this number in place of what the list held. Allocates memory only where
+/// it held fewer.
 pub(crate) fn fill_at(
     values: &mut Vec<Option<Num>>,
     columns: &[ValueList<'_>],

@@ -1,4 +1,4 @@
-//! The piece of a chunk query of rows with a LIMIT n: a row that comes behind n others is passed over.
+//! The piece of a chunk query of rows with a LIMIT n: a row that comes behind n others is skipped.
 
 ghost use Rattle.std.specs.Prelude.{◌≡◌, ◌+◌, ◌<◌, All, IfOk, OnOk, get_or, length, map};
 ghost use Rattle.sky_row.specs.Columns.{no_row, objects_at};
@@ -24,8 +24,8 @@ use sky_row::{Row, Rows};
 use sky_vector::Num;
 use std::alloc::Global;
 
-/// The piece of the rows at these places among those of the chunk, which have these keys. Takes memory for the values of one
-/// row, and for what the piece keeps.
+/// The piece of the rows at these places among those of the chunk, which have these keys. Allocates memory for the
+/// values of one row, and for what the piece keeps.
 pub(crate) fn first_rows<'w>(
     alloc: Global,
     block: &Block,
@@ -59,7 +59,7 @@ pub(crate) fn first_rows<'w>(
     Ok(piece)
 }
 
-/// Puts the row at this place, which has this rank, into the piece, or passes over it. `values` is room that is used again
+/// Puts the row at this place, which has this rank, into the piece, or skips it. `values` is room that is used again
 /// for each row.
 fn offer(
     piece: &mut Piece<'_>,

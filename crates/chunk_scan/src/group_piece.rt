@@ -33,8 +33,8 @@ use sky_io::Memory;
 use sql_bound::BoundCol;
 use std::alloc::Global;
 
-/// The piece of the groups of the rows at these places. Takes memory for what the piece keeps, for a few words a key and item,
-/// and where the scratch has no vector with enough room.
+/// The piece of the groups of the rows at these places. Allocates memory for what the piece keeps, for a few words a
+/// key and item, and where the scratch has no vector with enough room.
 pub(crate) fn piece_of_groups<'w>(
     alloc: Global,
     block: &Block,

@@ -14,7 +14,7 @@ use sky_row::Column;
 use sql_tree::Cmp;
 use table_rules::limits::FIRST_COLUMNS;
 
-/// Clears the mask where the answer is no. Takes no memory.
+/// Clears the mask where the answer is no. Does not allocate.
 pub(crate) fn keep_asked(block: &Block, test: Known, mask: &mut [bool])
     requires rows { length block.now.objects ≡ length mask.old }
     requires there { IsThere (FIRST_COLUMNS + block.now.width) test }
@@ -51,7 +51,7 @@ fn keep_compared(block: &Block, col: u32, op: Cmp, n: i64, mask: &mut [bool])
     }
 }
 
-/// The same of a further column, where NULL is kept as 0.
+/// The same of a extra column, where NULL is kept as 0.
 #[tactic(auto, using(crate::proofs::Kernels::further_compared))]
 fn keep_compared_further(column: &Column, op: Cmp, n: i64, mask: &mut [bool])
     requires rows { length column.now ≡ length mask.old }
@@ -80,7 +80,7 @@ fn keep_range(block: &Block, col: u32, low: i64, high: i64, mask: &mut [bool])
     }
 }
 
-/// The same of a further column.
+/// The same of a extra column.
 #[tactic(auto, using(crate::proofs::Kernels::further_ranged))]
 fn keep_range_further(column: &Column, low: i64, high: i64, mask: &mut [bool])
     requires rows { length column.now ≡ length mask.old }
@@ -106,7 +106,7 @@ fn keep_there(block: &Block, col: u32, mask: &mut [bool])
     }
 }
 
-/// Keeps where the further column has a value.
+/// Keeps where the extra column has a value.
 #[tactic(auto, using(crate::proofs::Kernels::all_valued, crate::proofs::Kernels::valued_there))]
 fn keep_valued(column: &Column, mask: &mut [bool])
     requires rows { length column.now ≡ length mask.old }
@@ -134,7 +134,7 @@ fn keep_missing(block: &Block, col: u32, mask: &mut [bool])
     }
 }
 
-/// Keeps where the further column has no value.
+/// Keeps where the extra column has no value.
 #[tactic(auto, using(crate::proofs::Kernels::none_missing, crate::proofs::Kernels::missing_there))]
 fn keep_null(column: &Column, mask: &mut [bool])
     requires rows { length column.now ≡ length mask.old }

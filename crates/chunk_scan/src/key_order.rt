@@ -90,7 +90,7 @@ fn mix(numbers: &mut [u64], block: &Block, col: u32, places: &[u32])
     }
 }
 
-/// The same of a further column: its presence and its numbers.
+/// The same of a extra column: its presence and its numbers.
 fn mix_further(numbers: &mut [u64], column: &Column, places: &[u32])
     requires len { length numbers.old ≡ length places.now }
     requires there { All (λ place. place < length column.now) places.now }

@@ -91,7 +91,7 @@ pub(crate) fn first_value(
     }
 }
 
-/// Puts these values into an empty list with room for one of each row. Takes no memory.
+/// Puts these values into an empty list with room for one of each row. Does not allocate.
 fn put_lead(lead: &mut Vec<Option<i64>>, block: &Block, keys: &[BoundCol], places: &[u32])
     requires empty { lead.old.items ≡ [] }
     requires room { length places.now ≤ vec_capacity lead.old }
@@ -105,7 +105,7 @@ fn put_lead(lead: &mut Vec<Option<i64>>, block: &Block, keys: &[BoundCol], place
     }
 }
 
-/// Puts the values of a key column at these places behind the others. Takes no memory.
+/// Puts the values of a key column at these places behind the others. Does not allocate.
 fn put_cells(lead: &mut Vec<Option<i64>>, block: &Block, key: &BoundCol, places: &[u32])
     requires room { vec_len lead.old + length places.now ≤ vec_capacity lead.old }
     requires there { All (λ place. place < length block.now.objects) places.now }

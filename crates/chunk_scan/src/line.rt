@@ -17,7 +17,7 @@ use sky_io::Memory;
 use sky_row::Row;
 use sky_vector::Num;
 
-/// The place in the order of a row with this key and this id. Takes no memory.
+/// The place in the order of a row with this key and this id. Does not allocate.
 pub(crate) fn rank_of(down: bool, key: &Option<Num>, id: i64) -> Rank
     ensures { result ≡ rank_by down key.now id }
 {
@@ -29,7 +29,8 @@ pub(crate) fn rank_of(down: bool, key: &Option<Num>, id: i64) -> Rank
     }
 }
 
-/// Puts the values of the items in place of what the list held; `None` is NULL. Takes memory only where it held fewer.
+/// Puts the values of the items in place of what the list held; `None` is NULL. Allocates memory only where it held
+/// fewer.
 pub(crate) fn fill(
     values: &mut Vec<Option<Num>>,
     items: &[ChunkItem],
@@ -65,7 +66,7 @@ fn cell(item: &ChunkItem, first: &Row) -> Option<Num>
     }
 }
 
-/// Whether the order goes down. Takes no memory.
+/// Whether the order is descending. Does not allocate.
 pub(crate) fn is_down(order: &Option<ChunkOrder>) -> bool
     ensures { result ≡ chunk_down order.now }
 {
@@ -82,7 +83,7 @@ fn class(down: bool, key: &Option<Num>) -> u8
     if key.is_none() == down { 1 } else { 0 }
 }
 
-/// The number of a key's rank, which turns round where the order goes down.
+/// The number of a key's rank, which turns round where the order is descending.
 fn number(down: bool, key: &Option<Num>) -> i128
     ensures { result ≡ rank_value down key.now }
 {
@@ -92,7 +93,7 @@ fn number(down: bool, key: &Option<Num>) -> i128
     }
 }
 
-/// The number, or its opposite where the order goes down.
+/// The number, or its opposite where the order is descending.
 fn turned(down: bool, n: &Num) -> i128
     ensures { result ≡ rank_value down (Some n.now) }
 {

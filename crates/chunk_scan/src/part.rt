@@ -13,8 +13,8 @@ use column_eval::ValueList;
 use partial_merge::Tally;
 use sky_io::Memory;
 
-/// The parts of the rows from one place up to another, for these aggregates, in place of what the list held. `worths` has
-/// for each aggregate the values of its expression on all rows. Takes memory only where the list held fewer.
+/// The parts of the rows from one place up to another, for these aggregates, in place of what the list held. `worths`
+/// has for each aggregate the values of its expression on all rows. Allocates memory only where the list held fewer.
 pub(crate) fn fill(
     parts: &mut Vec<Tally>,
     items: &[ChunkItem],

@@ -5,7 +5,7 @@ ghost use Rattle.sky_row.specs.Columns.{no_row, objects_at};
 
 use sky_row::{Row, Rows};
 
-/// The row at this place among those at the chunk's places. Takes no memory.
+/// The row at this place among those at the chunk's places. Does not allocate.
 pub(crate) fn row_at(rows: &Rows, own: &[u32], place: u32) -> Row
     requires own { All (λ place. place < length rows.now.objects) own.now }
     requires there { place < length own.now }

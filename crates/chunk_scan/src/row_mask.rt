@@ -19,8 +19,8 @@ use sky_io::Memory;
 use sql_bound::BoundCond;
 use std::alloc::Global;
 
-/// A truth for each row of the chunk, in the order of its rows in the table: that the row meets all conditions of the query.
-/// Takes memory for a truth and a place a row, and for what the evaluator needs.
+/// A truth for each row of the chunk, in the order of its rows in the table: that the row meets all conditions of the
+/// query. Allocates memory for a truth and a place a row, and for what the evaluator needs.
 #[tactic(auto, using(crate::proofs::Found::block_few))]
 pub fn mask(
     alloc: Global,

@@ -61,7 +61,7 @@ fn mark(starts: &mut [bool], block: &Block, col: u32, places: &[u32])
     }
 }
 
-/// The same of a further column: its numbers and its presence, of which NULL and 0 share the number alone.
+/// The same of a extra column: its numbers and its presence, of which NULL and 0 share the number alone.
 fn mark_further(starts: &mut [bool], column: &Column, places: &[u32])
     requires len { length starts.old ≡ length places.now }
     requires there { All (λ place. place < length column.now) places.now }

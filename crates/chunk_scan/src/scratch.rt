@@ -20,7 +20,7 @@ pub struct Scratch {
 }
 
 impl Scratch {
-    /// A scratch without vectors. Takes no memory.
+    /// A scratch without vectors. Does not allocate.
     pub fn new(alloc: Global) -> Scratch {
         Scratch {
             columns: Columns::new(alloc),

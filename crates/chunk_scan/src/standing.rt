@@ -163,7 +163,7 @@ fn keep_holding(
     Ok(())
 }
 
-/// Keeps the places at which the mask is true, in their order. Takes no memory.
+/// Keeps the places at which the mask is true, in their order. Does not allocate.
 fn keep_true(places: &mut Vec<u32>, mask: &[bool])
     requires { length mask.now ≡ length places.old.items }
     ensures { (test : ℕ → Bool) → mask.now ≡ map test places.old.items

@@ -1,4 +1,4 @@
-//! The values that the aggregates of a grouping go over, a column at a time.
+//! The values that the aggregates of a grouped query go over, a column at a time.
 
 ghost use Rattle.std.specs.Prelude.{◌≡◌, ◌+◌, ◌++◌, ◌∷◌, [], ◌<◌, All, IfOk, IsTrue, OnOk, Some, false, length, map};
 ghost use Rattle.std.specs.List.{list_all};
@@ -16,8 +16,9 @@ use sky_io::Memory;
 use sql_bound::BoundExpr;
 use std::alloc::Global;
 
-/// For each of these aggregates the values of its expression on the rows at these places, `listed` where they are read run by
-/// run; COUNT(*) has none. Takes memory for a list of them, and where the scratch has no vector with enough room.
+/// For each of these aggregates the values of its expression on the rows at these places, `listed` where they are read
+/// run by run; COUNT(*) has none. Allocates memory for a list of them, and where the scratch has no vector with enough
+/// room.
 pub(crate) fn worths<'a>(
     alloc: Global,
     block: &'a Block,
@@ -49,7 +50,7 @@ fn push<'a>(
     Ok(worths.push(worth)?)
 }
 
-/// Gives the values back to the scratch. Takes no memory.
+/// Gives the values back to the scratch. Does not allocate.
 pub(crate) fn give_back(worths: Vec<Option<ValueList<'_>>>, scratch: &mut Scratch) {
     for worth in worths {
         if let Some(found) = worth {

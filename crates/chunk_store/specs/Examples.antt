@@ -4,7 +4,7 @@ use Rattle.table_rules.specs.Objects.{Obj, Catalogue}
 use Rattle.sky_rules.specs.Partition.{Partition}
 use Rattle.sky_rules.specs.Examples.{north, south}
 
--- a row without further values
+-- a row without extra values
 abbrev pub row : ℤ → ℤ → ℤ → ℤ → Obj
 row id x y z = record { id = id; at = record { x = x; y = y; z = z }; further = [] }
 

@@ -20,7 +20,7 @@ use table_rules::limits::FIRST_COLUMNS;
 /// worth the walk over all blocks.
 const ROWS_A_TURN: usize = 64;
 
-/// The block of each of the chunks, in their order. Takes memory for their columns.
+/// The block of each of the chunks, in their order. Allocates memory for their columns.
 pub(crate) fn blocks_of(
     alloc: Global,
     rows: &Rows,

@@ -79,14 +79,14 @@ impl Lists {
         })
     }
 
-    /// How many lists there are, at most 16,384. Takes no memory.
+    /// How many lists there are, at most 16,384. Does not allocate.
     pub fn len(&self) -> u32
         ensures { result ≡ length self.now }
     {
         self.lists.len() as u32
     }
 
-    /// The list with this number, from 0. Takes no memory.
+    /// The list with this number, from 0. Does not allocate.
     pub fn of(&self, chunk: u32) -> &[u32]
         requires { chunk < length self.now }
         ensures { result.now ≡ get_or self.now chunk [] }

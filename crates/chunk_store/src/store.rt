@@ -47,8 +47,8 @@ impl Model for Store {
 }
 
 impl Store {
-    /// The store of a catalogue's rows under a plan. Takes memory for a number a row and for each chunk that it is near, and
-    /// for each column once more; where there is none, plan and rows are dropped.
+    /// The store of a catalogue's rows under a plan. Allocates memory for a number a row and for each chunk that it is
+    /// near, and for each column once more; where there is none, plan and rows are dropped.
     #[tactic(auto, using(crate::proofs::Filled::filled_of, crate::proofs::ChunkBlocks::chunks_there, crate::proofs::ChunkBlocks::lists_there, crate::proofs::ChunkBlocks::blocks_stored))]
     pub fn build(alloc: Global, plan: SkyPlan, rows: Rows) -> Result<Store, Memory>
         ensures { IfOk result (λ store. store ≡ record { plan = plan; rows = rows }) }
@@ -66,21 +66,21 @@ impl Store {
         })
     }
 
-    /// The plan of the sky. Takes no memory.
+    /// The plan of the sky. Does not allocate.
     pub fn plan(&self) -> &SkyPlan
         ensures { result.now ≡ self.now.plan }
     {
         &self.plan
     }
 
-    /// The rows, in ascending id. Takes no memory.
+    /// The rows, in ascending id. Does not allocate.
     pub fn rows(&self) -> &Rows
         ensures { result.now ≡ self.now.rows }
     {
         &self.rows
     }
 
-    /// The chunks that hold a row, ascending. Takes no memory.
+    /// The chunks that hold a row, ascending. Does not allocate.
     pub fn filled(&self) -> &[u32]
         ensures value { result.now ≡ filled_chunks self.now.plan self.now.rows.objects }
         ensures there { All (λ chunk. chunk < chunk_count self.now.plan) result.now }
@@ -98,7 +98,7 @@ impl Store {
         self.filled.as_slice()
     }
 
-    /// The places of a chunk's rows, ascending. Takes no memory.
+    /// The places of a chunk's rows, ascending. Does not allocate.
     #[tactic(auto, using(crate::proofs::Ranges::places_there))]
     pub fn chunk(&self, chunk: u32) -> &[u32]
         requires { chunk < chunk_count self.now.plan }
@@ -109,7 +109,7 @@ impl Store {
         self.own.of(chunk)
     }
 
-    /// The columns of a chunk's rows, in the order of their places, where the chunk holds a row. Takes no memory.
+    /// The columns of a chunk's rows, in the order of their places, where the chunk holds a row. Does not allocate.
     #[tactic(auto, using(crate::proofs::ChunkBlocks::block_places))]
     pub fn block(&self, chunk: u32) -> &Block
         requires there { chunk < chunk_count self.now.plan }
@@ -131,7 +131,7 @@ impl Store {
         slot_of(self.filled(), chunk)
     }
 
-    /// The places, ascending, of the rows in a chunk's near region that are not in it. Takes no memory.
+    /// The places, ascending, of the rows in a chunk's near region that are not in it. Does not allocate.
     #[tactic(auto, using(crate::proofs::Ranges::places_there))]
     pub fn full_overlap(&self, chunk: u32) -> &[u32]
         requires { chunk < chunk_count self.now.plan }
@@ -142,7 +142,7 @@ impl Store {
         self.overlap.of(chunk)
     }
 
-    /// The places of a subchunk's rows, ascending. Takes memory for them.
+    /// The places of a subchunk's rows, ascending. Allocates memory for them.
     pub fn sub(&self, alloc: Global, chunk: u32, sub: u32) -> Result<Vec<u32>, Memory>
         requires chunk { chunk < chunk_count self.now.plan }
         requires sub { sub < sub_count self.now.plan chunk }
@@ -159,8 +159,8 @@ impl Store {
         Ok(places)
     }
 
-    /// The places of the rows of each of a chunk's subchunks, ascending, by the subchunks' numbers: in one pass over the chunk's
-    /// rows. Takes memory for a list a subchunk, and for the places.
+    /// The places of the rows of each of a chunk's subchunks, ascending, by the subchunks' numbers: in one pass over
+    /// the chunk's rows. Allocates memory for a list a subchunk, and for the places.
     pub fn subs(&self, alloc: Global, chunk: u32) -> Result<Lists, Memory>
         requires { chunk < chunk_count self.now.plan }
         ensures value { IfOk result (λ subs.
@@ -184,8 +184,8 @@ impl Store {
         self.plan.sub_of(&self.rows.position(place))
     }
 
-    /// The places, ascending, of those rows of a subchunk's chunk and of the chunk's full overlap that are in the subchunk's
-    /// near region and not in the subchunk. Takes memory for them.
+    /// The places, ascending, of those rows of a subchunk's chunk and of the chunk's full overlap that are in the
+    /// subchunk's near region and not in the subchunk. Allocates memory for them.
     pub fn sub_overlap(&self, alloc: Global, chunk: u32, sub: u32) -> Result<Vec<u32>, Memory>
         requires chunk { chunk < chunk_count self.now.plan }
         requires sub { sub < sub_count self.now.plan chunk }

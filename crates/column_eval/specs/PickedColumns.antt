@@ -11,7 +11,7 @@ first_col col = record { second = false; col = col }
 abbrev pub numbers_at : List ℤ → List ℕ → List ℤ
 numbers_at values places = map (λ place. get_or values place (pos 0)) places
 
--- Numbers of a further column, and places at which there is one.
+-- Numbers of a extra column, and places at which there is one.
 pub record IsPickedColumn (values : List ℤ) (places : List ℕ) : Type 0 where
   pub there : All (λ place. place < length values) places
   pub fits : All (λ z. nat_abs z ≤ FURTHER_MOST) values

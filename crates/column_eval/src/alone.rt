@@ -13,8 +13,8 @@ use column_block::Block;
 use sql_bound::{BoundAtom, BoundCol, BoundExpr};
 use table_rules::limits::FIRST_COLUMNS;
 
-/// The column of the first row that the expression is, by its number; none only where it is not written as a column alone.
-/// Takes no memory.
+/// The column of the first row that the expression is, by its number; none only where it is not written as a column
+/// alone. Does not allocate.
 pub fn column_of(e: &BoundExpr) -> Option<u32>
     ensures some { IfSome result (λ col. term_of e.now ≡ Column (first_col col)) }
     ensures none { IfNone result ((col : ℕ) → e.now ≢ just (Col (first_col col))) }
@@ -37,7 +37,7 @@ fn first_column(col: &BoundCol) -> Option<u32>
     if col.second { None } else { Some(col.col) }
 }
 
-/// The numbers of the further column that the expression is, where none is NULL.
+/// The numbers of the extra column that the expression is, where none is NULL.
 pub(crate) fn whole_column<'a>(block: &'a Block, e: &BoundExpr) -> Option<&'a [i64]>
     requires sound { IsTrue
         (is_sound_expr (has_col (FIRST_COLUMNS + block.now.width) false) e.now) }

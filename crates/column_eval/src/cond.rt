@@ -20,8 +20,8 @@ use column_block::Block;
 use sky_io::Memory;
 use sql_bound::{BoundAll, BoundAny, BoundCond, BoundPred};
 
-/// The truths of the condition on the rows of the block at the picked places, counted from 0, in the order of the places;
-/// `None` is unknown. Takes memory for each node of the condition, where the scratch has no free vector.
+/// The truths of the condition on the rows of the block at the picked places, counted from 0, in the order of the
+/// places; `None` is unknown. Allocates memory for each node of the condition, where the scratch has no free vector.
 pub fn truths(
     block: &Block,
     c: &BoundCond,

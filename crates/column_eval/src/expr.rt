@@ -21,9 +21,9 @@ use column_block::Block;
 use sky_io::Memory;
 use sql_bound::{BoundAtom, BoundCol, BoundExpr, BoundFactor, BoundProd, Int};
 
-/// The values of the expression on the rows of the block at the picked places, counted from 0, in the order of the places;
-/// `None` is NULL. A further column without a NULL is read where it stands, as its values are asked for; for another
-/// expression it takes memory for each node, where the scratch has no free vector.
+/// The values of the expression on the rows of the block at the picked places, counted from 0, in the order of the
+/// places; `None` is NULL. A extra column without a NULL is read where it stands, as its values are asked for; for
+/// another expression it allocates memory for each node, where the scratch has no free vector.
 pub fn values<'a>(
     block: &'a Block,
     e: &BoundExpr,
@@ -42,8 +42,8 @@ pub fn values<'a>(
     }
 }
 
-/// The same, each value in a list: for values that are read one by one, with much else done in between. Takes memory for each
-/// node of the expression, where the scratch has no free vector.
+/// The same, each value in a list: for values that are read one by one, with much else done in between. Allocates
+/// memory for each node of the expression, where the scratch has no free vector.
 pub fn listed_values<'a>(
     block: &'a Block,
     e: &BoundExpr,

@@ -86,8 +86,8 @@ impl Join for Times {
     }
 }
 
-/// The numbers on the left, each joined with the one of its place on the right, of which none is above the bound in size.
-/// They are in 64 bits where both sides are and the bound fits, and else in 128. Takes memory for those.
+/// The numbers on the left, each joined with the one of its place on the right, of which none is above the bound in
+/// size. They are in 64 bits where both sides are and the bound fits, and else in 128. Allocates memory for those.
 pub(crate) fn joined<J: Join>(
     join: &J,
     left: Numbers,

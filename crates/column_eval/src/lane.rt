@@ -41,8 +41,8 @@ impl Lane {
     }
 }
 
-/// The two joined, row by row: NULL where one of them is. None is above the bound in size. Takes memory where the numbers
-/// become too large for 64 bits.
+/// The two joined, row by row: NULL where one of them is. None is above the bound in size. Allocates memory where the
+/// numbers become too large for 64 bits.
 pub(crate) fn lanes_joined<J: Join>(
     join: &J,
     left: Lane,

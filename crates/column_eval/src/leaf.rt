@@ -14,7 +14,7 @@ use sky_row::Column;
 use sky_vector::limits::COORDINATE_MOST;
 use table_rules::limits::{FURTHER_MOST, ID_MOST};
 
-/// A number, the same on each of so many rows. Takes memory for its flags.
+/// A number, the same on each of so many rows. Allocates memory for its flags.
 pub(crate) fn literal(n: i64, count: usize, scratch: &mut Scratch) -> Result<Lane, Memory>
     ensures { IfOk result (λ lane. IsRepeated n count lane) }
 {
@@ -26,7 +26,7 @@ pub(crate) fn literal(n: i64, count: usize, scratch: &mut Scratch) -> Result<Lan
     })
 }
 
-/// A column of a block by its number, at these places. Takes memory for it.
+/// A column of a block by its number, at these places. Allocates memory for it.
 pub(crate) fn read(
     block: &Block,
     places: &[u32],
@@ -47,7 +47,7 @@ pub(crate) fn read(
     }
 }
 
-/// The numbers of a column that has one for each row, at these places. Takes memory for them.
+/// The numbers of a column that has one for each row, at these places. Allocates memory for them.
 pub(crate) fn whole(
     values: &[i64],
     places: &[u32],
@@ -85,7 +85,7 @@ pub(crate) fn whole_short(
     })
 }
 
-/// The numbers of a further column at these places, and where it has one. Takes memory for them.
+/// The numbers of a extra column at these places, and where it has one. Allocates memory for them.
 pub(crate) fn further(
     column: &Column,
     places: &[u32],
@@ -113,7 +113,7 @@ pub(crate) fn numbers_if_whole(column: &Column) -> Option<&[i64]>
     }
 }
 
-/// Where a further column has a value, of these places, in an empty vector that has room for them.
+/// Where a extra column has a value, of these places, in an empty vector that has room for them.
 fn known(column: &Column, places: &[u32], found: Vec<bool>) -> Vec<bool>
     requires there { All (λ place. place < length column.now) places.now }
     requires empty { found.items ≡ [] }

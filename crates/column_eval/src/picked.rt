@@ -57,7 +57,7 @@ impl<'a> Picked<'a> {
         self.places.len()
     }
 
-    /// A column of the rows by its number. Takes memory for it.
+    /// A column of the rows by its number. Allocates memory for it.
     pub(crate) fn read(&self, col: u32, scratch: &mut Scratch) -> Result<Lane, Memory>
         requires { col < FIRST_COLUMNS + self.now.width }
         ensures { IfOk result (IsLane self.now.objects

@@ -13,7 +13,7 @@ pub struct Scratch {
 }
 
 impl Scratch {
-    /// A scratch without vectors. Takes no memory.
+    /// A scratch without vectors. Does not allocate.
     pub fn new(alloc: Global) -> Scratch {
         Scratch {
             narrow: Pool::new(alloc),
@@ -31,7 +31,7 @@ pub struct Pool<T> {
 }
 
 impl<T: Copy> Pool<T> {
-    /// No vectors. Takes no memory.
+    /// No vectors. Does not allocate.
     pub fn new(alloc: Global) -> Pool<T> {
         Pool {
             alloc,
@@ -39,8 +39,8 @@ impl<T: Copy> Pool<T> {
         }
     }
 
-    /// An empty vector with room for so many items: one that is free, or a new one. Takes memory where there is none, or
-    /// where it has less room.
+    /// An empty vector with room for so many items: one that is free, or a new one. Allocates memory where there is
+    /// none, or where it has less room.
     pub fn take(&mut self, count: usize) -> Result<Vec<T>, Memory>
         ensures empty { IfOk result (λ found. found.items ≡ []) }
         ensures room { IfOk result (λ found. count ≤ vec_capacity found) }

@@ -39,14 +39,14 @@ impl TruthList {
         }
     }
 
-    /// How many rows there are. Takes no memory.
+    /// How many rows there are. Does not allocate.
     pub fn len(&self) -> usize
         ensures { result ≡ length self.now }
     {
         self.true_on.len()
     }
 
-    /// The truth of the row with this number, from 0; `None` is unknown. Takes no memory.
+    /// The truth of the row with this number, from 0; `None` is unknown. Does not allocate.
     pub fn get(&self, i: usize) -> Option<bool>
         requires { i < length self.now }
         ensures { result ≡ get_or self.now i None }
@@ -54,14 +54,14 @@ impl TruthList {
         truth_at(self.true_on.as_slice(), self.false_on.as_slice(), i)
     }
 
-    /// On which rows it is true, and not unknown. Takes no memory.
+    /// On which rows it is true, and not unknown. Does not allocate.
     pub fn holds(&self) -> &[bool]
         ensures { result.now ≡ map is_true self.now }
     {
         self.true_on.as_slice()
     }
 
-    /// Gives the vectors back to the scratch, for the next evaluation. Takes no memory.
+    /// Gives the vectors back to the scratch, for the next evaluation. Does not allocate.
     pub fn give_back(self, scratch: &mut Scratch) {
         scratch.flags.give(self.true_on);
         scratch.flags.give(self.false_on);

@@ -58,7 +58,7 @@ impl<'a> ValueList<'a> {
         }
     }
 
-    /// How many rows there are. Takes no memory.
+    /// How many rows there are. Does not allocate.
     pub fn len(&self) -> usize
         ensures { result ≡ length self.now }
     {
@@ -68,7 +68,7 @@ impl<'a> ValueList<'a> {
         }
     }
 
-    /// The value of the row with this number, from 0; `None` is NULL. Takes no memory.
+    /// The value of the row with this number, from 0; `None` is NULL. Does not allocate.
     pub fn get(&self, i: usize) -> Option<i128>
         requires { i < length self.now }
         ensures { result ≡ get_or self.now i None }
@@ -79,7 +79,7 @@ impl<'a> ValueList<'a> {
         }
     }
 
-    /// How many of the values from one place up to another are not NULL. Takes no memory.
+    /// How many of the values from one place up to another are not NULL. Does not allocate.
     pub fn count(&self, from: usize, to: usize) -> u32
         requires order { from ≤ to }
         requires there { to ≤ length self.now }
@@ -92,7 +92,7 @@ impl<'a> ValueList<'a> {
         }
     }
 
-    /// Their sum, 0 where there is none. Takes no memory.
+    /// Their sum, 0 where there is none. Does not allocate.
     pub fn sum(&self, from: usize, to: usize) -> i128
         requires order { from ≤ to }
         requires there { to ≤ length self.now }
@@ -105,7 +105,7 @@ impl<'a> ValueList<'a> {
         }
     }
 
-    /// The least of them, if there is one. Takes no memory.
+    /// The least of them, if there is one. Does not allocate.
     pub fn least(&self, from: usize, to: usize) -> Option<i128>
         requires order { from ≤ to }
         requires there { to ≤ length self.now }
@@ -114,7 +114,7 @@ impl<'a> ValueList<'a> {
         self.chosen(&Lesser, from, to)
     }
 
-    /// The greatest of them, if there is one. Takes no memory.
+    /// The greatest of them, if there is one. Does not allocate.
     pub fn greatest(&self, from: usize, to: usize) -> Option<i128>
         requires order { from ≤ to }
         requires there { to ≤ length self.now }
@@ -136,7 +136,7 @@ impl<'a> ValueList<'a> {
         }
     }
 
-    /// Gives the vectors back to the scratch, for the next evaluation. Takes no memory.
+    /// Gives the vectors back to the scratch, for the next evaluation. Does not allocate.
     pub fn give_back(self, scratch: &mut Scratch) {
         match self.source {
             Source::Lane(lane) => lane.give_back(scratch),

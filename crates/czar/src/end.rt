@@ -26,7 +26,7 @@ pub enum End {
 }
 
 impl End {
-    /// How the query ended. Takes no memory.
+    /// How the query ended. Does not allocate.
     pub fn kind(&self) -> EndKind
         ensures { result ≡ kind_of self.now }
     {

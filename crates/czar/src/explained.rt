@@ -81,7 +81,7 @@ fn put_block<K: Sink>(
     )
 }
 
-/// Writes what explains a script. Takes no memory.
+/// Writes what explains a script. Does not allocate.
 pub fn put_explained<K: Sink>(
     sink: &mut K,
     world: &Store,

@@ -39,8 +39,8 @@ pub enum Plan {
     Refused(Refusal),
 }
 
-/// The plans of a script's queries, in their order; lines that wait or cancel are passed over. Takes memory for them. Nothing
-/// is run.
+/// The plans of a script's queries, in their order; lines that wait or cancel are skipped. Allocates memory for them.
+/// Nothing is run.
 pub fn explain(alloc: Global, world: &Store, script: &Script<'_>) -> Result<Vec<Plan>, Memory>
     ensures { IfOk result (λ plans.
         ArePlans world.now.plan world.now.rows (query_lines script.now) plans.items) }
@@ -116,7 +116,7 @@ fn plan_known(alloc: Global, world: &Store, tree: Query, bound: &Bound) -> Resul
     }
 }
 
-/// The chunks that the query needs. Where it has id tests, it takes memory for an index of the ids.
+/// The chunks that the query needs. Where it has id tests, it allocates memory for an index of the ids.
 fn chunks_of(alloc: Global, world: &Store, bound: &Bound) -> Result<ChunkSet, Memory>
     ensures plan { IfOk result (λ chunks.
         chunks ≡ plan_of world.now.plan world.now.rows.objects bound.now) }

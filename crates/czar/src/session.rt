@@ -34,10 +34,10 @@ use std::alloc::Global;
 use std::sync::Wait;
 use std::thread::Threads;
 
-/// Runs the queries of a script over a shared board, with so many workers on threads beside the caller, who works too while
-/// he waits. Who takes a chunk passes the gate before the work on it. Takes memory, and waits; each answer is made before any
-/// of it is written. Wait lines and cancel lines are obeyed in the order of the script; a query whose own work wants for memory
-/// ends as spent, and the others go on.
+/// Runs the queries of a script over a shared board, with so many workers on threads beside the caller, who works too
+/// while he waits. Who takes a chunk passes the gate before the work on it. Allocates memory, and waits; each answer is
+/// made before any of it is written. Wait lines and cancel lines are obeyed in the order of the script; a query whose
+/// own work wants for memory ends as spent, and the others go on.
 pub fn run_session<R: Threads + Wait + Sync, G: Gate + Sync>(
     alloc: Global,
     rt: &R,
@@ -198,7 +198,7 @@ impl<'s, 't, R: Threads + Wait + Sync, G: Gate + Sync> Session<'s, 't, R, G> {
     }
 }
 
-/// What a store tells of itself: its plan and its rows are within the limits. Takes no memory.
+/// What a store tells of itself: its plan and its rows are within the limits. Does not allocate.
 fn know(world: &Store)
     ensures sky { IsSky world.now.plan }
     ensures rows { IsCatalogue world.now.rows }

@@ -85,7 +85,7 @@ fn put_block<K: Sink>(
     )
 }
 
-/// Writes the transcript of a script whose queries ended so. Takes no memory.
+/// Writes the transcript of a script whose queries ended so. Does not allocate.
 pub fn put_transcript<K: Sink>(
     sink: &mut K,
     world: &Store,

@@ -22,7 +22,7 @@ pub enum Understanding {
     Unknown(Refusal),
 }
 
-/// What is understood of a line of at most 16,384 bytes, over the schema. Takes memory for the trees.
+/// What is understood of a line of at most 16,384 bytes, over the schema. Allocates memory for the trees.
 pub(crate) fn understand(
     alloc: Global,
     schema: &Schema,

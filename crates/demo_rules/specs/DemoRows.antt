@@ -49,7 +49,7 @@ pub record StandsAt (seed i : ℕ) (at : Point) : Type 0 where
   pub long : IsRoot (nat_abs (square (lean_x seed i) +ℤ square (lean_y seed i))) h
   pub is : at ≡ leaning_point (height seed i) (lean_x seed i) (lean_y seed i) t h
 
--- the further values of object i: its flux and its kind
+-- the extra values of object i: its flux and its kind
 abbrev pub further_values : ℕ → ℕ → List (Option ℤ)
 further_values seed i = Some (pos (draw_of seed i 4 % FLUXES)) ∷ Some (pos (draw_of seed i 5 % KINDS)) ∷ []
 

@@ -19,7 +19,7 @@ pick_of first second = record { first = first; second = option_copied second }
 abbrev pub is_there : Pick → BoundCol → Bool
 is_there p = has_col (FIRST_COLUMNS + length p.first.further) (is_some p.second)
 
--- the second row of a pair has as many further values as the first
+-- the second row of a pair has as many extra values as the first
 abbrev pub AreOfOneTable : Pick → Type 0
 AreOfOneTable p = IfSome p.second (λ o. length o.further ≡ length p.first.further)
 

@@ -8,7 +8,7 @@ ghost use Rattle.value_rules.specs.Areas.{area_holds, between_dirs, in_band, pas
 use sky_vector::{Dir, Pos, chord2, cross};
 use sql_bound::AreaTest;
 
-/// Whether the area holds the position. Takes no memory.
+/// Whether the area holds the position. Does not allocate.
 pub fn area_holds(area: &AreaTest, at: &Pos) -> bool
     ensures { result ≡ area_holds area.now (point at.now) }
 {

@@ -15,7 +15,7 @@ use sky_row::Row;
 use sql_bound::{BoundAll, BoundAny, BoundCond, BoundPred};
 
 /// The truth of the condition on the row, or on the pair of rows; `None` is unknown. The second row is there where a
-/// column of it is named, and has as many values as the first. Takes no memory.
+/// column of it is named, and has as many values as the first. Does not allocate.
 pub fn truth(c: &BoundCond, first: &Row, second: Option<&Row>) -> Option<bool>
     requires wide { AreOfOneTable (pick_of first.now second) }
     requires sound { IsTrue (is_sound_cond (is_there (pick_of first.now second)) c.now) }
@@ -25,7 +25,8 @@ pub fn truth(c: &BoundCond, first: &Row, second: Option<&Row>) -> Option<bool>
     one(c, first, second)
 }
 
-/// Whether the condition holds on the row, or on the pair of rows: its truth is true, and not unknown. Takes no memory.
+/// Whether the condition holds on the row, or on the pair of rows: its truth is true, and not unknown. Does not
+/// allocate.
 pub fn holds(c: &BoundCond, first: &Row, second: Option<&Row>) -> bool
     requires wide { AreOfOneTable (pick_of first.now second) }
     requires sound { IsTrue (is_sound_cond (is_there (pick_of first.now second)) c.now) }
@@ -34,7 +35,7 @@ pub fn holds(c: &BoundCond, first: &Row, second: Option<&Row>) -> bool
     is_true(truth(c, first, second))
 }
 
-/// Whether the row, or the pair of rows, meets all of the conditions. Takes no memory.
+/// Whether the row, or the pair of rows, meets all of the conditions. Does not allocate.
 pub fn meets(conds: &[BoundCond], first: &Row, second: Option<&Row>) -> bool
     requires wide { AreOfOneTable (pick_of first.now second) }
     requires sound { IsTrue (list_all (is_sound_cond (is_there (pick_of first.now second)))

@@ -13,7 +13,7 @@ use sky_vector::Num;
 use sql_bound::{BoundAtom, BoundExpr, BoundFactor, BoundProd};
 
 /// The value of the expression on the row, or on the pair of rows; `None` is NULL. The second row is there where a
-/// column of it is named, and has as many values as the first. Takes no memory.
+/// column of it is named, and has as many values as the first. Does not allocate.
 pub fn value(e: &BoundExpr, first: &Row, second: Option<&Row>) -> Option<Num>
     requires wide { AreOfOneTable (pick_of first.now second) }
     requires sound { IsTrue (is_sound_expr (is_there (pick_of first.now second)) e.now) }

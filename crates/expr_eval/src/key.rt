@@ -12,7 +12,7 @@ use sky_vector::Num;
 use sql_bound::{BoundAtom, BoundCol, BoundExpr, BoundFactor, BoundProd, ColList};
 
 /// The value of the expression on the key of a group by these columns; `None` is NULL, as is a column that is none of
-/// them. The key has a value for each. Takes no memory.
+/// them. The key has a value for each. Does not allocate.
 pub fn value_on_key(e: &BoundExpr, keys: &ColList, key: &[Option<i64>]) -> Option<Num>
     requires long { length key.now ≡ length keys.now }
     requires range { IsInRangeAt (key_cell keys.now key.now) (term_of e.now) }

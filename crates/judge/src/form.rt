@@ -21,7 +21,7 @@ pub(crate) enum Form {
     Kernel,
 }
 
-// The table with these further columns, where each can be one.
+// The table with these extra columns, where each can be one.
 fn schema_of(alloc: Global, columns: SplitWhitespace<'_>) -> Option<Schema> {
     let mut schema = Schema::new(alloc);
     for column in columns {

@@ -1,20 +1,19 @@
-//! Judges texts, positions and kernels: for each line of standard input a line. A line `judge FORM` gives none: it says how those
-//! behind it are judged, where FORM is one of
+//! Judges texts, positions and kernels: for each line of standard input a line. A line `judge FORM` gives none: it says
+//! how those behind it are judged, where FORM is one of
 //!
 //! - `read`: `query`, or the first fault of the text;
 //! - `print`: the printed text of the query, or the first fault of the text;
-//! - `bind COLUMN ..`: what the text comes to over a table with these further columns, or its first fault there;
+//! - `bind COLUMN ..`: what the text comes to over a table with these extra columns, or its first fault there;
 //! - `place SKY`: where the position `x y z` lies by the sky plan of that file, `chunk C sub S near N N ..`;
 //! - `kernel`: what so many turns of a kernel come to, from `NAME TURNS`.
 //!
 //! A line before the first of these, a FORM that is none of them and a line that isn't UTF-8 end it with status 1.
 //!
-//! It is for checks from outside, as `scripts/random_queries.py` and `scripts/compare_places.py`, which find the same by
-//! ways of their own, and for `bench/kernels.py`, which measures turns.
-//! Below: `sql_reader` and `sql_print` for texts, `sql_bind` for queries, `sky_plan` and `overlap_tables` for positions,
-//! `lane_filter` and `column_eval` for kernels, over rows of `sky_generate`.
-//! Above: nothing, this is a program.
-//! No rows but the demo's and no clause on what it tells: nothing is proved of that.
+//! It is for checks from outside, as `scripts/random_queries.py` and `scripts/compare_places.py`, which find the same
+//! by ways of their own, and for `bench/kernels.py`, which measures turns. Below: `sql_reader` and `sql_print` for
+//! texts, `sql_bind` for queries, `sky_plan` and `overlap_tables` for positions, `lane_filter` and `column_eval` for
+//! kernels, over rows of `sky_generate`. Above: nothing, this is a program. No rows but the demo's and no clause on
+//! what it tells: nothing is proved of that.
 #![tactic(auto)]
 
 mod bound;

@@ -9,7 +9,7 @@ use sky_vector::Pos;
 use sky_vector::limits::CHORD_SQUARED_MOST;
 
 /// Clears the mask where the squared chord from the position to the centre is above n, in squared grid units. The
-/// differences are taken in 32 bits, which hold them, and squared in 64. Takes no memory.
+/// differences are taken in 32 bits, which hold them, and squared in 64. Does not allocate.
 pub fn keep_near(xs: &[i32], ys: &[i32], zs: &[i32], centre: &Pos, n: u64, mask: &mut [bool])
     requires of_x { length xs.now ≡ length mask.old }
     requires of_y { length ys.now ≡ length mask.old }

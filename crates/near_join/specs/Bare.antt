@@ -28,7 +28,7 @@ id_line first second = record {
   cells = Some first ∷ Some second ∷ [];
 }
 
--- What is known of a query of a table with so many further columns: that its columns are there, and what is told of its
+-- What is known of a query of a table with so many extra columns: that its columns are there, and what is told of its
 -- conditions.
 pub record IsAsked (width : ℕ) (cq : ChunkQuery) (upwards ids : Bool) : Type 0 where
   pub rises : IsTrue upwards → Rises cq.conds

@@ -10,7 +10,7 @@ ghost use Rattle.sky_plan.specs.Regions.{sides_shown};
 
 use sky_vector::{Dir, Pos, cross, within};
 
-/// Whether the position is at or past the first side or near it, and short of the second or near it. Takes no memory.
+/// Whether the position is at or past the first side or near it, and short of the second or near it. Does not allocate.
 #[inline(always)]
 pub(crate) fn is_near(sides: Option<(Dir, Dir)>, radius: u32, p: &Pos) -> bool
     requires { radius ≤ OVERLAP_MOST }

@@ -40,8 +40,8 @@ struct Joined<'a> {
     strip: &'a Strip,
 }
 
-/// What the chunk query finds over the pairs whose first row lies in the chunk. Takes memory for the piece, for a strip of
-/// the chunk's rows and its full overlap, and for one of a subchunk's at a time; none for a row or a pair.
+/// What the chunk query finds over the pairs whose first row lies in the chunk. Allocates memory for the piece, for a
+/// strip of the chunk's rows and its full overlap, and for one of a subchunk's at a time; none for a row or a pair.
 pub fn join<'w>(
     alloc: Global,
     store: &'w Store,
@@ -76,7 +76,7 @@ pub fn join<'w>(
     Ok(piece)
 }
 
-/// What a store tells of itself: its plan is within the limits, and its rows lie in the sky. Takes no memory.
+/// What a store tells of itself: its plan is within the limits, and its rows lie in the sky. Does not allocate.
 fn know(store: &Store)
     ensures plan { IsSky store.now.plan }
     ensures rows { AreInTheSky store.now.rows.objects }
@@ -89,7 +89,7 @@ fn know(store: &Store)
 /// know which costs more than to look.
 const MANY: usize = 8;
 
-/// The rows of each of the chunk's subchunks, where they are few. Takes memory for the lists.
+/// The rows of each of the chunk's subchunks, where they are few. Allocates memory for the lists.
 fn few_rows(alloc: Global, store: &Store, chunk: u32) -> Result<Option<Lists>, Memory>
     requires { chunk < chunk_count store.now.plan }
     ensures { IfOk result (λ subs. IfSome subs (λ lists.

@@ -5,8 +5,8 @@ ghost use Rattle.std.specs.Prelude.{◌≡◌, ◌<◌, ◌≤ℤ◌, ◌^◌, �
 ghost use Rattle.sky_vector.specs.Points.{IsWithin};
 ghost use Rattle.near_join.specs.Windows.{Ascend, IsBetween, IsRoot, IsWindow};
 
-/// The places, from the first up to and without the second, of the ascending heights whose squared difference from z is at
-/// most the limit, in squared grid units; (0, 0) where there are none. Takes no memory.
+/// The places, from the first up to and without the second, of the ascending heights whose squared difference from z is
+/// at most the limit, in squared grid units; (0, 0) where there are none. Does not allocate.
 pub fn window(zs: &[i64], z: i64, limit: i64) -> (usize, usize)
     requires ascend { Ascend zs.now }
     requires z_within { IsWithin z }

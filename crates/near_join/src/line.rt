@@ -19,7 +19,7 @@ use sky_io::Memory;
 use sky_row::Row;
 use sky_vector::Num;
 
-/// The place of the pair in the order of the chunk query. Takes no memory.
+/// The place of the pair in the order of the chunk query. Does not allocate.
 pub(crate) fn rank_of(query: &ChunkQuery, first: &Row, second: &Row) -> Rank
     requires wide { length second.now.further ≡ length first.now.further }
     requires sound { IsSoundLine (has_col (FIRST_COLUMNS + length first.now.further) true)
@@ -37,7 +37,8 @@ pub(crate) fn rank_of(query: &ChunkQuery, first: &Row, second: &Row) -> Rank
     }
 }
 
-/// Puts the values of the items in place of what the list held; `None` is NULL. Takes memory only where it held fewer.
+/// Puts the values of the items in place of what the list held; `None` is NULL. Allocates memory only where it held
+/// fewer.
 pub(crate) fn fill(
     values: &mut Vec<Option<Num>>,
     items: &[ChunkItem],
@@ -71,7 +72,7 @@ fn cell(item: &ChunkItem, first: &Row, second: &Row) -> Option<Num>
     }
 }
 
-/// Whether the order goes down.
+/// Whether the order is descending.
 fn is_down(order: &Option<ChunkOrder>) -> bool
     ensures { result ≡ chunk_down order.now }
 {
@@ -101,7 +102,7 @@ fn class(down: bool, key: &Option<Num>) -> u8
     if key.is_none() == down { 1 } else { 0 }
 }
 
-/// The number of a key's rank, which turns round where the order goes down.
+/// The number of a key's rank, which turns round where the order is descending.
 fn number(down: bool, key: &Option<Num>) -> i128
     ensures { result ≡ rank_value down key.now }
 {
@@ -111,7 +112,7 @@ fn number(down: bool, key: &Option<Num>) -> i128
     }
 }
 
-/// The number, or its opposite where the order goes down.
+/// The number, or its opposite where the order is descending.
 fn turned(down: bool, n: &Num) -> i128
     ensures { result ≡ rank_value down (Some n.now) }
 {

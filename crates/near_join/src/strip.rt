@@ -69,7 +69,7 @@ impl Strip {
         )
     }
 
-    /// The rows with these numbers, in their order. Takes memory for each column once.
+    /// The rows with these numbers, in their order. Allocates memory for each column once.
     pub(crate) fn taken(&self, alloc: Global, numbers: &[u32]) -> Result<Strip, Memory>
         requires whole { IsWhole self.now }
         requires there { All (λ k. k < length self.now.places) numbers.now }
@@ -110,7 +110,7 @@ fn point_of(x: i32, y: i32, z: i32) -> Pos
     }
 }
 
-/// The rows of a chunk and of its full overlap, in ascending height. Takes memory for them, 24 bytes a row.
+/// The rows of a chunk and of its full overlap, in ascending height. Allocates memory for them, 24 bytes a row.
 pub(crate) fn chunk_strip(alloc: Global, store: &Store, chunk: u32) -> Result<Strip, Memory>
     requires { chunk < chunk_count store.now.plan }
     ensures { IfOk result (λ s.
@@ -124,7 +124,7 @@ pub(crate) fn chunk_strip(alloc: Global, store: &Store, chunk: u32) -> Result<St
     gathered(alloc, rows, places)
 }
 
-/// The strip of the rows at these places, in their order. Takes memory for each column once.
+/// The strip of the rows at these places, in their order. Allocates memory for each column once.
 fn gathered(alloc: Global, rows: &Rows, places: Vec<u32>) -> Result<Strip, Memory>
     requires { All (λ place. place < length rows.now.objects) places.items }
     ensures places { IfOk result (λ s. s.places ≡ places.items) }

@@ -20,7 +20,8 @@ use sky_row::Rows;
 use sky_vector::Dir;
 use std::alloc::Global;
 
-/// A subchunk's rows and those of its overlap, in ascending height, of the strip of its chunk. Takes memory for them.
+/// A subchunk's rows and those of its overlap, in ascending height, of the strip of its chunk. Allocates memory for
+/// them.
 pub(crate) fn sub_strip(
     alloc: Global,
     store: &Store,
@@ -82,8 +83,8 @@ fn near_ones(
     strip.taken(alloc, numbers.as_slice())
 }
 
-/// The numbers, from one up to and without another, of the rows that are near these sides. Takes memory for each row from one
-/// to the other, 4 bytes.
+/// The numbers, from one up to and without another, of the rows that are near these sides. Allocates memory for each
+/// row from one to the other, 4 bytes.
 fn near_numbers(
     alloc: Global,
     strip: &Strip,

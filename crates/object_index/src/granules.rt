@@ -15,7 +15,7 @@ use std::alloc::Global;
 /// How many rows a granule has; the last one has those that are left.
 pub const GRANULE: usize = 1 << 12;
 
-/// The id of each granule's first row with that row's number. Takes memory for an entry a granule.
+/// The id of each granule's first row with that row's number. Allocates memory for an entry a granule.
 pub(crate) fn first_rows(alloc: Global, ids: &[i64]) -> Result<IndexMap<i64, u32>, Memory>
     requires few { length ids.now ≤ ROWS_MOST }
     requires ascend { AllPairs (λ a b. a <ℤ b) ids.now }
@@ -34,7 +34,7 @@ pub(crate) fn first_rows(alloc: Global, ids: &[i64]) -> Result<IndexMap<i64, u32
     Ok(firsts)
 }
 
-/// The number of the row with the id, or `None` where no row has it. Takes no memory.
+/// The number of the row with the id, or `None` where no row has it. Does not allocate.
 pub(crate) fn row_with(ids: &[i64], firsts: &IndexMap<i64, u32>, id: i64) -> Option<u32>
     requires few { length ids.now ≤ ROWS_MOST }
     requires ascend { AllPairs (λ a b. a <ℤ b) ids.now }

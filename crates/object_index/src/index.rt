@@ -38,7 +38,7 @@ impl<'w> Model for Index<'w> {
 }
 
 impl<'w> Index<'w> {
-    /// The index of the rows over the plan. Takes memory for an entry a granule of rows, and looks at no other row.
+    /// The index of the rows over the plan. Allocates memory for an entry a granule of rows, and looks at no other row.
     pub fn build(alloc: Global, plan: &'w SkyPlan, rows: &'w Rows) -> Result<Index<'w>, Memory>
         ensures { IfOk result (λ index.
             index ≡ record { plan = plan.now; rows = rows.now.objects }) }
@@ -49,14 +49,14 @@ impl<'w> Index<'w> {
         Ok(Index { plan, rows, firsts })
     }
 
-    /// The plan of the sky. Takes no memory.
+    /// The plan of the sky. Does not allocate.
     pub fn plan(&self) -> &SkyPlan
         ensures { result.now ≡ self.now.plan }
     {
         self.plan
     }
 
-    /// The place of the row with the id, or `None` where no row has it. Takes no memory.
+    /// The place of the row with the id, or `None` where no row has it. Does not allocate.
     pub fn place(&self, id: i64) -> Option<Place>
         ensures found { IfSome result (λ place.
             IsPlaceOf self.now.plan self.now.rows id place.chunk place.row) }

@@ -15,7 +15,7 @@ use sky_vector::{Pos, length_ok};
 use std::alloc::Global;
 
 /// The numbers of the chunks whose full overlap holds the position, ascending: it is near them, and they do not hold
-/// it. Takes memory for them.
+/// it. Allocates memory for them.
 pub fn near_chunks(alloc: Global, plan: &SkyPlan, p: &Pos) -> Result<Vec<u32>, Memory>
     ensures { IfOk result (λ chunks. chunks.items ≡ near_others plan.now (point p.now)) }
 {
@@ -24,8 +24,8 @@ pub fn near_chunks(alloc: Global, plan: &SkyPlan, p: &Pos) -> Result<Vec<u32>, M
     Ok(chunks)
 }
 
-/// Puts the numbers of the chunks whose full overlap holds the position behind those of a list, ascending. Takes memory
-/// for them; where there is none, a front of them may stand behind those of the list.
+/// Puts the numbers of the chunks whose full overlap holds the position behind those of a list, ascending. Allocates
+/// memory for them; where there is none, a front of them may stand behind those of the list.
 pub fn push_near_chunks(plan: &SkyPlan, p: &Pos, into: &mut Vec<u32>) -> Result<(), Memory>
     ensures all { IfOk result (λ _.
         into.new.items ≡ into.old.items ++ near_others plan.now (point p.now)) }
@@ -39,9 +39,9 @@ pub fn push_near_chunks(plan: &SkyPlan, p: &Pos, into: &mut Vec<u32>) -> Result<
     }
 }
 
-/// Puts the numbers of the chunks whose full overlap holds an admissible position, whose own chunk is known, behind those
-/// of a list, ascending; for want of memory a front of them may stand there. The stripe is where their stripes are looked for
-/// first: any will do, and the one that has the position is mostly where they are found.
+/// Puts the numbers of the chunks whose full overlap holds an admissible position, whose own chunk is known, behind
+/// those of a list, ascending; because an allocation failed a front of them may stand there. The stripe is where their
+/// stripes are looked for first: any will do, and the one that has the position is mostly where they are found.
 pub fn push_near_others(
     plan: &SkyPlan,
     stripe: usize,

@@ -11,7 +11,7 @@ ghost use Rattle.sky_plan.specs.Regions.{sides_shown, bounds_shown};
 use sky_plan::{Region, SkyPlan};
 use sky_vector::{Dir, Pos, cross};
 
-/// Whether the chunk holds the position, which may be any. Takes no memory.
+/// Whether the chunk holds the position, which may be any. Does not allocate.
 pub(crate) fn is_held(plan: &SkyPlan, chunk: u32, p: &Pos) -> bool
     requires { chunk < chunk_count plan.now }
     ensures { result ≡ in_chunk plan.now chunk (point p.now) }
@@ -19,7 +19,7 @@ pub(crate) fn is_held(plan: &SkyPlan, chunk: u32, p: &Pos) -> bool
     is_in(&plan.region(chunk), p)
 }
 
-/// Whether a part of the sky holds the position, which may be any. Takes no memory.
+/// Whether a part of the sky holds the position, which may be any. Does not allocate.
 pub fn is_in(region: &Region, p: &Pos) -> bool
     ensures { result ≡ in_bounds (bounds_shown region.now) (point p.now) }
 {

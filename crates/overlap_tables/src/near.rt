@@ -11,8 +11,8 @@ ghost use Rattle.sky_plan.specs.Regions.{sides_shown, bounds_shown};
 use sky_plan::{Region, SkyPlan};
 use sky_vector::{Dir, Pos, cross, within};
 
-/// Whether the position is in the near region of the chunk, for the overlap of the chunk's stripe. What the chunk
-/// holds is in it as well. Takes no memory.
+/// Whether the position is in the near region of the chunk, for the overlap of the chunk's stripe. What the chunk holds
+/// is in it as well. Does not allocate.
 pub fn in_near(plan: &SkyPlan, chunk: u32, p: &Pos) -> bool
     requires { chunk < chunk_count plan.now }
     ensures { result ≡ near_chunk plan.now chunk (point p.now) }
@@ -20,8 +20,8 @@ pub fn in_near(plan: &SkyPlan, chunk: u32, p: &Pos) -> bool
     is_near(&plan.region(chunk), plan.radius_of(chunk), p)
 }
 
-/// Whether the position is in the near region of the subchunk, for the overlap of the chunk's stripe. What the
-/// subchunk holds is in it as well. Takes no memory.
+/// Whether the position is in the near region of the subchunk, for the overlap of the chunk's stripe. What the subchunk
+/// holds is in it as well. Does not allocate.
 pub fn in_near_sub(plan: &SkyPlan, chunk: u32, sub: u32, p: &Pos) -> bool
     requires chunk { chunk < chunk_count plan.now }
     requires sub { sub < sub_count plan.now chunk }
@@ -30,8 +30,8 @@ pub fn in_near_sub(plan: &SkyPlan, chunk: u32, sub: u32, p: &Pos) -> bool
     is_near(&plan.sub_region(chunk, sub), plan.radius_of(chunk), p)
 }
 
-/// Whether the position is in the near region of a part of the sky, for a radius in grid units: within it, or no farther
-/// from its heights and from the lines of its sides. Takes no memory.
+/// Whether the position is in the near region of a part of the sky, for a radius in grid units: within it, or no
+/// farther from its heights and from the lines of its sides. Does not allocate.
 pub fn is_near(region: &Region, radius: u32, p: &Pos) -> bool
     requires { radius ≤ OVERLAP_MOST }
     ensures { result ≡ near_bounds radius (bounds_shown region.now) (point p.now) }

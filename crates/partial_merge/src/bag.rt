@@ -70,7 +70,7 @@ fn ids_alone(kept: &Kept, rank: &Rank, values: &[Option<Num>]) -> Option<IdPair>
 }
 
 impl Bag {
-    /// A bag without rows, which keeps the first so many, or all. Takes no memory.
+    /// A bag without rows, which keeps the first so many, or all. Does not allocate.
     pub(crate) fn empty(alloc: Global, limit: Option<usize>) -> Bag
         ensures { result ≡ record { pushed = limit; rows = [] } }
     {
@@ -83,8 +83,8 @@ impl Bag {
         }
     }
 
-    /// Whether so many rows are kept that one of this rank is none of the first, whatever its values: as soon as none of as many
-    /// rows as the limit comes after it. Takes no memory.
+    /// Whether so many rows are kept that one of this rank is none of the first, whatever its values: as soon as none
+    /// of as many rows as the limit comes after it. Does not allocate.
     pub(crate) fn is_too_late(&self, rank: &Rank) -> bool
         ensures late { OnTrue result ((values : List (Option ℤ)) →
             KeepsFirst row_order self.now.pushed
@@ -172,7 +172,7 @@ impl Bag {
         Ok(())
     }
 
-    /// How many rows it holds: at most the limit, where there is one. Takes no memory.
+    /// How many rows it holds: at most the limit, where there is one. Does not allocate.
     pub(crate) fn held(&self) -> usize
         ensures held { result ≡ length self.now.rows }
         ensures few { IfSome self.now.pushed (λ n. result ≤ n) }
@@ -180,7 +180,8 @@ impl Bag {
         count(&self.kept) + self.ids.len()
     }
 
-    /// The table of the rows: in order, the first of them, and of each its merged items. Takes memory for the table.
+    /// The table of the rows: in order, the first of them, and of each its merged items. Allocates memory for the
+    /// table.
     pub(crate) fn finish(self, alloc: Global, merge: &MergePlan) -> Result<Table, Memory>
         requires { AreApart row_order self.rows }
         ensures { IfOk result (λ table. table ≡ merged_rows merge.now self.rows) }

@@ -46,7 +46,7 @@ fn put_pairs(kept: &mut Kept, cells: &mut Vec<Cell>, pairs: &[IdPair]) -> Result
     Ok(())
 }
 
-/// The table of rows and of pairs. Takes memory for the table, and for the pairs once more.
+/// The table of rows and of pairs. Allocates memory for the table, and for the pairs once more.
 fn both_table(
     alloc: Global,
     mut kept: Kept,

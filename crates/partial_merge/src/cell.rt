@@ -31,7 +31,7 @@ const NULL: i128 = i128::MIN;
 const LEAST: i128 = -(NUMBER_MOST as i128);
 
 impl Cell {
-    /// The cell with this value. Takes no memory.
+    /// The cell with this value. Does not allocate.
     pub(crate) fn new(value: Option<Num>) -> Cell
         ensures { result ≡ value }
     {
@@ -41,14 +41,14 @@ impl Cell {
         }
     }
 
-    /// The cell once more. Takes no memory.
+    /// The cell once more. Does not allocate.
     pub(crate) fn copy(&self) -> Cell
         ensures { result ≡ self.now }
     {
         Cell { code: self.code }
     }
 
-    /// The value. Takes no memory.
+    /// The value. Does not allocate.
     pub(crate) fn get(&self) -> Option<Num>
         ensures { result ≡ self.now }
     {

@@ -166,8 +166,8 @@ fn tested_table(
     }
 }
 
-/// The table of groups that ascend by their keys, or the first total that is out of range. Takes memory for the table
-/// and for a line a group.
+/// The table of groups that ascend by their keys, or the first total that is out of range. Allocates memory for the
+/// table and for a line a group.
 pub(crate) fn group_table(
     alloc: Global,
     marks: Vec<Mark>,

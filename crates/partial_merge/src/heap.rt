@@ -11,7 +11,7 @@ use crate::ranked::Ranked;
 use std::cmp::Ordering;
 use std::collections::BinaryHeap;
 
-/// Takes the row in where it is one of the first `limit`; the last of these then goes. Takes no memory.
+/// Takes the row in where it is one of the first `limit`; the last of these then goes. Does not allocate.
 pub(crate) fn offer(heap: &mut BinaryHeap<Ranked>, limit: usize, row: Ranked)
     requires order { IsHeap rank_order (heap_items heap.old) }
     requires few { length (heap_items heap.old) ≤ limit }

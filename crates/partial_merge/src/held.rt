@@ -40,7 +40,7 @@ fn limit(limit: Option<Int>) -> Option<usize>
     Some(limit?.get().unsigned_abs() as usize)
 }
 
-/// Nothing, of the kind that the chunk query gives. Takes no memory.
+/// Nothing, of the kind that the chunk query gives. Does not allocate.
 pub(crate) fn nothing(alloc: Global, query: &ChunkQuery) -> Held
     ensures { view_in result ≡ empty_view query.now.shape (limit_of query.now.limit) }
 {

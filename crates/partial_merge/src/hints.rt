@@ -95,7 +95,7 @@ fn checked(marks: &Vec<Mark>, place: usize, key: &Key) -> Option<usize>
 }
 
 impl Hints {
-    /// No hints. Takes no memory.
+    /// No hints. Does not allocate.
     pub(crate) fn none(alloc: Global) -> Hints {
         Hints {
             places: Vec::new(alloc),
@@ -119,7 +119,7 @@ impl Hints {
         self.places[number(key) as usize & (count - 1)] as usize
     }
 
-    /// A group of the key, where a hint leads to one. Takes no memory.
+    /// A group of the key, where a hint leads to one. Does not allocate.
     pub(crate) fn find(&self, marks: &Vec<Mark>, key: &Key) -> Option<usize>
         ensures there { IfSome result (λ p. p < length marks.now.items) }
         ensures key { IfSome result (λ p.
@@ -128,7 +128,7 @@ impl Hints {
         checked(marks, self.at(key), key)
     }
 
-    /// Notes at which place the group of the key stands. Takes no memory.
+    /// Notes at which place the group of the key stands. Does not allocate.
     pub(crate) fn note(&mut self, key: &Key, place: usize) {
         let count = self.places.len();
         if count == 0 {

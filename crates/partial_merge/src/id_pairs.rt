@@ -39,7 +39,7 @@ pub(crate) fn make_room(ids: &mut Vec<IdPair>, more: usize) -> Result<(), Memory
     reserve(ids, more)
 }
 
-/// Puts the pairs behind the others, for which there is room. Takes no memory.
+/// Puts the pairs behind the others, for which there is room. Does not allocate.
 fn append_ids(ids: &mut Vec<IdPair>, mut more: Vec<IdPair>)
     requires { vec_len ids.old + vec_len more ≤ vec_capacity ids.old }
     ensures { ids.new.items ≡ ids.old.items ++ more.items }
@@ -50,7 +50,7 @@ fn append_ids(ids: &mut Vec<IdPair>, mut more: Vec<IdPair>)
     }
 }
 
-/// Puts the pairs of another bag behind the others. Takes no memory.
+/// Puts the pairs of another bag behind the others. Does not allocate.
 pub(crate) fn join_ids(ids: &mut Vec<IdPair>, more: Vec<IdPair>)
     requires { 0 < vec_len ids.old → vec_len ids.old + vec_len more ≤ vec_capacity ids.old }
     ensures { ids.new.items ≡ ids.old.items ++ more.items }

@@ -14,7 +14,7 @@ use sky_io::Memory;
 use sky_vector::Num;
 use std::alloc::Global;
 
-/// Puts the values behind the others. Takes no memory.
+/// Puts the values behind the others. Does not allocate.
 fn put_values(cells: &mut Vec<Cell>, values: &[Option<Num>])
     requires { vec_len cells.old + length values.now ≤ vec_capacity cells.old }
     ensures { cells.new.items ≡ cells.old.items ++ values.now }

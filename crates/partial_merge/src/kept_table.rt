@@ -22,7 +22,7 @@ use sky_io::Memory;
 use std::alloc::Global;
 use std::collections::BinaryHeap;
 
-/// The table of rows in any order. Takes memory for the table.
+/// The table of rows in any order. Allocates memory for the table.
 fn sorted_table(
     alloc: Global,
     mut rows: Vec<Ranked>,
@@ -39,7 +39,7 @@ fn sorted_table(
     row_table(alloc, rows.as_slice(), cells, merge.items.as_slice())
 }
 
-/// The table of plain rows of so many values, in any order. Takes memory for the table.
+/// The table of plain rows of so many values, in any order. Allocates memory for the table.
 fn sorted_plain_table(
     alloc: Global,
     mut plain: Vec<Plain>,
@@ -64,7 +64,7 @@ fn sorted_plain_table(
     )
 }
 
-/// Puts plain rows of so many values behind the others. Takes no memory.
+/// Puts plain rows of so many values behind the others. Does not allocate.
 fn put_full(rows: &mut Vec<Ranked>, plain: &[Plain], width: usize, cells: usize)
     requires room { vec_len rows.old + length plain.now ≤ vec_capacity rows.old }
     requires there { All (λ p. IsIn cells (full width p)) plain.now }
@@ -75,7 +75,7 @@ fn put_full(rows: &mut Vec<Ranked>, plain: &[Plain], width: usize, cells: usize)
     }
 }
 
-/// The plain rows of so many values, and behind them the others. Takes memory for them.
+/// The plain rows of so many values, and behind them the others. Allocates memory for them.
 fn all_rows(
     alloc: Global,
     plain: &[Plain],
@@ -92,7 +92,7 @@ fn all_rows(
     Ok(all)
 }
 
-/// The table of rows of both kinds. Takes memory for the table, and for the rows once more.
+/// The table of rows of both kinds. Allocates memory for the table, and for the rows once more.
 fn mixed_table(
     alloc: Global,
     plain: &[Plain],
@@ -111,8 +111,8 @@ fn mixed_table(
     sorted_table(alloc, all, cells, merge)
 }
 
-/// The table of all rows of a bag without a limit. Takes memory for the table and, where some have an order key and others
-/// have none, for the rows once more.
+/// The table of all rows of a bag without a limit. Allocates memory for the table and, where some have an order key and
+/// others have none, for the rows once more.
 fn lot_table(alloc: Global, lot: Lot, cells: &[Cell], merge: &MergePlan) -> Result<Table, Memory>
     requires there { All (IsIn (length cells.now)) (all_of lot) }
     requires apart { AreApart row_order (map (row_of cells.now) (all_of lot)) }
@@ -127,7 +127,7 @@ fn lot_table(alloc: Global, lot: Lot, cells: &[Cell], merge: &MergePlan) -> Resu
     }
 }
 
-/// The rows of a heap, in any order. Takes no memory.
+/// The rows of a heap, in any order. Does not allocate.
 fn ranks(heap: BinaryHeap<Ranked>) -> Vec<Ranked>
     ensures { result.items ≡ heap_items heap }
 {

@@ -1,7 +1,7 @@
-//! The key of a group. It takes memory where it has more than four values, and no query has such keys.
+//! The key of a group. It allocates memory where it has more than four values, and no query has such keys.
 //!
-//! A pile has a key for each of its groups, and moves and compares them all the time. So a key of few values is 40 bytes, and
-//! one of a single number, which most are, is compared as that number.
+//! A pile has a key for each of its groups, and moves and compares them all the time. So a key of few values is 40
+//! bytes, and one of a single number, which most are, is compared as that number.
 
 ghost use Rattle.std.specs.Prelude.{◌≡◌, ◌≤◌, ◌∷◌, [], get_or, length, IfOk, IfSome, None, Some};
 ghost use Rattle.std.proofs.Common.{rules};
@@ -93,7 +93,7 @@ fn lone_in(
 }
 
 impl Key {
-    /// The key of these values. Takes memory for more than four of them.
+    /// The key of these values. Allocates memory for more than four of them.
     pub fn from_slice(alloc: Global, values: &[Option<i64>]) -> Result<Key, Memory>
         ensures { IfOk result (λ key. key ≡ values.now) }
     {
@@ -105,7 +105,7 @@ impl Key {
         })
     }
 
-    /// The key of at most four values. Takes no memory.
+    /// The key of at most four values. Does not allocate.
     pub fn short(values: &[Option<i64>]) -> Key
         requires { length values.now ≤ SHORT_KEY_MOST }
         ensures { result ≡ values.now }
@@ -121,7 +121,7 @@ impl Key {
         }
     }
 
-    /// The key without values. Takes no memory.
+    /// The key without values. Does not allocate.
     pub(crate) fn none() -> Key
         ensures { result ≡ [] }
     {
@@ -144,7 +144,7 @@ impl Key {
         }
     }
 
-    /// The values side by side. Takes no memory.
+    /// The values side by side. Does not allocate.
     pub(crate) fn open(&self) -> OpenKey<'_>
         ensures { result ≡ self.now }
     {

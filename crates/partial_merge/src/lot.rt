@@ -1,6 +1,6 @@
-//! All rows of a bag without a limit. Most queries that list millions of rows ask for no order of their own: a row then has
-//! its place by its ids alone, and is kept in a short record, which is what is sorted at the end. That is told by its rank,
-//! which a NULL key has too where the order goes up, and the key 0 where it goes down.
+//! All rows of a bag without a limit. Most queries that list millions of rows ask for no order of their own: a row then
+//! has its place by its ids alone, and is kept in a short record, which is what is sorted at the end. That is told by
+//! its rank, which a NULL key has too where the order goes up, and the key 0 where it is descending.
 
 ghost use Rattle.std.specs.Prelude.{◌≡◌, ◌≤◌, ◌+◌, ◌-◌, ◌^◌, ◌++◌, ◌∷◌, [], pos, All, IsPermutation, length, map, None, OnErr, OnOk, vec_capacity, vec_len};
 ghost use Rattle.std.specs.Bool.{OnTrue};
@@ -33,7 +33,7 @@ fn is_unordered(row: &Ranked) -> bool
 }
 
 impl Lot {
-    /// No rows. Takes no memory.
+    /// No rows. Does not allocate.
     pub(crate) fn new(alloc: Global) -> Lot
         ensures { all_of result ≡ [] }
     {
@@ -75,7 +75,7 @@ impl Lot {
         reserve(&mut self.rows, more)
     }
 
-    /// Puts the row among the plain ones. Takes no memory.
+    /// Puts the row among the plain ones. Does not allocate.
     fn put_plain(&mut self, row: &Ranked)
         requires plain { IsPlainIn self.old row.now }
         requires room { HasRoom self.old 1 }
@@ -86,7 +86,7 @@ impl Lot {
         self.plain.push_reserved(Plain::of(row));
     }
 
-    /// Puts the row among the others. Takes no memory.
+    /// Puts the row among the others. Does not allocate.
     fn put_reserved(&mut self, row: Ranked)
         requires room { HasRoom self.old 1 }
         ensures put { IsPermutation (all_of self.old ++ row ∷ []) (all_of self.new) }
@@ -111,7 +111,7 @@ impl Lot {
     }
 }
 
-/// Puts plain rows of so many values among the others, their values so much farther behind. Takes no memory.
+/// Puts plain rows of so many values among the others, their values so much farther behind. Does not allocate.
 fn put_plains(lot: &mut Lot, others: &[Plain], width: usize, by: usize, count: usize)
     requires room { HasRoom lot.old (length others.now) }
     requires there { All (λ p. IsIn count (full width p)) others.now }
@@ -128,7 +128,7 @@ fn put_plains(lot: &mut Lot, others: &[Plain], width: usize, by: usize, count: u
     }
 }
 
-/// Puts rows among the others, their values so much farther behind. Takes no memory.
+/// Puts rows among the others, their values so much farther behind. Does not allocate.
 fn put_rows(lot: &mut Lot, others: &[Ranked], by: usize, count: usize)
     requires room { HasRoom lot.old (length others.now) }
     requires there { All (IsIn count) others.now }

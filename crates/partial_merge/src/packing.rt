@@ -20,7 +20,7 @@ use sky_io::Memory;
 use std::alloc::Global;
 use std::collections::BinaryHeap;
 
-/// Puts copies of the values behind the others. Takes no memory.
+/// Puts copies of the values behind the others. Does not allocate.
 fn put_reserved(cells: &mut Vec<Cell>, values: &[Cell])
     requires { vec_len cells.old + length values.now ≤ vec_capacity cells.old }
     ensures { cells.new.items ≡ cells.old.items ++ values.now }

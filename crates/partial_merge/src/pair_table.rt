@@ -46,7 +46,7 @@ fn pair_values(alloc: Global, pairs: &[IdPair], items: &[MergeItem]) -> Result<V
     Ok(values)
 }
 
-/// The table of these pairs. Takes memory for it.
+/// The table of these pairs. Allocates memory for it.
 fn pair_table(alloc: Global, pairs: &[IdPair], items: &[MergeItem]) -> Result<Table, Memory>
     ensures { IfOk result (λ table. table ≡ map (λ r. map (column_value r.cells) items.now)
         (map pair_row pairs.now)) }
@@ -55,7 +55,7 @@ fn pair_table(alloc: Global, pairs: &[IdPair], items: &[MergeItem]) -> Result<Ta
     Ok(Table::of(values, items.len(), pairs.len()))
 }
 
-/// The table of pairs in any order. Takes memory for the table.
+/// The table of pairs in any order. Allocates memory for the table.
 pub(crate) fn sorted_pair_table(
     alloc: Global,
     mut pairs: Vec<IdPair>,

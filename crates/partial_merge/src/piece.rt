@@ -48,7 +48,7 @@ impl<'w> Model for Piece<'w> {
 }
 
 impl<'w> Piece<'w> {
-    /// The piece over no chunks. Takes no memory.
+    /// The piece over no chunks. Does not allocate.
     pub fn empty(alloc: Global, query: &ChunkQuery) -> Piece<'w>
         ensures { result ≡ empty_view query.now.shape (limit_of query.now.limit) }
     {
@@ -59,8 +59,9 @@ impl<'w> Piece<'w> {
         }
     }
 
-    /// Whether a row of this rank is none of the first n of a chunk query with LIMIT n, whatever its values: as soon as n rows
-    /// are held of which none comes after it. Such a row need not be pushed, nor its values be computed. Takes no memory.
+    /// Whether a row of this rank is none of the first n of a chunk query with LIMIT n, whatever its values: as soon as
+    /// n rows are held of which none comes after it. Such a row need not be pushed, nor its values be computed. Does
+    /// not allocate.
     pub fn is_too_late(&self, rank: &Rank) -> bool
         ensures late { OnTrue result (IsNoneOfFirst self.now rank.now) }
         ensures told { IsToldLate self.now rank.now result }
@@ -86,8 +87,8 @@ impl<'w> Piece<'w> {
         push_group(&mut self.held, key, rows, parts)
     }
 
-    /// How many rows it holds, at most n of a chunk query with LIMIT n, or how many groups it keeps, a key perhaps more than
-    /// once. Takes no memory.
+    /// How many rows it holds, at most n of a chunk query with LIMIT n, or how many groups it keeps, a key perhaps more
+    /// than once. Does not allocate.
     pub fn held(&self) -> usize
         ensures held { IsOfRows self.now → result ≡ size_of self.now }
         ensures most { size_of self.now ≤ result }
@@ -111,9 +112,9 @@ impl<'w> Piece<'w> {
         take_in(&mut self.held, held)
     }
 
-    /// The answer: in order, the first of its rows where there is a limit; or the first total of a group that is outside
-    /// ±2^100, by group, then by item. The piece is gone after it. Takes memory for the table, and of groups for a
-    /// new pile and their order.
+    /// The answer: in order, the first of its rows where there is a limit; or the first total of a group that is
+    /// outside ±2^100, by group, then by item. The piece is gone after it. Allocates memory for the table, and of
+    /// groups for a new pile and their order.
     pub fn finish(self, merge: &MergePlan) -> Result<Table, Stop<TotalOut>>
         requires { MayFinish merge.now self }
         ensures ok { IfOk result (λ table. finished merge.now self.entry ≡ Ok table) }

@@ -55,7 +55,7 @@ impl Model for Pile {
     ghost invariant = { λ p. ArePiled p.tallies.items p.marks.items × HaveOwnParts p.marks.items };
 }
 
-/// Puts copies of the parts behind the others. Takes no memory.
+/// Puts copies of the parts behind the others. Does not allocate.
 fn put_reserved(tallies: &mut Vec<Tally>, parts: &[Tally])
     requires { vec_len tallies.old + length parts.now ≤ vec_capacity tallies.old }
     ensures { tallies.new.items ≡ tallies.old.items ++ parts.now }
@@ -153,7 +153,7 @@ fn put(
 }
 
 impl Pile {
-    /// A pile without groups. Takes no memory.
+    /// A pile without groups. Does not allocate.
     pub(crate) fn empty(alloc: Global) -> Pile
         ensures { result ≡ [] }
     {
@@ -234,7 +234,7 @@ impl Pile {
         group_table(alloc, marks, tallies.as_slice(), keys, merge)
     }
 
-    /// How many groups it keeps, a key perhaps more than once. Takes no memory.
+    /// How many groups it keeps, a key perhaps more than once. Does not allocate.
     pub(crate) fn len(&self) -> usize
         ensures { length self.now ≤ result }
     {

@@ -46,7 +46,7 @@ fn give(queries: &mut Vec<(u32, ChunkQuery)>, q: u32, query: ChunkQuery) -> Resu
 }
 
 impl<'w> PieceRoot<'w> {
-    /// A root without chunk queries. Takes no memory.
+    /// A root without chunk queries. Does not allocate.
     pub fn new(alloc: Global, plan: &'w SkyPlan, rows: &'w Rows) -> PieceRoot<'w>
         ensures { result ≡ record { plan = plan.now; rows = rows.now; queries = [] } }
     {
@@ -59,7 +59,7 @@ impl<'w> PieceRoot<'w> {
         }
     }
 
-    /// Gives a number, above those that are given, a chunk query. Takes memory; after `Err` nothing has changed.
+    /// Gives a number, above those that are given, a chunk query. Allocates memory; after `Err` nothing has changed.
     pub fn push(&mut self, q: u32, query: ChunkQuery) -> Result<(), Memory>
         requires above { All (λ e. e.0 < q) self.old.queries }
         requires from_1 { 1 ≤ q }
@@ -71,7 +71,7 @@ impl<'w> PieceRoot<'w> {
         give(&mut self.queries, q, query)
     }
 
-    /// How many chunk queries there are. Takes no memory.
+    /// How many chunk queries there are. Does not allocate.
     pub fn len(&self) -> usize
         ensures count { result ≡ length self.now.queries }
         ensures base { IsBase self.now }

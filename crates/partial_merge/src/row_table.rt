@@ -123,7 +123,7 @@ fn plain_values(
     Ok(values)
 }
 
-/// The table of these plain rows, of which each has so many values. Takes memory for it.
+/// The table of these plain rows, of which each has so many values. Allocates memory for it.
 pub(crate) fn plain_table(
     alloc: Global,
     plain: &[Plain],
@@ -139,7 +139,7 @@ pub(crate) fn plain_table(
     Ok(Table::of(values, items.len(), plain.len()))
 }
 
-/// The table of these rows. Takes memory for it.
+/// The table of these rows. Allocates memory for it.
 pub(crate) fn row_table(
     alloc: Global,
     rows: &[Ranked],

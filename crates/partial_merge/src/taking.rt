@@ -19,7 +19,7 @@ use crate::mark::Mark;
 use crate::settle::{put_alone, sum_at};
 use crate::tally::Tally;
 
-/// Puts the sum of a part of the other pile, and of one of the pile, in the place of that one. Takes no memory.
+/// Puts the sum of a part of the other pile, and of one of the pile, in the place of that one. Does not allocate.
 fn add_at(tallies: &mut Vec<Tally>, b: usize, more: &Vec<Tally>, a: usize)
     requires a_there { a < length more.now.items }
     requires b_there { b < length tallies.old.items }
@@ -32,7 +32,7 @@ fn add_at(tallies: &mut Vec<Tally>, b: usize, more: &Vec<Tally>, a: usize)
     tallies[b] = sum_at(more, a, tallies, b);
 }
 
-/// Adds so many parts of the other pile, from that place, to those of the pile, from this place. Takes no memory.
+/// Adds so many parts of the other pile, from that place, to those of the pile, from this place. Does not allocate.
 fn add_parts(tallies: &mut Vec<Tally>, b: usize, more: &Vec<Tally>, a: usize, width: usize)
     requires a_there { a + width ≤ length more.now.items }
     requires b_there { b + width ≤ length tallies.old.items }
@@ -51,7 +51,7 @@ fn add_parts(tallies: &mut Vec<Tally>, b: usize, more: &Vec<Tally>, a: usize, wi
     }
 }
 
-/// Adds so many rows to those of the group at the place. Takes no memory.
+/// Adds so many rows to those of the group at the place. Does not allocate.
 fn add_rows(marks: &mut Vec<Mark>, place: usize, rows: u32)
     requires there { place < length marks.old.items }
     requires few { rows + (mark_in marks.old.items place).rows ≤ most_rows }
@@ -63,7 +63,7 @@ fn add_rows(marks: &mut Vec<Mark>, place: usize, rows: u32)
     marks[place].rows = rows + marks[place].rows;
 }
 
-/// Adds a group of the other pile to the one at the place, which is of its key. Takes no memory.
+/// Adds a group of the other pile to the one at the place, which is of its key. Does not allocate.
 fn add_to(
     marks: &mut Vec<Mark>,
     tallies: &mut Vec<Tally>,
@@ -94,7 +94,7 @@ fn add_to(
     add_rows(marks, place, other.rows);
 }
 
-/// Takes in a group of the other pile. Takes no memory.
+/// Takes in a group of the other pile. Does not allocate.
 fn take_one(
     marks: &mut Vec<Mark>,
     tallies: &mut Vec<Tally>,
@@ -126,7 +126,7 @@ fn take_one(
     }
 }
 
-/// Puts a group of the other pile behind the others, and notes where. Takes no memory.
+/// Puts a group of the other pile behind the others, and notes where. Does not allocate.
 fn put_behind(
     marks: &mut Vec<Mark>,
     tallies: &mut Vec<Tally>,
@@ -156,8 +156,8 @@ fn put_behind(
     put_alone(marks, tallies, more, other);
 }
 
-/// Takes in the groups of the other pile. Takes no memory. They are read where they stand: most of them are added to groups
-/// of the pile, and only what is put behind is moved.
+/// Takes in the groups of the other pile. Does not allocate. They are read where they stand: most of them are added to
+/// groups of the pile, and only what is put behind is moved.
 pub(crate) fn take_all(
     marks: &mut Vec<Mark>,
     tallies: &mut Vec<Tally>,

@@ -28,7 +28,7 @@ impl Model for Tally {
 }
 
 impl Tally {
-    /// The part of this way, of so many values that come to this. Takes no memory.
+    /// The part of this way, of so many values that come to this. Does not allocate.
     pub fn new(way: Way, seen: u32, value: Option<i128>) -> Tally
         ensures { result ≡ record { way = way; seen = seen; value = value } }
     {
@@ -48,7 +48,7 @@ impl Tally {
         }
     }
 
-    /// The part once more. Takes no memory.
+    /// The part once more. Does not allocate.
     pub(crate) fn copy(&self) -> Tally
         ensures { result ≡ self.now }
     {
@@ -74,7 +74,7 @@ impl Tally {
         if self.some { Some(self.value) } else { None }
     }
 
-    /// The part of the values of both, by the way of this one. Takes no memory.
+    /// The part of the values of both, by the way of this one. Does not allocate.
     pub(crate) fn added(&self, other: &Tally) -> Tally
         requires { MayAdd self.now other.now }
         ensures { result ≡ add_own self.now other.now }

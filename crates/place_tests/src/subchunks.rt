@@ -44,7 +44,7 @@ fn size(n: i64) -> u64 {
     n.unsigned_abs().wrapping_mul(n.unsigned_abs())
 }
 
-// A row with no further value, where the position is admissible.
+// A row with no extra value, where the position is admissible.
 fn row(id: u32, x: i64, y: i64, z: i64) -> Option<Row>
     ensures { IfSome result (λ row. length row.further ≡ 0) }
 {
@@ -56,7 +56,7 @@ fn row(id: u32, x: i64, y: i64, z: i64) -> Option<Row>
     }
 }
 
-// Puts a row with no further value behind the others, where they have none either and there is room.
+// Puts a row with no extra value behind the others, where they have none either and there is room.
 fn put(columns: &mut Columns, row: &Row) -> Result<(), Memory>
     requires { length row.now.further ≡ 0 }
 {

@@ -10,7 +10,7 @@ use sky_vector::{Pos, length_ok};
 use std::alloc::Global;
 use std::test::Fail;
 
-// The schema of two further columns.
+// The schema of two extra columns.
 fn two_columns(alloc: Global) -> Option<Schema> {
     let mut schema = Schema::new(alloc);
     if schema.push(b"flux").is_ok() && schema.push(b"kind").is_ok() {
@@ -20,7 +20,7 @@ fn two_columns(alloc: Global) -> Option<Schema> {
     }
 }
 
-// Puts a row with two further values behind the others, where they have two as well and there is room.
+// Puts a row with two extra values behind the others, where they have two as well and there is room.
 fn put(columns: &mut Columns, id: u32, further: &[Option<i64>]) -> Result<(), Memory>
     requires two { length further.now ≡ 2 }
     requires small { IsTrue (list_all is_further further.now) }
@@ -34,7 +34,7 @@ fn put(columns: &mut Columns, id: u32, further: &[Option<i64>]) -> Result<(), Me
     Ok(())
 }
 
-// Rows 9, 4 and 6 in ascending id, of which only the second further column has a NULL.
+// Rows 9, 4 and 6 in ascending id, of which only the second extra column has a NULL.
 fn table(alloc: Global, schema: Schema) -> Result<Option<Rows>, Memory> {
     let mut columns = Columns::new(alloc, schema)?;
     put(&mut columns, 9, &[Some(90), Some(1)])?;
@@ -48,7 +48,7 @@ fn has_rows(block: &Block) -> bool {
     block.ids() == [9, 4, 9].as_slice() && block.ys() == [3, -2, 3].as_slice()
 }
 
-// Whether its first further column has a value in each row.
+// Whether its first extra column has a value in each row.
 fn has_flux(block: &Block) -> bool
     requires { block.now.width ≡ 2 }
 {
@@ -56,7 +56,7 @@ fn has_flux(block: &Block) -> bool
     flux.values() == [90, 40, 90].as_slice() && flux.present().is_none()
 }
 
-// Whether its second further column has a NULL in the middle.
+// Whether its second extra column has a NULL in the middle.
 fn has_kind(block: &Block) -> bool
     requires { block.now.width ≡ 2 }
 {
@@ -64,7 +64,7 @@ fn has_kind(block: &Block) -> bool
     kind.values() == [1, 0, 1].as_slice() && kind.present() == Some([true, false, true].as_slice())
 }
 
-// Whether its second further column has the values of the last two rows, and keeps no presence, though the table's does.
+// Whether its second extra column has the values of the last two rows, and keeps no presence, though the table's does.
 fn has_no_null(block: &Block) -> bool
     requires { block.now.width ≡ 2 }
 {

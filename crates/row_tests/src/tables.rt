@@ -18,7 +18,7 @@ fn place() -> Pos
     Pos::new(1 << 28, 0, 0).unwrap()
 }
 
-// A row with no further value.
+// A row with no extra value.
 fn bare(id: u32) -> Row
     ensures id { result.id ≡ pos id }
     ensures narrow { length result.further ≡ 0 }
@@ -26,7 +26,7 @@ fn bare(id: u32) -> Row
     Row::new(i64::from(id), place(), &[])
 }
 
-// The further values of the row, of which there are so many.
+// The extra values of the row, of which there are so many.
 fn further_of(alloc: Global, row: &Row, count: u32) -> Result<Vec<Option<i64>>, Fail>
     requires all { length row.now.further ≡ count }
     requires few { count ≤ FURTHER_COLUMNS_MOST }

@@ -37,7 +37,7 @@ impl<P: Work> Model for SharedBoard<P> {
 }
 
 impl<P: Work> SharedBoard<P> {
-    /// A shared board without lines, and its seat 0. Takes memory; on Memory the board is dropped.
+    /// A shared board without lines, and its seat 0. Allocates memory; on Memory the board is dropped.
     pub fn new(alloc: Global, board: Board<P>) -> Result<(SharedBoard<P>, Seat<Board<P>>), Memory>
         requires { board.past ≡ [] }
         ensures first { IfOk result (λ r.
@@ -50,7 +50,7 @@ impl<P: Work> SharedBoard<P> {
         Ok((SharedBoard { turn }, seat))
     }
 
-    /// A query is attached, as the board does. Waits for the turn. Takes memory.
+    /// A query is attached, as the board does. Waits for the turn. Allocates memory.
     pub fn attach<R: Wait>(
         &self,
         rt: &R,
@@ -75,7 +75,7 @@ impl<P: Work> SharedBoard<P> {
         (attached, pass.leave())
     }
 
-    /// Hands out the next chunk of the lap, as the board does. Waits for the turn. Takes no memory.
+    /// Hands out the next chunk of the lap, as the board does. Waits for the turn. Does not allocate.
     pub fn take<R: Wait>(&self, rt: &R, seat: Seat<Board<P>>) -> (Take, Seat<Board<P>>)
         requires own { seat.turn ≡ self.now }
         ensures called { Called P.asks
@@ -89,7 +89,7 @@ impl<P: Work> SharedBoard<P> {
         (taken, pass.leave())
     }
 
-    /// Takes a task's pieces in, as the board does. Waits for the turn. Only absorbing takes memory.
+    /// Takes a task's pieces in, as the board does. Waits for the turn. Only absorbing allocates memory.
     pub fn deliver<R: Wait>(
         &self,
         rt: &R,
@@ -110,7 +110,7 @@ impl<P: Work> SharedBoard<P> {
         pass.leave()
     }
 
-    /// A running query is cancelled. True exactly where it ran. Waits for the turn. Takes no memory.
+    /// A running query is cancelled. True exactly where it ran. Waits for the turn. Does not allocate.
     pub fn cancel<R: Wait>(&self, rt: &R, seat: Seat<Board<P>>, q: u32) -> (bool, Seat<Board<P>>)
         requires own { seat.turn ≡ self.now }
         ensures called { Called P.asks
@@ -122,7 +122,7 @@ impl<P: Work> SharedBoard<P> {
         (ran, pass.leave())
     }
 
-    /// Hands out the end of a query, once, as the board does. Waits for the turn. Takes no memory.
+    /// Hands out the end of a query, once, as the board does. Waits for the turn. Does not allocate.
     pub fn collect<R: Wait>(
         &self,
         rt: &R,
@@ -140,7 +140,7 @@ impl<P: Work> SharedBoard<P> {
         (end, pass.leave())
     }
 
-    /// No query is attached from then on. Waits for the turn. Takes no memory.
+    /// No query is attached from then on. Waits for the turn. Does not allocate.
     pub fn close<R: Wait>(&self, rt: &R, seat: Seat<Board<P>>) -> Seat<Board<P>>
         requires own { seat.turn ≡ self.now }
         ensures called { Called P.asks (AnswersClose seat.number) seat result }
@@ -151,7 +151,7 @@ impl<P: Work> SharedBoard<P> {
         pass.leave()
     }
 
-    /// Makes one more seat, with the next number, out of seat 0. Takes no memory.
+    /// Makes one more seat, with the next number, out of seat 0. Does not allocate.
     pub fn split(&self, seat: &mut Seat<Board<P>>) -> Seat<Board<P>>
         requires own { seat.old.turn ≡ self.now }
         requires first { seat.old.number ≡ 0 }
@@ -163,7 +163,7 @@ impl<P: Work> SharedBoard<P> {
         self.turn.split(seat)
     }
 
-    /// Ends another seat in this one, which has seen the longer of both journals then. Takes no memory.
+    /// Ends another seat in this one, which has seen the longer of both journals then. Does not allocate.
     pub fn join(&self, seat: &mut Seat<Board<P>>, other: Seat<Board<P>>)
         requires own { (seat.old.turn ≡ self.now) × (other.turn ≡ self.now) }
         requires not_first { other.number ≢ 0 }

@@ -37,7 +37,7 @@ fn push_where(ahead: &mut Vec<u32>, chunk: u32, wanted: bool) -> Result<(), Memo
     Ok(())
 }
 
-/// The chunks in the order of the scan from a place on, the next one last. Takes memory.
+/// The chunks in the order of the scan from a place on, the next one last. Allocates memory.
 pub fn ahead_of(alloc: Global, place: u32, chunks: &[u32]) -> Result<Vec<u32>, Memory>
     ensures { IfOk result (λ ahead. ahead.items ≡ ahead_in place chunks.now) }
 {

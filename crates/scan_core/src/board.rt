@@ -69,7 +69,7 @@ impl<P: Work> Model for Board<P> {
 }
 
 impl<P: Work> Board<P> {
-    /// A board without queries over a ring of so many chunks. Takes memory; on `Err` the root is dropped.
+    /// A board without queries over a ring of so many chunks. Allocates memory; on `Err` the root is dropped.
     pub fn new(alloc: Global, ring: u32, root: P::Root) -> Result<Board<P>, Memory>
         requires { ring ≤ RING_MOST }
         ensures board { IfOk result (λ board.
@@ -92,7 +92,7 @@ impl<P: Work> Board<P> {
         })
     }
 
-    /// The number of chunks. Tells that the journal is a run over them and the root. Takes no memory.
+    /// The number of chunks. Tells that the journal is a run over them and the root. Does not allocate.
     pub fn ring(&self) -> u32
         ensures ring { result ≡ self.now.ring }
         ensures lawful { IsLawful P.asks self.now }
@@ -100,7 +100,8 @@ impl<P: Work> Board<P> {
         self.ring
     }
 
-    /// A query is attached with the chunks that it wants and an empty piece. Takes memory, also for all that follows.
+    /// A query is attached with the chunks that it wants and an empty piece. Allocates memory, also for all that
+    /// follows.
     pub fn attach(&mut self, seat: u32, q: u32, chunks: ChunkSet, empty: P) -> Attach<P>
         requires from_1 { 1 ≤ q }
         requires to_255 { q ≤ QUERY_MOST }
@@ -135,7 +136,7 @@ impl<P: Work> Board<P> {
         Attach::Attached
     }
 
-    /// No query is attached from then on. A second close changes nothing. Takes no memory.
+    /// No query is attached from then on. A second close changes nothing. Does not allocate.
     pub fn close(&mut self, seat: u32)
         ensures first { is_closed self.old.past ≡ false
             → self.new ≡ gains self.old (CloseLine seat) }
@@ -149,7 +150,7 @@ impl<P: Work> Board<P> {
         self.closed = true;
     }
 
-    /// A running query is cancelled. True exactly where it ran. Takes no memory.
+    /// A running query is cancelled. True exactly where it ran. Does not allocate.
     pub fn cancel(&mut self, seat: u32, q: u32) -> bool
         ensures ran { result ≡ is_running self.old.past q }
         ensures cancelled { IsTrue result → self.new ≡ gains self.old (CancelLine seat q) }
@@ -165,7 +166,7 @@ impl<P: Work> Board<P> {
         true
     }
 
-    /// Hands out the next chunk of the lap, for all queries that need it. Takes no memory.
+    /// Hands out the next chunk of the lap, for all queries that need it. Does not allocate.
     pub fn take(&mut self, seat: u32) -> Take
         ensures answer { AnswersTake seat self.old result self.new }
         ensures flies { IfTask result (λ task. InFlight self.new.past seat task) }
@@ -195,7 +196,7 @@ impl<P: Work> Board<P> {
         Take::Task(Task::new(ticket, chunk, queries))
     }
 
-    /// Hands out the end of a query, once: its piece where it is done. Takes no memory.
+    /// Hands out the end of a query, once: its piece where it is done. Does not allocate.
     pub fn collect(&mut self, seat: u32, q: u32) -> Collect<P>
         ensures answer { AnswersCollect P.stands seat self.old q result self.new }
         ensures lawful { IsLawful P.asks self.new }
@@ -215,7 +216,7 @@ impl<P: Work> Board<P> {
     }
 
     /// Takes a task's pieces in, the query of each by its turn; a running query without a piece, or without memory for
-    /// it, is lost. The pieces of other queries are dropped. Only absorbing takes memory.
+    /// it, is lost. The pieces of other queries are dropped. Only absorbing allocates memory.
     pub fn deliver(&mut self, seat: u32, task: Task, pieces: Vec<Option<P>>)
         requires in_flight { InFlight self.old.past seat task }
         requires stand { PiecesFit (P.stands self.old.root) task.chunk task.queries pieces.items }
@@ -249,7 +250,7 @@ impl<P: Work> Lineage for Board<P> {
     }
 }
 
-/// An empty journal with room for a Close. Takes memory.
+/// An empty journal with room for a Close. Allocates memory.
 fn room_for_close(alloc: Global) -> Result<Vec<JournalLine>, Memory>
     ensures { IfOk result (λ journal. (journal.items ≡ []) × (1 ≤ vec_capacity journal)) }
 {

@@ -43,14 +43,14 @@ pub fn put_at<P: Work>(pieces: &mut Vec<Option<P>>, q: usize, piece: P)
     pieces[q] = Some(piece);
 }
 
-/// Appends no piece. Takes memory.
+/// Appends no piece. Allocates memory.
 fn push_none<P: Work>(pieces: &mut Vec<Option<P>>) -> Result<(), Memory>
     ensures { IfOk result (λ _. length pieces.new.items ≡ length pieces.old.items + 1) }
 {
     Ok(pieces.push(None)?)
 }
 
-/// The pieces of a new board, none. Takes memory.
+/// The pieces of a new board, none. Allocates memory.
 pub fn no_pieces<P: Work>(alloc: Global) -> Result<Vec<Option<P>>, Memory>
     ensures { IfOk result (λ pieces. length pieces.items ≡ SLOTS) }
 {

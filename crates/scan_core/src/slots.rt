@@ -115,7 +115,7 @@ pub fn enter_at(slots: &mut Vec<Slot>, q: usize, owed: u32, ahead: Vec<u32>)
     slot.ahead = ahead;
 }
 
-/// Appends a slot of no query. Takes memory.
+/// Appends a slot of no query. Allocates memory.
 fn push_blank(alloc: Global, slots: &mut Vec<Slot>) -> Result<(), Memory>
     ensures { IfOk result (λ _. (slot : Slot)
         × (slots.new.items ≡ slots.old.items ++ slot ∷ []) × IsBlank slot) }
@@ -131,7 +131,7 @@ fn push_blank(alloc: Global, slots: &mut Vec<Slot>) -> Result<(), Memory>
     Ok(slots.push(blank)?)
 }
 
-/// The slots of a new board. Takes memory.
+/// The slots of a new board. Allocates memory.
 pub fn blank_slots(alloc: Global) -> Result<Vec<Slot>, Memory>
     ensures { IfOk result (λ slots. AreBlank slots.items SLOTS) }
 {

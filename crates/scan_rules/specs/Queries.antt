@@ -24,7 +24,7 @@ is_attached past q = list_any (attaches q) past
 abbrev pub is_cancelled : Journal → ℕ → Bool
 is_cancelled past q = list_any (cancels q) past
 
--- a Deliver has lost the query, for want of memory
+-- a Deliver has lost the query, because an allocation failed
 abbrev pub is_lost : Journal → ℕ → Bool
 is_lost past q = list_any (loses q) past
 

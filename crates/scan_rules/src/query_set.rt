@@ -32,14 +32,14 @@ impl Model for QuerySet {
 }
 
 impl QuerySet {
-    /// A set without queries. Takes no memory.
+    /// A set without queries. Does not allocate.
     pub fn new() -> QuerySet
         ensures { result ≡ [] }
     {
         QuerySet { words: [0; 4] }
     }
 
-    /// Appends a query above the last one. Takes no memory.
+    /// Appends a query above the last one. Does not allocate.
     pub fn add(&mut self, q: u32)
         requires from_1 { 1 ≤ q }
         requires to_255 { q ≤ QUERY_MOST }
@@ -49,7 +49,7 @@ impl QuerySet {
         self.words[(q / 64) as usize] |= 1 << (q % 64);
     }
 
-    /// Whether the query is in the set. Takes no memory.
+    /// Whether the query is in the set. Does not allocate.
     pub fn has(&self, q: u32) -> bool
         ensures { IsTrue result ↔ Contains self.now q }
     {

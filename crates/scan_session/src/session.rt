@@ -22,7 +22,7 @@ use std::sync::Wait;
 use std::thread::Threads;
 use turn_lock::Seat;
 
-/// What is known of the ends before the session: the queries that are not planned are refused. Takes memory.
+/// What is known of the ends before the session: the queries that are not planned are refused. Allocates memory.
 fn first_ends<P: Work>(
     alloc: Global,
     plans: &[Option<Planned<P>>],
@@ -48,7 +48,7 @@ fn first_end<P: Work>(plan: &Option<Planned<P>>) -> Option<End<P>>
     }
 }
 
-/// Room for so many ends. Takes memory.
+/// Room for so many ends. Allocates memory.
 fn room_for<P: Work>(alloc: Global, count: usize) -> Result<Vec<End<P>>, Memory>
     ensures room { IfOk result (λ ends. count ≤ vec_capacity ends) }
     ensures none { IfOk result (λ ends. ends.items ≡ []) }
@@ -58,7 +58,7 @@ fn room_for<P: Work>(alloc: Global, count: usize) -> Result<Vec<End<P>>, Memory>
     Ok(ends)
 }
 
-/// The ends, once all are known. Takes no memory.
+/// The ends, once all are known. Does not allocate.
 fn all_known<P: Work>(known: &mut [Option<End<P>>], ends: Vec<End<P>>) -> Vec<End<P>>
     requires known { AllKnown known.old }
     requires room { length known.old ≤ vec_capacity ends }

@@ -27,7 +27,7 @@ use std::sync::Wait;
 use std::thread;
 use turn_lock::Seat;
 
-/// Works for once; where nothing is to do, gives the processor away. Takes memory, and waits.
+/// Works for once; where nothing is to do, gives the processor away. Allocates memory, and waits.
 fn work<R: Wait, P: Work, E: Engine<P>, G: Gate>(
     desk: &mut Desk<E::Scratch>,
     rt: &R,
@@ -50,7 +50,7 @@ fn work<R: Wait, P: Work, E: Engine<P>, G: Gate>(
     seat
 }
 
-/// Attaches a query once; where the board is full, works for once instead. Takes memory, and waits.
+/// Attaches a query once; where the board is full, works for once instead. Allocates memory, and waits.
 pub fn try_start<R: Wait, P: Work, E: Engine<P>, G: Gate>(
     desk: &mut Desk<E::Scratch>,
     rt: &R,
@@ -88,7 +88,7 @@ pub fn try_start<R: Wait, P: Work, E: Engine<P>, G: Gate>(
     }
 }
 
-/// Attaches a query, and works while the board is full. Takes memory, and waits.
+/// Attaches a query, and works while the board is full. Allocates memory, and waits.
 pub fn start<R: Wait, P: Work, E: Engine<P>, G: Gate>(
     desk: &mut Desk<E::Scratch>,
     rt: &R,
@@ -126,7 +126,7 @@ pub fn start<R: Wait, P: Work, E: Engine<P>, G: Gate>(
     unreachable!()
 }
 
-/// Cancels a query, where it runs. Waits, and takes no memory.
+/// Cancels a query, where it runs. Waits, and does not allocate.
 pub fn cancel<R: Wait, P: Work>(
     rt: &R,
     board: &SharedBoard<P>,

@@ -33,14 +33,14 @@ impl Model for Ends {
 }
 
 impl Ends {
-    /// These ends, in the queries' order. Takes no memory.
+    /// These ends, in the queries' order. Does not allocate.
     pub fn from_vec(ends: Vec<EndKind>) -> Ends
         ensures { result ≡ ends.items }
     {
         Ends { ends }
     }
 
-    /// The ends in the queries' order. Takes no memory.
+    /// The ends in the queries' order. Does not allocate.
     pub fn as_slice(&self) -> &[EndKind]
         ensures { result.now ≡ self.now }
     {

@@ -1,4 +1,4 @@
--- What a reader of scripts answers, seen from the definition. Want of memory may come in place of any answer.
+-- What a reader of scripts answers, seen from the definition. An allocation failure may come in place of any answer.
 use Rattle.std.specs.Prelude.{◌≡◌, ⊤, ℕ, ◌+◌, ◌==◌, List, ◌++◌, option_to_list, slice_index, if◌then◌else◌}
 use Rattle.std.specs.Prelude.{Option, Result, Ok, Err}
 use Rattle.sky_io.specs.declared.Stop.{Stop}

@@ -56,7 +56,7 @@ fn asking(queries: u32, place: usize, line: &Line<'_>) -> Result<Option<Step>, S
     }
 }
 
-/// The step of a line that begins at a place, behind lines with so many queries; `None` of a note. Takes no memory.
+/// The step of a line that begins at a place, behind lines with so many queries; `None` of a note. Does not allocate.
 pub(crate) fn step_of(
     queries: u32,
     place: usize,

@@ -40,7 +40,7 @@ fn number_behind(word: &[u8], text: &[u8]) -> Option<u32>
     }
 }
 
-/// What a line says. Takes no memory.
+/// What a line says. Does not allocate.
 pub(crate) fn said_by(text: &[u8]) -> Saying
     ensures { result ≡ said_by text.now }
 {

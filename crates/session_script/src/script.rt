@@ -104,7 +104,8 @@ impl<'a> Script<'a> {
         }
     }
 
-    /// The steps of a text of at most 2^29 bytes, or its first fault. Want of memory may come in place of any answer.
+    /// The steps of a text of at most 2^29 bytes, or its first fault. An allocation failure may come in place of any
+    /// answer.
     pub fn read(alloc: Global, text: &'a [u8]) -> Result<Script<'a>, Stop<ScriptFault>>
         requires { length text.now ≤ TEXT_MOST }
         ensures text { IfOk result (λ script. script.text ≡ text.now) }
@@ -120,8 +121,8 @@ impl<'a> Script<'a> {
         Ok(script)
     }
 
-    /// The steps, in the order of their lines: queries are numbered from 1, and a wait or a cancel names an earlier one.
-    /// Takes no memory.
+    /// The steps, in the order of their lines: queries are numbered from 1, and a wait or a cancel names an earlier
+    /// one. Does not allocate.
     pub fn steps(&self) -> &[Step]
         ensures steps { result.now ≡ self.now.steps }
         ensures numbered { NumberedFrom 0 self.now.steps }
@@ -129,7 +130,7 @@ impl<'a> Script<'a> {
         self.steps.as_slice()
     }
 
-    /// How many queries the script has. Takes no memory.
+    /// How many queries the script has. Does not allocate.
     pub fn queries(&self) -> u32
         ensures count { result ≡ query_count self.now.steps }
         ensures few { result ≤ QUERIES_MOST }
@@ -137,7 +138,7 @@ impl<'a> Script<'a> {
         self.queries.len() as u32
     }
 
-    /// The text of a query, numbered from 1: its line without the end. Takes no memory.
+    /// The text of a query, numbered from 1: its line without the end. Does not allocate.
     pub fn text_of(&self, number: u32) -> &'a [u8]
         requires from { 1 ≤ number }
         requires to { number ≤ query_count self.now.steps }

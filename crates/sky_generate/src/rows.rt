@@ -14,7 +14,7 @@ use sky_io::Memory;
 use sky_row::{Row, Rows, Schema};
 use std::alloc::Global;
 
-/// The demo's catalogue of so many rows, at most 2^22, from this seed. Takes memory for its columns.
+/// The demo's catalogue of so many rows, at most 2^22, from this seed. Allocates memory for its columns.
 #[tactic(auto, using(crate::proofs::Growth::none_made, crate::proofs::Growth::before_is_below, crate::proofs::Growth::has_room, crate::proofs::Growth::is_wide))]
 pub fn rows_of(alloc: Global, count: u32, seed: u32) -> Result<Rows, Memory>
     requires few { count ≤ ROWS_MOST }
@@ -53,7 +53,7 @@ fn object(id: u32, draws: &Draws) -> Row
     Row::new(i64::from(id), at, &[Some(flux), Some(kind)])
 }
 
-/// The further columns: flux and kind.
+/// The extra columns: flux and kind.
 fn schema(alloc: Global) -> Result<Schema, Memory>
     ensures { IfOk result (λ schema. schema ≡ codes "flux" ∷ codes "kind" ∷ []) }
 {
@@ -63,7 +63,7 @@ fn schema(alloc: Global) -> Result<Schema, Memory>
     Ok(schema)
 }
 
-/// Puts a further column behind the others.
+/// Puts a extra column behind the others.
 fn put_name(schema: &mut Schema, name: &[u8]) -> Result<(), Memory>
     requires { can_follow (column_names schema.old) name.now ≡ true }
     ensures { OnOk result (schema.new ≡ schema.old ++ name.now ∷ []) }

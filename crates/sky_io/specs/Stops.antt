@@ -1,8 +1,8 @@
--- Why a call stopped: want of memory, or a fault of its own.
+-- Why a call stopped: an allocation failure, or a fault of its own.
 use Rattle.sky_io.specs.declared.Stop.{Stop}
 use Rattle.sky_io.specs.declared.Stop.TheVariants.{Memory, Bad}
 
--- of a call that stopped: what holds of its own fault; of want of memory nothing does
+-- of a call that stopped: what holds of its own fault; of an allocation failure nothing does
 abbrev pub IfBad : {F : Type 0} → Stop F → (F → Type 0) → Type 0
 IfBad Memory holds = Unit {0}
 IfBad (Bad fault) holds = holds fault

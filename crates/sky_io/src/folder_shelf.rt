@@ -29,7 +29,7 @@ impl<'a, R: Files> Model for FolderShelf<'a, R> {
 }
 
 impl<'a, R: Files> FolderShelf<'a, R> {
-    /// A shelf of which no fetch has failed. Takes no memory.
+    /// A shelf of which no fetch has failed. Does not allocate.
     pub fn new(rt: &'a R, alloc: Global) -> FolderShelf<'a, R>
         ensures texts { result.texts ≡ None }
         ensures failed { result.failed ≡ [] }

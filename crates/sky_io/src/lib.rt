@@ -38,14 +38,14 @@ pub use sink::{Put, Sink};
 use std::alloc::{AllocError, AllocFailed};
 pub use step_gate::StepGate;
 
-/// Want of memory, which is no refusal: the same call may succeed later.
+/// An allocation failure, which is no refusal: the same call may succeed later.
 #[derive(Clone, Copy, Debug, PartialEq, Eq)]
 pub struct Memory;
 
-/// Why a call stopped: want of memory, or a fault of its own.
+/// Why a call stopped: an allocation failure, or a fault of its own.
 #[derive(Clone, Copy, Debug, PartialEq, Eq)]
 pub enum Stop<F> {
-    /// Want of memory.
+    /// Out of memory.
     Memory,
     /// The call's own fault.
     Bad(F),

@@ -18,7 +18,7 @@ pub trait Lineage {
     /// The number of the seat that an entry carries.
     ghost seat_of: { Self.Entry → ℕ };
 
-    /// How many entries the past has, where they are fewer than 2^62. Takes no memory.
+    /// How many entries the past has, where they are fewer than 2^62. Does not allocate.
     fn past_len(&self) -> u64
         ensures { length (past self.now) < 2 ^ 62 → result ≡ length (past self.now) };
 }

@@ -32,7 +32,7 @@ impl Model for MemShelf {
 }
 
 impl MemShelf {
-    /// A shelf of these pairs of a name and a text, none of which was fetched yet. Takes no memory.
+    /// A shelf of these pairs of a name and a text, none of which was fetched yet. Does not allocate.
     pub fn new(alloc: Global, texts: Vec<(String, Vec<u8>)>, failing: Vec<u64>) -> MemShelf
         ensures { result ≡ new_shelf (pairs_of texts.items) failing.items }
     {

@@ -12,15 +12,15 @@ pub struct NoteGate {
 }
 
 impl NoteGate {
-    /// A gate that nobody has passed. Takes no memory.
+    /// A gate that nobody has passed. Does not allocate.
     pub fn new() -> NoteGate {
         NoteGate {
             notes: Mutex::new(ArrayVec::new()),
         }
     }
 
-    /// The worker and the chunk of a pass, counted from 0: None where there was no such pass, or it was not noted.
-    /// Takes no memory.
+    /// The worker and the chunk of a pass, counted from 0: None where there was no such pass, or it was not noted. Does
+    /// not allocate.
     pub fn noted(&mut self, i: u32) -> Option<(u32, u32)>
         ensures late { 64 ≤ i → result ≡ None }
     {

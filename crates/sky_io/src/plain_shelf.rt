@@ -21,7 +21,7 @@ impl Model for PlainShelf {
 }
 
 impl PlainShelf {
-    /// A shelf of these pairs of a name and a text. Takes no memory.
+    /// A shelf of these pairs of a name and a text. Does not allocate.
     pub fn new(texts: Vec<(String, Vec<u8>)>) -> PlainShelf
         ensures { result ≡ pairs_of texts.items }
     {

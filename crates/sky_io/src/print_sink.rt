@@ -37,7 +37,7 @@ impl<P: Print> Model for PrintSink<P> {
 }
 
 impl PrintSink<Stdout> {
-    /// Nothing is held back yet, and nothing has failed. Takes no memory.
+    /// Nothing is held back yet, and nothing has failed. Does not allocate.
     pub fn new(rt: &HostRuntime) -> OutSink
         ensures { result ≡ unused_stream }
     {
@@ -46,7 +46,7 @@ impl PrintSink<Stdout> {
 }
 
 impl PrintSink<Stderr> {
-    /// Nothing is held back yet, and nothing has failed. Takes no memory.
+    /// Nothing is held back yet, and nothing has failed. Does not allocate.
     pub fn new(rt: &HostRuntime) -> ErrSink
         ensures { result ≡ unused_stream }
     {

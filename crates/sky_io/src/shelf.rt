@@ -20,7 +20,7 @@ pub trait Shelf {
     ghost state: { Self → ShelfState };
 
     /// Gives the first `limit + 1` bytes of the named text, or all of a shorter one, so that a text of more than
-    /// `limit` bytes shows itself. Takes memory.
+    /// `limit` bytes shows itself. Allocates memory.
     fn fetch(&mut self, name: &str, limit: usize, into: &mut Vec<u8>) -> Fetch
         requires { into.old.items ≡ [] }
         ensures { Fetched (state self.old) (state self.new) name.now limit into.new.items result };

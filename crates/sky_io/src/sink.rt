@@ -17,11 +17,11 @@ pub trait Sink {
     /// What was written, where the sink tells it, whether bytes may be held back, and how often the sink has failed.
     ghost state: { Self → SinkState };
 
-    /// Appends a piece. A failure may leave a first part of it behind. Takes no memory.
+    /// Appends a piece. A failure may leave a first part of it behind. Does not allocate.
     fn put(&mut self, piece: &[u8]) -> Put
         ensures { Wrote (state self.old) (state self.new) piece.now result };
 
-    /// Sends what is held back. Takes no memory.
+    /// Sends what is held back. Does not allocate.
     fn flush_out(&mut self) -> Put
         ensures { Flushed (state self.old) (state self.new) result };
 }

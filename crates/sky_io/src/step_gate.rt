@@ -18,7 +18,7 @@ pub struct StepGate {
 }
 
 impl StepGate {
-    /// A gate that nobody has passed. Takes no memory.
+    /// A gate that nobody has passed. Does not allocate.
     pub fn new(at_once: u32, turns: u32) -> StepGate {
         StepGate {
             at_once,

@@ -24,8 +24,8 @@ use sky_rules::SkyFault;
 use std::alloc::Global;
 
 impl SkyPlan {
-    /// The plan that a sky text of at most 2^29 bytes says, or its first fault. Takes memory for the stripes; where there
-    /// is none, nothing is kept.
+    /// The plan that a sky text of at most 2^29 bytes says, or its first fault. Allocates memory for the stripes; where
+    /// there is none, nothing is kept.
     #[tactic(auto, using(crate::proofs::SkyLines::sky_of_text, crate::proofs::SkyLines::text_within))]
     pub fn read(alloc: Global, text: &[u8]) -> Result<SkyPlan, Stop<SkyFault>>
         requires { length text.now ≤ TEXT_MOST }

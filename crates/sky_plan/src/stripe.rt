@@ -26,7 +26,7 @@ impl Model for Stripe {
 
 impl Stripe {
     /// The stripe that begins at a height, with so many chunks, columns and rows of subchunks in each, and an overlap
-    /// radius in grid units. Takes no memory.
+    /// radius in grid units. Does not allocate.
     pub fn new(z_low: i64, chunks: u32, columns: u32, rows: u32, overlap: u32) -> Stripe
         ensures { result ≡ record {
           z_low = z_low;
@@ -45,14 +45,14 @@ impl Stripe {
         }
     }
 
-    /// The number of chunks. Takes no memory.
+    /// The number of chunks. Does not allocate.
     pub fn chunks(&self) -> u32
         ensures { result ≡ self.now.chunks }
     {
         self.chunks
     }
 
-    /// The overlap radius, in grid units. Takes no memory.
+    /// The overlap radius, in grid units. Does not allocate.
     pub fn overlap(&self) -> u32
         ensures { result ≡ self.now.overlap }
     {

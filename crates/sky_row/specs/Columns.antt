@@ -37,7 +37,7 @@ pub record IsPresenceAt (present : List Bool) (places : List ℕ) (found : List 
   pub presence : (found ≡ []) ⊎ (length found ≡ length places)
   pub each : (k : ℕ) → k < length places → get_or found k true ≡ get_or present (get_or places k 0) true
 
--- The columns of rows: their ids, the parts of their positions, and a list for each further column.
+-- The columns of rows: their ids, the parts of their positions, and a list for each extra column.
 pub record Parts : Type 0 where
   pub ids : List ℤ
   pub xs : List ℤ
@@ -61,11 +61,11 @@ row_at p i = record {
 abbrev pub objects_of : Parts → List Obj
 objects_of p = map (row_at p) (range_with_len 0 (length p.ids))
 
--- so many further columns over no row
+-- so many extra columns over no row
 abbrev pub no_rows : ℕ → Parts
 no_rows width = record { ids = []; xs = []; ys = []; zs = []; further = replicate width [] }
 
--- each further column with a value more, of which there is one a column
+-- each extra column with a value more, of which there is one a column
 unfoldable pub cells_behind : List (List (Option ℤ)) → List (Option ℤ) → List (List (Option ℤ))
 cells_behind [] cells = []
 cells_behind (column ∷ columns) [] = column ∷ columns
@@ -140,7 +140,7 @@ pub record AreColumns (names : List (List ℕ)) (p : Parts) : Type 0 where
   pub wide : length p.further ≡ length names
   pub rows : AreRows p
 
--- Rows in any order: not too many, each within the limits of its columns and with a value for each further column.
+-- Rows in any order: not too many, each within the limits of its columns and with a value for each extra column.
 pub record AreListed (c : Catalogue) : Type 0 where
   pub few_names : length c.names ≤ FURTHER_COLUMNS_MOST
   pub few : length c.objects ≤ ROWS_MOST

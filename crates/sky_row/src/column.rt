@@ -1,4 +1,4 @@
-//! A further column: a number for each row, and which rows have a value.
+//! A extra column: a number for each row, and which rows have a value.
 //!
 //! Where each row has one, no presence is kept, so a scan of such a column reads nothing beside its numbers.
 ghost use Rattle.std.specs.Prelude.{ℕ, true, ◌≡◌, ◌≤◌, ◌<◌, ◌^◌, [], ◌∷◌, ◌++◌, All, IfOk, IfSome, IfNone, OnOk, OnErr, IsTrue, Some, None, ◌⊎◌};
@@ -13,7 +13,7 @@ use sky_io::Memory;
 use std::alloc::Global;
 use std::marker::Model;
 
-/// The values that rows have in a further column, of which `None` is NULL.
+/// The values that rows have in a extra column, of which `None` is NULL.
 #[derive(Drop)]
 pub struct Column {
     /// A number for each row, and 0 for NULL.
@@ -34,7 +34,7 @@ impl Model for Column {
 }
 
 impl Column {
-    /// A column over no row. Takes no memory.
+    /// A column over no row. Does not allocate.
     pub fn new(alloc: Global) -> Column
         ensures { result ≡ [] }
     {
@@ -44,14 +44,14 @@ impl Column {
         }
     }
 
-    /// How many rows there are. Takes no memory.
+    /// How many rows there are. Does not allocate.
     pub fn len(&self) -> usize
         ensures { result ≡ length self.now }
     {
         self.values.len()
     }
 
-    /// The value at this place, from 0. Takes no memory.
+    /// The value at this place, from 0. Does not allocate.
     pub fn get(&self, i: usize) -> Option<i64>
         requires { i < length self.now }
         ensures { result ≡ get_or self.now i None }
@@ -59,14 +59,14 @@ impl Column {
         value_at(self.values.as_slice(), self.present.as_slice(), i)
     }
 
-    /// A number for each row: its value, and 0 for NULL. Takes no memory.
+    /// A number for each row: its value, and 0 for NULL. Does not allocate.
     pub fn values(&self) -> &[i64]
         ensures { result.now ≡ map or_zero self.now }
     {
         self.values.as_slice()
     }
 
-    /// Which rows have a value; `None` only where all have. Takes no memory.
+    /// Which rows have a value; `None` only where all have. Does not allocate.
     pub fn present(&self) -> Option<&[bool]>
         ensures some { IfSome result (λ present. present.now ≡ map is_some self.now) }
         ensures none { IfNone result (All (λ cell. IsTrue (is_some cell)) self.now) }
@@ -79,7 +79,7 @@ impl Column {
         }
     }
 
-    /// Puts a value behind the others. Takes memory; where there is none, nothing changes.
+    /// Puts a value behind the others. Allocates memory; where there is none, nothing changes.
     pub fn push(&mut self, value: Option<i64>) -> Result<(), Memory>
         ensures ok { OnOk result (self.new ≡ self.old ++ value ∷ []) }
         ensures err { OnErr result (self.new ≡ self.old) }
@@ -91,7 +91,8 @@ impl Column {
         }
     }
 
-    /// The column of the rows at these places, counted from 0, in the order of the places. Takes memory for it once.
+    /// The column of the rows at these places, counted from 0, in the order of the places. Allocates memory for it
+    /// once.
     pub fn at(&self, alloc: Global, places: &[u32]) -> Result<Column, Memory>
         requires { All (λ place. place < length self.now) places.now }
         ensures { IfOk result (λ column.
@@ -102,7 +103,7 @@ impl Column {
         Ok(of_parts(values, present))
     }
 
-    /// A column over no row, with room for so many. Takes memory for their numbers once.
+    /// A column over no row, with room for so many. Allocates memory for their numbers once.
     pub(crate) fn with_room(alloc: Global, count: usize) -> Result<Column, Memory>
         ensures { IfOk result (λ column. column ≡ []) }
     {
@@ -112,8 +113,8 @@ impl Column {
         })
     }
 
-    /// Puts the values of the rows at the next places behind those of the first ones, up to so many in all. Takes memory where
-    /// the room is not there, or a NULL is the first; where there is none, nothing changes.
+    /// Puts the values of the rows at the next places behind those of the first ones, up to so many in all. Allocates
+    /// memory where the room is not there, or a NULL is the first; where there is none, nothing changes.
     pub(crate) fn fill(
         &mut self,
         table: &Column,
@@ -139,7 +140,7 @@ impl Column {
         )
     }
 
-    /// Cuts the column behind so many rows. Takes no memory.
+    /// Cuts the column behind so many rows. Does not allocate.
     pub fn truncate(&mut self, count: usize)
         ensures { self.new ≡ take count self.old }
     {

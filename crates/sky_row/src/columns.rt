@@ -19,7 +19,7 @@ use std::alloc::Global;
 use std::marker::Model;
 use table_rules::limits::FIRST_COLUMNS;
 
-/// Rows in any order, each with a value for each further column.
+/// Rows in any order, each with a value for each extra column.
 #[derive(Drop)]
 pub struct Columns {
     schema: Schema,
@@ -38,7 +38,7 @@ impl Model for Columns {
 }
 
 impl Columns {
-    /// These columns over no row. Takes memory for the list of them.
+    /// These columns over no row. Allocates memory for the list of them.
     #[tactic(auto, using(crate::proofs::Rowed::no_columns))]
     pub fn new(alloc: Global, schema: Schema) -> Result<Columns, Memory>
         ensures { IfOk result (λ columns. columns ≡ record { names = schema; objects = [] }) }
@@ -47,7 +47,7 @@ impl Columns {
         Ok(Columns { schema, lists })
     }
 
-    /// Puts the row behind the others. Takes memory; where there is none, nothing changes.
+    /// Puts the row behind the others. Allocates memory; where there is none, nothing changes.
     pub fn push(&mut self, row: &Row) -> Result<(), Memory>
         requires room { length self.old.objects < ROWS_MOST }
         requires wide { length row.now.further ≡ length self.old.names }
@@ -58,7 +58,7 @@ impl Columns {
         push_row(&mut self.lists, row)
     }
 
-    /// How many rows there are. Takes no memory.
+    /// How many rows there are. Does not allocate.
     pub fn len(&self) -> u32
         ensures count { result ≡ length self.now.objects }
         ensures limits { AreListed self.now }
@@ -66,7 +66,7 @@ impl Columns {
         self.lists.ids().len() as u32
     }
 
-    /// The row with this number, from 0. Takes no memory.
+    /// The row with this number, from 0. Does not allocate.
     pub fn get(&self, i: u32) -> Row
         requires { i < length self.now.objects }
         ensures value { slice_get self.now.objects i ≡ Some result }
@@ -76,7 +76,7 @@ impl Columns {
         self.lists.row(i as usize)
     }
 
-    /// The position of the row with this number, from 0, without its other values. Takes no memory.
+    /// The position of the row with this number, from 0, without its other values. Does not allocate.
     pub fn position(&self, i: u32) -> Pos
         requires { i < length self.now.objects }
         ensures value { point result ≡ (get_or self.now.objects i no_row).at }
@@ -85,14 +85,14 @@ impl Columns {
         self.lists.position(i as usize)
     }
 
-    /// The names of the columns. Takes no memory.
+    /// The names of the columns. Does not allocate.
     pub fn schema(&self) -> &Schema
         ensures { result.now ≡ self.now.names }
     {
         &self.schema
     }
 
-    /// The columns themselves, without their names. Takes no memory.
+    /// The columns themselves, without their names. Does not allocate.
     pub fn lists(&self) -> &Lists
         ensures objects { objects_of result.now ≡ self.now.objects }
         ensures rows { AreRows result.now }
@@ -101,14 +101,14 @@ impl Columns {
         &self.lists
     }
 
-    /// The ids of the rows. Takes no memory.
+    /// The ids of the rows. Does not allocate.
     pub fn ids(&self) -> &[i64]
         ensures { result.now ≡ map (λ o. o.id) self.now.objects }
     {
         self.lists.ids()
     }
 
-    /// The x of the rows. Takes no memory.
+    /// The x of the rows. Does not allocate.
     pub fn xs(&self) -> &[i32]
         ensures value { result.now ≡ map (λ o. o.at.x) self.now.objects }
         ensures within { All IsWithin result.now }
@@ -116,7 +116,7 @@ impl Columns {
         self.lists.xs()
     }
 
-    /// The y of the rows. Takes no memory.
+    /// The y of the rows. Does not allocate.
     pub fn ys(&self) -> &[i32]
         ensures value { result.now ≡ map (λ o. o.at.y) self.now.objects }
         ensures within { All IsWithin result.now }
@@ -124,7 +124,7 @@ impl Columns {
         self.lists.ys()
     }
 
-    /// The z of the rows. Takes no memory.
+    /// The z of the rows. Does not allocate.
     pub fn zs(&self) -> &[i32]
         ensures value { result.now ≡ map (λ o. o.at.z) self.now.objects }
         ensures within { All IsWithin result.now }
@@ -132,7 +132,7 @@ impl Columns {
         self.lists.zs()
     }
 
-    /// A further column by its number among all columns, so from `FIRST_COLUMNS`. Takes no memory.
+    /// A extra column by its number among all columns, so from `FIRST_COLUMNS`. Does not allocate.
     pub fn further(&self, col: u32) -> &Column
         requires first { FIRST_COLUMNS ≤ col }
         requires last { col < FIRST_COLUMNS + length self.now.names }
@@ -141,7 +141,7 @@ impl Columns {
         self.lists.further(col as usize - FIRST_COLUMNS)
     }
 
-    /// The rows at these places, counted from 0, in the order of the places. Takes memory for each column once.
+    /// The rows at these places, counted from 0, in the order of the places. Allocates memory for each column once.
     pub fn at(self, alloc: Global, places: &[u32]) -> Result<Columns, Memory>
         requires few { length places.now ≤ ROWS_MOST }
         requires there { All (λ place. place < length self.objects) places.now }

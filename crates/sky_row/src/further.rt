@@ -1,4 +1,4 @@
-//! The further columns of rows, side by side: the same is done to each of them.
+//! The extra columns of rows, side by side: the same is done to each of them.
 ghost use Rattle.std.specs.Prelude.{◌≡◌, ◌<◌, ◌≤◌, ℕ, [], ◌∷◌, ◌++◌, length, map, take, get_or, replicate, All};
 ghost use Rattle.std.specs.Prelude.{IfOk, IsTrue, OnOk, OnErr, None};
 ghost use Rattle.std.specs.List.{list_all};
@@ -84,7 +84,7 @@ pub(crate) fn empty_columns(alloc: Global, width: u32, room: usize) -> Result<Ve
     Ok(columns)
 }
 
-/// Puts the further values of a row behind their columns. Where there is no memory, some columns have theirs.
+/// Puts the extra values of a row behind their columns. Where there is no memory, some columns have theirs.
 pub(crate) fn push_cells(columns: &mut Vec<Column>, row: &Row) -> Result<(), Memory>
     requires few { length row.now.further ≤ FURTHER_COLUMNS_MOST }
     requires wide { length row.now.further ≡ length columns.old.items }
@@ -100,7 +100,7 @@ pub(crate) fn push_cells(columns: &mut Vec<Column>, row: &Row) -> Result<(), Mem
     Ok(())
 }
 
-/// Puts the further value of a row with this number, from 0, behind its column.
+/// Puts the extra value of a row with this number, from 0, behind its column.
 #[tactic(auto, using(crate::proofs::Gathering::further_cell, crate::proofs::Gathering::front_same, crate::proofs::Gathering::front_more))]
 fn push_cell(column: &mut Column, row: &Row, k: u32) -> Result<(), Memory>
     requires few { length row.now.further ≤ FURTHER_COLUMNS_MOST }

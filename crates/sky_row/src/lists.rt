@@ -18,7 +18,7 @@ use sky_vector::Pos;
 use std::alloc::Global;
 use std::marker::Model;
 
-/// The ids of rows, the parts of their positions, and their further columns.
+/// The ids of rows, the parts of their positions, and their extra columns.
 #[derive(Drop)]
 pub struct Lists {
     ids: Vec<i64>,
@@ -37,8 +37,8 @@ impl Model for Lists {
 }
 
 impl Lists {
-    /// So many further columns over no row, with room for so many rows. Takes memory for the list of them, and for each column
-    /// once where there is to be room.
+    /// So many extra columns over no row, with room for so many rows. Allocates memory for the list of them, and for
+    /// each column once where there is to be room.
     pub fn new(alloc: Global, width: u32, room: usize) -> Result<Lists, Memory>
         ensures { IfOk result (λ lists. lists ≡ no_rows width) }
     {
@@ -52,7 +52,7 @@ impl Lists {
         })
     }
 
-    /// Puts a row behind the others. Takes memory; where there is none, nothing changes.
+    /// Puts a row behind the others. Allocates memory; where there is none, nothing changes.
     pub(crate) fn push(&mut self, row: &Row) -> Result<(), Memory>
         requires aligned { AreAligned self.old }
         requires wide { length row.now.further ≡ length self.old.further }
@@ -84,7 +84,7 @@ impl Lists {
         push_cells(&mut self.further, row)
     }
 
-    /// The row at this place, from 0. Takes no memory.
+    /// The row at this place, from 0. Does not allocate.
     pub fn row(&self, i: usize) -> Row
         requires rows { AreRows self.now }
         requires there { i < length self.now.ids }
@@ -95,7 +95,7 @@ impl Lists {
         Row::of_cells(self.ids[i], at, cells_at(self.further.as_slice(), i))
     }
 
-    /// The position of the row at this place, from 0. Takes no memory.
+    /// The position of the row at this place, from 0. Does not allocate.
     pub fn position(&self, i: usize) -> Pos
         requires rows { AreRows self.now }
         requires there { i < length self.now.ids }
@@ -108,7 +108,7 @@ impl Lists {
         )
     }
 
-    /// The rows at these places, counted from 0, in the order of the places. Takes memory for each column once.
+    /// The rows at these places, counted from 0, in the order of the places. Allocates memory for each column once.
     pub fn at(&self, alloc: Global, places: &[u32]) -> Result<Lists, Memory>
         requires aligned { AreAligned self.now }
         requires there { All (λ place. place < length self.now.ids) places.now }
@@ -128,9 +128,10 @@ impl Lists {
         })
     }
 
-    /// Puts the rows at the next places in a table behind those at the first ones, up to so many in all: so rows are gathered by
-    /// turns, for one list of places after the other, while what they are taken from is near the processor. Takes memory where the
-    /// room is not there, or a NULL is a column's first; where there is none, some columns have the next values and some don't.
+    /// Puts the rows at the next places in a table behind those at the first ones, up to so many in all: so rows are
+    /// gathered by turns, for one list of places after the other, while what they are taken from is near the processor.
+    /// Allocates memory where the room is not there, or a NULL is a column's first; where there is none, some columns
+    /// have the next values and some don't.
     pub fn fill(&mut self, table: &Lists, places: &[u32], count: usize) -> Result<(), Memory>
         requires aligned { AreAligned table.now }
         requires there { All (λ place. place < length table.now.ids) places.now }
@@ -147,35 +148,35 @@ impl Lists {
         fill_columns(&mut self.further, table.further.as_slice(), places, count)
     }
 
-    /// The ids. Takes no memory.
+    /// The ids. Does not allocate.
     pub fn ids(&self) -> &[i64]
         ensures { result.now ≡ self.now.ids }
     {
         self.ids.as_slice()
     }
 
-    /// The first parts of the positions. Takes no memory.
+    /// The first parts of the positions. Does not allocate.
     pub fn xs(&self) -> &[i32]
         ensures { result.now ≡ self.now.xs }
     {
         self.xs.as_slice()
     }
 
-    /// The second parts of the positions. Takes no memory.
+    /// The second parts of the positions. Does not allocate.
     pub fn ys(&self) -> &[i32]
         ensures { result.now ≡ self.now.ys }
     {
         self.ys.as_slice()
     }
 
-    /// The third parts of the positions. Takes no memory.
+    /// The third parts of the positions. Does not allocate.
     pub fn zs(&self) -> &[i32]
         ensures { result.now ≡ self.now.zs }
     {
         self.zs.as_slice()
     }
 
-    /// The further column with this number, from 0. Takes no memory.
+    /// The extra column with this number, from 0. Does not allocate.
     pub fn further(&self, k: usize) -> &Column
         requires { k < length self.now.further }
         ensures { result.now ≡ get_or self.now.further k [] }

@@ -62,8 +62,8 @@ pub(crate) fn is_whole(present: &[bool], places: &[u32], from: usize, count: usi
     true
 }
 
-/// Puts the presence of the rows at the next places behind that of the first ones, up to so many in all: where none was kept,
-/// one is from now on. Takes no memory.
+/// Puts the presence of the rows at the next places behind that of the first ones, up to so many in all: where none was
+/// kept, one is from now on. Does not allocate.
 #[tactic(auto, using(crate::proofs::Filling::push_true, crate::proofs::Filling::no_more))]
 pub(crate) fn fill_presence(
     found: &mut Vec<bool>,

@@ -6,8 +6,8 @@ ghost use Rattle.text_rules.specs.Numbers.{four_decimals, four_digits, ten_thous
 use crate::put::put_natural;
 use sky_io::{Put, Sink};
 
-/// Writes a number of ten-thousandths, of a size of at most 2^120, as a whole part, a point and four digits, with a minus
-/// where it is negative. Takes no memory.
+/// Writes a number of ten-thousandths, of a size of at most 2^120, as a whole part, a point and four digits, with a
+/// minus where it is negative. Does not allocate.
 #[tactic(auto, using(crate::proofs::Decimals::negative, crate::proofs::Decimals::from_zero))]
 pub fn put_decimal4<K: Sink>(sink: &mut K, scaled: i128) -> Put
     requires { nat_abs scaled ≤ 2 ^ 120 }

@@ -39,7 +39,7 @@ impl<'a> Model for Lines<'a> {
 }
 
 impl<'a> Lines<'a> {
-    /// The lines of a text of at most 2^29 bytes. Takes no memory.
+    /// The lines of a text of at most 2^29 bytes. Does not allocate.
     pub fn new(text: &'a [u8]) -> Lines<'a>
         requires { length text.now ≤ TEXT_MOST }
         ensures { result ≡ lines_of text.now }
@@ -111,7 +111,7 @@ fn begins_with_hash(text: &[u8]) -> bool
     matches!(text, [b'#', ..])
 }
 
-/// Whether a line is passed over: it is spaces and tabs alone, or its first byte is `#`. Takes no memory.
+/// Whether a line is skipped: it is spaces and tabs alone, or its first byte is `#`. Does not allocate.
 pub fn is_note(text: &[u8]) -> bool
     ensures { result ≡ is_note text.now }
 {

@@ -24,7 +24,7 @@ fn read_digits(text: &[u8]) -> Option<u64>
 }
 
 /// The number of one digit or more and at most `most`, or `None` where the text is something else. Leading zeros may
-/// stand. Takes no memory.
+/// stand. Does not allocate.
 pub fn read_natural(text: &[u8], most: usize) -> Option<u64>
     requires { most ≤ INT_DIGITS_MOST }
     ensures { result ≡ natural most text.now }
@@ -35,7 +35,8 @@ pub fn read_natural(text: &[u8], most: usize) -> Option<u64>
     read_digits(text)
 }
 
-/// The number of an optional minus and at most `most` digits, or `None` where the text is something else. Takes no memory.
+/// The number of an optional minus and at most `most` digits, or `None` where the text is something else. Does not
+/// allocate.
 pub fn read_whole(text: &[u8], most: usize) -> Option<i128>
     requires { most ≤ INT_DIGITS_MOST }
     ensures { result ≡ whole_number most text.now }
@@ -47,7 +48,7 @@ pub fn read_whole(text: &[u8], most: usize) -> Option<i128>
     }
 }
 
-/// The number of an optional minus and 1 to 19 digits, or `None` where the text is something else. Takes no memory.
+/// The number of an optional minus and 1 to 19 digits, or `None` where the text is something else. Does not allocate.
 pub fn read_int(text: &[u8]) -> Option<i128>
     ensures { result ≡ int_of text.now }
 {

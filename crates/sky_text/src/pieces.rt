@@ -31,7 +31,7 @@ fn place_of(text: &[u8], by: u8) -> Option<usize>
 }
 
 impl<'a> Pieces<'a> {
-    /// All pieces of the text between the bytes `by`. Takes no memory.
+    /// All pieces of the text between the bytes `by`. Does not allocate.
     pub fn new(text: &'a [u8], by: u8) -> Pieces<'a>
         ensures { result ≡ pieces by text.now }
     {
@@ -41,7 +41,7 @@ impl<'a> Pieces<'a> {
         }
     }
 
-    /// Cuts off the first piece, or answers `None` where none is left. Takes no memory.
+    /// Cuts off the first piece, or answers `None` where none is left. Does not allocate.
     #[tactic(auto, using(crate::proofs::PieceEnds::piece_found, crate::proofs::PieceEnds::piece_last))]
     pub fn next(&mut self) -> Option<&'a [u8]>
         ensures none { IfNone result ((self.old ≡ []) × (self.new ≡ [])) }
@@ -61,7 +61,7 @@ impl<'a> Pieces<'a> {
         }
     }
 
-    /// Whether no piece is left. Takes no memory.
+    /// Whether no piece is left. Does not allocate.
     #[tactic(auto, using(crate::proofs::PieceEnds::some_piece))]
     pub fn is_done(&self) -> bool
         ensures { IsTrue result ↔ (self.now ≡ []) }

@@ -6,7 +6,7 @@ ghost use Rattle.sky_io.specs.Sinks.{Wrote};
 use itoa::Buffer;
 use sky_io::{Put, Sink};
 
-/// Writes a whole number in decimal, with a minus where it is negative. Takes no memory.
+/// Writes a whole number in decimal, with a minus where it is negative. Does not allocate.
 pub fn put_int<K: Sink>(sink: &mut K, n: i128) -> Put
     ensures { Wrote (K.state sink.old) (K.state sink.new) (signed_decimal n) result }
 {
@@ -14,7 +14,7 @@ pub fn put_int<K: Sink>(sink: &mut K, n: i128) -> Put
     sink.put(buffer.format(n).as_bytes())
 }
 
-/// Writes a count in decimal. Takes no memory.
+/// Writes a count in decimal. Does not allocate.
 pub fn put_count<K: Sink>(sink: &mut K, count: u64) -> Put
     ensures { Wrote (K.state sink.old) (K.state sink.new) (decimal count) result }
 {
@@ -22,7 +22,7 @@ pub fn put_count<K: Sink>(sink: &mut K, count: u64) -> Put
     sink.put(buffer.format(count).as_bytes())
 }
 
-/// Writes a number that is not negative, of any size, in decimal. Takes no memory.
+/// Writes a number that is not negative, of any size, in decimal. Does not allocate.
 pub fn put_natural<K: Sink>(sink: &mut K, n: u128) -> Put
     ensures { Wrote (K.state sink.old) (K.state sink.new) (decimal n) result }
 {

@@ -18,7 +18,7 @@ pub struct Dir {
 }
 
 impl Dir {
-    /// The direction with these parts, or `None` where one is outside ±2^29. Takes no memory.
+    /// The direction with these parts, or `None` where one is outside ±2^29. Does not allocate.
     pub fn new(dx: i64, dy: i64) -> Option<Dir>
         ensures made { IfSome result (λ d. (d.dx ≡ dx) × (d.dy ≡ dy)) }
         ensures none { IfNone result ((IsWithin dx × IsWithin dy) → ⊥) }
@@ -32,7 +32,7 @@ impl Dir {
 }
 
 /// The plane product of a direction and a position: above 0 where the position lies left of the direction, by less than
-/// half a turn, and 0 on its line. Its size is at most 2^59. Takes no memory.
+/// half a turn, and 0 on its line. Its size is at most 2^59. Does not allocate.
 pub fn cross(d: &Dir, p: &Pos) -> i64
     ensures value { result ≡ plane_product d.now.dx d.now.dy p.now.x p.now.y }
     ensures size { unsigned_abs result ≤ 2 ^ 59 }
@@ -41,7 +41,7 @@ pub fn cross(d: &Dir, p: &Pos) -> i64
 }
 
 /// The plane product of two directions: above 0 where the second lies left of the first, by less than half a turn, and
-/// 0 on its line. Its size is at most 2^59. Takes no memory.
+/// 0 on its line. Its size is at most 2^59. Does not allocate.
 pub fn turn(a: &Dir, b: &Dir) -> i64
     ensures value { result ≡ plane_product a.now.dx a.now.dy b.now.dx b.now.dy }
     ensures size { unsigned_abs result ≤ 2 ^ 59 }
@@ -49,8 +49,8 @@ pub fn turn(a: &Dir, b: &Dir) -> i64
     difference(product(a.dx, b.dy), product(a.dy, b.dx))
 }
 
-/// Whether the position is, in the plane, no farther from the direction's line than the root of n, for n in squared grid
-/// units of at most 2^62. Compares squares. Takes no memory.
+/// Whether the position is, in the plane, no farther from the direction's line than the root of n, for n in squared
+/// grid units of at most 2^62. Compares squares. Does not allocate.
 pub fn within(d: &Dir, p: &Pos, n: u64) -> bool
     requires { n ≤ CHORD_SQUARED_MOST }
     ensures { IsTrue result ↔ IsNearLine d.now.dx d.now.dy p.now.x p.now.y (pos n) }

@@ -14,7 +14,7 @@ const LEAST: u64 = LENGTH_LEAST * LENGTH_LEAST;
 
 const MOST: u64 = LENGTH_MOST * LENGTH_MOST;
 
-/// Whether the position is admissible: its length is from 2^28 - 16 to 2^28 + 16. Takes no memory.
+/// Whether the position is admissible: its length is from 2^28 - 16 to 2^28 + 16. Does not allocate.
 pub fn length_ok(p: &Pos) -> bool
     ensures { result ≡ is_admissible (point p.now) }
 {
@@ -29,7 +29,7 @@ fn squared_length(p: &Pos) -> u64
     part_squared(p.x) + part_squared(p.y) + part_squared(p.z)
 }
 
-/// The squared chord between two positions, in squared grid units, below 2^62. Takes no memory.
+/// The squared chord between two positions, in squared grid units, below 2^62. Does not allocate.
 pub fn chord2(a: &Pos, b: &Pos) -> u64
     ensures value { pos result ≡ chord_squared (point a.now) (point b.now) }
     ensures below { result < CHORD_SQUARED_MOST }

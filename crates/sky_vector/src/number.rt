@@ -26,7 +26,7 @@ impl Model for Num {
 const MOST: i128 = NUMBER_MOST as i128;
 
 impl Num {
-    /// The number with this value, or `None` where it is outside ±2^100. Takes no memory.
+    /// The number with this value, or `None` where it is outside ±2^100. Does not allocate.
     pub fn new(n: i128) -> Option<Num>
         ensures made { IfSome result (λ number. number ≡ n) }
         ensures none { IfNone result (IsQueryNumber n → ⊥) }
@@ -38,7 +38,7 @@ impl Num {
         }
     }
 
-    /// The value. Takes no memory.
+    /// The value. Does not allocate.
     pub fn get(&self) -> i128
         ensures value { result ≡ self.now }
         ensures within { IsQueryNumber result }

@@ -54,7 +54,7 @@ fn push_area(areas: &mut Areas, test: Option<AreaTest>) -> bool
     }
 }
 
-/// The area tests of a query, in the order of the text. Takes memory for them.
+/// The area tests of a query, in the order of the text. Allocates memory for them.
 pub(crate) fn areas_of(alloc: Global, query: &Query) -> Result<Areas, AllocError>
     ensures { IfOk result (λ areas. areas ≡ flat_map areas_by (top_tests query.now.cond)) }
 {

@@ -12,8 +12,8 @@ use sql_bound::Bound;
 use sql_tree::Query;
 use std::alloc::Global;
 
-/// The bound query of a query over a schema, or its first fault. Want of memory may come in place of a bound query, but
-/// not of a fault. Takes memory for the bound query; neither the query nor the schema is kept.
+/// The bound query of a query over a schema, or its first fault. An allocation failure may come in place of a bound
+/// query, but not of a fault. Allocates memory for the bound query; neither the query nor the schema is kept.
 #[tactic(auto, unfolding(bind_rules::specs::Binding::bound_of))]
 pub fn bind(alloc: Global, query: &Query, schema: &Schema) -> Result<Bound, Stop<BindFault>>
     ensures ok { IfOk result (λ bound. bound_of schema.now query.now ≡ Ok bound) }

@@ -49,7 +49,7 @@ impl Gather for FirstLimit {
 }
 
 /// The largest squared chord that the first chord test among the conjuncts of a query accepts, and 0 where it has none.
-/// Takes no memory.
+/// Does not allocate.
 pub(crate) fn chord_limit(query: &Query) -> i64
     ensures { result ≡ first_or (pos 0) (flat_map chord_limit (top_tests query.now.cond)) }
 {

@@ -10,7 +10,7 @@ use sql_tree::{Cond, Conj, Neg, Pred};
 use sqlite_items::{Boxed, Items};
 use std::alloc::{AllocError, Global};
 
-/// The condition, where it is no chord test and holds none. Takes memory for it.
+/// The condition, where it is no chord test and holds none. Allocates memory for it.
 #[cycle(whole)]
 #[tactic(auto, using(crate::proofs::CondLayers::cond_whole))]
 pub(crate) fn whole_cond(

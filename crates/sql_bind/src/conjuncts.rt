@@ -12,7 +12,7 @@ use sql_tree::{Cond, Conj, Neg, Pred};
 use sqlite_items::{Boxed, Items};
 use std::alloc::{AllocError, Global};
 
-/// The conjuncts of WHERE. Takes memory for them.
+/// The conjuncts of WHERE. Allocates memory for them.
 pub(crate) fn conjuncts(
     alloc: Global,
     scope: &Scope<'_>,

@@ -9,7 +9,7 @@ use sql_tree::{Atom, Expr, Factor, Prod, Signed};
 use sqlite_items::{Boxed, Items};
 use std::alloc::{AllocError, Global};
 
-/// The bound expression. Takes memory for it.
+/// The bound expression. Allocates memory for it.
 #[cycle(bind)]
 #[tactic(auto, using(crate::proofs::ExprLayers::expr_parts))]
 pub(crate) fn bound_expr(

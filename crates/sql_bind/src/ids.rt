@@ -187,7 +187,7 @@ impl<'a> Gather for IdList<'a> {
     }
 }
 
-/// The id tests of a query over a schema, in the order of the text. Takes memory for them.
+/// The id tests of a query over a schema, in the order of the text. Allocates memory for them.
 pub(crate) fn ids_of(alloc: Global, query: &Query, schema: &Schema) -> Result<IdTests, AllocError>
     ensures { IfOk result (λ ids. ids ≡
         flat_map (ids_by (scope_of schema.now query.now)) (top_tests query.now.cond)) }

@@ -17,7 +17,7 @@ fn push_int(ints: &mut Ids, int: &SignedInt) -> Result<(), AllocError>
     Ok(())
 }
 
-/// The ints of a list. Takes memory for them.
+/// The ints of a list. Allocates memory for them.
 #[tactic(auto, using(bind_checks::proofs::Loops::map_more))]
 pub(crate) fn values_of(alloc: Global, list: &IntList) -> Result<Ids, AllocError>
     ensures { IfOk result (λ ints. ints ≡ values_of list.now) }

@@ -13,7 +13,7 @@ use sql_tree::{ItemKind, ItemList, Query, Selection};
 use sqlite_items::Items;
 use std::alloc::{AllocError, Global};
 
-// The expression that is one column. Takes no memory.
+// The expression that is one column. Does not allocate.
 fn just_column(alloc: Global, second: bool, col: u32) -> BoundExpr
     ensures { result ≡ just_column second col }
 {
@@ -87,7 +87,7 @@ fn listed_items(alloc: Global, scope: &Scope<'_>, list: &ItemList) -> Result<Bou
     Ok(found)
 }
 
-/// The items of a query. Takes memory for them.
+/// The items of a query. Allocates memory for them.
 pub(crate) fn bound_items(
     alloc: Global,
     scope: &Scope<'_>,

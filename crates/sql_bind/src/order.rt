@@ -19,7 +19,7 @@ fn bound_key(scope: &Scope<'_>, query: &Query, col: &Col) -> BoundKey
     }
 }
 
-/// The order, where there is one. Takes no memory.
+/// The order, where there is one. Does not allocate.
 pub(crate) fn bound_order(scope: &Scope<'_>, query: &Query) -> Option<BoundOrder>
     ensures { result ≡ option_map (bound_order scope.now query.now) query.now.order }
 {

@@ -14,7 +14,7 @@ use sql_bound::BoundPred;
 use sql_tree::{AreaKind, Cmp, Expr, IntList};
 use std::alloc::{AllocError, Global};
 
-/// A comparison. Takes memory for its sides.
+/// A comparison. Allocates memory for its sides.
 pub(crate) fn compare(
     alloc: Global,
     scope: &Scope<'_>,
@@ -30,7 +30,7 @@ pub(crate) fn compare(
     Ok(BoundPred::Compare { left, op, right })
 }
 
-/// A value between two bounds. Takes memory for the three.
+/// A value between two bounds. Allocates memory for the three.
 pub(crate) fn between(
     alloc: Global,
     scope: &Scope<'_>,
@@ -53,7 +53,7 @@ pub(crate) fn between(
     })
 }
 
-/// A value among ints. Takes memory for the value and the ints.
+/// A value among ints. Allocates memory for the value and the ints.
 pub(crate) fn among(
     alloc: Global,
     scope: &Scope<'_>,
@@ -69,7 +69,7 @@ pub(crate) fn among(
     Ok(BoundPred::Among { not, value, list })
 }
 
-/// Whether a value is NULL. Takes memory for the value.
+/// Whether a value is NULL. Allocates memory for the value.
 pub(crate) fn is_null(
     alloc: Global,
     scope: &Scope<'_>,
@@ -82,7 +82,7 @@ pub(crate) fn is_null(
     Ok(BoundPred::IsNull { not, value })
 }
 
-/// An area test, where its arguments fit its function. Takes no memory.
+/// An area test, where its arguments fit its function. Does not allocate.
 pub(crate) fn area(kind: AreaKind, args: &IntList) -> Option<BoundPred>
     ensures { result ≡ area_pred (area_test kind (values_of args.now)) }
 {

@@ -39,7 +39,7 @@ fn tests(alloc: Global, query: &Query, schema: &Schema) -> Result<(Areas, IdTest
     Ok((areas, ids))
 }
 
-/// The bound query. Takes memory for its trees and lists.
+/// The bound query. Allocates memory for its trees and lists.
 #[tactic(auto, unfolding(bind_rules::specs::Binding::bound_query))]
 pub(crate) fn bound_query(
     alloc: Global,

@@ -67,7 +67,8 @@ impl<'a> Scope<'a> {
         self.schema
     }
 
-    /// The column that is meant; a name that the schema does not have is the number past its last column. Takes no memory.
+    /// The column that is meant; a name that the schema does not have is the number past its last column. Does not
+    /// allocate.
     pub(crate) fn column(&self, col: &Col) -> BoundCol
         ensures { result ≡ bound_col self.now col.now }
     {

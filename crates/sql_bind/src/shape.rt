@@ -38,7 +38,7 @@ fn shape_of_one(alloc: Global, scope: &Scope<'_>, query: &Query) -> Result<Shape
     }
 }
 
-/// What the query goes over. Takes memory for the keys of groups.
+/// What the query goes over. Allocates memory for the keys of groups.
 pub(crate) fn bound_shape(
     alloc: Global,
     scope: &Scope<'_>,

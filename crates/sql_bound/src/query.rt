@@ -43,7 +43,7 @@ pub enum BoundKey {
     Column(BoundCol),
 }
 
-/// An order: its key, and whether it goes down.
+/// An order: its key, and whether it is descending.
 #[derive(Clone, Copy, Debug, PartialEq, Eq)]
 pub struct BoundOrder {
     pub key: BoundKey,

@@ -30,7 +30,7 @@ impl Model for SquaredRadius {
 const MOST: i64 = CHORD_SQUARED_MOST as i64;
 
 impl SquaredRadius {
-    /// The squared radius of this value, or `None` where it is below 0 or above 2^62. Takes no memory.
+    /// The squared radius of this value, or `None` where it is below 0 or above 2^62. Does not allocate.
     pub fn new(n: i64) -> Option<SquaredRadius>
         ensures made { IfSome result (λ radius. radius ≡ n) }
         ensures none { IfNone result (IsSquaredRadius n → ⊥) }
@@ -42,7 +42,7 @@ impl SquaredRadius {
         }
     }
 
-    /// The value. Takes no memory.
+    /// The value. Does not allocate.
     pub fn get(&self) -> u64
         ensures value { pos result ≡ self.now }
         ensures most { result ≤ CHORD_SQUARED_MOST }

@@ -232,7 +232,7 @@ fn put_from_items<K: Sink>(sink: &mut K, query: &Query) -> Put
     }
 }
 
-/// Writes a query as its one printed text, without ASC and semicolon. Takes no memory.
+/// Writes a query as its one printed text, without ASC and semicolon. Does not allocate.
 pub fn put_query<K: Sink>(sink: &mut K, query: &Query) -> Put
     ensures { Wrote (K.state sink.old) (K.state sink.new) (printed query.now) result }
 {

@@ -1,4 +1,5 @@
--- What a reader of the code answers is what reading on lists does. Want of memory may come in place of any answer.
+-- What a reader of the code answers is what reading on lists does. An allocation failure may come in place of any
+-- answer.
 use Rattle.std.specs.Prelude.{◌≡◌, ⊤, List, Option, None, Some, Result, Ok, Err}
 use Rattle.sql_rules.specs.Symbols.{Mark, Symbol}
 use Rattle.sql_rules.specs.Readers.{Answer, Got, Stuck}
@@ -15,7 +16,7 @@ abbrev pub Gives : {A : Type 0} → Answer A → Result (A × List Symbol) ReadS
 Gives answer (Ok x) = answer ≡ Got x.0 x.1
 Gives answer (Err why) = Fails answer why
 
--- the same of a reader that takes no memory
+-- the same of a reader that does not allocate
 abbrev pub Shows : {A : Type 0} → Answer A → Option (A × List Symbol) → Type 0
 Shows answer (Some x) = answer ≡ Got x.0 x.1
 Shows answer None = answer ≡ Stuck

@@ -128,7 +128,7 @@ pub(crate) fn group_clause<'a>(
     }
 }
 
-// Whether the order goes down.
+// Whether the order is descending.
 #[tactic(auto, unfolding(sql_rules::specs::ReadQueries::way_at))]
 fn way<'a>(ahead: &Ahead<'a>) -> Option<(bool, Ahead<'a>)>
     ensures { Shows (way_at ahead.now) result }

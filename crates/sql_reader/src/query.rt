@@ -192,8 +192,8 @@ fn stop_of(stop: TokenStop) -> Stop<SqlFault>
     }
 }
 
-/// The one tree of a text of at most 16,384 bytes, or its first fault. Want of memory may come in place of any answer.
-/// Takes memory for the tree and its names; the text is not kept.
+/// The one tree of a text of at most 16,384 bytes, or its first fault. An allocation failure may come in place of any
+/// answer. Allocates memory for the tree and its names; the text is not kept.
 #[tactic(auto, unfolding(sql_rules::specs::Trees::tree_of))]
 pub fn read(alloc: Global, text: &[u8]) -> Result<Query, Stop<SqlFault>>
     requires { length text.now ≤ QUERY_TEXT_MOST }

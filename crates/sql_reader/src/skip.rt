@@ -25,7 +25,7 @@ fn skip_col<'a>(ahead: &Ahead<'a>) -> Option<Ahead<'a>>
     }
 }
 
-/// What comes behind an expression with brackets below so many levels. Takes no memory.
+/// What comes behind an expression with brackets below so many levels. Does not allocate.
 #[cycle(skip)]
 #[tactic(auto, using(crate::proofs::Steps::expr_level, crate::proofs::Steps::expr_none))]
 pub(crate) fn skip_expr<'a>(ahead: &Ahead<'a>, levels: u32) -> Option<Ahead<'a>>

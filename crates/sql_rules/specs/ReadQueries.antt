@@ -107,7 +107,7 @@ group_at ts =
     either (mark_at (OfKeyword keyword.Group) ts)
     (λ _ us. mark_at (OfKeyword keyword.By) us >>= λ _ vs. cols_at vs) (Got [] ts)
 
--- [ASC | DESC]: whether it goes down
+-- [ASC | DESC]: whether it is descending
 unfoldable pub way_at : Reader Bool
 way_at ts =
     either (mark_at (OfKeyword keyword.Desc) ts) (λ _ rest. Got true rest)

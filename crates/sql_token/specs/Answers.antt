@@ -1,4 +1,4 @@
--- What a reader of tokens answers, seen from the definition. Want of memory may come in place of any answer.
+-- What a reader of tokens answers, seen from the definition. An allocation failure may come in place of any answer.
 use Rattle.std.specs.Prelude.{◌≡◌, ⊤, ℕ, ◌<◌, ◌≤◌, List, [], length, drop, Option, None, Some, Result, Ok, Err}
 use Rattle.sql_token.specs.declared.token.Token.{Token}
 use Rattle.sql_token.specs.declared.token.TokenStop.{TokenStop}

@@ -35,7 +35,7 @@ fn open_behind(depth: u32, token: &Token) -> u32
     }
 }
 
-/// The place of the first bracket with which 33 are open. Takes no memory.
+/// The place of the first bracket with which 33 are open. Does not allocate.
 #[tactic(auto, unfolding(crate::specs::Tokens::too_deep))]
 pub(crate) fn too_deep(tokens: &[Token]) -> Option<u32>
     ensures { result ≡ too_deep 0 tokens.now }

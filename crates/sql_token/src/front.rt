@@ -92,7 +92,7 @@ fn sign_at(place: u32, text: &[u8]) -> Result<Token, TokenStop>
     }
 }
 
-/// The token that begins at a place, of the text from there on. Takes no memory.
+/// The token that begins at a place, of the text from there on. Does not allocate.
 pub(crate) fn token_at(place: u32, text: &[u8]) -> Result<Token, TokenStop>
     requires some { 0 < length text.now }
     requires short { place + length text.now ≤ QUERY_TEXT_MOST }

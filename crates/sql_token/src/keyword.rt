@@ -63,7 +63,7 @@ const KEYWORDS: [Keyword; 26] = [
 ];
 
 impl Keyword {
-    /// The word in capitals. Takes no memory.
+    /// The word in capitals. Does not allocate.
     pub fn spelling(self) -> &'static [u8]
         ensures { result.now ≡ spelling self }
     {
@@ -105,7 +105,7 @@ fn is_spelled(word: &[u8], keyword: Keyword) -> bool
     word.eq_ignore_ascii_case(keyword.spelling())
 }
 
-/// The keyword that the word is, in capitals or small letters, or `None` where it is a name. Takes no memory.
+/// The keyword that the word is, in capitals or small letters, or `None` where it is a name. Does not allocate.
 #[tactic(auto, unfolding(crate::specs::Keywords::keyword_of))]
 pub(crate) fn keyword_of(word: &[u8]) -> Option<Keyword>
     ensures { result ≡ keyword_of word.now }

@@ -35,7 +35,7 @@ pub enum Sign {
     Semicolon,
 }
 
-/// The sign that two bytes write. Takes no memory.
+/// The sign that two bytes write. Does not allocate.
 pub(crate) fn long_sign(first: u8, second: u8) -> Option<Sign>
     ensures { result ≡ long_sign first second }
 {
@@ -47,7 +47,7 @@ pub(crate) fn long_sign(first: u8, second: u8) -> Option<Sign>
     }
 }
 
-/// The sign that one byte writes. Takes no memory.
+/// The sign that one byte writes. Does not allocate.
 pub(crate) fn short_sign(byte: u8) -> Option<Sign>
     ensures { result ≡ short_sign byte }
 {

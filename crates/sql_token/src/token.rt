@@ -42,6 +42,6 @@ pub enum TokenStop {
     TooMany,
     /// The first bracket with which 33 are open.
     Depth { place: u32 },
-    /// Want of memory.
+    /// Out of memory.
     Memory,
 }

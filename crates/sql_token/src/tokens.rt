@@ -27,7 +27,7 @@ impl Model for Tokens {
 }
 
 impl Tokens {
-    /// No tokens. Takes no memory.
+    /// No tokens. Does not allocate.
     pub(crate) fn new(alloc: Global) -> Tokens
         ensures { result ≡ [] }
     {
@@ -48,7 +48,8 @@ impl Tokens {
         }
     }
 
-    /// The tokens of a text of at most 16,384 bytes, or its first fault. Want of memory may come in place of any answer.
+    /// The tokens of a text of at most 16,384 bytes, or its first fault. An allocation failure may come in place of any
+    /// answer.
     pub fn read(alloc: Global, text: &[u8]) -> Result<Tokens, TokenStop>
         requires { length text.now ≤ QUERY_TEXT_MOST }
         ensures tokens { IfOk result (λ tokens. tokens_of text.now ≡ Ok tokens) }
@@ -64,7 +65,7 @@ impl Tokens {
         }
     }
 
-    /// The tokens. Takes no memory.
+    /// The tokens. Does not allocate.
     pub fn as_slice(&self) -> &[Token]
         ensures { result.now ≡ self.now }
     {

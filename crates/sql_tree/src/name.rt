@@ -20,7 +20,8 @@ pub struct Col {
 }
 
 impl Col {
-    /// Where the column stands: from its first name to the end of its last, blanks around the dot included. Takes no memory.
+    /// Where the column stands: from its first name to the end of its last, blanks around the dot included. Does not
+    /// allocate.
     pub fn span(&self) -> Span
         ensures { result ≡ col_span self.now }
     {

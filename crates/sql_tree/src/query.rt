@@ -62,7 +62,7 @@ pub struct TableRef {
     pub alias: Option<Name>,
 }
 
-/// The order key, and whether the order goes down.
+/// The order key, and whether the order is descending.
 #[derive(Drop)]
 pub struct OrderBy {
     pub key: Col,

@@ -150,7 +150,7 @@ fn same_end(a: &Query, b: &Query) -> bool
         && same_limit(&a.limit, &b.limit)
 }
 
-/// Whether two trees are the same but for their spans and the sign of a zero in a list of ints. Takes no memory.
+/// Whether two trees are the same but for their spans and the sign of a zero in a list of ints. Does not allocate.
 #[tactic(auto, unfolding(crate::specs::Bare::bare))]
 pub fn same(a: &Query, b: &Query) -> bool
     ensures { IsTrue result ↔ (bare a.now ≡ bare b.now) }

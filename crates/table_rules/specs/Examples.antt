@@ -13,7 +13,7 @@ four a b c d = a ∷ b ∷ c ∷ d ∷ []
 abbrev pub under_four : List (List (List ℕ)) → Result Catalogue LoadFault
 under_four rows = catalogue_of_records (first_names ∷ rows)
 
--- the header with a further column
+-- the header with a extra column
 abbrev pub with_flux : List (List ℕ)
 with_flux = first_names ++ (codes "flux" ∷ [])
 
@@ -29,7 +29,7 @@ pole = four (codes "1") (codes "0") (codes "0") (codes "268435456")
 abbrev pub lower_id : List (List ℕ)
 lower_id = four (codes "0") (codes "0") (codes "-0") (codes "-268435456")
 
--- the row on the first axis, with these further values
+-- the row on the first axis, with these extra values
 abbrev pub on_meridian : List (Option ℤ) → Obj
 on_meridian further = record { id = pos 1; at = record { x = pos 268435456; y = pos 0; z = pos 0 }; further = further }
 

@@ -1,4 +1,4 @@
--- The object table: a flat list of rows, each with an id, a position and further values.
+-- The object table: a flat list of rows, each with an id, a position and extra values.
 use Rattle.std.specs.Prelude.{◌≡◌, ℕ, ◌-◌, ◌≤◌, Bool, true, ◌&&◌, List, length, All, AllPairs}
 use Rattle.std.specs.Prelude.{Option, None, Some, unwrap_or, slice_get, if◌then◌else◌, nat_le, ◌==◌}
 use Rattle.std.specs.Prelude.{ℤ, pos, neg_ℤ, int_le, ◌≤ℤ◌, ◌<ℤ◌, IsTrue}
@@ -9,13 +9,13 @@ use Rattle.sky_vector.specs.declared.limits.TheConstants.{COORDINATE_MOST}
 use Rattle.table_rules.specs.declared.limits.TheConstants.{FIRST_COLUMNS, FURTHER_COLUMNS_MOST, FURTHER_MOST}
 use Rattle.table_rules.specs.declared.limits.TheConstants.{ID_MOST, ROWS_MOST}
 
--- A row: its id, its position, and its further values, of which None is NULL.
+-- A row: its id, its position, and its extra values, of which None is NULL.
 pub record Obj : Type 0 where
   pub id : ℤ
   pub at : Point
   pub further : List (Option ℤ)
 
--- A catalogue: the names of the further columns, and the rows.
+-- A catalogue: the names of the extra columns, and the rows.
 pub record Catalogue : Type 0 where
   pub names : List (List ℕ)
   pub objects : List Obj
@@ -36,7 +36,7 @@ column_bound col =
     else if nat_le col 3 then pos COORDINATE_MOST
     else pos FURTHER_MOST
 
--- a further value is NULL or no larger than the bound
+-- a extra value is NULL or no larger than the bound
 abbrev pub is_further : Option ℤ → Bool
 is_further None = true
 is_further (Some z) = int_le (neg_ℤ (pos FURTHER_MOST)) z && int_le z (pos FURTHER_MOST)
@@ -53,8 +53,8 @@ pub record IsRow (o : Obj) : Type 0 where
 abbrev pub IdsAscend : List Obj → Type 0
 IdsAscend objects = AllPairs (λ a b. a.id <ℤ b.id) objects
 
--- Rows that are a table: not too many, in strictly ascending id, each within the limits of its columns and with a value for
--- each further column.
+-- Rows that are a table: not too many, in strictly ascending id, each within the limits of its columns and with a value
+-- for each extra column.
 pub record IsCatalogue (c : Catalogue) : Type 0 where
   pub few_names : length c.names ≤ FURTHER_COLUMNS_MOST
   pub few : length c.objects ≤ ROWS_MOST

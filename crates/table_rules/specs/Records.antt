@@ -49,7 +49,7 @@ abbrev pub number_faults : ℕ → ℕ → Option ℤ → List LoadFault
 number_faults row col None = Number row (col + 1) ∷ []
 number_faults row col (Some z) = unless (is_in_range col z) (Range row (col + 1) z)
 
--- the field is NULL: it is an empty one of a further column
+-- the field is NULL: it is an empty one of a extra column
 abbrev pub is_null : ℕ → List ℕ → Bool
 is_null col field = nat_le FIRST_COLUMNS col && (length field == 0)
 
@@ -61,7 +61,7 @@ field_faults row col field = if is_null col field then [] else number_faults row
 abbrev pub number_in : List (List ℕ) → ℕ → ℤ
 number_in fields col = unwrap_or (int_of (field_in fields col)) (pos 0)
 
--- the row that a record says; an empty further field is no number, and so it is NULL
+-- the row that a record says; an empty extra field is no number, and so it is NULL
 abbrev pub row_of : List (List ℕ) → Obj
 row_of fields = record {
   id = number_in fields 0;

@@ -45,7 +45,7 @@ pub fn first_of_the_rows()
         ∷ four (codes "x") (codes "0") (codes "0") (codes "0") ∷ []) ≡ Err (Number 1 2) }
 {}
 
-/// No record, a header that is cut, and names that no further column can have.
+/// No record, a header that is cut, and names that no extra column can have.
 pub fn faults_of_a_header()
     ensures nothing { catalogue_of_records [] ≡ Err (Header 1) }
     ensures cut { catalogue_of_records ((codes "objec" ∷ []) ∷ []) ≡ Err (Header 1) }

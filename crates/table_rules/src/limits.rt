@@ -3,13 +3,13 @@
 /// The largest id. The least is 0.
 pub const ID_MOST: u64 = (1 << 63) - 1;
 
-/// The largest size of a further value.
+/// The largest size of a extra value.
 pub const FURTHER_MOST: u64 = 1 << 50;
 
 /// How many columns every catalogue has: objectId, x, y and z.
 pub const FIRST_COLUMNS: usize = 4;
 
-/// The most further columns.
+/// The most extra columns.
 pub const FURTHER_COLUMNS_MOST: usize = 12;
 
 /// The most columns of a catalogue.

@@ -31,6 +31,6 @@ abbrev pub begins_with_hash : List ℕ → Bool
 begins_with_hash [] = false
 begins_with_hash (b ∷ bs) = b == 35
 
--- the line is passed over: it is spaces and tabs alone, or its first byte is #
+-- the line is skipped: it is spaces and tabs alone, or its first byte is #
 abbrev pub is_note : List ℕ → Bool
 is_note text = list_all is_space_or_tab text || begins_with_hash text

@@ -10,7 +10,7 @@ use Rattle.top_call.specs.declared.outcome.Which.TheVariants.{Sky, Catalogue, Sc
 use Rattle.top_call.specs.declared.outcome.Outcome.{Outcome}
 use Rattle.top_call.specs.declared.outcome.Outcome.TheVariants.{Done, BadSky, BadCatalogue, BadScript, TooLong, Memory}
 
--- the outcome refuses this text, or is want of memory
+-- the outcome refuses this text, or is an allocation failure
 abbrev pub IsRefusalOrMemory : Which → Outcome → Type 0
 IsRefusalOrMemory which (BadSky fault) = which ≡ Sky
 IsRefusalOrMemory which (BadCatalogue fault) = which ≡ Catalogue
@@ -19,7 +19,7 @@ IsRefusalOrMemory which (TooLong named) = named ≡ which
 IsRefusalOrMemory which Memory = Unit {0}
 IsRefusalOrMemory which _ = ⊥
 
--- the outcome is Done, or want of memory
+-- the outcome is Done, or an allocation failure
 abbrev pub IsDoneOrMemory : Outcome → Type 0
 IsDoneOrMemory (Done ends) = Unit {0}
 IsDoneOrMemory Memory = Unit {0}

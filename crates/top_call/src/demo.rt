@@ -20,8 +20,8 @@ use std::alloc::Global;
 use std::sync::Wait;
 use std::thread::Threads;
 
-/// Answers the queries of the demo's script over its sky plan and so many objects, drawn from a seed, with so many workers.
-/// Takes memory, and waits. The shelf plays no part.
+/// Answers the queries of the demo's script over its sky plan and so many objects, drawn from a seed, with so many
+/// workers. Allocates memory, and waits. The shelf plays no part.
 pub fn run_demo<R: Threads + Wait + Sync, K: Sink, G: Gate + Sync>(
     alloc: Global,
     rt: &R,

@@ -9,7 +9,7 @@ use sky_rules::SkyFault;
 use sky_text::{put_count, put_int};
 use table_rules::LoadFault;
 
-/// Writes the line of a sky text's fault. Takes no memory.
+/// Writes the line of a sky text's fault. Does not allocate.
 pub fn put_sky_fault<K: Sink>(sink: &mut K, fault: &SkyFault) -> Put
     ensures { Wrote (K.state sink.old) (K.state sink.new) (sky_line fault.now) result }
 {
@@ -22,7 +22,7 @@ pub fn put_sky_fault<K: Sink>(sink: &mut K, fault: &SkyFault) -> Put
     }
 }
 
-/// Writes the line of a catalogue's fault. Takes no memory.
+/// Writes the line of a catalogue's fault. Does not allocate.
 pub fn put_catalogue_fault<K: Sink>(sink: &mut K, fault: &LoadFault) -> Put
     ensures { Wrote (K.state sink.old) (K.state sink.new) (catalogue_line fault.now) result }
 {

@@ -26,8 +26,8 @@ pub struct Inputs {
     pub rows: Rows,
 }
 
-/// Fetches and reads the sky plan and the catalogue of these names. Takes memory. Where it stops, the shelf alone explains
-/// the outcome.
+/// Fetches and reads the sky plan and the catalogue of these names. Allocates memory. Where it stops, the shelf alone
+/// explains the outcome.
 pub fn fetch_survey<S: Shelf>(
     alloc: Global,
     shelf: &mut S,

@@ -38,7 +38,7 @@ pub enum Outcome {
     Memory,
 }
 
-/// The exit status. Takes no memory.
+/// The exit status. Does not allocate.
 pub fn status(outcome: &Outcome) -> u8
     ensures { result ≡ status_of outcome.now }
 {

@@ -7,7 +7,7 @@ use crate::fault_lines::{put_numbered, put_place};
 use session_script::ScriptFault;
 use sky_io::{Put, Sink};
 
-/// Writes the line of a script's fault. Takes no memory.
+/// Writes the line of a script's fault. Does not allocate.
 pub fn put_script_fault<K: Sink>(sink: &mut K, fault: &ScriptFault) -> Put
     ensures { Wrote (K.state sink.old) (K.state sink.new) (script_line fault.now) result }
 {

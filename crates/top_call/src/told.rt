@@ -14,7 +14,7 @@ use sky_io::{Put, Sink};
 const USAGE: &[u8] =
     b"usage: qserv load SKY CSV; query SKY CSV SCRIPT WORKERS; explain SKY CSV SCRIPT; demo COUNT SEED WORKERS\n";
 
-/// Writes the line of an outcome with its line feed, and nothing for `Done`. Takes no memory.
+/// Writes the line of an outcome with its line feed, and nothing for `Done`. Does not allocate.
 pub fn put_outcome<K: Sink>(sink: &mut K, outcome: &Outcome, words: &[String]) -> Put
     ensures { Wrote (K.state sink.old) (K.state sink.new)
         (outcome_line outcome.now (form_of (bytes_of words.now))) result }

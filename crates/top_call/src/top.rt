@@ -16,11 +16,12 @@ use std::alloc::Global;
 use std::sync::Wait;
 use std::thread::Threads;
 
-/// Does what the words ask: fetches the texts from the shelf, reports how the rows lie in the chunks, or answers or explains
-/// the queries of the script, and writes to the sink. All texts are accepted and all answers made before the first byte is
-/// written, and writing takes no memory. Takes memory for the texts, the rows and their chunks, and the answers. Queries are
-/// answered by so many threads beside this one as the words ask for, of which the one that takes a chunk passes the gate
-/// before the work on it, and it waits for them; a thread that can't be started costs no answer.
+/// Does what the words ask: fetches the texts from the shelf, reports how the rows lie in the chunks, or answers or
+/// explains the queries of the script, and writes to the sink. All texts are accepted and all answers made before the
+/// first byte is written, and writing does not allocate. Allocates memory for the texts, the rows and their chunks, and
+/// the answers. Queries are answered by so many threads beside this one as the words ask for, of which the one that
+/// takes a chunk passes the gate before the work on it, and it waits for them; a thread that can't be started costs no
+/// answer.
 pub fn qserv<R: Threads + Wait + Sync, S: Shelf, K: Sink, G: Gate + Sync>(
     rt: &R,
     alloc: Global,

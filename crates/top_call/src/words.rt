@@ -36,7 +36,7 @@ pub enum Form<'a> {
     },
 }
 
-/// The form of the words, or `None` where they are no form. Takes no memory.
+/// The form of the words, or `None` where they are no form. Does not allocate.
 pub fn read_words(words: &[String]) -> Option<Form<'_>>
     ensures none { IfNone result (form_of (bytes_of words.now) ≡ None) }
     ensures form { IfSome result (λ form. form_of (bytes_of words.now) ≡ Some (asked_by form)) }

@@ -1,8 +1,8 @@
 //! The work of a form whose texts were fetched, and its writing.
 //!
 //! What holds the rows is dropped by name: that is one call, where what goes out of scope is dropped part by part.
-//! Whatever takes memory is done before the first byte is written: the store, the answers, and the list of how the queries
-//! ended. A script is judged before the store is built.
+//! Whatever allocates memory is done before the first byte is written: the store, the answers, and the list of how the
+//! queries ended. A script is judged before the store is built.
 ghost use Rattle.std.specs.Prelude.{◌≡◌, ◌≤◌, ◌^◌, ℕ, [], length, map};
 ghost use Rattle.text_rules.specs.declared.limits.TheConstants.{SCRIPT_TEXT_MOST};
 ghost use Rattle.session_script.specs.Views.{query_lines};
@@ -29,7 +29,7 @@ use std::alloc::Global;
 use std::sync::Wait;
 use std::thread::Threads;
 
-/// Writes the report of the rows in their chunks. Takes memory.
+/// Writes the report of the rows in their chunks. Allocates memory.
 pub fn report<K: Sink>(alloc: Global, inputs: Inputs, sink: &mut K) -> Outcome
     ensures { IsWritten (Reports (survey_of inputs)) (K.state sink.old) (K.state sink.new) result }
 {
@@ -44,7 +44,7 @@ pub fn report<K: Sink>(alloc: Global, inputs: Inputs, sink: &mut K) -> Outcome
     }
 }
 
-/// Reads a script and does what is asked of it. Takes memory, and waits.
+/// Reads a script and does what is asked of it. Allocates memory, and waits.
 pub fn do_task<R: Threads + Wait + Sync, K: Sink, G: Gate + Sync>(
     alloc: Global,
     rt: &R,
@@ -94,7 +94,7 @@ fn do_script<R: Threads + Wait + Sync, K: Sink, G: Gate + Sync>(
     }
 }
 
-/// Answers the queries of a script with so many workers, and writes their transcript. Takes memory, and waits.
+/// Answers the queries of a script with so many workers, and writes their transcript. Allocates memory, and waits.
 pub fn answer_queries<R: Threads + Wait + Sync, K: Sink, G: Gate + Sync>(
     alloc: Global,
     rt: &R,

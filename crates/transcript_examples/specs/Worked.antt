@@ -20,7 +20,7 @@ bright = record { names = codes "flux" ∷ []; objects = six }
 abbrev pub bare : Catalogue
 bare = record { names = codes "flux" ∷ []; objects = [] }
 
--- four rows of the largest values, with further columns a, b and g
+-- four rows of the largest values, with extra columns a, b and g
 abbrev pub large : Catalogue
 large = record { names = codes "a" ∷ codes "b" ∷ codes "g" ∷ []; objects = four }
 
@@ -28,7 +28,7 @@ large = record { names = codes "a" ∷ codes "b" ∷ codes "g" ∷ []; objects =
 abbrev pub partly : Catalogue
 partly = record { names = codes "flux" ∷ []; objects = some_without_flux }
 
--- no rows and no further columns
+-- no rows and no extra columns
 abbrev pub empty : Catalogue
 empty = record { names = []; objects = [] }
 

@@ -26,7 +26,7 @@ pub fn total_at_the_end_of_the_range()
         ≡ codes "query 1\nSUM(a*b)\n1267650600228229401496703205376\n1 rows, 3 chunks\n" }
 {}
 
-/// Groups of one count stand in the order of their keys, though the order goes down.
+/// Groups of one count stand in the order of their keys, though the order is descending.
 pub fn groups()
     ensures { answered large (codes "SELECT g AS k,COUNT(*) AS n,AVG(objectId) FROM Object GROUP "
         ++ codes "BY g ORDER BY n DESC")

@@ -70,7 +70,7 @@ pub fn lists_of_ids()
         ≡ codes "query 1\nobjectId\n2\n4\n2 rows, 2 chunks\n" }
 {}
 
-/// Equal keys stand in ascending id though the order goes down, and LIMIT takes the first of the whole order.
+/// Equal keys stand in ascending id though the order is descending, and LIMIT takes the first of the whole order.
 pub fn orders_and_limits()
     ensures two { answered large (codes "SELECT objectId,g FROM Object ORDER BY g DESC LIMIT 2")
         ≡ codes "query 1\nobjectId,g\n2,7\n4,7\n2 rows, 3 chunks\n" }

@@ -51,7 +51,7 @@ abbrev pub order_texts : Query → Option OrderBy → List Bytes
 order_texts q None = []
 order_texts q (Some o) = key_text_by q o.key (alias_place q o.key) ∷ []
 
--- what an item of a grouping gives to the chunk query: an aggregate itself, AVG a total and a count, a plain item
+-- what an item of a grouped query gives to the chunk query: an aggregate itself, AVG a total and a count, a plain item
 -- nothing
 abbrev pub part_texts : ItemKind → List Bytes
 part_texts (what.Plain e) = []
@@ -66,7 +66,7 @@ part_texts (what.Avg e) = print_kind (what.Sum e) ∷ print_kind (what.CountOf e
 abbrev pub row_texts : List Bytes → Query → List Bytes
 row_texts names q = item_texts names q q.items ++ (id_texts q.first q.second ++ order_texts q q.order)
 
--- the items of the chunk query of a grouping: the keys, and then what each item gives
+-- the items of the chunk query of a grouped query: the keys, and then what each item gives
 abbrev pub group_texts : Query → List Bytes
 group_texts q = map print_col q.group ++ flat_map (λ i. part_texts i.what) (items_of q.items)
 

@@ -1,4 +1,4 @@
--- A plain item of a grouping as it is printed, but with each column written as that of its key.
+-- A plain item of a grouped query as it is printed, but with each column written as that of its key.
 use Rattle.std.specs.Prelude.{◌≡◌, List}
 use Rattle.std.specs.Fmt.{signed_decimal}
 use Rattle.sql_bound.specs.declared.expr.BoundCol.{BoundCol}

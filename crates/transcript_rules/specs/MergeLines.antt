@@ -24,7 +24,7 @@ use Rattle.transcript_rules.specs.ColumnNames.{column_name, place_names, clause,
 use Rattle.transcript_rules.specs.RefusalLines.{line}
 use Rattle.transcript_rules.specs.Tables.{by_commas}
 
--- ---- a plain item of a grouping
+-- ---- a plain item of a grouped query
 
 -- an atom, of the text that it holds; a column is written as that of the first key that is the same
 abbrev pub key_atom : List BoundCol → BoundAtom-F Bytes Bytes Bytes Bytes Bytes → Bytes
@@ -59,7 +59,7 @@ key_expr_text keys =
 abbrev pub call : Bytes → ℕ → Bytes
 call word place = word ++ in_brackets (column_name place)
 
--- the merged item of a grouping by these keys, whose columns stand before those of the aggregates
+-- the merged item of a grouped query by these keys, whose columns stand before those of the aggregates
 abbrev pub merged_over : List BoundCol → MergeItem → Bytes
 merged_over keys (merged.Column n) = column_name n
 merged_over keys (merged.OfKeys e) = key_expr_text keys e
@@ -76,7 +76,7 @@ merged_texts m = map (merged_over (keys_by m.shape)) m.items
 
 -- ---- GROUP BY and ORDER BY
 
--- what ties are ordered by: the ids behind the items of rows and pairs, and all keys of a grouping
+-- what ties are ordered by: the ids behind the items of rows and pairs, and all keys of a grouped query
 abbrev pub tie_names : MergePlan → Shape → List Bytes
 tie_names m Rows = id_names (length m.items) Rows
 tie_names m (Pairs limit) = id_names (length m.items) (Pairs limit)

@@ -24,12 +24,12 @@ abbrev pub with_bound : Query → Result Bound BindFault → Result Understood R
 with_bound q (Ok b) = Ok (record { tree = q; bound = b })
 with_bound q (Err fault) = Err (refusal.Bind fault)
 
--- what is understood of a tree over the schema of these further columns, or the fault of a text that has no tree
+-- what is understood of a tree over the schema of these extra columns, or the fault of a text that has no tree
 abbrev pub with_tree : List (List ℕ) → Result Query SqlFault → Result Understood Refusal
 with_tree names (Ok q) = with_bound q (bound_of names q)
 with_tree names (Err fault) = Err (refusal.Sql fault)
 
--- what is understood of a query's line over the schema of these further columns, or why nothing is
+-- what is understood of a query's line over the schema of these extra columns, or why nothing is
 unfoldable pub understood : List (List ℕ) → List ℕ → Result Understood Refusal
 understood names text = with_tree names (tree_of text)
 

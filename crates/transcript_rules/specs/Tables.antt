@@ -31,7 +31,7 @@ star_columns names first None = column_names names
 star_columns names first (Some second) =
     qualified (qualifier first) (column_names names) ++ qualified (qualifier second) (column_names names)
 
--- the headings of what a query selects over the schema of these further columns
+-- the headings of what a query selects over the schema of these extra columns
 abbrev pub headings_of : List Bytes → Query → Selection → List Bytes
 headings_of names q (selection.Star span) = star_columns names q.first q.second
 headings_of names q (selection.List l) = map heading (l.first ∷ l.rest)

@@ -81,7 +81,7 @@ pub fn one_text_each()
     ensures { OneTextEach }
 {}
 
-/// In a merge a plain item of a grouping stands as it is printed, with each column written as that of its key.
+/// In a merge a plain item of a grouped query stands as it is printed, with each column written as that of its key.
 #[tactic(auto, using(crate::proofs::KeyedItems::plain_items_by_keys))]
 pub fn plain_items_by_keys()
     ensures { PlainItemsByKeys }

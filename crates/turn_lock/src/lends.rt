@@ -9,7 +9,7 @@ use crate::pass::Pass;
 use sky_io::Lineage;
 
 impl<'a, T: Lineage> Pass<'a, T> {
-    /// The value. What is written to it stands when the loan ends. Takes no memory.
+    /// The value. What is written to it stands when the loan ends. Does not allocate.
     pub fn value(&mut self) -> &mut T
         ensures* lends { sem 𝓛 (Lends
             (the_row (record { mir = named 0; lft = [] }) T.row T.Root.row T.Entry.row T.Lineage)

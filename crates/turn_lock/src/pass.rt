@@ -39,7 +39,7 @@ impl<'a, T: Lineage> Model for Pass<'a, T> {
 }
 
 impl<'a, T: Lineage> Pass<'a, T> {
-    /// Puts the value back and gives the seat, which has seen the whole past then. Takes no memory.
+    /// Puts the value back and gives the seat, which has seen the whole past then. Does not allocate.
     pub fn leave(self) -> Seat<T>
         requires root { T.root self.value ≡ self.seat.root }
         requires past { GrewByAtMostOne T.seat_of

@@ -34,7 +34,7 @@ impl<T: Lineage> Model for Seat<T> {
 impl<T: Lineage> Seat<T> {
     ghost use Rattle.turn_lock.specs.Seats.{Knows};
 
-    /// The seat's number, from 0. Takes no memory.
+    /// The seat's number, from 0. Does not allocate.
     pub fn number(&self) -> u32
         ensures number { result ≡ self.now.number }
         ensures known { Knows T.seat_of self.now }

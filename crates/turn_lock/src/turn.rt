@@ -61,7 +61,7 @@ impl<T: Lineage + Drop> Turn<T> {
 }
 
 impl<T: Lineage> Turn<T> {
-    /// Waits for the turn, and takes the value out. Takes no memory.
+    /// Waits for the turn, and takes the value out. Does not allocate.
     pub fn enter<R: Wait>(&self, rt: &R, seat: Seat<T>) -> Pass<'_, T>
         requires own { seat.turn ≡ self.now }
         ensures seat { result.seat ≡ having_seen (T.past result.value) seat }
@@ -121,7 +121,7 @@ impl<T: Lineage> Turn<T> {
         shared.exchange(inner, 0, None)
     }
 
-    /// Makes one more seat, with the next number, out of seat 0. Takes no memory.
+    /// Makes one more seat, with the next number, out of seat 0. Does not allocate.
     pub fn split(&self, seat: &mut Seat<T>) -> Seat<T>
         requires own { seat.old.turn ≡ self.now }
         requires first { seat.old.number ≡ 0 }
@@ -140,7 +140,7 @@ impl<T: Lineage> Turn<T> {
         }
     }
 
-    /// Ends another seat in this one, which has seen the longer of both lists then. Takes no memory.
+    /// Ends another seat in this one, which has seen the longer of both lists then. Does not allocate.
     pub fn join(&self, seat: &mut Seat<T>, other: Seat<T>)
         requires own { (seat.old.turn ≡ self.now) × (other.turn ≡ self.now) }
         requires not_first { other.number ≢ 0 }

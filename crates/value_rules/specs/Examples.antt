@@ -17,7 +17,7 @@ use Rattle.value_rules.specs.Areas.{area_holds}
 use Rattle.value_rules.specs.Truth.{meets}
 use Rattle.value_rules.specs.Values.{Pick, row}
 
--- a row of one further column
+-- a row of one extra column
 abbrev pub object : ℤ → ℤ → ℤ → ℤ → Option ℤ → Obj
 object id x y z flux = record { id = id; at = record { x = x; y = y; z = z }; further = flux ∷ [] }
 
@@ -132,7 +132,7 @@ middle_box = Boxed (negsuc 9) (pos 10) east north
 abbrev pub id_times_flux : BoundExpr
 id_times_flux = product_of (column 0) (column 4 ∷ [])
 
--- a*a*a*0, where a is a further column
+-- a*a*a*0, where a is a extra column
 abbrev pub zero_last : BoundExpr
 zero_last = product_of (column 4) (column 4 ∷ column 4 ∷ atom.Int (pos 0) ∷ [])
 

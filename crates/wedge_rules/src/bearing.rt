@@ -52,7 +52,7 @@ fn bearing(wedges: u64, x: i64, y: i64) -> u64
     }
 }
 
-/// The number of the wedge that holds the position, from 0, of 1 wedge or of 3 and more. Takes no memory.
+/// The number of the wedge that holds the position, from 0, of 1 wedge or of 3 and more. Does not allocate.
 pub fn wedge_of(wedges: u32, p: &Pos) -> u32
     requires { IsWedgeCount wedges }
     ensures inside { result < wedges }

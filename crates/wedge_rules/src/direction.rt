@@ -23,8 +23,8 @@ fn of_steps(right: u64, left: u64, up: u64, down: u64) -> Dir
     }
 }
 
-/// The direction at which wedge k begins, in steps of the square whose half side is the number of wedges. The last wedge
-/// ends where wedge 0 begins. Takes no memory.
+/// The direction at which wedge k begins, in steps of the square whose half side is the number of wedges. The last
+/// wedge ends where wedge 0 begins. Does not allocate.
 #[tactic(auto, unfolding(crate::specs::Heading::heading, crate::specs::Heading::walk))]
 pub fn direction_of(wedges: u32, k: u32) -> Dir
     requires few { wedges ≤ PART_MOST }

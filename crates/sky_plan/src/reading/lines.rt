@@ -8,7 +8,7 @@ ghost use Rattle.sky_plan.specs.Reading.{behind, said_lines};
 use sky_text::{Line, Lines, is_note};
 use std::marker::Model;
 
-/// The lines that are left of a sky text. Notes among them are counted and passed over.
+/// The lines that are left of a sky text. Notes among them are counted and skipped.
 #[derive(Drop)]
 pub(crate) struct PlanLines<'a> {
     lines: Lines<'a>,

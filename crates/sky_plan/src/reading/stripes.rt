@@ -43,7 +43,7 @@ impl Model for Stripes {
 }
 
 impl Stripes {
-    /// No stripe. Takes no memory.
+    /// No stripe. Does not allocate.
     pub(crate) fn new(alloc: Global) -> Stripes
         ensures { result ≡ [] }
     {
@@ -53,7 +53,7 @@ impl Stripes {
         }
     }
 
-    /// The stripes as they are. Takes no memory.
+    /// The stripes as they are. Does not allocate.
     pub(crate) fn into_vec(self) -> Vec<Stripe>
         ensures { result.items ≡ self }
     {
@@ -67,7 +67,7 @@ impl Stripes {
         self.list.is_empty()
     }
 
-    /// Puts the stripe on a line behind the others, or answers the line's fault. Takes memory for the stripe.
+    /// Puts the stripe on a line behind the others, or answers the line's fault. Allocates memory for the stripe.
     pub(crate) fn add(
         &mut self,
         version: &Version,
