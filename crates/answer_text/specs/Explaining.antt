@@ -34,18 +34,18 @@ kind_text i = print_kind i.what
 abbrev pub parts_of : Item → List Bytes
 parts_of i = part_texts i.what
 
--- what stands from the tables on
+-- what is from the tables on
 abbrev pub from_tables : Query → ChunkQuery → Bytes
 from_tables q cq =
     chunk_tables q.first q.second ++ (print_where q.cond ++ (print_group q.group ++ chunk_limit cq cq.limit))
 
--- what stands from the items on
+-- what is from the items on
 abbrev pub from_items : List Bytes → Query → ChunkQuery → Bytes
 from_items names q cq = by_commas (chunk_texts names q cq.shape) ++ (codes " FROM " ++ from_tables q cq)
 
 -- ---- the merge
 
--- of so many merged items, the place where the columns begin that ties are ordered by
+-- of the given number of merged items, the place where the columns begin that ties are ordered by
 abbrev pub tie_start : ℕ → Shape → ℕ
 tie_start items Rows = items
 tie_start items (Pairs limit) = items
@@ -57,15 +57,15 @@ tie_end items Rows = items + 1
 tie_end items (Pairs limit) = items + 2
 tie_end items (Groups keys) = length keys
 
--- what stands from the order on
+-- what is from the order on
 abbrev pub from_order : MergePlan → Bytes
 from_order m = clause (codes " ORDER BY ") (order_key_texts m m.order ++ tie_names m m.shape) ++ print_limit m.limit
 
--- what stands behind the pieces
+-- what follows the pieces
 abbrev pub from_keys : MergePlan → Bytes
 from_keys m = clause (codes " GROUP BY ") (place_names 0 (length (keys_by m.shape))) ++ from_order m
 
--- what stands from the merged items on
+-- what is from the merged items on
 abbrev pub from_merged : MergePlan → Bytes
 from_merged m = by_commas (merged_texts m) ++ (codes " FROM pieces" ++ from_keys m)
 
@@ -91,6 +91,6 @@ key_signed_text keys =
 
 -- ---- the chunks
 
--- a chunk behind a space
+-- a chunk after a space
 abbrev pub spaced_number : ℕ → Bytes
 spaced_number c = codes " " ++ decimal c

@@ -1,4 +1,4 @@
-//! The items of a chunk query as they are explained. One function writes one rule of the form.
+//! The items of a chunk query as they are explained. One function writes one rule of the syntax.
 ghost use Rattle.std.specs.Prelude.{◌≡◌, ◌∷◌, ◌++◌, Some, codes, map, slice_get};
 ghost use Rattle.sky_io.specs.Sinks.{Wrote};
 ghost use Rattle.sql_rules.specs.PrintedExprs.{behind_each};
@@ -71,7 +71,7 @@ fn put_kinds<K: Sink>(sink: &mut K, list: &ItemList) -> Put
     }
 }
 
-// The items behind the first.
+// The items after the first.
 fn put_further_kinds<K: Sink>(sink: &mut K, rest: &[Item]) -> Put
     ensures { Wrote (K.state sink.old) (K.state sink.new)
         (behind_each (codes ",") (map kind_text rest.now)) result }
@@ -95,7 +95,7 @@ fn put_further_kind<K: Sink>(sink: &mut K, item: &Item) -> Put
     }
 }
 
-// The ids and the order key, each behind a comma.
+// The ids and the order key, each after a comma.
 fn put_ids_and_key<K: Sink>(sink: &mut K, head: &Query) -> Put
     ensures { Wrote (K.state sink.old) (K.state sink.new)
         (behind_each (codes ",") (id_texts head.now.first head.now.second)
@@ -137,7 +137,7 @@ fn put_two_ids<K: Sink>(sink: &mut K, first: &TableRef, second: &TableRef) -> Pu
     }
 }
 
-// The order key, where there is one.
+// The order key, if there is one.
 fn put_order_key<K: Sink>(sink: &mut K, head: &Query) -> Put
     ensures { Wrote (K.state sink.old) (K.state sink.new)
         (behind_each (codes ",") (order_texts head.now head.now.order)) result }
@@ -181,7 +181,7 @@ fn put_item_at<K: Sink>(sink: &mut K, items: &Selection, place: usize) -> Put
     }
 }
 
-// The same, of a list of one item or more.
+// Writes a list of one item or more.
 fn put_listed<K: Sink>(sink: &mut K, list: &ItemList, place: usize) -> Put
     ensures { Wrote (K.state sink.old) (K.state sink.new)
         (text_of_item (slice_get (list.now.first ∷ list.now.rest) place)) result }
@@ -193,7 +193,7 @@ fn put_listed<K: Sink>(sink: &mut K, list: &ItemList, place: usize) -> Put
     }
 }
 
-// The same, of the items behind the first.
+// Writes the items after the first.
 fn put_rest_at<K: Sink>(sink: &mut K, rest: &[Item], place: usize) -> Put
     ensures { Wrote (K.state sink.old) (K.state sink.new)
         (text_of_item (slice_get rest.now place)) result }

@@ -1,4 +1,4 @@
-//! The order and the LIMIT of a chunk query, as they are explained. One function writes one rule of the form.
+//! The order and the LIMIT of a chunk query, as they are explained. One function writes one rule of the syntax.
 ghost use Rattle.std.specs.Prelude.{◌≡◌, ◌++◌, ◌+◌, ◌≤◌, ◌^◌, Some, codes, length};
 ghost use Rattle.sky_io.specs.Sinks.{Wrote};
 ghost use Rattle.sql_rules.specs.Printed.{print_limit};
@@ -12,7 +12,7 @@ use sky_io::{Put, Sink};
 use sql_bound::Int;
 use sql_print::{put_if, put_led_size};
 
-/// Writes the order and the LIMIT, where there is a LIMIT.
+/// Writes the order and the LIMIT, if there is a LIMIT.
 pub(crate) fn put_chunk_limit<K: Sink>(sink: &mut K, chunk: &ChunkQuery) -> Put
     ensures { Wrote (K.state sink.old) (K.state sink.new) (chunk_limit chunk.now chunk.now.limit)
         result }
@@ -23,7 +23,7 @@ pub(crate) fn put_chunk_limit<K: Sink>(sink: &mut K, chunk: &ChunkQuery) -> Put
     }
 }
 
-// The order, and the LIMIT behind it.
+// The order, and the LIMIT after it.
 fn put_limited<K: Sink>(sink: &mut K, chunk: &ChunkQuery, n: &Int) -> Put
     ensures { Wrote (K.state sink.old) (K.state sink.new)
         (clause (codes " ORDER BY ") (chunk_order_names chunk.now) ++ print_limit (Some n.now)) result }
@@ -42,7 +42,7 @@ fn item_count(chunk: &ChunkQuery) -> u64
     chunk.items.as_slice().len() as u64
 }
 
-// The place behind the ids, which is that of the order's key.
+// The place after the ids, which is that of the order's key.
 fn id_end(chunk: &ChunkQuery) -> u64
     ensures { result ≡ length chunk.now.items + id_count chunk.now.shape }
 {
@@ -115,7 +115,7 @@ fn put_key_name<K: Sink>(sink: &mut K, chunk: &ChunkQuery) -> Put
     put_column_name(sink, id_end(chunk) as u128)
 }
 
-// The ids, each behind a comma.
+// The ids, each after a comma.
 fn put_ids<K: Sink>(sink: &mut K, chunk: &ChunkQuery) -> Put
     ensures { Wrote (K.state sink.old) (K.state sink.new)
         (behind_each (codes ",") (id_names (length chunk.now.items) chunk.now.shape)) result }

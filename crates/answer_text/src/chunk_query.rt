@@ -1,4 +1,4 @@
-//! The chunk query as it is explained. One function writes one rule of the form.
+//! The chunk query as it is explained. One function writes one rule of the syntax.
 ghost use Rattle.std.specs.Prelude.{◌≡◌, ◌++◌, codes};
 ghost use Rattle.sky_io.specs.Sinks.{Wrote};
 ghost use Rattle.sql_rules.specs.Printed.{print_alias, print_group, print_where};
@@ -40,7 +40,7 @@ fn put_chunk_query<K: Sink>(sink: &mut K, schema: &Schema, head: &Query, chunk: 
     }
 }
 
-// What stands from the items on.
+// What is from the items on.
 fn put_from_items<K: Sink>(sink: &mut K, schema: &Schema, head: &Query, chunk: &ChunkQuery) -> Put
     ensures { Wrote (K.state sink.old) (K.state sink.new) (from_items schema.now head.now chunk.now)
         result }
@@ -51,7 +51,7 @@ fn put_from_items<K: Sink>(sink: &mut K, schema: &Schema, head: &Query, chunk: &
     }
 }
 
-// What stands from FROM on.
+// What is from FROM on.
 fn put_from<K: Sink>(sink: &mut K, head: &Query, chunk: &ChunkQuery) -> Put
     ensures { Wrote (K.state sink.old) (K.state sink.new)
         (codes " FROM " ++ from_tables head.now chunk.now) result }
@@ -62,7 +62,7 @@ fn put_from<K: Sink>(sink: &mut K, head: &Query, chunk: &ChunkQuery) -> Put
     }
 }
 
-// What stands from the tables on.
+// What is from the tables on.
 fn put_from_tables<K: Sink>(sink: &mut K, head: &Query, chunk: &ChunkQuery) -> Put
     ensures { Wrote (K.state sink.old) (K.state sink.new) (from_tables head.now chunk.now) result }
 {
@@ -72,7 +72,7 @@ fn put_from_tables<K: Sink>(sink: &mut K, head: &Query, chunk: &ChunkQuery) -> P
     }
 }
 
-// WHERE, where it stands, and what follows it.
+// WHERE, if there is one, and what follows it.
 fn put_from_where<K: Sink>(sink: &mut K, head: &Query, chunk: &ChunkQuery) -> Put
     ensures { Wrote (K.state sink.old) (K.state sink.new)
         (print_where head.now.cond
@@ -84,7 +84,7 @@ fn put_from_where<K: Sink>(sink: &mut K, head: &Query, chunk: &ChunkQuery) -> Pu
     }
 }
 
-// GROUP BY, where it stands, and the order and the LIMIT.
+// GROUP BY, if there is one, and the order and the LIMIT.
 fn put_from_group<K: Sink>(sink: &mut K, group: &[Col], chunk: &ChunkQuery) -> Put
     ensures { Wrote (K.state sink.old) (K.state sink.new)
         (print_group group.now ++ chunk_limit chunk.now chunk.now.limit) result }
@@ -129,7 +129,7 @@ fn put_two_aliases<K: Sink>(sink: &mut K, first: &Option<Name>, second: &Option<
     }
 }
 
-// Words, and an alias behind them.
+// Words, and an alias after them.
 fn put_led_alias<K: Sink>(sink: &mut K, words: &[u8], alias: &Option<Name>) -> Put
     ensures { Wrote (K.state sink.old) (K.state sink.new)
         (words.now ++ print_alias alias.now) result }

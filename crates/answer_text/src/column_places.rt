@@ -1,4 +1,4 @@
-//! The columns of a chunk query by their places: c1, c2 and so on. One function writes one rule of the form.
+//! The columns of a chunk query by their places: c1, c2 and so on. One function writes one rule of the syntax.
 ghost use Rattle.std.specs.Prelude.{◌≡◌, ◌++◌, ◌+◌, ◌-◌, ◌<◌, ◌≤◌, ◌^◌, codes};
 ghost use Rattle.sky_io.specs.Sinks.{Wrote};
 ghost use Rattle.sql_rules.specs.PrintedExprs.{behind_each};
@@ -20,7 +20,7 @@ pub(crate) fn put_column_name<K: Sink>(sink: &mut K, place: u128) -> Put
     }
 }
 
-/// Writes the names of the columns from a place to another, each behind a comma.
+/// Writes the names of the columns from a place to another, each after a comma.
 pub(crate) fn put_places<K: Sink>(sink: &mut K, from: u64, to: u64) -> Put
     requires { from ≤ to }
     ensures { Wrote (K.state sink.old) (K.state sink.new)
@@ -45,7 +45,7 @@ fn put_further_place<K: Sink>(sink: &mut K, place: u64) -> Put
     }
 }
 
-/// Writes words, and behind them the names of the columns from a place to another, where there are any.
+/// Writes words, and after them the names of the columns from a place to another, if there are any.
 pub(crate) fn put_places_clause<K: Sink>(sink: &mut K, words: &[u8], from: u64, to: u64) -> Put
     requires { from ≤ to }
     ensures { Wrote (K.state sink.old) (K.state sink.new)
@@ -58,7 +58,7 @@ pub(crate) fn put_places_clause<K: Sink>(sink: &mut K, words: &[u8], from: u64, 
     }
 }
 
-// Words, and behind them the names of one column or more.
+// Words, and after them the names of one column or more.
 fn put_led_places<K: Sink>(sink: &mut K, words: &[u8], from: u64, to: u64) -> Put
     requires { from < to }
     ensures { Wrote (K.state sink.old) (K.state sink.new)
@@ -85,7 +85,7 @@ fn put_some_places<K: Sink>(sink: &mut K, from: u64, to: u64) -> Put
     }
 }
 
-/// How many ids stand behind the items of a chunk query.
+/// How many ids follow the items of a chunk query.
 pub(crate) fn id_count(shape: &Shape) -> u64
     ensures count { result ≡ id_count shape.now }
     ensures few { result ≤ 2 }

@@ -1,4 +1,4 @@
-//! The columns of a star by name. One function writes one rule of the form.
+//! The columns of a star by name. One function writes one rule of the syntax.
 ghost use Rattle.std.specs.Prelude.{◌≡◌, ◌++◌, ◌+◌, ◌<◌, ◌≤◌, Some, codes, length, slice_get};
 ghost use Rattle.sky_io.specs.Sinks.{Wrote};
 ghost use Rattle.table_rules.specs.Names.{column_names};
@@ -23,7 +23,7 @@ fn put_two<K: Sink>(sink: &mut K, first: &[u8], second: &[u8]) -> Put
     }
 }
 
-// A name behind its qualifier and a dot, both of which may be empty.
+// A name after its qualifier and a dot, both of which may be empty.
 fn put_dotted<K: Sink>(sink: &mut K, side: &[u8], dot: &[u8], name: &[u8]) -> Put
     ensures { Wrote (K.state sink.old) (K.state sink.new)
         (dotted side.now dot.now name.now) result }
@@ -34,7 +34,7 @@ fn put_dotted<K: Sink>(sink: &mut K, side: &[u8], dot: &[u8], name: &[u8]) -> Pu
     }
 }
 
-/// Writes a extra column, and the comma before it.
+/// Writes an extra column, and the comma before it.
 pub(crate) fn put_further_column<K: Sink>(sink: &mut K, side: &[u8], dot: &[u8], name: &[u8]) -> Put
     ensures { Wrote (K.state sink.old) (K.state sink.new)
         (codes "," ++ dotted side.now dot.now name.now) result }
@@ -45,7 +45,7 @@ pub(crate) fn put_further_column<K: Sink>(sink: &mut K, side: &[u8], dot: &[u8],
     }
 }
 
-// The columns from a place on, each behind a comma.
+// The columns from a place on, each after a comma.
 fn put_columns_from<K: Sink>(
     sink: &mut K,
     schema: &Schema,
@@ -85,7 +85,7 @@ fn put_qualified<K: Sink>(sink: &mut K, schema: &Schema, table: &TableRef) -> Pu
     put_columns(sink, schema, qualifier(table), b".")
 }
 
-// The same, each behind a comma.
+// Writes these columns, each after a comma.
 fn put_further_qualified<K: Sink>(sink: &mut K, schema: &Schema, table: &TableRef) -> Put
     ensures { Wrote (K.state sink.old) (K.state sink.new)
         (behind_each (codes ",") (columns_from (qualifier table.now) (codes ".") schema.now 0))
@@ -105,7 +105,7 @@ fn put_both<K: Sink>(sink: &mut K, schema: &Schema, first: &TableRef, second: &T
     }
 }
 
-/// Writes the columns that a star stands for.
+/// Writes the columns that a star represents.
 pub(crate) fn put_star<K: Sink>(
     sink: &mut K,
     schema: &Schema,

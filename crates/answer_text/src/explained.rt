@@ -89,7 +89,7 @@ fn put_chunks<K: Sink>(sink: &mut K, chunks: &ChunkSet) -> Put
     }
 }
 
-// The chunks, each behind a space.
+// The chunks, each after a space.
 fn put_each_chunk<K: Sink>(sink: &mut K, chunks: &[u32]) -> Put
     ensures { Wrote (K.state sink.old) (K.state sink.new)
         (flat_map spaced_number chunks.now) result }
@@ -103,7 +103,7 @@ fn put_each_chunk<K: Sink>(sink: &mut K, chunks: &[u32]) -> Put
     Put::Done
 }
 
-// A chunk behind a space.
+// A chunk after a space.
 fn put_spaced<K: Sink>(sink: &mut K, chunk: &u32) -> Put
     ensures { Wrote (K.state sink.old) (K.state sink.new) (spaced_number chunk.now) result }
 {

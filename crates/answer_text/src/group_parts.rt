@@ -1,4 +1,4 @@
-//! What a grouping gives to its chunk query, as it is explained. One function writes one rule of the form.
+//! What a grouped query gives to its chunk query, as it is explained. One function writes one rule of the syntax.
 ghost use Rattle.std.specs.Prelude.{◌≡◌, [], ◌∷◌, ◌++◌, ◌||◌, codes, map};
 ghost use Rattle.std.specs.List.{flat_map};
 ghost use Rattle.sky_io.specs.Sinks.{Wrote};
@@ -48,7 +48,7 @@ fn put_parts<K: Sink>(sink: &mut K, begun: bool, items: &Selection) -> Put
     }
 }
 
-// The same, of a list of one item or more.
+// Writes a list of one item or more.
 fn put_list_parts<K: Sink>(sink: &mut K, begun: bool, list: &ItemList) -> Put
     ensures { Wrote (K.state sink.old) (K.state sink.new)
         (parted begun (flat_map parts_of (list.now.first ∷ list.now.rest))) result }
@@ -92,7 +92,7 @@ fn gives(what: &ItemKind) -> bool
     }
 }
 
-// Whether others have gone before what stands behind an item.
+// Whether others have gone before what follows an item.
 fn goes_on(begun: bool, what: &ItemKind) -> bool
     ensures { result ≡ (begun || has_any (part_texts what.now)) }
 {

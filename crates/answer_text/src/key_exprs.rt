@@ -21,14 +21,14 @@ fn is_same(a: BoundCol, b: BoundCol) -> bool
     a.second == b.second && a.col == b.col
 }
 
-// The place of the first key that is this column, where one is.
+// The place of the first key that is this column, if one is.
 fn position_of(keys: &[BoundCol], col: BoundCol) -> Option<usize>
     ensures { result ≡ position (λ k. same_col k col) keys.now }
 {
     keys.iter().position(|key| is_same(*key, col))
 }
 
-// The same, and how many keys there are where none is.
+// The place of the first key that is this column; the number of keys if none is.
 #[tactic(auto, using(crate::proofs::KeyPlaces::place_within))]
 fn key_place(keys: &[BoundCol], col: BoundCol) -> usize
     ensures place { result ≡ key_place keys.now col }

@@ -1,4 +1,4 @@
-//! What the merge groups and orders by, as it is explained. One function writes one rule of the form.
+//! What the merge groups and orders by, as it is explained. One function writes one rule of the syntax.
 ghost use Rattle.std.specs.Prelude.{◌≡◌, [], ◌++◌, ◌+◌, ◌≤◌, ◌^◌, codes, length, map, slice_get, unwrap_or};
 ghost use Rattle.sky_io.specs.Sinks.{Wrote};
 ghost use Rattle.sql_rules.specs.PrintedExprs.{behind_each, text_if};
@@ -15,7 +15,7 @@ use sky_io::{Put, Sink};
 use sql_bound::{BoundCol, Shape};
 use sql_print::put_if;
 
-/// Writes GROUP BY, where there are keys.
+/// Writes GROUP BY, if there are keys.
 pub(crate) fn put_group_by<K: Sink>(sink: &mut K, merge: &MergePlan) -> Put
     ensures { Wrote (K.state sink.old) (K.state sink.new)
         (clause (codes " GROUP BY ") (place_names 0 (length (keys_by merge.now.shape)))) result }
@@ -31,7 +31,7 @@ fn item_count(merge: &MergePlan) -> u64
     merge.items.as_slice().len() as u64
 }
 
-// The place behind the ids, which is that of the chunk query's order key.
+// The place after the ids, which is that of the chunk query's order key.
 fn behind_ids(merge: &MergePlan) -> u64
     ensures { result ≡ length merge.now.items + id_count merge.now.shape }
 {
@@ -116,7 +116,7 @@ fn put_key_and_way<K: Sink>(sink: &mut K, merge: &MergePlan, order: &MergeOrder)
     }
 }
 
-// The columns that ties are ordered by, each behind a comma.
+// The columns that ties are ordered by, each after a comma.
 fn put_ties<K: Sink>(sink: &mut K, merge: &MergePlan) -> Put
     ensures { Wrote (K.state sink.old) (K.state sink.new)
         (behind_each (codes ",") (tie_names merge.now merge.now.shape)) result }
@@ -124,7 +124,7 @@ fn put_ties<K: Sink>(sink: &mut K, merge: &MergePlan) -> Put
     put_places(sink, tie_start(merge), tie_end(merge))
 }
 
-// The key: the column behind the ids, a merged item, or the column of a grouped query's key.
+// The key: the column after the ids, a merged item, or the column of a grouped query's key.
 fn put_key<K: Sink>(sink: &mut K, merge: &MergePlan, key: &MergeKey) -> Put
     ensures { Wrote (K.state sink.old) (K.state sink.new)
         (order_key_text merge.now key.now) result }
@@ -144,7 +144,7 @@ fn put_merged_at<K: Sink>(sink: &mut K, merge: &MergePlan, place: usize) -> Put
     put_listed(sink, keys_by(&merge.shape), merge.items.as_slice(), place)
 }
 
-// The same, of these items over these keys.
+// Writes the order by these items over these keys.
 fn put_listed<K: Sink>(sink: &mut K, keys: &[BoundCol], items: &[MergeItem], place: usize) -> Put
     ensures { Wrote (K.state sink.old) (K.state sink.new)
         (unwrap_or (slice_get (map (merged_over keys.now) items.now) place) []) result }

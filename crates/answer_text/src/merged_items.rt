@@ -1,4 +1,4 @@
-//! Merged items as they are explained. One function writes one rule of the form.
+//! Merged items as they are explained. One function writes one rule of the syntax.
 ghost use Rattle.std.specs.Prelude.{◌≡◌, ◌++◌, ◌+◌, ◌-◌, ◌<◌, ◌^◌, codes, length, map};
 ghost use Rattle.sky_io.specs.Sinks.{Wrote};
 ghost use Rattle.sql_rules.specs.PrintedExprs.{behind_each, in_brackets};
@@ -52,7 +52,7 @@ fn put_some_merged<K: Sink>(
     }
 }
 
-// The merged items behind the first.
+// The merged items after the first.
 fn put_further_merged<K: Sink>(sink: &mut K, keys: &[BoundCol], rest: &[MergeItem]) -> Put
     ensures { Wrote (K.state sink.old) (K.state sink.new)
         (behind_each (codes ",") (map (merged_over keys.now) rest.now)) result }
@@ -92,7 +92,7 @@ pub(crate) fn put_merged<K: Sink>(sink: &mut K, keys: &[BoundCol], item: &MergeI
     }
 }
 
-// A word, and in brackets the column of an item of the chunk query, which stands behind the keys.
+// A word, and in brackets the column of an item of the chunk query, which follows the keys.
 fn put_call<K: Sink>(sink: &mut K, word: &[u8], keys: &[BoundCol], n: usize) -> Put
     ensures { Wrote (K.state sink.old) (K.state sink.new)
         (call word.now (length keys.now + n)) result }

@@ -1,4 +1,4 @@
-//! Small pieces of texts: numbers with words before or behind them, and the line that numbers a block.
+//! Small pieces of texts: numbers with words before or after them, and the line that numbers a block.
 ghost use Rattle.std.specs.Prelude.{◌≡◌, ◌++◌, codes};
 ghost use Rattle.std.specs.Fmt.{decimal};
 ghost use Rattle.sky_io.specs.Sinks.{Wrote};
@@ -7,7 +7,7 @@ ghost use Rattle.transcript_rules.specs.Blocks.{number_line};
 use sky_io::{Put, Sink};
 use sky_text::put_count;
 
-/// Writes words, and a count behind them.
+/// Writes words, and a count after them.
 pub(crate) fn put_led_count<K: Sink>(sink: &mut K, words: &[u8], count: u64) -> Put
     ensures { Wrote (K.state sink.old) (K.state sink.new) (words.now ++ decimal count) result }
 {
@@ -17,7 +17,7 @@ pub(crate) fn put_led_count<K: Sink>(sink: &mut K, words: &[u8], count: u64) -> 
     }
 }
 
-/// Writes a count, and words behind it.
+/// Writes a count, and words after it.
 pub(crate) fn put_counted<K: Sink>(sink: &mut K, count: u64, words: &[u8]) -> Put
     ensures { Wrote (K.state sink.old) (K.state sink.new) (decimal count ++ words.now) result }
 {

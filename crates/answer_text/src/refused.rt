@@ -1,4 +1,4 @@
-//! The block of a query that is refused. One function writes one rule of the form.
+//! The block of a query that is refused. One function writes one rule of the syntax.
 ghost use Rattle.std.specs.Prelude.{◌≡◌, ◌++◌, codes, slice_range};
 ghost use Rattle.std.specs.Fmt.{signed_decimal};
 ghost use Rattle.sky_io.specs.Sinks.{Wrote};
@@ -87,7 +87,7 @@ fn part_of(text: &[u8], span: Span) -> &[u8]
     &text[from..to]
 }
 
-// Words, and a part of the text behind them.
+// Words, and a part of the text after them.
 fn put_led_part<K: Sink>(sink: &mut K, words: &[u8], text: &[u8], span: Span) -> Put
     ensures { Wrote (K.state sink.old) (K.state sink.new)
         (words.now ++ quoted text.now span) result }
@@ -98,7 +98,7 @@ fn put_led_part<K: Sink>(sink: &mut K, words: &[u8], text: &[u8], span: Span) ->
     }
 }
 
-// A part of the text, and words behind it.
+// A part of the text, and words after it.
 fn put_part_before<K: Sink>(sink: &mut K, text: &[u8], span: Span, words: &[u8]) -> Put
     ensures { Wrote (K.state sink.old) (K.state sink.new)
         (quoted text.now span ++ words.now) result }
@@ -130,7 +130,7 @@ fn put_limit<K: Sink>(sink: &mut K, limit: &i64) -> Put
     put_int(sink, i128::from(*limit))
 }
 
-// Words, and a limit on squared chords behind them.
+// Words, and a limit on squared chords after them.
 fn put_led_limit<K: Sink>(sink: &mut K, words: &[u8], limit: &i64) -> Put
     ensures { Wrote (K.state sink.old) (K.state sink.new)
         (words.now ++ signed_decimal limit.now) result }

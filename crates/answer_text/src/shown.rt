@@ -88,7 +88,7 @@ fn put_item_headings<K: Sink>(sink: &mut K, list: &ItemList) -> Put
     }
 }
 
-// The headings behind the first.
+// The headings after the first.
 fn put_further_headings<K: Sink>(sink: &mut K, rest: &[Item]) -> Put
     ensures { Wrote (K.state sink.old) (K.state sink.new)
         (behind_each (codes ",") (map heading rest.now)) result }

@@ -1,4 +1,4 @@
-//! The rows of an answer as they are written. One function writes one rule of the form.
+//! The rows of an answer as they are written. One function writes one rule of the syntax.
 ghost use Rattle.std.specs.Prelude.{◌≡◌, ◌++◌, All, codes, length, map};
 ghost use Rattle.std.specs.Fmt.{decimal};
 ghost use Rattle.std.specs.List.{flat_map};
@@ -37,7 +37,7 @@ fn put_further_value<K: Sink>(sink: &mut K, value: &Value) -> Put
     }
 }
 
-// The values behind the first.
+// The values after the first.
 fn put_further_values<K: Sink>(sink: &mut K, rest: &[Value]) -> Put
     requires { All IsShort rest.now }
     ensures { Wrote (K.state sink.old) (K.state sink.new)
@@ -133,7 +133,7 @@ fn put_count_line<K: Sink>(sink: &mut K, rows: u64, chunks: u32) -> Put
     }
 }
 
-/// Writes the lines of an answer behind its headings.
+/// Writes the lines of an answer after its headings.
 pub(crate) fn put_answer<K: Sink>(sink: &mut K, table: &Table, chunks: u32) -> Put
     ensures { Wrote (K.state sink.old) (K.state sink.new)
         (flat_map row_line table.now ++ count_line (length table.now) chunks) result }

@@ -41,7 +41,7 @@ IsThere columns (Near centre n) = Unit {0}
 abbrev pub holds_on : Formula → Obj → Bool
 holds_on f o = is_true (truth_at (cell_of (row o)) o.at f)
 
--- A question that is answered with yes wherever the formula holds and, where it is the whole of it, nowhere else; its
+-- A question that is answered with yes wherever the formula holds and, if it is the whole of it, nowhere else; its
 -- column is there where the formula can be computed.
 pub record IsEarly (f : Formula) (e : Early) : Type 0 where
   pub kept : (o : Obj) → holds_on f o ≡ true → asks e.test o ≡ true

@@ -9,6 +9,6 @@ abbrev pub leading : List BoundCol → List Obj → List (Option ℤ)
 leading [] objects = []
 leading (k ∷ keys) objects = map (λ o. cell_of (row o) k) objects
 
--- as far as the list goes, these values stand in it
+-- as far as the list goes, these values are in it
 abbrev pub IsLead : List BoundCol → List Obj → List (Option ℤ) → Type 0
 IsLead keys objects lead = (j : ℕ) → j < length lead → get_or lead j None ≡ get_or (leading keys objects) j None

@@ -1,4 +1,4 @@
--- What the rows of a group come to for an aggregate, by the values of its expression.
+-- What the rows of a group evaluates to for an aggregate, by the values of its expression.
 use Rattle.std.specs.Prelude.{ℕ, ◌≤◌, ℤ, List, [], length, map, Option, None, Some, option_to_list, slice_range, All}
 use Rattle.std.specs.List.{flat_map}
 use Rattle.table_rules.specs.Objects.{Obj}
@@ -28,7 +28,7 @@ abbrev pub numbers_between : Option (List (Option ℤ)) → ℕ → ℕ → List
 numbers_between None from to = []
 numbers_between (Some values) from to = flat_map option_to_list (slice_range values from to)
 
--- the part of an aggregate over so many rows that have these numbers
+-- the part of an aggregate over the given number of rows that have these numbers
 abbrev pub part_of : ChunkItem → ℕ → List ℤ → Part
 part_of (Plain e) rows numbers = count_part 0
 part_of Count rows numbers = count_part rows

@@ -1,4 +1,4 @@
--- Where groups begin among rows that stand one after the other.
+-- Where groups begin among rows that follow one another.
 use Rattle.std.specs.Prelude.{◌≡◌, ℕ, ◌+◌, ◌<◌, ℤ, Bool, false, List, length, get_or, Option, None}
 use Rattle.table_rules.specs.Objects.{Obj}
 use Rattle.sky_row.specs.Columns.{no_row}

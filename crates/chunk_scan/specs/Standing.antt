@@ -23,16 +23,16 @@ mask_of conds objects = map (λ o. meets conds (row o)) objects
 abbrev pub standing : List BoundCond → List Obj → List ℕ
 standing conds objects = places_by (λ o. meets conds (row o)) objects
 
--- A mask after a kernel looked at a condition, or did not: no row came back, none went on which the condition holds, and
--- where the condition is done none stayed on which it does not.
+-- A mask after a kernel inspected a condition, or did not: no row came back, none went on which the condition holds,
+-- and where the condition is done none stayed on which it does not.
 pub record IsNarrowedBy (c : BoundCond) (objects : List Obj) (flag : Bool) (old new : List Bool) : Type 0 where
   pub count : length new ≡ length old
   pub back : (k : ℕ) → k < length old → get_or new k false ≡ true → get_or old k false ≡ true
   pub kept : (k : ℕ) → k < length old → get_or old k false ≡ true → holds_at c objects k ≡ true → get_or new k false ≡ true
   pub done : flag ≡ true → (k : ℕ) → k < length old → get_or new k false ≡ true → holds_at c objects k ≡ true
 
--- The masks after all kernels: each row that meets all conditions stands, and on each row that stands the conditions that
--- are done hold.
+-- The masks after all kernels: each row that meets all conditions is, and on each row that is the conditions that are
+-- done hold.
 pub record IsNarrowed (conds : List BoundCond) (objects : List Obj) (flags mask : List Bool) : Type 0 where
   pub count : length mask ≡ length objects
   pub kept : (k : ℕ) → k < length objects → meets_at conds objects k ≡ true → get_or mask k false ≡ true

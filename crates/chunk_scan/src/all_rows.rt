@@ -53,7 +53,7 @@ pub(crate) fn all_rows<'w>(
     Ok(piece)
 }
 
-/// Puts the row with this number and this rank into the piece. `values` is room that is used again for each row.
+/// Puts the row with this number and this sort key into the piece. `values` is room that is used again for each row.
 fn push_at(
     piece: &mut Piece<'_>,
     values: &mut Vec<Option<Num>>,

@@ -50,8 +50,8 @@ pub fn scan<'w>(
     Ok(piece)
 }
 
-/// What a store tells of itself: its plan is within the limits, and its rows lie in the sky and are not too many. Takes no
-/// memory.
+/// What a store says of itself: its plan is within the limits, and its rows lie in the sky and are not too many. Takes
+/// no memory.
 fn know(store: &Store)
     ensures plan { IsSky store.now.plan }
     ensures rows { AreInTheSky store.now.rows.objects }

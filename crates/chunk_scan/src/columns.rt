@@ -40,7 +40,7 @@ pub(crate) fn keys<'a>(
     }
 }
 
-/// The same where there is an order.
+/// The values of an order's key at these places.
 fn keys_by<'a>(
     block: &'a Block,
     order: &ChunkOrder,
@@ -78,7 +78,7 @@ pub(crate) fn columns<'a>(
     Ok(columns)
 }
 
-/// Puts the column behind the others.
+/// Appends the column.
 fn put<'a>(columns: &mut Vec<ValueList<'a>>, column: ValueList<'a>) -> Result<(), Memory>
     ensures { OnOk result (columns.new.items ≡ columns.old.items ++ column.entry ∷ []) }
 {
@@ -117,7 +117,7 @@ fn column<'a>(
     }
 }
 
-/// The value that the row with this number is ordered by; without an order all rows stand alike.
+/// The value that the row with this number is ordered by; without an order all rows are alike.
 fn key_at(keys: &Option<ValueList<'_>>, i: usize) -> Option<Num>
     requires { IsReady (i + 1) keys.now }
     ensures { result ≡ key_in keys.now i }
@@ -128,7 +128,7 @@ fn key_at(keys: &Option<ValueList<'_>>, i: usize) -> Option<Num>
     }
 }
 
-/// The place in the order of the row with this number, which stands at this place among those of the block. Does not
+/// The place in the order of the row with this number, which is at this place among those of the block. Does not
 /// allocate.
 pub(crate) fn rank_at(
     down: bool,

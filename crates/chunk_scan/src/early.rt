@@ -1,7 +1,7 @@
-//! Which conditions a kernel knows: a column compared with a number, on either side, a column BETWEEN two numbers, IS NULL
-//! and IS NOT NULL of a column, and areas.
+//! Which conditions a kernel knows: a column compared with a number, on either side, a column BETWEEN two numbers, IS
+//! NULL and IS NOT NULL of a column, and areas.
 //!
-//! A number is an int, or an int behind a minus. What stands in brackets, behind NOT or in OR is left to the evaluator.
+//! A number is an int, or an int after a minus. What is in brackets, after NOT or in OR is left to the evaluator.
 ghost use Rattle.std.specs.Prelude.{◌≡◌, ◌≤ℤ◌, ℤ, IfSome, Option, Some, false, neg_ℤ, pos, true, if◌then◌else◌};
 ghost use Rattle.sql_tree.specs.declared.cond.Cmp.TheVariants.{AtMost};
 ghost use Rattle.sql_bound.specs.declared.expr.BoundCol.{BoundCol};
@@ -28,7 +28,7 @@ pub(crate) fn early(c: &BoundCond) -> Option<Early>
     of_pred(&c.pred)
 }
 
-/// The same of a condition without NOT.
+/// The test of a condition without NOT, if a kernel has one.
 fn of_pred(pred: &BoundPred) -> Option<Early>
     ensures { IfSome result (IsEarly (formula_of_pred pred.now)) }
 {
@@ -53,7 +53,7 @@ fn whole(test: Known) -> Option<Early>
     Some(Early { test, whole: true })
 }
 
-/// A column compared with a number, or the mirrored comparison where the number stands first.
+/// A column compared with a number, or the mirrored comparison where the number comes first.
 #[tactic(auto, using(crate::proofs::KnownConds::compare_early))]
 fn compared(left: &BoundExpr, op: Cmp, right: &BoundExpr) -> Option<Early>
     ensures { IfSome result (IsEarly (Compares op (term_of left.now) (term_of right.now))) }

@@ -1,4 +1,4 @@
-//! The piece of a chunk query of rows with a LIMIT n: a row that comes behind n others is skipped.
+//! The piece of a chunk query of rows with a LIMIT n: a row that comes after n others is skipped.
 
 ghost use Rattle.std.specs.Prelude.{◌≡◌, ◌+◌, ◌<◌, All, IfOk, OnOk, get_or, length, map};
 ghost use Rattle.sky_row.specs.Columns.{no_row, objects_at};
@@ -59,8 +59,8 @@ pub(crate) fn first_rows<'w>(
     Ok(piece)
 }
 
-/// Puts the row at this place, which has this rank, into the piece, or skips it. `values` is room that is used again
-/// for each row.
+/// Puts the row at this place, which has this sort key, into the piece, or skips it. `values` is room that is used
+/// again for each row.
 fn offer(
     piece: &mut Piece<'_>,
     values: &mut Vec<Option<Num>>,
@@ -85,7 +85,7 @@ fn offer(
     push_one(piece, values, query, rank, &row_at(rows, own, place))
 }
 
-/// Puts the row, which has this rank, into the piece.
+/// Puts the row, which has this sort key, into the piece.
 fn push_one(
     piece: &mut Piece<'_>,
     values: &mut Vec<Option<Num>>,

@@ -1,9 +1,9 @@
 //! The piece of a chunk query of groups.
 //!
-//! The rows are put in an order in which those of one key stand together. Rows of one key that stand one after the other are a
-//! run, and a run is put into the piece as one group. Without keys all rows are one run, in any order. The values of the
-//! aggregates' expressions are computed a column at a time before; without keys those of a column alone may be read as they are
-//! added up.
+//! The rows are put in an order in which those of one key are adjacent. Rows of one key that follow one another are a
+//! run, and a run is put into the piece as one group. Without keys all rows are one run, in any order. The values of
+//! the aggregates' expressions are computed a column at a time before; without keys those of a column alone may be read
+//! as they are added up.
 
 ghost use Rattle.std.specs.Prelude.{◌≡◌, ◌+◌, ◌++◌, ◌<◌, ◌≤◌, ◌∷◌, [], All, IfOk, IsTrue, OnOk, false, get_or, length, map};
 ghost use Rattle.std.specs.List.{list_all};
@@ -58,7 +58,7 @@ pub(crate) fn piece_of_groups<'w>(
     }
 }
 
-/// The same, in an order in which rows of one key stand together.
+/// The piece of the groups of these rows, in an order in which rows of one key are adjacent.
 fn by_keys<'w>(
     alloc: Global,
     block: &Block,
@@ -81,7 +81,7 @@ fn by_keys<'w>(
     Ok(piece)
 }
 
-/// The same of places in any order. Of a key there is a group for each time that it stands anew; the piece joins them.
+/// The piece of the groups of places in any order. A key has a group for each of its runs; the piece joins them.
 fn group_piece<'w>(
     alloc: Global,
     block: &Block,
@@ -132,7 +132,7 @@ fn group_piece<'w>(
     Ok(piece)
 }
 
-/// Puts a group of this key and so many rows into the piece.
+/// Puts a group of this key and the given number of rows into the piece.
 fn push(
     alloc: Global,
     piece: &mut Piece<'_>,
@@ -150,7 +150,7 @@ fn push(
 }
 
 /// Puts the key of the row at this place of the list in place of what `cells` held; `None` is NULL. The first values of
-/// keys stand in `lead`, or nothing does.
+/// keys are in `lead`, or nothing does.
 fn fill_key(
     cells: &mut Vec<Option<i64>>,
     block: &Block,
@@ -176,7 +176,7 @@ fn fill_key(
     }
 }
 
-/// Puts the values in these columns of the row at the place behind the others.
+/// Appends the values in these columns of the row at the place.
 fn push_cells(
     cells: &mut Vec<Option<i64>>,
     block: &Block,
@@ -194,7 +194,7 @@ fn push_cells(
     Ok(())
 }
 
-/// Puts the value behind the others.
+/// Appends the value.
 fn push_cell(cells: &mut Vec<Option<i64>>, value: Option<i64>) -> Result<(), Memory>
     ensures { OnOk result (cells.new.items ≡ cells.old.items ++ value ∷ []) }
 {

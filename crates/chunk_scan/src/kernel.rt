@@ -51,7 +51,7 @@ fn keep_compared(block: &Block, col: u32, op: Cmp, n: i64, mask: &mut [bool])
     }
 }
 
-/// The same of a extra column, where NULL is kept as 0.
+/// Keeps where the value of the extra column compares so with n. NULL is stored as 0.
 #[tactic(auto, using(crate::proofs::Kernels::further_compared))]
 fn keep_compared_further(column: &Column, op: Cmp, n: i64, mask: &mut [bool])
     requires rows { length column.now ≡ length mask.old }
@@ -80,7 +80,7 @@ fn keep_range(block: &Block, col: u32, low: i64, high: i64, mask: &mut [bool])
     }
 }
 
-/// The same of a extra column.
+/// Keeps where the value of the extra column is from `low` to `high`.
 #[tactic(auto, using(crate::proofs::Kernels::further_ranged))]
 fn keep_range_further(column: &Column, low: i64, high: i64, mask: &mut [bool])
     requires rows { length column.now ≡ length mask.old }

@@ -1,7 +1,7 @@
-//! The places of rows in an order in which rows of one key stand together.
+//! The places of rows in an order in which rows of one key are adjacent.
 //!
-//! Each row becomes one word, a number made of its key with its place behind it, and words of one number are brought
-//! together. No memory is taken for a row or a key of its own.
+//! Each row becomes one word, a number made of its key with its place after it, and words of one number are brought
+//! together. Nothing is allocated for a row or a key of its own.
 
 ghost use Rattle.std.specs.Prelude.{◌≡◌, ◌+◌, ◌<◌, ◌≤◌, All, IfOk, IsTrue, false, length, replicate};
 ghost use Rattle.std.specs.List.{list_all};
@@ -90,7 +90,7 @@ fn mix(numbers: &mut [u64], block: &Block, col: u32, places: &[u32])
     }
 }
 
-/// The same of a extra column: its presence and its numbers.
+/// Adds the validity and the numbers of an extra column.
 fn mix_further(numbers: &mut [u64], column: &Column, places: &[u32])
     requires len { length numbers.old ≡ length places.now }
     requires there { All (λ place. place < length column.now) places.now }
@@ -100,7 +100,7 @@ fn mix_further(numbers: &mut [u64], column: &Column, places: &[u32])
     mix_wide(numbers, column.values(), places);
 }
 
-/// Adds the presence in a column to the numbers, where it has rows with NULL. It goes before the values, so that numbers
+/// Adds the validity of a column to the numbers, if it has rows with NULL. It goes before the values, so that numbers
 /// ascend with these.
 fn mix_presence_of(numbers: &mut [u64], column: &Column, places: &[u32])
     requires len { length numbers.old ≡ length places.now }

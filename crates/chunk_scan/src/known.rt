@@ -19,7 +19,7 @@ pub(crate) enum Known {
     Near { centre: Pos, n: SquaredRadius },
 }
 
-/// What a kernel can do for a condition: `test` holds wherever the condition does, and, where it is the whole of the
+/// What a kernel can do for a condition: `test` holds wherever the condition does, and, if it is the whole of the
 /// condition, nowhere else.
 #[derive(Clone, Copy, Drop)]
 pub(crate) struct Early {

@@ -1,7 +1,7 @@
 //! The values of the first key column, in the order of the rows.
 //!
-//! A key is read once for each run of rows. In the column these rows stand anywhere, and much is done between two keys, so
-//! that each would be waited for; a short loop over all rows reads many of them at one time.
+//! A key is read once for each run of rows. In the column these rows are anywhere, and much is done between two keys,
+//! so that each would be waited for; a short loop over all rows reads many of them at one time.
 
 ghost use Rattle.std.specs.Prelude.{◌≡◌, ◌+◌, ◌++◌, ◌<◌, ◌≤◌, [], All, IfOk, IsTrue, None, false, get_or, length, map, vec_capacity, vec_len};
 ghost use Rattle.std.specs.List.{list_all};
@@ -16,11 +16,11 @@ use column_block::Block;
 use sky_io::Memory;
 use sql_bound::BoundCol;
 
-/// How many rows a run has at the most, on average, where the values are listed: in longer runs few keys are read.
+/// How many rows a run has at the most, on average, if the values are listed: in longer runs few keys are read.
 const LONG: usize = 8;
 
-/// The values of the first key column of the rows at these places, where runs are short, or none, in a vector of the scratch.
-/// `starts` tells where a run begins.
+/// The values of the first key column of the rows at these places, where runs are short, or none, in a vector of the
+/// scratch. `starts` returns where a run begins.
 #[tactic(auto, using(crate::proofs::Leads::full_leads, crate::proofs::Leads::none_leads))]
 pub(crate) fn lead(
     block: &Block,
@@ -42,7 +42,7 @@ pub(crate) fn lead(
     Ok(none)
 }
 
-/// Whether so many runs begin that the values are worth a list.
+/// Whether enough runs begin for the values to be listed.
 fn are_many(starts: &[bool]) -> bool {
     let mut count = 0usize;
     for start in starts {
@@ -105,7 +105,7 @@ fn put_lead(lead: &mut Vec<Option<i64>>, block: &Block, keys: &[BoundCol], place
     }
 }
 
-/// Puts the values of a key column at these places behind the others. Does not allocate.
+/// Appends the values of a key column at these places. Does not allocate.
 fn put_cells(lead: &mut Vec<Option<i64>>, block: &Block, key: &BoundCol, places: &[u32])
     requires room { vec_len lead.old + length places.now ≤ vec_capacity lead.old }
     requires there { All (λ place. place < length block.now.objects) places.now }

@@ -47,7 +47,7 @@ pub(crate) fn fill(
     Ok(())
 }
 
-/// Puts the value behind the others.
+/// Appends the value.
 pub(crate) fn push(values: &mut Vec<Option<Num>>, value: Option<Num>) -> Result<(), Memory>
     ensures { OnOk result (values.new.items ≡ values.old.items ++ value ∷ []) }
 {
@@ -76,14 +76,14 @@ pub(crate) fn is_down(order: &Option<ChunkOrder>) -> bool
     }
 }
 
-/// The class of a key's rank, which keeps NULL apart from the numbers.
+/// The class of a key's sort key, which keeps NULL apart from the numbers.
 fn class(down: bool, key: &Option<Num>) -> u8
     ensures { result ≡ rank_class down key.now }
 {
     if key.is_none() == down { 1 } else { 0 }
 }
 
-/// The number of a key's rank, which turns round where the order is descending.
+/// The number of a key's sort key, which turns round where the order is descending.
 fn number(down: bool, key: &Option<Num>) -> i128
     ensures { result ≡ rank_value down key.now }
 {

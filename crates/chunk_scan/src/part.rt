@@ -1,4 +1,4 @@
-//! What a group keeps for an aggregate: the part that its rows make, which stand together in the lists of values.
+//! What a group keeps for an aggregate: the part that its rows make, which are adjacent in the lists of values.
 
 ghost use Rattle.std.specs.Prelude.{◌≡◌, ◌-◌, ◌++◌, ◌∷◌, [], ◌≤◌, All, List, OnOk, Some, length, map, slice_range};
 ghost use Rattle.table_rules.specs.Objects.{Obj};
@@ -37,7 +37,7 @@ pub(crate) fn fill(
     Ok(())
 }
 
-/// Puts the part behind the others.
+/// Appends the part.
 fn push(parts: &mut Vec<Tally>, part: Tally) -> Result<(), Memory>
     ensures { OnOk result (parts.new.items ≡ parts.old.items ++ part ∷ []) }
 {
@@ -87,7 +87,7 @@ fn summed(worth: &Option<ValueList<'_>>, from: usize, to: usize) -> Tally
     }
 }
 
-/// The same where there is a list of values; of none there is no sum.
+/// The aggregate state of the values from one place up to another; of no values there is no sum.
 fn sum_of(found: &ValueList<'_>, from: usize, to: usize) -> Tally
     requires order { from ≤ to }
     requires few { to ≤ ROWS_MOST }

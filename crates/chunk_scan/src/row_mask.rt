@@ -39,7 +39,7 @@ pub fn mask(
     mask_over(alloc, store.block(chunk), query.conds.as_slice())
 }
 
-/// The same of a block.
+/// The mask of a block: which of its rows meet the conditions.
 #[tactic(auto, using(crate::proofs::Masks::mask_is))]
 fn mask_over(alloc: Global, block: &Block, conds: &[BoundCond]) -> Result<Vec<bool>, Memory>
     requires few { length block.now.objects < 2 ^ 32 }

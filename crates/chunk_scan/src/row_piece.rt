@@ -1,6 +1,6 @@
 //! The piece of a chunk query of rows.
 //!
-//! The values that rows are ordered by are computed a column at a time. With a LIMIT n most rows come behind n others
+//! The values that rows are ordered by are computed a column at a time. With a LIMIT n most rows come after n others
 //! and are skipped by these alone; the items are computed of those that are kept. Without one all rows are kept, and
 //! the items too are computed a column at a time.
 

@@ -1,4 +1,4 @@
-//! Where groups begin among rows that stand one after the other.
+//! Where groups begin among rows that follow one another.
 
 ghost use Rattle.std.specs.Prelude.{◌≡◌, ◌+◌, ◌<◌, ◌≤◌, ℕ, All, IfOk, IsTrue, false, get_or, length, map, pos};
 ghost use Rattle.std.specs.List.{list_all};
@@ -61,7 +61,7 @@ fn mark(starts: &mut [bool], block: &Block, col: u32, places: &[u32])
     }
 }
 
-/// The same of a extra column: its numbers and its presence, of which NULL and 0 share the number alone.
+/// Marks where the extra column changes: its numbers or its validity. NULL and 0 share the number alone.
 fn mark_further(starts: &mut [bool], column: &Column, places: &[u32])
     requires len { length starts.old ≡ length places.now }
     requires there { All (λ place. place < length column.now) places.now }
@@ -74,7 +74,7 @@ fn mark_further(starts: &mut [bool], column: &Column, places: &[u32])
     }
 }
 
-/// The same of numbers.
+/// Marks where the numbers change.
 fn mark_wide(starts: &mut [bool], values: &[i64], places: &[u32])
     requires len { length starts.old ≡ length places.now }
     requires there { All (λ place. place < length values.now) places.now }
@@ -87,7 +87,7 @@ fn mark_wide(starts: &mut [bool], values: &[i64], places: &[u32])
     }
 }
 
-/// The same of numbers of 32 bits.
+/// Marks where the numbers of 32 bits change.
 fn mark_narrow(starts: &mut [bool], values: &[i32], places: &[u32])
     requires len { length starts.old ≡ length places.now }
     requires there { All (λ place. place < length values.now) places.now }
@@ -100,7 +100,7 @@ fn mark_narrow(starts: &mut [bool], values: &[i32], places: &[u32])
     }
 }
 
-/// The same of truths.
+/// Marks where the truths change.
 fn mark_presence(starts: &mut [bool], values: &[bool], places: &[u32])
     requires len { length starts.old ≡ length places.now }
     requires there { All (λ place. place < length values.now) places.now }
@@ -113,7 +113,7 @@ fn mark_presence(starts: &mut [bool], values: &[bool], places: &[u32])
     }
 }
 
-/// The number behind that of the last row of the run that begins with this one.
+/// The number after that of the last row of the run that begins with this one.
 pub(crate) fn run_end(starts: &[bool], from: usize) -> usize
     requires { from < length starts.now }
     ensures more { from < result }

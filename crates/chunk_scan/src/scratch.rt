@@ -3,8 +3,8 @@
 use column_eval::{Pool, Scratch as Columns};
 use std::alloc::Global;
 
-/// What scans use again from one chunk and one query to the next. It begins with nothing, and comes to hold of each kind as
-/// many vectors as a scan had at one time, each with room for the most rows that it was used for.
+/// What scans use again from one chunk and one query to the next. It begins with nothing, and comes to hold of each
+/// kind as many vectors as a scan had at one time, each with room for the most rows that it was used for.
 #[derive(Drop)]
 pub struct Scratch {
     /// What the evaluator uses again.

@@ -1,7 +1,7 @@
 //! The places of the rows that meet all conditions of a query.
 //!
 //! First each condition that a kernel knows clears a mask of all rows. Then the places that are left are listed, and each
-//! other condition is judged at these alone, and takes out those at which it does not hold.
+//! other condition is evaluated at these alone, and takes out those at which it does not hold.
 ghost use Rattle.std.specs.Prelude.{◌≡◌, ◌+◌, ◌<◌, ◌≤◌, ◌^◌, ℕ, Bool, All, IfOk, IsTrue, OnOk, length, map, replicate, take, true, false};
 ghost use Rattle.std.specs.List.{filter, list_all};
 ghost use Rattle.lane_filter.specs.Tests.{places_of};
@@ -43,7 +43,7 @@ pub(crate) fn standing(
     Ok(places)
 }
 
-/// Lets the kernels clear the mask by each condition that they know, and tells which conditions are done with.
+/// Lets the kernels clear the mask by each condition that they know, and returns which conditions are done with.
 #[tactic(auto, using(crate::proofs::Narrowing::narrowed_none, crate::proofs::Narrowing::narrowed_more))]
 fn narrow_all(
     block: &Block,
@@ -67,7 +67,7 @@ fn narrow_all(
     Ok(done)
 }
 
-/// Lets a kernel clear the mask by the condition, where one knows it, and tells whether the condition is done with.
+/// Lets a kernel clear the mask by the condition, if one knows it, and returns whether the condition is done with.
 #[tactic(auto, using(crate::proofs::Narrowing::narrowed_by, crate::proofs::Narrowing::narrowed_not))]
 fn narrow_by(block: &Block, c: &BoundCond, mask: &mut [bool]) -> bool
     requires rows { length block.now.objects ≡ length mask.old }
@@ -173,7 +173,7 @@ fn keep_true(places: &mut Vec<u32>, mask: &[bool])
     places.truncate(count);
 }
 
-/// Moves the places at which the mask is true to the front, in their order, and tells how many there are.
+/// Moves the places at which the mask is true to the beginning, in their order, and returns how many there are.
 fn to_front(places: &mut [u32], mask: &[bool]) -> usize
     requires { length mask.now ≡ length places.old }
     ensures value { (test : ℕ → Bool) → mask.now ≡ map test places.old

@@ -1,6 +1,7 @@
-//! Numbers made of keys, and words of them: a number with a place behind it.
+//! Numbers made of keys, and words of them: a number with a place after it.
 //!
-//! Rows of one key have one number. Rows of two keys may have one number, too: where a key ends is told by their values.
+//! Rows of one key have one number. Rows of two keys may have one number, too: where a key ends is given by their
+//! values.
 
 ghost use Rattle.std.specs.Prelude.{◌≡◌, ◌<◌, All, length, map};
 ghost use Rattle.sky_row.specs.Keys.{place_in};
@@ -8,10 +9,10 @@ ghost use Rattle.table_rules.specs.declared.limits.TheConstants.{ROWS_MOST};
 
 use table_rules::limits::ROWS_MOST;
 
-/// How many places a word tells apart: a word is a number times so many, and a place.
+/// How many places a packed key can hold: it is a number times this, plus a place.
 pub(crate) const PLACES: u64 = ROWS_MOST as u64;
 
-/// How many numbers it tells apart.
+/// How many numbers it says apart.
 const NUMBERS: u64 = 1 << 42;
 
 /// By how much a number is stretched before the value of one more column is added: an odd number of 64 bits.
@@ -35,7 +36,7 @@ pub(crate) fn mix_wide(numbers: &mut [u64], values: &[i64], places: &[u32])
     }
 }
 
-/// The same of a column of 32 bits.
+/// Mixes the values of a column of 32 bits into the numbers.
 pub(crate) fn mix_narrow(numbers: &mut [u64], values: &[i32], places: &[u32])
     requires len { length numbers.old ≡ length places.now }
     requires there { All (λ place. place < length values.now) places.now }
@@ -46,7 +47,7 @@ pub(crate) fn mix_narrow(numbers: &mut [u64], values: &[i32], places: &[u32])
     }
 }
 
-/// The same of truths.
+/// Mixes the values of a column of truths into the numbers.
 pub(crate) fn mix_presence(numbers: &mut [u64], values: &[bool], places: &[u32])
     requires len { length numbers.old ≡ length places.now }
     requires there { All (λ place. place < length values.now) places.now }
@@ -65,7 +66,7 @@ fn word_of(number: u64, place: u32) -> u64
     number % NUMBERS * PLACES + u64::from(place)
 }
 
-/// Puts the places behind the numbers.
+/// Puts the places after the numbers.
 pub(crate) fn put_places(numbers: &mut [u64], places: &[u32])
     requires len { length numbers.old ≡ length places.now }
     requires few { All (λ place. place < ROWS_MOST) places.now }

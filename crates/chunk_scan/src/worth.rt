@@ -40,7 +40,7 @@ pub(crate) fn worths<'a>(
     Ok(worths)
 }
 
-/// Puts the values behind the others.
+/// Appends the values.
 fn push<'a>(
     worths: &mut Vec<Option<ValueList<'a>>>,
     worth: Option<ValueList<'a>>,

@@ -16,7 +16,7 @@ use sql_tree::Query;
 use std::alloc::Global;
 use table_rules::limits::ROWS_MOST;
 
-// A query over the schema, where it fits it and there is memory.
+// A query over the schema, if it fits it and there is memory.
 fn bound_over(alloc: Global, schema: &Schema, query: &Query) -> Option<Bound>
     requires { HasCounts query.now }
     ensures { IfSome result (IsSound (FIRST_COLUMNS + length schema.now)) }
@@ -24,7 +24,7 @@ fn bound_over(alloc: Global, schema: &Schema, query: &Query) -> Option<Bound>
     bind(alloc, query, schema).ok()
 }
 
-// A text as a query, where it is one and there is memory.
+// A text as a query, if it is one and there is memory.
 fn query_of(alloc: Global, text: &[u8]) -> Option<Query>
     requires { length text.now ≤ QUERY_TEXT_MOST }
     ensures { IfSome result HasCounts }
@@ -32,7 +32,7 @@ fn query_of(alloc: Global, text: &[u8]) -> Option<Query>
     read(alloc, text).ok()
 }
 
-// A text as a query over the schema, where it is one that fits it and there is memory.
+// A text as a query over the schema, if it is one that fits it and there is memory.
 fn bound_by(alloc: Global, schema: &Schema, text: &[u8]) -> Option<Bound>
     requires { length text.now ≤ QUERY_TEXT_MOST }
     ensures { IfSome result (IsSound (FIRST_COLUMNS + length schema.now)) }
@@ -81,7 +81,7 @@ fn true_turns(
     Ok(found)
 }
 
-// The same, of the only condition of a query.
+// Writes the truth of the only condition of a query.
 fn turns_of(
     block: &Block,
     bound: &Bound,
@@ -165,7 +165,7 @@ fn sum_of_turns(
     Ok(found)
 }
 
-// The same, of the only item of a query.
+// Writes the value of the only item of a query.
 fn sums_of(
     block: &Block,
     bound: &Bound,

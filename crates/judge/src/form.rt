@@ -1,4 +1,4 @@
-//! How lines are judged.
+//! How lines are evaluated.
 use sky_io::{Fetch, Shelf};
 use sky_plan::SkyPlan;
 use sky_row::Schema;
@@ -6,7 +6,7 @@ use std::alloc::Global;
 use std::str::SplitWhitespace;
 use text_rules::limits::SKY_TEXT_MOST;
 
-/// How lines are judged.
+/// How lines are evaluated.
 #[derive(Drop)]
 pub(crate) enum Form {
     /// As queries.
@@ -21,7 +21,7 @@ pub(crate) enum Form {
     Kernel,
 }
 
-// The table with these extra columns, where each can be one.
+// The table with these extra columns, if each can be one.
 fn schema_of(alloc: Global, columns: SplitWhitespace<'_>) -> Option<Schema> {
     let mut schema = Schema::new(alloc);
     for column in columns {
@@ -41,7 +41,7 @@ fn plan_of<S: Shelf>(shelf: &mut S, alloc: Global, name: &str) -> Option<SkyPlan
     }
 }
 
-/// The form that words say, where they say one.
+/// The way of evaluation that words name, if they name one.
 pub(crate) fn form_of<S: Shelf>(shelf: &mut S, alloc: Global, words: &str) -> Option<Form> {
     let mut words = words.split_whitespace();
     let form = words.next()?;

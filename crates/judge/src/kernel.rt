@@ -1,8 +1,8 @@
-//! A kernel that is run over the same rows as often as a line says, so that a program outside can measure one turn as the
-//! difference of two counts.
+//! A kernel that is run over the same rows as often as a line says, so that a program outside can measure one turn as
+//! the difference of two counts.
 //!
-//! The rows are the first 4,096 that the demo draws from the number 1. Each turn begins anew, and something of each is added
-//! to what is told, so that none can be left out.
+//! The rows are the first 4,096 that the demo draws from the number 1. Each turn begins anew, and something of each is
+//! added to what is reported, so that none can be left out.
 ghost use Rattle.std.specs.Prelude.{◌≡◌, ◌<◌, ◌^◌, All, IfOk, length};
 
 use crate::evaluated::{summed, truths_taken};
@@ -35,7 +35,7 @@ enum Kernel {
     Sum,
 }
 
-// The kernel of a name, where there is one.
+// The kernel of a name, if there is one.
 fn kernel_of(name: &[u8]) -> Option<Kernel> {
     match name {
         b"keep" => Some(Kernel::Keep),
@@ -118,7 +118,7 @@ fn picked_in_all(alloc: Global, block: &Block, times: u32) -> Result<i128, Memor
     Ok(found)
 }
 
-// What the turns of the truths come to, at all places.
+// What the turns of the truths evaluates to, at all places.
 fn truths_of_all(
     alloc: Global,
     schema: &Schema,
@@ -133,7 +133,7 @@ fn truths_of_all(
     truths_taken(alloc, schema, block, places.as_slice(), times)
 }
 
-// What the turns of the sum come to, at every second place.
+// What the turns of the sum evaluates to, at every second place.
 fn sum_of_half(
     alloc: Global,
     schema: &Schema,
@@ -148,7 +148,7 @@ fn sum_of_half(
     summed(alloc, schema, block, places.as_slice(), times)
 }
 
-// What the turns of a kernel come to over a block of rows with the schema.
+// What the turns of a kernel evaluates to over a block of rows with the schema.
 fn run_over(
     alloc: Global,
     kernel: Kernel,
@@ -180,7 +180,7 @@ fn block_of(alloc: Global, rows: &Rows) -> Result<Block, Memory>
     block
 }
 
-// What the turns of a kernel come to over rows: they are borrowed here, so that they are dropped at one place.
+// What the turns of a kernel evaluates to over rows: they are borrowed here, so that they are dropped at one place.
 fn run_rows(alloc: Global, kernel: Kernel, rows: &Rows, times: u32) -> Result<Option<i128>, Memory>
     requires { 0 < length rows.now.names }
 {
@@ -190,7 +190,7 @@ fn run_rows(alloc: Global, kernel: Kernel, rows: &Rows, times: u32) -> Result<Op
     told
 }
 
-// What the turns of a kernel come to.
+// What the turns of a kernel evaluates to.
 fn run(alloc: Global, kernel: Kernel, times: u32) -> Result<Option<i128>, Memory> {
     let rows = rows_of(alloc, ROWS, 1)?;
     let told = run_rows(alloc, kernel, &rows, times);
@@ -206,7 +206,7 @@ fn asked(line: &[u8]) -> Option<(Kernel, u32)> {
     Some((kernel, times))
 }
 
-/// Writes what the turns of a line's kernel come to.
+/// Writes what the turns of a line's kernel evaluates to.
 pub(crate) fn put_run<K: Sink>(sink: &mut K, alloc: Global, line: &[u8]) -> Put {
     let Some((kernel, times)) = asked(line) else {
         return sink.put(b"no kernel");

@@ -1,11 +1,11 @@
-//! Judges texts, positions and kernels: for each line of standard input a line. A line `judge FORM` gives none: it says
-//! how those behind it are judged, where FORM is one of
+//! Evaluates texts, positions and kernels: for each line of standard input a line. A line `judge FORM` gives none: it says
+//! how those after it are evaluated. FORM is one of
 //!
 //! - `read`: `query`, or the first fault of the text;
 //! - `print`: the printed text of the query, or the first fault of the text;
-//! - `bind COLUMN ..`: what the text comes to over a table with these extra columns, or its first fault there;
+//! - `bind COLUMN ..`: what the text evaluates to over a table with these extra columns, or its first fault there;
 //! - `place SKY`: where the position `x y z` lies by the sky plan of that file, `chunk C sub S near N N ..`;
-//! - `kernel`: what so many turns of a kernel come to, from `NAME TURNS`.
+//! - `kernel`: what the given number of turns of a kernel evaluates to, from `NAME TURNS`.
 //!
 //! A line before the first of these, a FORM that is none of them and a line that isn't UTF-8 end it with status 1.
 //!
@@ -13,7 +13,7 @@
 //! by ways of their own, and for `bench/kernels.py`, which measures turns. Below: `sql_reader` and `sql_print` for
 //! texts, `sql_bind` for queries, `sky_plan` and `overlap_tables` for positions, `lane_filter` and `column_eval` for
 //! kernels, over rows of `sky_generate`. Above: nothing, this is a program. No rows but the demo's and no clause on
-//! what it tells: nothing is proved of that.
+//! what it says: nothing is proved of that.
 #![tactic(auto)]
 
 mod bound;
@@ -34,7 +34,7 @@ use std::alloc::Global;
 use std::io;
 use std::process::ExitCode;
 
-// Writes what a line comes to, and ends the line.
+// Writes what a line evaluates to, and ends the line.
 fn put_judged<K: Sink>(sink: &mut K, alloc: Global, form: &Form, line: &[u8]) -> Put {
     let put = match form {
         Form::Read => put_text(sink, alloc, line, false),
@@ -49,7 +49,7 @@ fn put_judged<K: Sink>(sink: &mut K, alloc: Global, form: &Form, line: &[u8]) ->
     }
 }
 
-// Writes what a line comes to by the form, where one stands before it.
+// Writes what a line evaluates to, if a line before it has said how.
 fn put_by<K: Sink>(sink: &mut K, alloc: Global, form: &Option<Form>, line: &[u8]) -> Put {
     match form {
         Some(form) => put_judged(sink, alloc, form, line),
@@ -57,7 +57,7 @@ fn put_by<K: Sink>(sink: &mut K, alloc: Global, form: &Option<Form>, line: &[u8]
     }
 }
 
-// Takes the form that a line says.
+// Takes the way of evaluation that a line names.
 fn take_form(form: &mut Option<Form>, said: Option<Form>) -> Put {
     *form = said;
     if form.is_some() {
@@ -81,7 +81,7 @@ fn take_line<S: Shelf, K: Sink>(
     }
 }
 
-// Judges all lines, by the form that stands before each.
+// Judges all lines, by the form that is before each.
 fn judge_lines<S: Shelf>(
     rt: &HostRuntime,
     form: &mut Option<Form>,
@@ -98,7 +98,7 @@ fn judge_lines<S: Shelf>(
     Ok(sink.flush_out())
 }
 
-// Judges all lines. No form stands before the first.
+// Judges all lines. No form is before the first.
 fn judge(rt: &HostRuntime, sink: &mut OutSink) -> io::Result<Put> {
     let mut shelf = FolderShelf::new(rt, rt.alloc());
     let mut form = None;

@@ -7,7 +7,7 @@ use sky_text::read_int;
 use sky_vector::{Pos, length_ok};
 use std::alloc::Global;
 
-// The number that a word is, where it is one of 64 bits.
+// The number that a word is, if it is one of 64 bits.
 fn number_of(word: &[u8]) -> Option<i64> {
     i64::try_from(read_int(word)?).ok()
 }

@@ -7,7 +7,7 @@ use sql_tree::Query;
 use std::alloc::Global;
 use text_rules::limits::QUERY_TEXT_MOST;
 
-// Writes a fault, with the byte where it stands.
+// Writes a fault, with the byte where it is.
 fn put_fault<K: Sink>(sink: &mut K, fault: SqlFault) -> Put {
     match fault {
         SqlFault::BadByte { place } => put_number(sink, b"bad byte ", i128::from(place)),

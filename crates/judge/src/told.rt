@@ -1,8 +1,8 @@
-//! Words and the numbers behind them.
+//! Words and the numbers after them.
 use sky_io::{Put, Sink};
 use sky_text::put_int;
 
-/// Writes words and a number behind them.
+/// Writes words and a number after them.
 pub(crate) fn put_number<K: Sink>(sink: &mut K, words: &[u8], number: i128) -> Put {
     match sink.put(words) {
         Put::Failed => Put::Failed,
@@ -10,7 +10,7 @@ pub(crate) fn put_number<K: Sink>(sink: &mut K, words: &[u8], number: i128) -> P
     }
 }
 
-/// Writes a number behind a comma, and the words that it counts.
+/// Writes a number after a comma, and the words that it counts.
 pub(crate) fn put_counted<K: Sink>(sink: &mut K, count: usize, words: &[u8]) -> Put {
     match put_number(sink, b", ", count as i128) {
         Put::Failed => Put::Failed,

@@ -11,8 +11,8 @@ use Rattle.answer_rules.specs.declared.row.OutRow.{OutRow}
 use Rattle.near_join.specs.Rising.{Rises, is_upward}
 use Rattle.near_join.specs.Sound.{IsSoundLine}
 
--- The query asks for the two ids of a pair and for no order, and its conditions hold of each pair, or, where the lower id has
--- to come first, of just those pairs in which it does.
+-- The query asks for the two ids of a pair and for no order, and its conditions hold of each pair, or, if the lower id
+-- has to come first, of just those pairs in which it does.
 pub record IsBare (rises : Bool) (cq : ChunkQuery) : Type 0 where
   pub ids : (u v : Obj) → map (chunk_value (pair u v)) cq.items ≡ Some u.id ∷ Some v.id ∷ []
   pub order : cq.order ≡ None
@@ -28,8 +28,8 @@ id_line first second = record {
   cells = Some first ∷ Some second ∷ [];
 }
 
--- What is known of a query of a table with so many extra columns: that its columns are there, and what is told of its
--- conditions.
+-- What is known of a query of a table with the given number of extra columns: that its columns are there, and what is
+-- reported of its conditions.
 pub record IsAsked (width : ℕ) (cq : ChunkQuery) (upwards ids : Bool) : Type 0 where
   pub rises : IsTrue upwards → Rises cq.conds
   pub bare : IsTrue ids → IsBare upwards cq

@@ -22,7 +22,7 @@ lines_for cq pairs = map (out_row (chunk_lines cq)) pairs
 abbrev pub with_cells : List (Option ℤ) → OutRow → OutRow
 with_cells cells r = record { class = r.class; value = r.value; first = r.first; second = r.second; cells = cells }
 
--- the piece is of rows, and takes in those of these pairs: the first n of both are kept
+-- the piece is of rows, and adds those of these pairs: the first n of both are kept
 abbrev pub Gains : ChunkQuery → List Pick → PieceView → PieceView → Type 0
 Gains cq ps (OfRows pushed rows) (OfRows limit kept) =
     (limit ≡ pushed) × KeepsFirst row_order pushed (rows ++ lines_for cq ps) kept
@@ -41,15 +41,15 @@ swept_pairs cq limit others rows = flat_map (row_pairs cq limit others) rows
 abbrev pub held_rows : Bounds → List Obj → List Obj
 held_rows bounds rows = filter (λ o. in_bounds bounds o.at) rows
 
--- the pair of two rows, where it meets the conditions
+-- the pair of two rows, if it meets the conditions
 abbrev pub if_met : List BoundCond → Obj → Obj → List Pick
 if_met conds u v = if meets conds (pair u v) then pair u v ∷ [] else []
 
--- the pair of two rows that join, where the first is one that is held
+-- the pair of two rows that join, if the first is one that is held
 abbrev pub way : ChunkQuery → ℤ → Bool → Obj → Obj → List Pick
 way cq limit held u v = if held && joins limit cq.conds u v then pair u v ∷ [] else []
 
--- the pair of two rows that join, where the bounds hold the first
+-- the pair of two rows that join, if the bounds hold the first
 abbrev pub held_pair : ChunkQuery → ℤ → Bounds → Obj → Obj → List Pick
 held_pair cq limit bounds u v = way cq limit (in_bounds bounds u.at) u v
 

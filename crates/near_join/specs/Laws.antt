@@ -1,4 +1,4 @@
--- The laws of the join: subchunk by subchunk, with the overlap of each, no pair is missed and none comes twice.
+-- The lemmas of the join: subchunk by subchunk, with the overlap of each, no pair is missed and none comes twice.
 use Rattle.std.specs.Prelude.{ℕ, ℤ, pos, int_le, ◌<◌, ◌≤ℤ◌, ◌++◌, List, [], ◌∷◌, map}
 use Rattle.std.specs.List.{filter, flat_map, range_with_len}
 use Rattle.std.specs.List.Sorted.{IsPermutation}
@@ -16,8 +16,8 @@ use Rattle.chunk_rules.specs.Places.{rows_at}
 use Rattle.chunk_store.specs.Places.{sub_rows, sub_overlap_rows}
 use Rattle.near_join.specs.Walk.{joins, walked_pairs}
 
--- the walk over a chunk's subchunks finds the pairs whose first row the chunk holds, each once, where the limit is at
--- most the square of the chunk's overlap radius
+-- the walk over a chunk's subchunks finds the pairs whose first row the chunk holds, each once, if the limit is at most
+-- the square of the chunk's overlap radius
 abbrev pub WalkFindsAll : Type 0
 WalkFindsAll =
     (g : Partition) (table : List Obj) (limit : ℤ) (conds : List BoundCond) (c : ℕ) → IsSky g → AreInTheSky table

@@ -18,7 +18,7 @@ pub record IsRowOf (objects : List Obj) (n : Neighbour) : Type 0 where
   pub there : n.place < length objects
   pub id : n.id ≡ (row_of objects n).id
 
--- The same, and it is told whether the bounds hold the row.
+-- A neighbour, and whether the bounds hold its row.
 pub record IsTold (objects : List Obj) (bounds : Bounds) (n : Neighbour) : Type 0 where
   pub row : IsRowOf objects n
   pub held : n.held ≡ in_bounds bounds (row_of objects n).at

@@ -19,6 +19,6 @@ Rises conds = (u v : Obj) → meets conds (pair u v) ≡ true → u.id <ℤ v.id
 abbrev pub RisesBy : Formula → Type 0
 RisesBy f = (u v : Obj) → is_true (truth_at (cell_of (pair u v)) u.at f) ≡ int_lt u.id v.id
 
--- the first of two rows has the lower id, where it has to
+-- the first of two rows has the lower id, if it has to
 abbrev pub is_upward : Bool → Obj → Obj → Bool
 is_upward rises u v = if rises then int_lt u.id v.id else true

@@ -13,7 +13,7 @@ use Rattle.overlap_tables.specs.Overlaps.{in_full_overlap}
 use Rattle.near_join.specs.Walk.{is_near, reach_objects}
 use Rattle.near_join.specs.Windows.{Ascend}
 
--- What contracts see of a strip: the places of its rows, and the parts of their positions.
+-- What contracts see of a sweep window: the places of its rows, and the parts of their positions.
 pub record StripView : Type 0 where
   pub places : List ℕ
   pub xs : List ℤ
@@ -29,7 +29,7 @@ pub record IsWhole (s : StripView) : Type 0 where
   pub y : All IsWithin s.ys
   pub z : All IsWithin s.zs
 
--- the position of the row with a number, from 0, in a strip
+-- the position of the row with a number, from 0, in a sweep window
 abbrev pub row_in : StripView → ℕ → Point
 row_in s i = record { x = get_or s.xs i (pos 0); y = get_or s.ys i (pos 0); z = get_or s.zs i (pos 0) }
 
@@ -52,7 +52,7 @@ pub record IsListed (objects : List Obj) (s : StripView) : Type 0 where
 abbrev pub height_in : List ℤ → ℕ → ℤ
 height_in zs place = get_or zs place (pos 0)
 
--- a height with a place, which is below the most rows, as one number: the height from 0, and behind it room for a place
+-- a height with a place, which is below the most rows, as one number: the height from 0, and after it room for a place
 abbrev pub word : ℤ → ℕ → ℕ
 word z place = unsigned_abs (z +ℤ pos PART_MOST) * ROWS_MOST + place
 
@@ -64,13 +64,13 @@ words_of zs places = map (λ p. word (height_in zs p) p) places
 abbrev pub in_strip : Partition → ℕ → Obj → Bool
 in_strip g c o = in_chunk g c o.at || in_full_overlap g c o.at
 
--- The strip of a chunk: its rows and those of its full overlap, by ascending height.
+-- The sweep window of a chunk: its rows and those of its full overlap, by ascending height.
 pub record IsChunkStrip (g : Partition) (objects : List Obj) (c : ℕ) (s : StripView) : Type 0 where
   pub all : IsPermutation (filter (in_strip g c) objects) (objects_at objects s.places)
   pub listed : IsListed objects s
   pub rise : Ascend s.zs
 
--- The strip of a subchunk: its rows and those of its overlap, by ascending height.
+-- The sweep window of a subchunk: its rows and those of its overlap, by ascending height.
 pub record IsSubStrip (g : Partition) (objects : List Obj) (c s : ℕ) (near : StripView) : Type 0 where
   pub all : IsPermutation (reach_objects g objects c s) (objects_at objects near.places)
   pub listed : IsListed objects near

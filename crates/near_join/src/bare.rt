@@ -13,7 +13,7 @@ use crate::rising::{is_id, is_rising};
 use answer_rules::{ChunkItem, ChunkOrder, ChunkQuery};
 use sql_bound::BoundCond;
 
-/// Whether the query is bare, where `rises` tells whether the lower id has to come first.
+/// Whether the query is bare, if `rises` says whether the lower id has to come first.
 pub(crate) fn is_bare(query: &ChunkQuery, rises: bool) -> bool
     ensures { IsTrue result → IsBare rises query.now }
 {
@@ -60,7 +60,7 @@ fn is_in_no_order(order: &Option<ChunkOrder>) -> bool
     }
 }
 
-/// Whether the conditions are none, or the one that the first id is the lower one, where it has to be.
+/// Whether the conditions are none, or the one that the first id is the lower one, if it has to be.
 fn are_order_of_ids(conds: &[BoundCond], rises: bool) -> bool
     ensures { IsTrue result → (u v : Obj) → meets conds.now (pair u v) ≡ is_upward rises u v }
 {

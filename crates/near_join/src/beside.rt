@@ -1,5 +1,5 @@
-//! Whether a position is near the sides of a part of the sky, with no decision on the way: rows that stand side by side in
-//! height lie in all directions, so that a decision would mostly be guessed wrong.
+//! Whether a position is near the sides of a part of the sky, with no decision on the way: rows that are side by side
+//! in height lie in all directions, so that a decision would mostly be guessed wrong.
 
 ghost use Rattle.std.specs.Prelude.{◌≡◌, ◌≤◌, ◌||◌, int_le, int_lt, pos};
 ghost use Rattle.sky_vector.specs.Pos.{point};

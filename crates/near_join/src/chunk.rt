@@ -41,7 +41,8 @@ struct Joined<'a> {
 }
 
 /// What the chunk query finds over the pairs whose first row lies in the chunk. Allocates memory for the piece, for a
-/// strip of the chunk's rows and its full overlap, and for one of a subchunk's at a time; none for a row or a pair.
+/// sweep window of the chunk's rows and its full overlap, and for one of a subchunk's at a time; none for a row or a
+/// pair.
 pub fn join<'w>(
     alloc: Global,
     store: &'w Store,
@@ -76,7 +77,7 @@ pub fn join<'w>(
     Ok(piece)
 }
 
-/// What a store tells of itself: its plan is within the limits, and its rows lie in the sky. Does not allocate.
+/// What a store says of itself: its plan is within the limits, and its rows lie in the sky. Does not allocate.
 fn know(store: &Store)
     ensures plan { IsSky store.now.plan }
     ensures rows { AreInTheSky store.now.rows.objects }
@@ -89,7 +90,7 @@ fn know(store: &Store)
 /// know which costs more than to look.
 const MANY: usize = 8;
 
-/// The rows of each of the chunk's subchunks, where they are few. Allocates memory for the lists.
+/// The rows of each of the chunk's subchunks, if they are few. Allocates memory for the lists.
 fn few_rows(alloc: Global, store: &Store, chunk: u32) -> Result<Option<Lists>, Memory>
     requires { chunk < chunk_count store.now.plan }
     ensures { IfOk result (λ subs. IfSome subs (λ lists.
@@ -123,7 +124,7 @@ fn is_nothing(places: &[u32]) -> bool
     places.is_empty()
 }
 
-/// Puts the pairs of a subchunk into the piece, of its rows and the strip of its chunk.
+/// Puts the pairs of a subchunk into the piece, of its rows and the sweep window of its chunk.
 fn push_sub(
     alloc: Global,
     piece: &mut Piece<'_>,
@@ -155,7 +156,7 @@ fn push_sub(
     }
 }
 
-/// Puts the pairs of a subchunk into the piece, of those rows of the strip of its chunk that are near it.
+/// Puts the pairs of a subchunk into the piece, of those rows of the sweep window of its chunk that are near it.
 fn push_near(
     alloc: Global,
     piece: &mut Piece<'_>,

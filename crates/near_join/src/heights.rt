@@ -1,4 +1,4 @@
-//! The window of a sweep by height: in ascending heights, those that are near enough to one height stand side by side, so
+//! The window of a sweep by height: in ascending heights, those that are near enough to one height are side by side, so
 //! that two searches by halving find them, and a walk up from one of them may end at the first that is too high.
 
 ghost use Rattle.std.specs.Prelude.{◌≡◌, ◌<◌, ◌≤ℤ◌, ◌^◌, ℤ, get_or, int_lt, length, pos, negsuc};

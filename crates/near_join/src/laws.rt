@@ -1,4 +1,4 @@
-//! Laws of the join, as functions that do nothing: a caller has what they ensure.
+//! Lemmas of the join, as functions that do nothing: a caller has what they ensure.
 
 ghost use Rattle.near_join.specs.Laws.{PairsOfSubs, WalkFindsAll};
 

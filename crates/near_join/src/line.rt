@@ -95,14 +95,14 @@ fn key(order: &Option<ChunkOrder>, first: &Row, second: &Row) -> Option<Num>
     }
 }
 
-/// The class of a key's rank, which keeps NULL apart from the numbers.
+/// The class of a key's sort key, which keeps NULL apart from the numbers.
 fn class(down: bool, key: &Option<Num>) -> u8
     ensures { result ≡ rank_class down key.now }
 {
     if key.is_none() == down { 1 } else { 0 }
 }
 
-/// The number of a key's rank, which turns round where the order is descending.
+/// The number of a key's sort key, which turns round where the order is descending.
 fn number(down: bool, key: &Option<Num>) -> i128
     ensures { result ≡ rank_value down key.now }
 {

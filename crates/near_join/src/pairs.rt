@@ -1,5 +1,6 @@
-//! The sweep of a strip: each row is compared with those behind it, up to the first whose height is too far above its own, by
-//! the columns of the strip. What is asked of a row for its pairs is asked where it is found near enough, of those columns.
+//! The sweep of a sweep window: each row is compared with those after it, up to the first whose height is too far above
+//! its own, by the columns of the sweep window. What is asked of a row for its pairs is asked where it is found near
+//! enough, of those columns.
 
 ghost use Rattle.std.specs.Prelude.{◌≡◌, ◌+◌, ◌++◌, ◌+ℤ◌, ◌-ℤ◌, ◌<◌, ◌∷◌, [], All, IsTrue, OnOk, drop, filter, get_or, if◌then◌else◌, int_le, length, map, true};
 ghost use Rattle.sky_vector.specs.Points.{chord_squared, square};
@@ -26,8 +27,8 @@ use sky_plan::Region;
 use sky_row::Rows;
 use sky_vector::{Num, Pos, chord2};
 
-/// Puts the pairs of those rows of the strip that the region holds, with those of the strip that they join, into the piece.
-/// `values` and `found` are room that is used again for each row.
+/// Puts the pairs of those rows of the sweep window that the region holds, with those of the sweep window that they
+/// join, into the piece. `values` and `found` are room that is used again for each row.
 pub(crate) fn push_swept(
     piece: &mut Piece<'_>,
     values: &mut Vec<Option<Num>>,
@@ -54,8 +55,8 @@ pub(crate) fn push_swept(
     Ok(())
 }
 
-/// Puts the pairs of the row with this number in the strip into the piece: with itself, and with those behind it in both
-/// orders.
+/// Puts the pairs of the row with this number in the sweep window into the piece: with itself, and with those after it
+/// in both orders.
 fn push_upwards(
     piece: &mut Piece<'_>,
     values: &mut Vec<Option<Num>>,
@@ -94,8 +95,8 @@ fn is_done(reach: &Reach, found: &[Neighbour]) -> bool
     reach.rises && found.is_empty()
 }
 
-/// Those rows behind the one with this number in the strip that are near enough to it. They take the place of what the list
-/// held.
+/// Those rows after the one with this number in the sweep window that are near enough to it. They take the place of
+/// what the list held.
 fn pick(
     found: &mut Vec<Neighbour>,
     asked: &Asked<'_>,
@@ -158,7 +159,7 @@ fn is_near(a: &Pos, b: &Pos, reach: &Reach) -> bool
     chord2(a, b) as i64 <= reach.limit
 }
 
-/// Puts the row with this number in the strip behind the others, where the answer is yes.
+/// Appends the row with this number in the sweep window, if the answer is yes.
 #[inline(always)]
 fn push_if(
     found: &mut Vec<Neighbour>,
@@ -184,7 +185,7 @@ fn push_if(
     Ok(())
 }
 
-/// What is asked of the row with this number in the strip for its pairs.
+/// What is asked of the row with this number in the sweep window for its pairs.
 fn neighbour_at(rows: &Rows, region: &Region, near: &Strip, k: usize) -> Neighbour
     requires listed { IsListed rows.now.objects near.now }
     requires whole { IsWhole near.now }

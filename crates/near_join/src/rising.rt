@@ -1,5 +1,5 @@
 //! Whether the conditions of a query hold only of pairs whose first id is the lower one, as `a.objectId < b.objectId` does:
-//! each two rows are then paired once, and no row with itself, and their ids tell which of them comes first.
+//! each two rows are then paired once, and no row with itself, and their ids decide which of them comes first.
 
 ghost use Rattle.std.specs.Prelude.{◌≡◌, IsTrue};
 ghost use Rattle.value_rules.specs.Formulas.{Compares, formula_of, formula_of_pred};
@@ -55,21 +55,21 @@ pub(crate) fn is_id(e: &BoundExpr, second: bool) -> bool
     e.rest.is_empty() && is_id_product(&e.first, second)
 }
 
-/// The same of a product.
+/// Whether the product is that id alone.
 fn is_id_product(p: &BoundProd, second: bool) -> bool
     ensures { IsTrue result → term_of_prod p.now ≡ Column (id_of second) }
 {
     p.rest.is_empty() && is_id_factor(&p.first, second)
 }
 
-/// The same of a factor.
+/// Whether the factor is that id alone.
 fn is_id_factor(f: &BoundFactor, second: bool) -> bool
     ensures { IsTrue result → term_of_factor f.now ≡ Column (id_of second) }
 {
     !f.minus && is_id_atom(&f.atom, second)
 }
 
-/// The same of an atom.
+/// Whether an atom is the first id alone.
 fn is_id_atom(a: &BoundAtom, second: bool) -> bool
     ensures { IsTrue result → term_of_atom a.now ≡ Column (id_of second) }
 {

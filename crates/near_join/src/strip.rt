@@ -41,7 +41,7 @@ impl Strip {
         self.places.len()
     }
 
-    /// The place of the row with this number, from 0, in the strip.
+    /// The place of the row with this number, from 0, in the sweep window.
     pub(crate) fn place(&self, i: usize) -> u32
         requires { i < length self.now.places }
         ensures { result ≡ get_or self.now.places i 0 }
@@ -56,7 +56,7 @@ impl Strip {
         self.zs.as_slice()
     }
 
-    /// The position of the row with this number, from 0, in the strip.
+    /// The position of the row with this number, from 0, in the sweep window.
     pub(crate) fn at(&self, i: usize) -> Pos
         requires whole { IsWhole self.now }
         requires there { i < length self.now.places }
@@ -124,7 +124,7 @@ pub(crate) fn chunk_strip(alloc: Global, store: &Store, chunk: u32) -> Result<St
     gathered(alloc, rows, places)
 }
 
-/// The strip of the rows at these places, in their order. Allocates memory for each column once.
+/// The sweep window of the rows at these places, in their order. Allocates memory for each column once.
 fn gathered(alloc: Global, rows: &Rows, places: Vec<u32>) -> Result<Strip, Memory>
     requires { All (λ place. place < length rows.now.objects) places.items }
     ensures places { IfOk result (λ s. s.places ≡ places.items) }

@@ -1,4 +1,4 @@
-//! What a subchunk takes of the strip of its chunk: its rows and those of its overlap.
+//! What a subchunk takes of the sweep window of its chunk: its rows and those of its overlap.
 
 ghost use Rattle.std.specs.Prelude.{◌≡◌, ◌-◌, ◌<◌, ◌≤◌, ◌^◌, ◌+ℤ◌, ◌-ℤ◌, IfOk, filter, length, pos, slice_range, take};
 ghost use Rattle.std.specs.List.{range_with_len};
@@ -20,8 +20,8 @@ use sky_row::Rows;
 use sky_vector::Dir;
 use std::alloc::Global;
 
-/// A subchunk's rows and those of its overlap, in ascending height, of the strip of its chunk. Allocates memory for
-/// them.
+/// A subchunk's rows and those of its overlap, in ascending height, of the sweep window of its chunk. Allocates memory
+/// for them.
 pub(crate) fn sub_strip(
     alloc: Global,
     store: &Store,
@@ -108,8 +108,9 @@ fn near_numbers(
     Ok(numbers)
 }
 
-/// Writes the numbers, from one up to and without another, of the rows that are near these sides to the front of a list, and
-/// answers how many they are: each is written, over the one before it where that is not near, so that nothing is decided.
+/// Writes the numbers, from one up to and without another, of the rows that are near these sides to the beginning of a
+/// list, and answers how many they are: each is written, over the one before it where that is not near, so that nothing
+/// is decided.
 fn put_near(
     strip: &Strip,
     from: usize,

@@ -51,7 +51,7 @@ pub(crate) fn push_found(
     push_others(piece, values, asked, this, found)
 }
 
-/// Puts the pair of the row with itself into the piece, where it is near enough to itself.
+/// Puts the pair of the row with itself into the piece, if it is near enough to itself.
 fn push_itself(
     piece: &mut Piece<'_>,
     values: &mut Vec<Option<Num>>,
@@ -129,8 +129,8 @@ fn push_other(
     push_way(piece, values, asked, other, this)
 }
 
-/// Puts the pair of two rows that are near enough into the piece, where the first is held and has the lower id, if it has to,
-/// and the pair meets the conditions.
+/// Puts the pair of two rows that are near enough into the piece, if the first is held and has the lower id, if it has
+/// to, and the pair meets the conditions.
 fn push_way(
     piece: &mut Piece<'_>,
     values: &mut Vec<Option<Num>>,
@@ -156,22 +156,22 @@ fn push_way(
     }
 }
 
-/// Whether the first of two rows is held, and has the lower id, where it has to.
+/// Whether the first of two rows is held, and has the lower id, if it has to.
 fn is_way(held: bool, rises: bool, first: i64, second: i64) -> bool
     ensures { result ≡ (held && (if rises then int_lt first second else true)) }
 {
     held && is_upward(rises, first, second)
 }
 
-/// Whether the first of two ids is the lower one, where it has to be.
+/// Whether the first of two ids is the lower one, if it has to be.
 fn is_upward(rises: bool, first: i64, second: i64) -> bool
     ensures { result ≡ (if rises then int_lt first second else true) }
 {
     !rises || first < second
 }
 
-/// Puts the pair of two rows into the piece, where it meets the conditions. The first has the lower id, if it has to; of a bare
-/// query that is the condition, and the ids are all that is asked of the rows.
+/// Puts the pair of two rows into the piece, if it meets the conditions. The first has the lower id, if it has to; of a
+/// bare query that is the condition, and the ids are all that is asked of the rows.
 fn push_upward(
     piece: &mut Piece<'_>,
     values: &mut Vec<Option<Num>>,
@@ -198,7 +198,7 @@ fn push_upward(
     }
 }
 
-/// Puts the pair of two rows, which are looked up, into the piece, where it meets the conditions.
+/// Puts the pair of two rows, which are looked up, into the piece, if it meets the conditions.
 fn push_looked_up(
     piece: &mut Piece<'_>,
     values: &mut Vec<Option<Num>>,
@@ -220,7 +220,7 @@ fn push_looked_up(
     push_if_met(piece, values, asked.query, &row, &beside)
 }
 
-/// Puts the pair of rows into the piece, where it meets the conditions.
+/// Puts the pair of rows into the piece, if it meets the conditions.
 fn push_if_met(
     piece: &mut Piece<'_>,
     values: &mut Vec<Option<Num>>,

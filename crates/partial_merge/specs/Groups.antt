@@ -1,4 +1,4 @@
--- Groups as a pile keeps them: a key, the number of rows, and the places of the parts.
+-- Groups as an aggregation table keeps them: a key, the number of rows, and the places of the parts.
 use Rattle.std.specs.Prelude.{◌≡◌, ℕ, ◌+◌, ◌-◌, ◌≤◌, ℤ, Bool, length, map, List, [], ◌∷◌, None, Some, All, slice_range, if◌then◌else◌}
 use Rattle.std.specs.List.{AllByRecursion}
 use Rattle.table_rules.specs.declared.limits.TheConstants.{ROWS_MOST}
@@ -21,7 +21,7 @@ Gathered = List (Partial Key Sums)
 abbrev pub group_of : List Part → Mark → Partial Key Sums
 group_of parts m = record { key = m.key; part = record { rows = m.rows; parts = slice_range parts m.from m.to } }
 
--- a group of this key and so many rows, with these parts
+-- a group of this key and the given number of rows, with these parts
 abbrev pub group_by : Key → ℕ → List Part → Partial Key Sums
 group_by key rows parts = record { key = key; part = record { rows = rows; parts = parts } }
 
@@ -34,7 +34,7 @@ pub record IsThere (parts : ℕ) (m : Mark) : Type 0 where
 abbrev pub width_of : Mark → ℕ
 width_of m = m.to - m.from
 
--- the group with its parts so much farther behind
+-- the group with its parts shifted by the given offset
 abbrev pub moved : ℕ → Mark → Mark
 moved n m = record { key = m.key; rows = m.rows; from = m.from + n; to = m.to + n }
 
@@ -66,7 +66,7 @@ pub record ArePiled (parts : List Part) (marks : List Mark) : Type 0 where
   pub small : AllByRecursion IsSmallGroup (map (group_of parts) marks)
   pub few : rows_in (map (group_of parts) marks) ≤ most_rows
 
--- Groups of two piles that are of the same ways, and have few enough rows together.
+-- Groups of two aggregation tables that are of the same ways, and have few enough rows together.
 pub record MayGather (mine others : Gathered) : Type 0 where
   pub own : List Way
   pub this : HaveWays own mine

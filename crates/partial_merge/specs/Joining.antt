@@ -1,4 +1,4 @@
--- What a piece that takes in another one stands for, and when it may be finished.
+-- What a piece that adds another one represents, and when it may be finished.
 use Rattle.std.specs.Prelude.{◌≡◌, ◌≤◌, ℕ, ℤ, Bool, true, List, length, ◌++◌, [], ◌∷◌, Option, IfSome}
 use Rattle.table_rules.specs.Objects.{Obj}
 use Rattle.sky_rules.specs.Partition.{Partition}
@@ -21,7 +21,7 @@ use Rattle.partial_merge.specs.declared.rank.Rank.{Rank}
 use Rattle.partial_merge.specs.Bags.{ComesBeforeNone, out_row}
 use Rattle.partial_merge.specs.Groups.{MayGather}
 
--- Both stand for one chunk query of one base, over disjoint sets of chunks.
+-- Both represent one chunk query of one base, over disjoint sets of chunks.
 pub record MayJoin (mine other : PieceView) : Type 0 where
   pub base : Base
   pub q : ℕ
@@ -31,23 +31,24 @@ pub record MayJoin (mine other : PieceView) : Type 0 where
   pub that : StandsFor base q others other
   pub apart : AreDisjoint chunks others
 
--- whatever the two stood for over disjoint sets of chunks, the new piece stands for both sets
+-- whatever the two was for over disjoint sets of chunks, the new piece represents both sets
 abbrev pub Joins : PieceView → PieceView → PieceView → Type 0
 Joins old other new =
     (g : Partition) (table : List Obj) (cq : ChunkQuery) (chunks others : List ℕ) → AreDisjoint chunks others
     → PieceFor g table cq chunks old → PieceFor g table cq others other → PieceFor g table cq (chunks ++ others) new
 
--- the piece is of rows, and takes in one of them: the first n of both are kept
+-- the piece is of rows, and adds one of them: the first n of both are kept
 abbrev pub TakesRow : PieceView → OutRow → PieceView → Type 0
 TakesRow (OfRows pushed rows) row (OfRows limit kept) =
     (limit ≡ pushed) × KeepsFirst row_order pushed (rows ++ row ∷ []) kept
 TakesRow old row new = ⊥
 
--- a row of this rank is none of the first n, whatever its values: a piece that takes it in may stay as it is
+-- a row with this sort key is none of the first n, whatever its values: a piece that takes it in may stay as it is
 abbrev pub IsNoneOfFirst : PieceView → Rank → Type 0
 IsNoneOfFirst view rank = (values : List (Option ℤ)) → TakesRow view (out_row rank values) view
 
--- that a row of this rank is too late is told as soon as as many rows as the limit are held and none of them comes after it
+-- that a row with this sort key is too late is reported as soon as as many rows as the limit are held and none of them
+-- comes after it
 abbrev pub IsToldLate : PieceView → Rank → Bool → Type 0
 IsToldLate (OfRows pushed rows) rank told =
     IfSome pushed (λ n. n ≤ length rows → ComesBeforeNone rank rows → told ≡ true)

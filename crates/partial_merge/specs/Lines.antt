@@ -15,7 +15,7 @@ use Rattle.partial_merge.specs.declared.line.Line.{Line}
 use Rattle.partial_merge.specs.declared.mark.Mark.{Mark}
 use Rattle.partial_merge.specs.Groups.{group_of}
 
--- lines go by the rank of their order key, then by the keys of their groups
+-- lines go by the sort key of their order key, then by the keys of their groups
 abbrev pub line_order : Line → Line → Ordering
 line_order = then_cmp (on (λ l. l.class) nat_cmp) (then_cmp (on (λ l. l.value) int_cmp) (on (λ l. l.mark.key) key_order))
 

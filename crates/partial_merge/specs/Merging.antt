@@ -42,7 +42,7 @@ MayMerge keys g (Avg n count) = IfSome (part_at g n).value (λ t. 0 < (part_at g
 abbrev pub IsTested : Partial Key Sums → MergeItem → Type 0
 IsTested g i = AllByRecursion (λ t. is_query_number t ≡ true) (merged_totals g i)
 
--- A group of a pile of which each item can be merged, its totals tested.
+-- A group of an aggregation table of which each item can be merged, its totals tested.
 pub record IsMergeable (keys : List BoundCol) (items : List MergeItem) (parts : List Part) (m : Mark) : Type 0 where
   pub there : IsThere (length parts) m
   pub may : All (MayMerge keys (group_of parts m)) items

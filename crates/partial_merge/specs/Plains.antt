@@ -1,4 +1,5 @@
--- Rows of a bag without a limit: those whose rank is that of no order key, each with as many values, and the others.
+-- Rows of a multiset without a limit: those whose sort key is that of no order key, each with as many values, and the
+-- others.
 use Rattle.std.specs.Prelude.{◌≡◌, ℕ, ℤ, Option, pos, ◌+◌, ◌-◌, ◌≤◌, ◌++◌, List, map, vec_len, vec_capacity}
 use Rattle.std.specs.declared.cmp.Ordering.{Ordering}
 use Rattle.std.specs.Ordering.{int_cmp, on, then_cmp}
@@ -9,7 +10,7 @@ use Rattle.partial_merge.specs.declared.plain.Plain.{Plain}
 use Rattle.partial_merge.specs.declared.ranked.Ranked.{Ranked}
 use Rattle.partial_merge.specs.Rows.{row_values}
 
--- the row, with so many values
+-- the row, with the given number of values
 abbrev pub full : ℕ → Plain → Ranked
 full width p = record {
   class = 0;
@@ -32,14 +33,14 @@ plain_order = then_cmp (on (λ p. p.first) int_cmp) (on (λ p. p.second) int_cmp
 abbrev pub all_of : Lot → List Ranked
 all_of l = map (full l.width) l.plain.items ++ l.rows.items
 
--- The row's rank is that of no order key, and it has as many values as those of its kind that are there.
+-- The row's sort key is that of no order key, and it has as many values as those of its kind that are there.
 pub record IsPlainIn (l : Lot) (r : Ranked) : Type 0 where
   pub class : r.class ≡ 0
   pub value : r.value ≡ pos 0
   pub order : r.from ≤ r.to
   pub wide : map (full (r.to - r.from)) l.plain.items ≡ map (full l.width) l.plain.items
 
--- There is room for so many more of either kind.
+-- There is room for the given number of more of either kind.
 pub record HasRoom (l : Lot) (n : ℕ) : Type 0 where
   pub plain : vec_len l.plain + n ≤ vec_capacity l.plain
   pub rows : vec_len l.rows + n ≤ vec_capacity l.rows

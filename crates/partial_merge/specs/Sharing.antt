@@ -22,6 +22,6 @@ KeepsRest old new a b = (i : ℕ) → (a ≤ i → i < b → ⊥) → part_in ne
 abbrev pub mark_in : List Mark → ℕ → Mark
 mark_in marks i = slice_index_or marks i (record { key = []; rows = 0; from = 0; to = 0 })
 
--- the group with so many rows more
+-- the group with n rows more
 abbrev pub grown : ℕ → Mark → Mark
 grown n m = record { key = m.key; rows = n + m.rows; from = m.from; to = m.to }

@@ -1,13 +1,13 @@
-//! A bag of rows: their places in the order in one list, and all their values in another, so that a row takes no
+//! A multiset of rows: their places in the order in one list, and all their values in another, so that a row takes no
 //! allocation of its own.
 //!
-//! Nothing is in order before the end. Without a limit a bag keeps all rows that come; with a limit n it is a heap of the
-//! first n, and a row that comes behind n others is looked at and forgotten. The values of rows that had to go stay until
-//! the list of values has doubled; then those of the others are copied into a new one (`packing`).
+//! Nothing is in order before the end. Without a limit a multiset keeps all rows that come; with a limit n it is a heap
+//! of the first n, and a row that comes after n others is inspected and forgotten. The values of rows that were dropped
+//! stay until the list of values has doubled; then those of the others are copied into a new one (`packing`).
 //!
-//! A join whose answer is the two ids of each pair has millions of rows whose values say again what their ranks say. Without
-//! a limit and without an order key such a pair is kept as its two ids in a third list, and has no values elsewhere. The
-//! table is written from that list alone where the bag holds nothing else (`bag_table`).
+//! A join whose answer is the two ids of each pair has millions of rows whose values say again what their sort keys
+//! say. Without a limit and without an order key such a pair is kept as its two ids in a third list, and has no values
+//! elsewhere. The table is written from that list alone where the multiset holds nothing else (`bag_table`).
 
 ghost use Rattle.std.specs.Prelude.{◌≡◌, ◌≤◌, ◌++◌, ◌∷◌, [], ℤ, length, IfOk, IfSome, List, None, OnErr, OnOk, Option, true};
 ghost use Rattle.std.specs.Bool.{OnTrue};
@@ -41,7 +41,7 @@ pub(crate) struct Bag {
     ids: Vec<IdPair>,
 }
 
-/// How many values a bag may have before it is packed for the first time, twice over.
+/// How many values a multiset may have before it is packed for the first time, twice over.
 const SHORT: usize = 512;
 
 impl Model for Bag {
@@ -57,7 +57,7 @@ impl Model for Bag {
     ghost invariant = { λ b. IsBag (length b.cells.items) b.kept b.ids.items };
 }
 
-/// The pair of this rank with these values, where all rows are kept and its ids are all that has to be kept of it.
+/// The pair with this sort key with these values, if all rows are kept and its ids are all that has to be kept of it.
 #[inline]
 fn ids_alone(kept: &Kept, rank: &Rank, values: &[Option<Num>]) -> Option<IdPair>
     ensures all { IfSome result (λ pair. pushed_in kept.now ≡ None) }
@@ -70,7 +70,7 @@ fn ids_alone(kept: &Kept, rank: &Rank, values: &[Option<Num>]) -> Option<IdPair>
 }
 
 impl Bag {
-    /// A bag without rows, which keeps the first so many, or all. Does not allocate.
+    /// A multiset without rows, which keeps the first n, or all. Does not allocate.
     pub(crate) fn empty(alloc: Global, limit: Option<usize>) -> Bag
         ensures { result ≡ record { pushed = limit; rows = [] } }
     {
@@ -83,8 +83,8 @@ impl Bag {
         }
     }
 
-    /// Whether so many rows are kept that one of this rank is none of the first, whatever its values: as soon as none
-    /// of as many rows as the limit comes after it. Does not allocate.
+    /// Whether the given number of rows are kept that one with this sort key is none of the first, whatever its values:
+    /// as soon as none of as many rows as the limit comes after it. Does not allocate.
     pub(crate) fn is_too_late(&self, rank: &Rank) -> bool
         ensures late { OnTrue result ((values : List (Option ℤ)) →
             KeepsFirst row_order self.now.pushed
@@ -95,7 +95,7 @@ impl Bag {
         is_too_late(&self.kept, &rank.at(0, 0))
     }
 
-    /// Takes in a pair whose values are its ids. After `Err` nothing has changed.
+    /// Adds a pair whose values are its ids. After `Err` nothing has changed.
     #[inline]
     fn push_pair(&mut self, pair: IdPair) -> Result<(), Memory>
         requires { self.old.pushed ≡ None }
@@ -108,7 +108,7 @@ impl Bag {
         push_ids(&mut self.ids, pair)
     }
 
-    /// Takes in any row of this rank with these values. After `Err` nothing has changed.
+    /// Adds any row with this sort key with these values. After `Err` nothing has changed.
     fn push_row(&mut self, rank: &Rank, values: &[Option<Num>]) -> Result<(), Memory>
         ensures pushed { self.new.pushed ≡ self.old.pushed }
         ensures kept { OnOk result (KeepsFirst row_order self.old.pushed
@@ -130,7 +130,7 @@ impl Bag {
         Ok(())
     }
 
-    /// Takes in a row of this rank with these values. After `Err` nothing has changed.
+    /// Adds a row with this sort key with these values. After `Err` nothing has changed.
     pub(crate) fn push(&mut self, rank: &Rank, values: &[Option<Num>]) -> Result<(), Memory>
         ensures pushed { self.new.pushed ≡ self.old.pushed }
         ensures kept { OnOk result (KeepsFirst row_order self.old.pushed
@@ -143,7 +143,7 @@ impl Bag {
         }
     }
 
-    /// Takes in the rows of another bag of the same limit. After `Err` nothing has changed.
+    /// Adds the rows of another multiset of the same limit. After `Err` nothing has changed.
     pub(crate) fn absorb(&mut self, other: Bag) -> Result<(), Memory>
         requires alike { other.pushed ≡ self.old.pushed }
         ensures pushed { self.new.pushed ≡ self.old.pushed }
@@ -172,7 +172,7 @@ impl Bag {
         Ok(())
     }
 
-    /// How many rows it holds: at most the limit, where there is one. Does not allocate.
+    /// How many rows it holds: at most the limit, if there is one. Does not allocate.
     pub(crate) fn held(&self) -> usize
         ensures held { result ≡ length self.now.rows }
         ensures few { IfSome self.now.pushed (λ n. result ≤ n) }

@@ -1,4 +1,4 @@
-//! The table of a bag: of the rows that are kept, or of the pairs whose values are their own ids, or of both.
+//! The table of a multiset: of the rows that are kept, or of the pairs whose values are their own ids, or of both.
 
 ghost use Rattle.std.specs.Prelude.{◌≡◌, ◌++◌, ◌∷◌, [], length, map, IfOk, IsPermutation, None, OnOk};
 ghost use Rattle.answer_rules.specs.Finish.{merged_rows};
@@ -18,7 +18,7 @@ use answer_rules::MergePlan;
 use sky_io::Memory;
 use std::alloc::Global;
 
-/// Puts the pair among the rows.
+/// Adds the pair to the rows.
 fn put_pair(kept: &mut Kept, cells: &mut Vec<Cell>, pair: &IdPair) -> Result<(), Memory>
     requires mine { IsKept (length cells.old.items) kept.old }
     requires all { pushed_in kept.old ≡ None }
@@ -31,7 +31,7 @@ fn put_pair(kept: &mut Kept, cells: &mut Vec<Cell>, pair: &IdPair) -> Result<(),
     put_row(kept, cells, &pair.rank(), &[pair.value(0), pair.value(1)])
 }
 
-/// Puts the pairs among the rows.
+/// Adds the pairs to the rows.
 fn put_pairs(kept: &mut Kept, cells: &mut Vec<Cell>, pairs: &[IdPair]) -> Result<(), Memory>
     requires mine { IsKept (length cells.old.items) kept.old }
     requires all { pushed_in kept.old ≡ None }
@@ -64,7 +64,7 @@ fn both_table(
     kept_table(alloc, kept, cells.as_slice(), merge)
 }
 
-/// The table of what a bag holds: in order, the first of the rows, and of each its merged items.
+/// The table of what a multiset holds: in order, the first of the rows, and of each its merged items.
 pub(crate) fn bag_table(
     alloc: Global,
     kept: Kept,

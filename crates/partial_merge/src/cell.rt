@@ -1,4 +1,4 @@
-//! A value of a row in sixteen bytes, NULL among them: a bag of rows has millions.
+//! A value of a row in sixteen bytes, NULL among them: a multiset of rows has millions.
 
 ghost use Rattle.std.specs.Prelude.{◌≡◌, negsuc, ◌<ℤ◌, IfSome};
 ghost use Rattle.partial_merge.specs.Cells.{cell_in};

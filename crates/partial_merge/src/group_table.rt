@@ -29,7 +29,7 @@ use sky_io::{Memory, Stop};
 use sql_bound::{ColList, Int};
 use std::alloc::Global;
 
-/// Puts the merged items of a group behind the others.
+/// Appends the merged items of a group.
 fn put_group(
     values: &mut Vec<Value>,
     keys: &ColList,
@@ -49,7 +49,7 @@ fn put_group(
     Ok(())
 }
 
-/// The values of the lines, one line behind the other.
+/// The values of the lines, one line after the other.
 fn values_of(
     alloc: Global,
     lines: &[Line],
@@ -130,7 +130,7 @@ fn some_table(
     line_table(alloc, front, keys, tallies, items)
 }
 
-/// The limit, where there are more lines.
+/// The limit, if there are more lines.
 fn limit_below(limit: Option<Int>, count: usize) -> Option<usize>
     ensures limit { IfSome result (λ n. limit_of limit ≡ Some n) }
     ensures below { IfSome result (λ n. n < count) }

@@ -51,7 +51,7 @@ pub(crate) fn nothing(alloc: Global, query: &ChunkQuery) -> Held
     }
 }
 
-/// Takes in what another piece holds. After `Err` nothing has changed.
+/// Adds what another piece holds. After `Err` nothing has changed.
 pub(crate) fn take_in(held: &mut Held, other: Held) -> Result<(), Memory>
     requires { MayTake held.old other }
     ensures joined { OnOk result (Took held.old other held.new) }
@@ -64,7 +64,7 @@ pub(crate) fn take_in(held: &mut Held, other: Held) -> Result<(), Memory>
     }
 }
 
-/// Whether a row of this rank is none of the first that are kept, whatever its values.
+/// Whether a row with this sort key is none of the first that are kept, whatever its values.
 pub(crate) fn is_too_late(held: &Held, rank: &Rank) -> bool
     ensures late { OnTrue result (IsNoneOfFirst (view_in held.now) rank.now) }
     ensures told { IsToldLate (view_in held.now) rank.now result }
@@ -75,7 +75,7 @@ pub(crate) fn is_too_late(held: &Held, rank: &Rank) -> bool
     }
 }
 
-/// Takes in a row of this rank with these values. After `Err` nothing has changed.
+/// Adds a row with this sort key with these values. After `Err` nothing has changed.
 pub(crate) fn push_row(held: &mut Held, rank: &Rank, values: &[Option<Num>]) -> Result<(), Memory>
     requires rows { IsOfRows (view_in held.old) }
     ensures kept { OnOk result (TakesRow (view_in held.old) (out_row rank.now values.now)
@@ -88,7 +88,7 @@ pub(crate) fn push_row(held: &mut Held, rank: &Rank, values: &[Option<Num>]) -> 
     }
 }
 
-/// Takes in a group of this key. After `Err` nothing has changed.
+/// Adds a group of this key. After `Err` nothing has changed.
 pub(crate) fn push_group(
     held: &mut Held,
     key: Key,

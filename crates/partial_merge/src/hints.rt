@@ -1,7 +1,8 @@
-//! Where the group of a key may stand in a pile: a table of places, by numbers made of keys.
+//! Where the group of a key may are in an aggregation table: a table of places, by numbers made of keys.
 //!
-//! A place of the table is a hint and no more: it is taken where the group at that place is found to have the key. A key that
-//! is not found is put behind the others, and the next settling adds it up. So the table may be small, old or missing.
+//! A place of the table is a cache entry and no more: it is taken where the group at that place is found to have the
+//! key. A key that is not found is put after the others, and the next consolidation adds it up. So the table may be
+//! small, old or missing.
 
 ghost use Rattle.std.specs.Prelude.{◌≡◌, ◌<◌, IfSome, length, true};
 ghost use Rattle.std.specs.Ordering.{is_eq};
@@ -12,16 +13,16 @@ use crate::key::Key;
 use crate::mark::Mark;
 use std::alloc::Global;
 
-/// How many hints are made for each group, at the least.
+/// How many cache entries are made for each group, at the least.
 const ROOM: usize = 4;
 
 /// By how much a number is stretched before the next value is added: an odd number of 64 bits.
 const STRETCH: u64 = 0x9e37_79b9_7f4a_7c15;
 
-/// The hint where there is none: a place that no pile has.
+/// The cache entry where there is none: a place that no aggregation table has.
 const NONE: u32 = u32::MAX;
 
-/// Places of groups in a pile.
+/// Places of groups in an aggregation table.
 #[derive(Drop)]
 pub(crate) struct Hints {
     places: Vec<u32>,
@@ -55,7 +56,8 @@ fn code(value: Option<i64>) -> u64 {
     }
 }
 
-/// How many hints there are for so many groups: a power of two, or none where that is past all memory.
+/// How many cache entries there are for the given number of groups: a power of two, or none where that is past all
+/// memory.
 fn count(groups: usize) -> usize {
     match groups.checked_mul(ROOM) {
         None => 0,
@@ -66,7 +68,7 @@ fn count(groups: usize) -> usize {
     }
 }
 
-/// The place as a hint.
+/// The place as a cache entry.
 fn hint(place: usize) -> u32 {
     match u32::try_from(place) {
         Ok(place) => place,
@@ -82,7 +84,7 @@ fn is_of(marks: &Vec<Mark>, place: usize, key: &Key) -> bool
     *key == marks[place].key
 }
 
-/// The place, where the group there has the key.
+/// The place, if the group there has the key.
 fn checked(marks: &Vec<Mark>, place: usize, key: &Key) -> Option<usize>
     ensures there { IfSome result (λ p. p < length marks.now.items) }
     ensures key { IfSome result (λ p.
@@ -95,14 +97,14 @@ fn checked(marks: &Vec<Mark>, place: usize, key: &Key) -> Option<usize>
 }
 
 impl Hints {
-    /// No hints. Does not allocate.
+    /// No cache entries. Does not allocate.
     pub(crate) fn none(alloc: Global) -> Hints {
         Hints {
             places: Vec::new(alloc),
         }
     }
 
-    /// Hints for the groups of a pile; none where there is no memory.
+    /// Cache entries for the groups of an aggregation table; none where memory is short.
     pub(crate) fn of(alloc: Global, marks: &Vec<Mark>) -> Hints {
         match vec![in alloc; NONE; count(marks.len())] {
             Err(_) => Hints::none(alloc),
@@ -110,7 +112,7 @@ impl Hints {
         }
     }
 
-    /// The hint for a key.
+    /// The cache entry for a key.
     fn at(&self, key: &Key) -> usize {
         let count = self.places.len();
         if count == 0 {
@@ -119,7 +121,7 @@ impl Hints {
         self.places[number(key) as usize & (count - 1)] as usize
     }
 
-    /// A group of the key, where a hint leads to one. Does not allocate.
+    /// A group of the key, if a cache entry leads to one. Does not allocate.
     pub(crate) fn find(&self, marks: &Vec<Mark>, key: &Key) -> Option<usize>
         ensures there { IfSome result (λ p. p < length marks.now.items) }
         ensures key { IfSome result (λ p.
@@ -128,7 +130,7 @@ impl Hints {
         checked(marks, self.at(key), key)
     }
 
-    /// Notes at which place the group of the key stands. Does not allocate.
+    /// Notes at which place the group of the key is. Does not allocate.
     pub(crate) fn note(&mut self, key: &Key, place: usize) {
         let count = self.places.len();
         if count == 0 {
@@ -138,7 +140,7 @@ impl Hints {
     }
 }
 
-/// The hints with one for each group.
+/// The cache entries with one for each group.
 fn filled(mut hints: Hints, marks: &Vec<Mark>) -> Hints {
     for i in 0..marks.len() {
         hints.note(&marks[i].key, i);

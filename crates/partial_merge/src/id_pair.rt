@@ -51,7 +51,7 @@ fn whole(id: i64) -> Num
 }
 
 impl IdPair {
-    /// The pair with this rank and these values, where it has no order key and the values are its ids.
+    /// The pair with this sort key and these values, if it has no order key and the values are its ids.
     #[inline]
     pub(crate) fn of(rank: &Rank, values: &[Option<Num>]) -> Option<IdPair>
         ensures { IfSome result (λ pair. pair_row pair ≡ out_row rank.now values.now) }
@@ -66,7 +66,7 @@ impl IdPair {
         }
     }
 
-    /// The rank of the pair.
+    /// The sort key of the pair.
     pub(crate) fn rank(&self) -> Rank
         ensures { out_row result (pair_row self.now).cells ≡ pair_row self.now }
     {

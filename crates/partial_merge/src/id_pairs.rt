@@ -1,4 +1,4 @@
-//! The list of a bag's pairs whose values are their own two ids: one more, and those of another bag.
+//! The list of a multiset's pairs whose values are their own two ids: one more, and those of another multiset.
 
 ghost use Rattle.std.specs.Prelude.{◌≡◌, ◌≤◌, ◌<◌, ◌+◌, ◌++◌, ◌∷◌, [], ◌-◌, ◌^◌, OnErr, OnOk, vec_capacity, vec_len};
 
@@ -6,7 +6,7 @@ use crate::id_pair::IdPair;
 use crate::lists::reserve;
 use sky_io::Memory;
 
-/// Whether so many more rows can still be counted: no memory holds more.
+/// Whether n more rows can still be counted: no memory holds more.
 #[inline]
 pub(crate) fn count_more(held: usize, more: usize) -> Result<(), Memory>
     ensures { OnOk result (held + more ≤ 2 ^ 64 - 1) }
@@ -18,7 +18,7 @@ pub(crate) fn count_more(held: usize, more: usize) -> Result<(), Memory>
     }
 }
 
-/// Puts the pair behind the others. After `Err` nothing has changed.
+/// Appends the pair. After `Err` nothing has changed.
 #[inline]
 pub(crate) fn push_ids(ids: &mut Vec<IdPair>, pair: IdPair) -> Result<(), Memory>
     ensures put { OnOk result (ids.new.items ≡ ids.old.items ++ pair ∷ []) }
@@ -27,7 +27,8 @@ pub(crate) fn push_ids(ids: &mut Vec<IdPair>, pair: IdPair) -> Result<(), Memory
     Ok(ids.push(pair)?)
 }
 
-/// Makes room for so many more pairs where some are there; where none is, those of another bag are taken as they stand.
+/// Reserves room for the given number of further pairs where some are there; where none is, those of another multiset
+/// are taken as they are.
 pub(crate) fn make_room(ids: &mut Vec<IdPair>, more: usize) -> Result<(), Memory>
     ensures same { ids.new.items ≡ ids.old.items }
     ensures room { OnOk result
@@ -39,7 +40,7 @@ pub(crate) fn make_room(ids: &mut Vec<IdPair>, more: usize) -> Result<(), Memory
     reserve(ids, more)
 }
 
-/// Puts the pairs behind the others, for which there is room. Does not allocate.
+/// Appends the pairs, for which there is room. Does not allocate.
 fn append_ids(ids: &mut Vec<IdPair>, mut more: Vec<IdPair>)
     requires { vec_len ids.old + vec_len more ≤ vec_capacity ids.old }
     ensures { ids.new.items ≡ ids.old.items ++ more.items }
@@ -50,7 +51,7 @@ fn append_ids(ids: &mut Vec<IdPair>, mut more: Vec<IdPair>)
     }
 }
 
-/// Puts the pairs of another bag behind the others. Does not allocate.
+/// Appends the pairs of another multiset. Does not allocate.
 pub(crate) fn join_ids(ids: &mut Vec<IdPair>, more: Vec<IdPair>)
     requires { 0 < vec_len ids.old → vec_len ids.old + vec_len more ≤ vec_capacity ids.old }
     ensures { ids.new.items ≡ ids.old.items ++ more.items }

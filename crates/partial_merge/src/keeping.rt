@@ -1,4 +1,4 @@
-//! How a pile is kept short: it is settled each time that it has become twice as long.
+//! How an aggregation table is kept short: it is consolidated each time that it has become twice as long.
 
 ghost use Rattle.partial_merge.specs.Adding.{IsAs};
 ghost use Rattle.partial_merge.specs.Groups.{ArePiled};
@@ -10,8 +10,8 @@ use crate::settle::settle;
 use crate::tally::Tally;
 use std::alloc::Global;
 
-/// Settles a pile that is twice as long as it was after the last time, and makes new hints for it. Where there is no memory
-/// it is tried again at the next call.
+/// Consolidates an aggregation table that is twice as long as it was after the last time, and makes new cache entries
+/// for it. If memory is short it is tried again at the next call.
 pub(crate) fn keep_short(
     alloc: Global,
     marks: &mut Vec<Mark>,
@@ -33,7 +33,7 @@ pub(crate) fn keep_short(
     }
 }
 
-/// Makes hints for the groups, and tells how many these are.
+/// Makes cache entries for the groups, and returns how many these are.
 fn hinted(alloc: Global, marks: &Vec<Mark>, hints: &mut Hints) -> usize {
     *hints = Hints::of(alloc, marks);
     marks.len()

@@ -1,4 +1,4 @@
-//! The rows of a bag and the list of their values: what changes the one changes the other too.
+//! The rows of a multiset and the list of their values: what changes the one changes the other too.
 
 ghost use Rattle.std.specs.Prelude.{◌≡◌, ◌≤◌, ◌+◌, ◌++◌, ◌∷◌, [], length, OnErr, OnOk, vec_len, vec_capacity};
 ghost use Rattle.answer_rules.specs.Keeps.{KeepsFirst};
@@ -14,7 +14,7 @@ use sky_io::Memory;
 use sky_vector::Num;
 use std::alloc::Global;
 
-/// Puts the values behind the others. Does not allocate.
+/// Appends the values. Does not allocate.
 fn put_values(cells: &mut Vec<Cell>, values: &[Option<Num>])
     requires { vec_len cells.old + length values.now ≤ vec_capacity cells.old }
     ensures { cells.new.items ≡ cells.old.items ++ values.now }
@@ -24,7 +24,7 @@ fn put_values(cells: &mut Vec<Cell>, values: &[Option<Num>])
     }
 }
 
-/// Keeps one row more, its values behind the others. After `Err` nothing has changed.
+/// Keeps one row more, its values after the others. After `Err` nothing has changed.
 pub(crate) fn put_row(
     kept: &mut Kept,
     cells: &mut Vec<Cell>,
@@ -47,7 +47,7 @@ pub(crate) fn put_row(
     Ok(())
 }
 
-/// Keeps one row more, and tells how many values there were after the last packing. After `Err` nothing has changed.
+/// Keeps one row more, and returns how many values there were after the last packing. After `Err` nothing has changed.
 pub(crate) fn put_and_pack(
     alloc: Global,
     kept: &mut Kept,
@@ -69,8 +69,8 @@ pub(crate) fn put_and_pack(
     Ok(keep_small(alloc, kept, cells, packed))
 }
 
-/// Takes in the rows of another bag of the same limit, and tells how many values there were after the last packing. After
-/// `Err` nothing has changed.
+/// Adds the rows of another multiset of the same limit, and returns how many values there were after the last packing.
+/// After `Err` nothing has changed.
 pub(crate) fn join_and_pack(
     alloc: Global,
     kept: &mut Kept,

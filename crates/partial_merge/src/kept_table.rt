@@ -1,4 +1,4 @@
-//! The table of the rows that a bag keeps: they are put in order, and the first of them taken.
+//! The table of the rows that a multiset keeps: they are put in order, and the first of them taken.
 
 ghost use Rattle.std.specs.Prelude.{◌≡◌, ◌≤◌, ◌+◌, ◌++◌, All, IfOk, length, map, vec_capacity, vec_len};
 ghost use Rattle.std.specs.BinaryHeap.{heap_items};
@@ -39,7 +39,7 @@ fn sorted_table(
     row_table(alloc, rows.as_slice(), cells, merge.items.as_slice())
 }
 
-/// The table of plain rows of so many values, in any order. Allocates memory for the table.
+/// The table of compact rows of the given width, in any order. Allocates memory for the table.
 fn sorted_plain_table(
     alloc: Global,
     mut plain: Vec<Plain>,
@@ -64,7 +64,7 @@ fn sorted_plain_table(
     )
 }
 
-/// Puts plain rows of so many values behind the others. Does not allocate.
+/// Appends compact rows of the given width. Does not allocate.
 fn put_full(rows: &mut Vec<Ranked>, plain: &[Plain], width: usize, cells: usize)
     requires room { vec_len rows.old + length plain.now ≤ vec_capacity rows.old }
     requires there { All (λ p. IsIn cells (full width p)) plain.now }
@@ -75,7 +75,7 @@ fn put_full(rows: &mut Vec<Ranked>, plain: &[Plain], width: usize, cells: usize)
     }
 }
 
-/// The plain rows of so many values, and behind them the others. Allocates memory for them.
+/// The compact rows of the given width, and after them the others. Allocates memory for them.
 fn all_rows(
     alloc: Global,
     plain: &[Plain],
@@ -111,8 +111,8 @@ fn mixed_table(
     sorted_table(alloc, all, cells, merge)
 }
 
-/// The table of all rows of a bag without a limit. Allocates memory for the table and, where some have an order key and
-/// others have none, for the rows once more.
+/// The table of all rows of a multiset without a limit. Allocates memory for the table and, if some have an order key
+/// and others have none, for the rows once more.
 fn lot_table(alloc: Global, lot: Lot, cells: &[Cell], merge: &MergePlan) -> Result<Table, Memory>
     requires there { All (IsIn (length cells.now)) (all_of lot) }
     requires apart { AreApart row_order (map (row_of cells.now) (all_of lot)) }

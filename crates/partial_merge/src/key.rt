@@ -1,7 +1,7 @@
 //! The key of a group. It allocates memory where it has more than four values, and no query has such keys.
 //!
-//! A pile has a key for each of its groups, and moves and compares them all the time. So a key of few values is 40
-//! bytes, and one of a single number, which most are, is compared as that number.
+//! An aggregation table has a key for each of its groups, and moves and compares them all the time. So a key of few
+//! values is 40 bytes, and one of a single number, which most are, is compared as that number.
 
 ghost use Rattle.std.specs.Prelude.{◌≡◌, ◌≤◌, ◌∷◌, [], get_or, length, IfOk, IfSome, None, Some};
 ghost use Rattle.std.proofs.Common.{rules};
@@ -20,10 +20,10 @@ use std::alloc::Global;
 use std::cmp::Ordering;
 use std::marker::Model;
 
-/// The values of a key: in the key itself, where they are few.
+/// The values of a key: in the key itself, if they are few.
 #[derive(Drop)]
 pub(crate) enum Values {
-    /// The first `taken` of them, each a number or, where none is present, NULL.
+    /// The first `taken` of them, each a number or, if none is present, NULL.
     Short {
         taken: u8,
         present: [bool; SHORT_KEY_MOST],
@@ -47,7 +47,7 @@ impl Model for Key {
     ghost view = { λ k. values_in k.values };
 }
 
-/// The value at a place, and NULL behind the last one.
+/// The value at a place, and NULL after the last one.
 fn value_at(values: &[Option<i64>], place: usize) -> Option<i64>
     ensures { result ≡ get_or values.now place None }
 {
@@ -67,7 +67,7 @@ fn number_of(value: Option<i64>) -> i64
     }
 }
 
-/// The first so many of these values.
+/// The first n of these values.
 fn packed(taken: u8, a: Option<i64>, b: Option<i64>, c: Option<i64>, d: Option<i64>) -> Values
     ensures { values_in result ≡ first_of_four taken a b c d }
 {
@@ -78,7 +78,7 @@ fn packed(taken: u8, a: Option<i64>, b: Option<i64>, c: Option<i64>, d: Option<i
     }
 }
 
-/// The number of a short key of one column, where it is one.
+/// The number of a short key of one column, if it is one.
 fn lone_in(
     taken: u8,
     present: &[bool; SHORT_KEY_MOST],
@@ -130,7 +130,7 @@ impl Key {
         }
     }
 
-    /// The number of a key of one column, where it is one.
+    /// The number of a key of one column, if it is one.
     pub(crate) fn lone(&self) -> Option<i64>
         ensures { IfSome result (λ n. self.now ≡ Some n ∷ []) }
     {

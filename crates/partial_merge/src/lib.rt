@@ -1,19 +1,19 @@
 //! Pieces of an answer: what a chunk query gave over a set of chunks, how pieces join, and the table of the last one.
 //!
 //! Callers see a `Piece` as `PieceView` of `answer_rules`, a `Table` as a list of rows of values, and a `PieceRoot`, on
-//! which the pieces of a session rest, as a `Base`. What a piece stands for is told by `PieceFor`; `absorb` keeps it, for
-//! whatever two pieces it is called (`specs/Joining.antt`).
-//! Inside, a piece holds rows or groups (`held`). Rows are a bag (`bag`): all of them (`lot`; `plain` are the short ones,
-//! `ranked` the others) or the first n (`heap`), as `kept` has them. Their values stand in one list (`kept_cells`, `cell`), from
-//! which those of rows that had to go are let go (`packing`). Pairs whose values are their own two ids have a list of their own
-//! (`id_pair`, `id_pairs`). A bag becomes a table in `bag_table`: of rows in `kept_table`, of such pairs in `pair_table`.
-//! Groups are a pile (`pile`, `mark`, `short_key`). Those of another pile are added where hints lead to their keys (`taking`,
-//! `hints`), and a pile is settled now and then (`keeping`, `settle`). It becomes a table in `group_table`: the totals are
-//! tested (`totals`), the lines put in order (`lines`), and their items merged (`merged`, `average`).
-//! Below: `answer_rules` for what pieces mean and the laws that are used here, `expr_eval` for expressions of keys, and
-//! `scan_core` for `Work`, by which a board joins pieces (`work`). Above: `chunk_scan` and `near_join` fill pieces, a board
-//! joins them, and `czar` finishes them.
-//! No chunks, no scans and no threads.
+//! which the pieces of a session rest, as a `Base`. What a piece represents is given by `PieceFor`; `absorb` keeps it,
+//! for whatever two pieces it is called (`specs/Joining.antt`). Inside, a piece holds rows or groups (`held`). Rows are
+//! a multiset (`bag`): all of them (`lot`; `plain` are the short ones, `ranked` the others) or the first n (`heap`), as
+//! `kept` has them. Their values are in one list (`kept_cells`, `cell`), from which those of rows that were dropped are
+//! dropped (`packing`). Pairs whose values are their own two ids have a list of their own (`id_pair`, `id_pairs`). A
+//! multiset becomes a table in `bag_table`: of rows in `kept_table`, of such pairs in `pair_table`. Groups are an
+//! aggregation table (`pile`, `mark`, `short_key`). Those of another aggregation table are added where cache entries
+//! lead to their keys (`taking`, `hints`), and an aggregation table is consolidated now and then (`keeping`, `settle`).
+//! It becomes a table in `group_table`: the totals are tested (`totals`), the lines put in order (`lines`), and their
+//! items merged (`merged`, `average`). Below: `answer_rules` for what pieces mean and the lemmas that are used here,
+//! `expr_eval` for expressions of keys, and `scan_core` for `Work`, by which a board joins pieces (`work`). Above:
+//! `chunk_scan` and `near_join` fill pieces, a board joins them, and `czar` finishes them. No chunks, no scans and no
+//! threads.
 #![tactic(auto)]
 
 mod average;

@@ -13,7 +13,7 @@ ghost use Rattle.partial_merge.specs.declared.line.Line.{Line};
 use crate::mark::Mark;
 use std::cmp::Ordering;
 
-/// The rank of a group's order key, its direction and NULL worked in, and the group.
+/// The sort key of a group's order key, its direction and NULL worked in, and the group.
 #[derive(Drop)]
 pub(crate) struct Line {
     pub(crate) class: u8,

@@ -21,14 +21,14 @@ use sky_io::Memory;
 use sql_bound::ColList;
 use std::alloc::Global;
 
-/// The class of a rank: it keeps NULL before the numbers, and behind them where the order is descending.
+/// The class of a sort key: it keeps NULL before the numbers, and after them where the order is descending.
 fn class(down: bool, key: Option<i128>) -> u8
     ensures { result ≡ rank_class down key }
 {
     if key.is_none() == down { 1 } else { 0 }
 }
 
-/// The number of a rank, which turns round where the order is descending.
+/// The number of a sort key, which turns round where the order is descending.
 fn rank(down: bool, key: Option<i128>) -> i128
     requires { IsOfSize (2 ^ 126) key }
     ensures { result ≡ rank_value down key }
@@ -118,7 +118,7 @@ fn line(keys: &ColList, merge: &MergePlan, tallies: &[Tally], mark: Mark) -> Lin
     }
 }
 
-/// Puts the lines of the groups behind the others. Does not allocate.
+/// Appends the lines of the groups. Does not allocate.
 fn put_lines(
     lines: &mut Vec<Line>,
     marks: Vec<Mark>,

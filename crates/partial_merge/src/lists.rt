@@ -1,4 +1,4 @@
-//! Lists that grow: room for more, more behind the others, and the first of them.
+//! Lists that grow: room for more, more after the others, and the first of them.
 
 ghost use Rattle.std.specs.Prelude.{◌≡◌, ◌≤◌, ◌+◌, ◌++◌, [], IfOk, OnErr, OnOk, vec_capacity, vec_len};
 ghost use Rattle.answer_rules.specs.InOrder.{first};
@@ -8,7 +8,7 @@ use sky_io::Memory;
 use sql_bound::Int;
 use std::alloc::Global;
 
-/// An empty list with room for so many elements.
+/// An empty list with room for the given number of elements.
 pub(crate) fn room<T>(alloc: Global, count: usize) -> Result<Vec<T>, Memory>
     ensures items { IfOk result (λ list. list.items ≡ []) }
     ensures room { IfOk result (λ list. count ≤ vec_capacity list) }
@@ -17,7 +17,7 @@ pub(crate) fn room<T>(alloc: Global, count: usize) -> Result<Vec<T>, Memory>
     Ok(Vec::with_capacity(alloc, count)?)
 }
 
-/// Makes room for so many more elements.
+/// Reserves room for the given number of further elements.
 pub(crate) fn reserve<T>(list: &mut Vec<T>, more: usize) -> Result<(), Memory>
     ensures same { list.new.items ≡ list.old.items }
     ensures room { OnOk result (vec_len list.new + more ≤ vec_capacity list.new) }
@@ -25,7 +25,7 @@ pub(crate) fn reserve<T>(list: &mut Vec<T>, more: usize) -> Result<(), Memory>
     Ok(list.reserve(more)?)
 }
 
-/// Puts the elements behind the others. After `Err` nothing has changed.
+/// Appends the elements. After `Err` nothing has changed.
 pub(crate) fn append<T: Drop>(list: &mut Vec<T>, mut more: Vec<T>) -> Result<(), Memory>
     ensures ok { OnOk result (list.new.items ≡ list.old.items ++ more.items) }
     ensures err { OnErr result (list.new.items ≡ list.old.items) }
@@ -33,7 +33,7 @@ pub(crate) fn append<T: Drop>(list: &mut Vec<T>, mut more: Vec<T>) -> Result<(),
     Ok(list.append(&mut more)?)
 }
 
-/// Lets all go but the first so many, where there is a limit.
+/// Drops all but the first n, if there is a limit.
 pub(crate) fn cut<T: Drop>(list: &mut Vec<T>, limit: Option<Int>)
     ensures { list.new.items ≡ first (limit_of limit) list.old.items }
 {

@@ -1,4 +1,4 @@
-//! The one group of a query without keys, where it found no rows.
+//! The one group of a query without keys, if it found no rows.
 
 ghost use Rattle.std.specs.Prelude.{◌≡◌, ℕ, All, List, map, OnOk};
 ghost use Rattle.answer_rules.specs.Finish.{groups_merged};
@@ -10,7 +10,7 @@ use crate::mark::Mark;
 use sky_io::Memory;
 use sql_bound::ColList;
 
-/// Puts the one group of a query without keys there, where it found no rows.
+/// Puts the one group of a query without keys there, if it found no rows.
 pub(crate) fn put_lone(marks: &mut Vec<Mark>, keys: &ColList) -> Result<(), Memory>
     ensures groups { OnOk result ((parts : List Part) → map (group_of parts) marks.new.items
         ≡ groups_merged keys.now (map (group_of parts) marks.old.items)) }

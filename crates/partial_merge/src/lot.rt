@@ -1,6 +1,6 @@
-//! All rows of a bag without a limit. Most queries that list millions of rows ask for no order of their own: a row then
-//! has its place by its ids alone, and is kept in a short record, which is what is sorted at the end. That is told by
-//! its rank, which a NULL key has too where the order goes up, and the key 0 where it is descending.
+//! All rows of a multiset without a limit. Most queries that list millions of rows ask for no order of their own: a row
+//! then has its place by its ids alone, and is kept in a short record, which is what is sorted at the end. That is
+//! given by its sort key, which a NULL key has too where the order is ascending, and the key 0 where it is descending.
 
 ghost use Rattle.std.specs.Prelude.{◌≡◌, ◌≤◌, ◌+◌, ◌-◌, ◌^◌, ◌++◌, ◌∷◌, [], pos, All, IsPermutation, length, map, None, OnErr, OnOk, vec_capacity, vec_len};
 ghost use Rattle.std.specs.Bool.{OnTrue};
@@ -16,7 +16,8 @@ use crate::ranked::Ranked;
 use sky_io::Memory;
 use std::alloc::Global;
 
-/// Rows without an order key, or with one that ranks as none, that have `width` values; and all others; each in any order.
+/// Rows without an order key, or with one that sorts as none, that have `width` values; and all others; each in any
+/// order.
 #[derive(Drop)]
 pub(crate) struct Lot {
     pub(crate) plain: Vec<Plain>,
@@ -24,7 +25,7 @@ pub(crate) struct Lot {
     pub(crate) rows: Vec<Ranked>,
 }
 
-/// Whether the row has no order key, or one that ranks as none.
+/// Whether the row has no order key, or one that sorts as none.
 fn is_unordered(row: &Ranked) -> bool
     ensures class { OnTrue result (row.now.class ≡ 0) }
     ensures value { OnTrue result (row.now.value ≡ pos 0) }
@@ -51,7 +52,7 @@ impl Lot {
         self.plain.len() + self.rows.len()
     }
 
-    /// Whether each of the plain rows has so many values.
+    /// Whether each of the compact rows has the given number of values.
     fn is_wide(&self, width: usize) -> bool
         ensures { OnTrue result (map (full width) self.now.plain.items
             ≡ map (full self.now.width) self.now.plain.items) }
@@ -59,14 +60,14 @@ impl Lot {
         self.plain.is_empty() || self.width == width
     }
 
-    /// Whether the row can be one of the plain ones.
+    /// Whether the row can be one of the compact ones.
     fn is_plain(&self, row: &Ranked) -> bool
         ensures { OnTrue result (IsPlainIn self.now row.now) }
     {
         is_unordered(row) && row.from <= row.to && self.is_wide(row.to - row.from)
     }
 
-    /// Makes room for so many more rows of either kind. After `Err` nothing has changed.
+    /// Reserves room for the given number of further rows of either kind. After `Err` nothing has changed.
     fn make_room(&mut self, more: usize) -> Result<(), Memory>
         ensures same { all_of self.new ≡ all_of self.old }
         ensures room { OnOk result (HasRoom self.new more) }
@@ -75,7 +76,7 @@ impl Lot {
         reserve(&mut self.rows, more)
     }
 
-    /// Puts the row among the plain ones. Does not allocate.
+    /// Adds the row to the compact ones. Does not allocate.
     fn put_plain(&mut self, row: &Ranked)
         requires plain { IsPlainIn self.old row.now }
         requires room { HasRoom self.old 1 }
@@ -86,7 +87,7 @@ impl Lot {
         self.plain.push_reserved(Plain::of(row));
     }
 
-    /// Puts the row among the others. Does not allocate.
+    /// Adds the row to the others. Does not allocate.
     fn put_reserved(&mut self, row: Ranked)
         requires room { HasRoom self.old 1 }
         ensures put { IsPermutation (all_of self.old ++ row ∷ []) (all_of self.new) }
@@ -99,7 +100,7 @@ impl Lot {
         self.rows.push_reserved(row);
     }
 
-    /// Puts the row among the others. After `Err` nothing has changed.
+    /// Adds the row to the others. After `Err` nothing has changed.
     pub(crate) fn put(&mut self, row: Ranked) -> Result<(), Memory>
         ensures kept { OnOk result (KeepsFirst rank_order None (all_of self.old ++ row ∷ [])
             (all_of self.new)) }
@@ -111,7 +112,7 @@ impl Lot {
     }
 }
 
-/// Puts plain rows of so many values among the others, their values so much farther behind. Does not allocate.
+/// Adds compact rows of the given width to the others, their values shifted by the given offset. Does not allocate.
 fn put_plains(lot: &mut Lot, others: &[Plain], width: usize, by: usize, count: usize)
     requires room { HasRoom lot.old (length others.now) }
     requires there { All (λ p. IsIn count (full width p)) others.now }
@@ -128,7 +129,7 @@ fn put_plains(lot: &mut Lot, others: &[Plain], width: usize, by: usize, count: u
     }
 }
 
-/// Puts rows among the others, their values so much farther behind. Does not allocate.
+/// Adds rows to the others, their values shifted by the given offset. Does not allocate.
 fn put_rows(lot: &mut Lot, others: &[Ranked], by: usize, count: usize)
     requires room { HasRoom lot.old (length others.now) }
     requires there { All (IsIn count) others.now }
@@ -140,7 +141,7 @@ fn put_rows(lot: &mut Lot, others: &[Ranked], by: usize, count: usize)
     }
 }
 
-/// Takes in all of the other rows, whose values go behind these. After `Err` nothing has changed.
+/// Adds all of the other rows, whose values go after these. After `Err` nothing has changed.
 pub(crate) fn join_all(
     lot: &mut Lot,
     cells: &mut Vec<Cell>,

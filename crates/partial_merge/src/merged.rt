@@ -41,7 +41,7 @@ fn seen_at(parts: &[Tally], n: usize) -> u32
     }
 }
 
-/// What the values of the part at a place come to; one that is not there has none.
+/// What the values of the part at a place evaluates to; one that is not there has none.
 pub(crate) fn value_at(parts: &[Tally], n: usize) -> Option<i128>
     ensures { result ≡ (unwrap_or (slice_get parts.now n) (count_part 0)).value }
 {

@@ -1,8 +1,8 @@
-//! Packing a bag: the values of rows that had to go are let go.
+//! Packing a multiset: the values of rows that were dropped are dropped.
 //!
-//! With a limit the rows of a bag are few, and the values of all rows that ever were among them stand in its list. When the
-//! list has doubled, the values of the rows that are left are copied into a new one; the old one goes. Until the copy is
-//! whole nothing is changed.
+//! With a limit the rows of a multiset are few, and the values of all rows that ever were among them are in its list.
+//! When the list has doubled, the values of the rows that are left are copied into a new one; the old one goes. Until
+//! the copy is whole nothing is changed.
 
 ghost use Rattle.std.specs.Prelude.{◌≡◌, ◌≤◌, ◌+◌, ◌-◌, ◌++◌, ◌∷◌, [], All, length, map, slice_range, vec_capacity, vec_len, OnErr, OnOk, Some};
 ghost use Rattle.std.specs.BinaryHeap.{heap_items, IsHeap};
@@ -20,7 +20,7 @@ use sky_io::Memory;
 use std::alloc::Global;
 use std::collections::BinaryHeap;
 
-/// Puts copies of the values behind the others. Does not allocate.
+/// Appends copies of the values. Does not allocate.
 fn put_reserved(cells: &mut Vec<Cell>, values: &[Cell])
     requires { vec_len cells.old + length values.now ≤ vec_capacity cells.old }
     ensures { cells.new.items ≡ cells.old.items ++ values.now }
@@ -30,7 +30,7 @@ fn put_reserved(cells: &mut Vec<Cell>, values: &[Cell])
     }
 }
 
-/// Puts copies of the values behind the others.
+/// Appends copies of the values.
 fn put_copies(cells: &mut Vec<Cell>, values: &[Cell]) -> Result<(), Memory>
     ensures { OnOk result (cells.new.items ≡ cells.old.items ++ values.now) }
 {
@@ -39,7 +39,7 @@ fn put_copies(cells: &mut Vec<Cell>, values: &[Cell]) -> Result<(), Memory>
     Ok(())
 }
 
-/// Puts the row behind the others, and copies of its values behind theirs.
+/// Appends the row, and copies of its values after theirs.
 fn put_row(
     rows: &mut Vec<Ranked>,
     live: &mut Vec<Cell>,
@@ -58,7 +58,7 @@ fn put_row(
     Ok(())
 }
 
-/// Puts the rows behind the others, and copies of their values behind theirs.
+/// Appends the rows, and copies of their values after theirs.
 fn put_rows(
     rows: &mut Vec<Ranked>,
     live: &mut Vec<Cell>,
@@ -107,7 +107,7 @@ fn pack_heap(
     Ok(())
 }
 
-/// Leaves the values of the rows that are kept. Where all are kept, so are all values. After `Err` nothing has changed.
+/// Leaves the values of the rows that are kept. If all are kept, so are all values. After `Err` nothing has changed.
 fn pack(alloc: Global, kept: &mut Kept, cells: &mut Vec<Cell>) -> Result<(), Memory>
     requires mine { IsKept (length cells.old.items) kept.old }
     ensures mine { IsKept (length cells.new.items) kept.new }
@@ -123,8 +123,8 @@ fn pack(alloc: Global, kept: &mut Kept, cells: &mut Vec<Cell>) -> Result<(), Mem
     }
 }
 
-/// Packs a bag that has twice as many values as it had after the last time, and tells how many it has then. Where there is
-/// no memory it is tried again at the next call.
+/// Packs a multiset that has twice as many values as it had after the last time, and returns how many it has then. If
+/// there is no memory it is tried again at the next call.
 pub(crate) fn keep_small(
     alloc: Global,
     kept: &mut Kept,

@@ -25,7 +25,7 @@ fn column(pair: &IdPair, item: &MergeItem) -> Value
     }
 }
 
-/// Puts the merged items of a pair behind the others.
+/// Appends the merged items of a pair.
 fn put_pair(values: &mut Vec<Value>, pair: &IdPair, items: &[MergeItem]) -> Result<(), Memory>
     ensures { OnOk result (values.new.items ≡ values.old.items ++ pair_values items.now pair.now) }
 {

@@ -1,10 +1,10 @@
 //! A piece of an answer: what a chunk query gave over a set of chunks.
 //!
-//! Chunks are scanned in any order and by more than one worker, so pieces join in any order: rows as a bag, of which with
-//! a LIMIT n the first n are kept, groups as a pile that is settled now and then. At the end the piece over all chunks of
-//! the plan is put in order and becomes the table.
-//! Callers see a piece as its rows with the limit of the chunk query, or as its groups (`PieceView`). What it stands for
-//! is told by `PieceFor`; `absorb` keeps that, whatever the two pieces stood for.
+//! Chunks are scanned in any order and by more than one worker, so pieces join in any order: rows as a multiset, of
+//! which with a LIMIT n the first n are kept, groups as an aggregation table that is consolidated now and then. At the
+//! end the piece over all chunks of the plan is put in order and becomes the table. Callers see a piece as its rows
+//! with the limit of the chunk query, or as its groups (`PieceView`). What it represents is given by `PieceFor`;
+//! `absorb` keeps that, whatever the two pieces was for.
 
 ghost use Rattle.std.specs.Prelude.{◌≡◌, ◌≤◌, Err, IfErr, IfOk, Ok, OnErr, OnOk};
 ghost use Rattle.std.specs.Bool.{OnTrue};
@@ -59,9 +59,9 @@ impl<'w> Piece<'w> {
         }
     }
 
-    /// Whether a row of this rank is none of the first n of a chunk query with LIMIT n, whatever its values: as soon as
-    /// n rows are held of which none comes after it. Such a row need not be pushed, nor its values be computed. Does
-    /// not allocate.
+    /// Whether a row with this sort key is none of the first n of a chunk query with LIMIT n, whatever its values: as
+    /// soon as n rows are held of which none comes after it. Such a row need not be pushed, nor its values be computed.
+    /// Does not allocate.
     pub fn is_too_late(&self, rank: &Rank) -> bool
         ensures late { OnTrue result (IsNoneOfFirst self.now rank.now) }
         ensures told { IsToldLate self.now rank.now result }
@@ -69,7 +69,7 @@ impl<'w> Piece<'w> {
         is_too_late(&self.held, rank)
     }
 
-    /// Takes in a row of this rank with these values, as a scan finds it. After `Err` nothing has changed.
+    /// Adds a row with this sort key with these values, as a scan finds it. After `Err` nothing has changed.
     pub fn push_row(&mut self, rank: &Rank, values: &[Option<Num>]) -> Result<(), Memory>
         requires rows { IsOfRows self.old }
         ensures kept { OnOk result (TakesRow self.old (out_row rank.now values.now) self.new) }
@@ -78,7 +78,8 @@ impl<'w> Piece<'w> {
         push_row(&mut self.held, rank, values)
     }
 
-    /// Takes in a group of this key with so many rows and these parts, as a scan finds it. After `Err` nothing has changed.
+    /// Adds a group of this key with the given number of rows and these parts, as a scan finds it. After `Err` nothing
+    /// has changed.
     pub fn push_group(&mut self, key: Key, rows: u32, parts: &[Tally]) -> Result<(), Memory>
         requires alike { MayTakeGroup self.old (group_by key rows parts.now) }
         ensures put { OnOk result (self.new ≡ with_group self.old (group_by key rows parts.now)) }
@@ -97,7 +98,7 @@ impl<'w> Piece<'w> {
         count(&self.held)
     }
 
-    /// Takes in another piece, so that this one stands for the chunks of both. After `Err` nothing has changed, and the
+    /// Adds another piece, so that this one represents the chunks of both. After `Err` nothing has changed, and the
     /// other piece is gone.
     pub fn absorb(&mut self, other: Piece<'w>) -> Result<(), Memory>
         requires { MayJoin self.old other }
@@ -114,7 +115,7 @@ impl<'w> Piece<'w> {
 
     /// The answer: in order, the first of its rows where there is a limit; or the first total of a group that is
     /// outside ±2^100, by group, then by item. The piece is gone after it. Allocates memory for the table, and of
-    /// groups for a new pile and their order.
+    /// groups for a new aggregation table and their order.
     pub fn finish(self, merge: &MergePlan) -> Result<Table, Stop<TotalOut>>
         requires { MayFinish merge.now self }
         ensures ok { IfOk result (λ table. finished merge.now self.entry ≡ Ok table) }

@@ -1,6 +1,6 @@
-//! A pile of groups: their keys in one list, and all their parts in another.
+//! An aggregation table of groups: their keys in one list, and all their parts in another.
 //!
-//! A key may stand in it more than once; what contracts see is the list in which those of one key are added up.
+//! A key may are in it more than once; what contracts see is the list in which those of one key are added up.
 
 ghost use Rattle.std.specs.Prelude.{◌≡◌, ◌+◌, ◌≤◌, ◌*◌, ◌++◌, ◌∷◌, [], All, Err, length, map, IfErr, IfOk, Ok, OnErr, OnOk, vec_capacity, vec_len};
 ghost use Rattle.answer_rules.specs.Finish.{groups_merged, merged_groups};
@@ -41,7 +41,7 @@ pub(crate) struct Pile {
     hints: Hints,
 }
 
-/// How long a pile may become before it is settled for the first time, twice over.
+/// How long an aggregation table may become before it is consolidated for the first time, twice over.
 const SHORT: usize = 32;
 
 impl Model for Pile {
@@ -55,7 +55,7 @@ impl Model for Pile {
     ghost invariant = { λ p. ArePiled p.tallies.items p.marks.items × HaveOwnParts p.marks.items };
 }
 
-/// Puts copies of the parts behind the others. Does not allocate.
+/// Appends copies of the parts. Does not allocate.
 fn put_reserved(tallies: &mut Vec<Tally>, parts: &[Tally])
     requires { vec_len tallies.old + length parts.now ≤ vec_capacity tallies.old }
     ensures { tallies.new.items ≡ tallies.old.items ++ parts.now }
@@ -65,7 +65,7 @@ fn put_reserved(tallies: &mut Vec<Tally>, parts: &[Tally])
     }
 }
 
-/// Puts copies of the parts behind the others.
+/// Appends copies of the parts.
 fn put_parts(tallies: &mut Vec<Tally>, parts: &[Tally]) -> Result<(), Memory>
     ensures ok { OnOk result (tallies.new.items ≡ tallies.old.items ++ parts.now) }
     ensures err { OnErr result (tallies.new.items ≡ tallies.old.items) }
@@ -75,7 +75,7 @@ fn put_parts(tallies: &mut Vec<Tally>, parts: &[Tally]) -> Result<(), Memory>
     Ok(())
 }
 
-/// Room for the groups of another pile and for their parts. After `Err` nothing has changed.
+/// Room for the groups of another aggregation table and for their parts. After `Err` nothing has changed.
 fn make_room(
     marks: &mut Vec<Mark>,
     tallies: &mut Vec<Tally>,
@@ -92,7 +92,7 @@ fn make_room(
     reserve(tallies, part_count(others)?)
 }
 
-/// Takes in the groups of another pile. After `Err` nothing has changed.
+/// Adds the groups of another aggregation table. After `Err` nothing has changed.
 fn join(
     marks: &mut Vec<Mark>,
     tallies: &mut Vec<Tally>,
@@ -118,7 +118,7 @@ fn join(
     Ok(())
 }
 
-/// Puts a group behind the others, and copies of its parts behind theirs. After `Err` nothing has changed.
+/// Appends a group, and copies of its parts after theirs. After `Err` nothing has changed.
 fn put(
     marks: &mut Vec<Mark>,
     tallies: &mut Vec<Tally>,
@@ -153,7 +153,7 @@ fn put(
 }
 
 impl Pile {
-    /// A pile without groups. Does not allocate.
+    /// An aggregation table without groups. Does not allocate.
     pub(crate) fn empty(alloc: Global) -> Pile
         ensures { result ≡ [] }
     {
@@ -166,7 +166,7 @@ impl Pile {
         }
     }
 
-    /// Takes in a group of the same ways. After `Err` nothing has changed.
+    /// Adds a group of the same ways. After `Err` nothing has changed.
     pub(crate) fn push(&mut self, key: Key, rows: u32, parts: &[Tally]) -> Result<(), Memory>
         requires alike { MayGather self.old (group_by key rows parts.now ∷ []) }
         requires small { IsSmallGroup (group_by key rows parts.now) }
@@ -177,7 +177,7 @@ impl Pile {
         put(&mut self.marks, &mut self.tallies, key, rows, parts)
     }
 
-    /// Takes in the groups of another pile of the same ways. After `Err` nothing has changed.
+    /// Adds the groups of another aggregation table of the same ways. After `Err` nothing has changed.
     pub(crate) fn absorb(&mut self, other: Pile) -> Result<(), Memory>
         requires alike { MayGather self.old other }
         ensures joined { OnOk result (self.new

@@ -1,4 +1,4 @@
-//! A row of a bag that has no order key, or one that ranks as none, and as many values as the others of its kind.
+//! A row of a multiset that has no order key, or one that sorts as none, and as many values as the others of its kind.
 
 ghost use Rattle.std.specs.Prelude.{◌≡◌, ◌+◌, ◌-◌, ◌≤◌, ◌^◌};
 ghost use Rattle.std.proofs.Common.{rules};
@@ -30,7 +30,7 @@ impl Plain {
         }
     }
 
-    /// The row, with so many values.
+    /// The row, with the given number of values.
     pub(crate) fn full(&self, width: usize) -> Ranked
         requires { self.now.from + width ≤ 2 ^ 64 - 1 }
         ensures { result ≡ full width self.now }

@@ -37,7 +37,7 @@ impl<'w> Model for PieceRoot<'w> {
     ghost invariant = { λ r. IsBase (record { plan = r.plan.now; rows = r.rows.now; queries = r.queries.items }) };
 }
 
-/// Puts a chunk query with its number behind the others. After `Err` nothing has changed.
+/// Appends a chunk query with its number. After `Err` nothing has changed.
 fn give(queries: &mut Vec<(u32, ChunkQuery)>, q: u32, query: ChunkQuery) -> Result<(), Memory>
     ensures given { OnOk result (queries.new.items ≡ queries.old.items ++ (q, query) ∷ []) }
     ensures same { OnErr result (queries.new.items ≡ queries.old.items) }

@@ -45,21 +45,21 @@ fn column(cells: &[Cell], item: &MergeItem) -> Value
     }
 }
 
-/// Puts the value behind the others.
+/// Appends the value.
 pub(crate) fn put(values: &mut Vec<Value>, value: Value) -> Result<(), Memory>
     ensures { OnOk result (values.new.items ≡ values.old.items ++ value ∷ []) }
 {
     Ok(values.push(value)?)
 }
 
-/// An empty list with room for the values of so many rows: it need not grow.
+/// An empty list with room for the values of the given number of rows: it need not grow.
 pub(crate) fn values_room(alloc: Global, rows: usize, items: usize) -> Result<Vec<Value>, Memory>
     ensures { IfOk result (λ values. values.items ≡ []) }
 {
     room(alloc, rows.saturating_mul(items))
 }
 
-/// Puts the merged items of a row behind the others.
+/// Appends the merged items of a row.
 fn put_row(values: &mut Vec<Value>, cells: &[Cell], items: &[MergeItem]) -> Result<(), Memory>
     ensures { OnOk result (values.new.items
         ≡ values.old.items ++ map (column_value cells.now) items.now) }
@@ -104,7 +104,7 @@ fn part(cells: &[Cell], from: usize, width: usize) -> &[Cell]
     &cells[from..from + width]
 }
 
-/// The values of plain rows, of which each has so many.
+/// The values of compact rows, each of the given width.
 fn plain_values(
     alloc: Global,
     plain: &[Plain],
@@ -123,7 +123,7 @@ fn plain_values(
     Ok(values)
 }
 
-/// The table of these plain rows, of which each has so many values. Allocates memory for it.
+/// The table of these compact rows, of which each has the given number of values. Allocates memory for it.
 pub(crate) fn plain_table(
     alloc: Global,
     plain: &[Plain],

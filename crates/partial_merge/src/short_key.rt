@@ -13,7 +13,7 @@ use std::marker::Model;
 pub(crate) struct ShortKey {
     /// How many there are.
     taken: usize,
-    /// The values, and others behind them.
+    /// The values, and others after them.
     values: [Option<i64>; SHORT_KEY_MOST],
 }
 
@@ -28,7 +28,7 @@ impl Model for ShortKey {
     ghost invariant = { λ k. k.taken ≤ SHORT_KEY_MOST };
 }
 
-/// The values of a key, opened or as they stand.
+/// The values of a key, opened or as they are.
 #[derive(Drop)]
 pub(crate) enum Cells<'k> {
     Few(ShortKey),
@@ -96,7 +96,7 @@ impl<'k> OpenKey<'k> {
 }
 
 impl ShortKey {
-    /// The first so many of these.
+    /// The first n of these.
     pub(crate) fn of(
         taken: u8,
         present: &[bool; SHORT_KEY_MOST],

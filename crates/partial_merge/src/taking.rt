@@ -1,8 +1,8 @@
-//! Taking the groups of one pile into another: each is added to the one of its key, where a hint leads to that, and is put
-//! behind the others where none does.
+//! Taking the groups of one aggregation table into another: each is added to the one of its key, if a cache entry leads
+//! to that, and is put after the others where none does.
 //!
-//! A sum stands where the part of the pile stood. No two groups share a part, so that the others stay as they were. The room
-//! for groups and parts is made before anything changes.
+//! A sum is where the part of the aggregation table was. No two groups share a part, so that the others stay as they
+//! were. The room for groups and parts is made before anything changes.
 
 ghost use Rattle.std.specs.Prelude.{◌≡◌, ◌≤◌, ◌<◌, ◌+◌, ◌*◌, ◌++◌, ◌∷◌, [], length, slice_range, slice_set, true, vec_capacity, vec_len, All};
 ghost use Rattle.std.specs.Ordering.{is_eq};
@@ -19,7 +19,8 @@ use crate::mark::Mark;
 use crate::settle::{put_alone, sum_at};
 use crate::tally::Tally;
 
-/// Puts the sum of a part of the other pile, and of one of the pile, in the place of that one. Does not allocate.
+/// Puts the sum of a part of the other aggregation table, and of one of the aggregation table, in the place of that
+/// one. Does not allocate.
 fn add_at(tallies: &mut Vec<Tally>, b: usize, more: &Vec<Tally>, a: usize)
     requires a_there { a < length more.now.items }
     requires b_there { b < length tallies.old.items }
@@ -32,7 +33,8 @@ fn add_at(tallies: &mut Vec<Tally>, b: usize, more: &Vec<Tally>, a: usize)
     tallies[b] = sum_at(more, a, tallies, b);
 }
 
-/// Adds so many parts of the other pile, from that place, to those of the pile, from this place. Does not allocate.
+/// Adds the given number of parts of the other aggregation table, from that place, to those of the aggregation table,
+/// from this place. Does not allocate.
 fn add_parts(tallies: &mut Vec<Tally>, b: usize, more: &Vec<Tally>, a: usize, width: usize)
     requires a_there { a + width ≤ length more.now.items }
     requires b_there { b + width ≤ length tallies.old.items }
@@ -51,7 +53,7 @@ fn add_parts(tallies: &mut Vec<Tally>, b: usize, more: &Vec<Tally>, a: usize, wi
     }
 }
 
-/// Adds so many rows to those of the group at the place. Does not allocate.
+/// Adds the given number of rows to those of the group at the place. Does not allocate.
 fn add_rows(marks: &mut Vec<Mark>, place: usize, rows: u32)
     requires there { place < length marks.old.items }
     requires few { rows + (mark_in marks.old.items place).rows ≤ most_rows }
@@ -63,7 +65,7 @@ fn add_rows(marks: &mut Vec<Mark>, place: usize, rows: u32)
     marks[place].rows = rows + marks[place].rows;
 }
 
-/// Adds a group of the other pile to the one at the place, which is of its key. Does not allocate.
+/// Adds a group of the other aggregation table to the one at the place, which is of its key. Does not allocate.
 fn add_to(
     marks: &mut Vec<Mark>,
     tallies: &mut Vec<Tally>,
@@ -94,7 +96,7 @@ fn add_to(
     add_rows(marks, place, other.rows);
 }
 
-/// Takes in a group of the other pile. Does not allocate.
+/// Adds a group of the other aggregation table. Does not allocate.
 fn take_one(
     marks: &mut Vec<Mark>,
     tallies: &mut Vec<Tally>,
@@ -126,7 +128,7 @@ fn take_one(
     }
 }
 
-/// Puts a group of the other pile behind the others, and notes where. Does not allocate.
+/// Appends a group of the other aggregation table, and notes where. Does not allocate.
 fn put_behind(
     marks: &mut Vec<Mark>,
     tallies: &mut Vec<Tally>,
@@ -156,8 +158,8 @@ fn put_behind(
     put_alone(marks, tallies, more, other);
 }
 
-/// Takes in the groups of the other pile. Does not allocate. They are read where they stand: most of them are added to
-/// groups of the pile, and only what is put behind is moved.
+/// Adds the groups of the other aggregation table. Does not allocate. They are read in place: most of them are
+/// added to groups of the aggregation table, and only what is put after is moved.
 pub(crate) fn take_all(
     marks: &mut Vec<Mark>,
     tallies: &mut Vec<Tally>,

@@ -9,7 +9,7 @@ ghost use Rattle.partial_merge.specs.Adding.{MayAdd};
 use answer_rules::Way;
 use std::marker::Model;
 
-/// The way of an aggregate, how many values it counts, and what they come to, if there are any.
+/// The way of an aggregate, how many values it counts, and what they evaluates to, if there are any.
 #[derive(Drop)]
 pub struct Tally {
     way: Way,
@@ -28,7 +28,7 @@ impl Model for Tally {
 }
 
 impl Tally {
-    /// The part of this way, of so many values that come to this. Does not allocate.
+    /// The part of this way, of the given width that evaluates to this. Does not allocate.
     pub fn new(way: Way, seen: u32, value: Option<i128>) -> Tally
         ensures { result ≡ record { way = way; seen = seen; value = value } }
     {
@@ -67,7 +67,7 @@ impl Tally {
         self.seen
     }
 
-    /// What the values come to, if there are any.
+    /// What the values evaluates to, if there are any.
     pub(crate) fn value(&self) -> Option<i128>
         ensures { result ≡ self.now.value }
     {
@@ -87,7 +87,7 @@ impl Tally {
     }
 }
 
-/// What two values come to.
+/// What two values evaluates to.
 fn join_two(way: Way, a: i128, b: i128) -> i128
     requires a_size { nat_abs a ≤ 2 ^ 124 }
     requires b_size { nat_abs b ≤ 2 ^ 124 }
@@ -100,7 +100,7 @@ fn join_two(way: Way, a: i128, b: i128) -> i128
     }
 }
 
-/// What two values come to, where either may be missing.
+/// What two values evaluates to, where either may be missing.
 fn joined(way: Way, a: Option<i128>, b: Option<i128>) -> Option<i128>
     requires a_size { IsOfSize (2 ^ 124) a }
     requires b_size { IsOfSize (2 ^ 124) b }

@@ -45,7 +45,7 @@ fn is_out(total: i128) -> bool
     }
 }
 
-/// The total, where it is out of range.
+/// The total, if it is out of range.
 fn if_out(total: Option<i128>) -> Option<i128>
     ensures { result ≡ find (λ t. not (is_query_number t)) (option_to_list total) }
 {
@@ -53,7 +53,7 @@ fn if_out(total: Option<i128>) -> Option<i128>
     if is_out(total) { Some(total) } else { None }
 }
 
-/// The total that an item takes of a group, where it is out of range.
+/// The total that an item takes of a group, if it is out of range.
 fn out_of(tallies: &[Tally], mark: &Mark, item: &MergeItem) -> Option<i128>
     requires { IsThere (length tallies.now) mark.now }
     ensures { result ≡ find (λ t. not (is_query_number t))
