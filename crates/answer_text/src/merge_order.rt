@@ -144,7 +144,7 @@ fn put_merged_at<K: Sink>(sink: &mut K, merge: &MergePlan, place: usize) -> Put
     put_listed(sink, keys_by(&merge.shape), merge.items.as_slice(), place)
 }
 
-// Writes the order by these items over these keys.
+// Writes the merged item at a place of these items, over these keys.
 fn put_listed<K: Sink>(sink: &mut K, keys: &[BoundCol], items: &[MergeItem], place: usize) -> Put
     ensures { Wrote (K.state sink.old) (K.state sink.new)
         (unwrap_or (slice_get (map (merged_over keys.now) items.now) place) []) result }
