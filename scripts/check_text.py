@@ -33,6 +33,8 @@ CLAUSE = re.compile(r"\s*(?:requires|ensures)\*?\b")
 CRATE = re.compile(r"crates/[a-z0-9_]+/(?:src|specs|proofs)/")
 NAME = re.compile(r"[A-Za-z_][A-Za-z0-9_']*")
 WIDEST_CLAUSE = 100
+# its rows are mutants that are not tried, and no claims
+IDEAS = "docs/proofs/ideas.md"
 
 
 def names():
@@ -57,7 +59,7 @@ def findings(name, lines):
 
 def claims():
     """The rows of the tables of claims, as (page, line number, crates of the section, cells)."""
-    for page in sorted(glob.glob("docs/proofs/*.md")):
+    for page in sorted(set(glob.glob("docs/proofs/*.md")) - {IDEAS}):
         section = []
         with open(page, encoding="utf-8") as file:
             for number, line in enumerate(file, 1):
