@@ -11,6 +11,7 @@ It prints each finding, or 'check_text: ok', and writes nothing. It looks for:
 - a clause of more than 100 columns;
 - a must-fail edit that the claims of docs/proofs don't name in as many rows as there are crates with that edit;
 - a wrong body that a claim names and no crate has;
+- an idea of a mutant, in docs/proofs/ideas.md, that cannot be read or no longer fits the code;
 - a call, a clause or a word that a claim names and that stands neither in the crates of its section nor in a crate that
   the row names.
 """
@@ -21,6 +22,8 @@ import os
 import re
 import subprocess
 import sys
+
+import mutants
 
 LABEL = re.compile(
     r"(?<![\w.#-])(?:(?:document|paper) 0[1-4]\b|(?:T[1-5]\.[1-9]|[DRW][1-9][0-9]?b?|H[1-5])(?![\w.%]))"
@@ -33,8 +36,6 @@ CLAUSE = re.compile(r"\s*(?:requires|ensures)\*?\b")
 CRATE = re.compile(r"crates/[a-z0-9_]+/(?:src|specs|proofs)/")
 NAME = re.compile(r"[A-Za-z_][A-Za-z0-9_']*")
 WIDEST_CLAUSE = 100
-# its rows are mutants that are not tried, and no claims
-IDEAS = "docs/proofs/ideas.md"
 
 
 def names():
@@ -59,7 +60,7 @@ def findings(name, lines):
 
 def claims():
     """The rows of the tables of claims, as (page, line number, crates of the section, cells)."""
-    for page in sorted(set(glob.glob("docs/proofs/*.md")) - {IDEAS}):
+    for page in sorted(set(glob.glob("docs/proofs/*.md")) - {mutants.IDEAS}):  # its rows are no claims
         section = []
         with open(page, encoding="utf-8") as file:
             for number, line in enumerate(file, 1):
@@ -115,7 +116,7 @@ def main():
     os.chdir(os.path.join(os.path.dirname(os.path.abspath(__file__)), ".."))
     count = 0
     listed = names()
-    for finding in [*edit_findings(listed), *claim_findings()]:
+    for finding in [*edit_findings(listed), *mutants.misfits(), *claim_findings()]:
         print(finding)
         count += 1
     for name in listed:
