@@ -26,6 +26,8 @@ import tempfile
 IDEAS = "docs/proofs/ideas.md"
 PAIR = re.compile(r"`([^`]+)` → (?:`([^`]+)`|nothing)")
 BETWEEN_PAIRS = "; "
+# how rt says it
+REFUSED = "refused, as it must be: "
 
 # its crate, its name, the file of the crate, the pairs of an old and a new text, and whether it is an idea
 Mutant = collections.namedtuple("Mutant", "crate name file pairs is_idea")
@@ -161,7 +163,7 @@ def tried(mutants, copy):
     ran = subprocess.run(words, cwd=copy, stdout=subprocess.PIPE, stderr=subprocess.STDOUT, text=True, errors="replace", check=False)
     for mutant in mutants:
         told = verdict(f"must-fail {mutant.crate}/{mutant.name}.edit: ", ran.stdout)
-        yield mutant, told.startswith("refused"), told
+        yield mutant, told.startswith(REFUSED), told.removeprefix(REFUSED)
 
 
 def verdict(label, output):
@@ -192,7 +194,7 @@ def try_all(mutants, folder):
     failed = 0
     for crate in sorted({it.crate for it in mutants}):
         for mutant, is_refused, told in tried([it for it in mutants if it.crate == crate], copy):
-            print(f"{crate}/{mutant.name}: " + (told if is_refused else f"NOT refused: {told}"), flush=True)
+            print(f"{crate}/{mutant.name}: {'refused' if is_refused else 'NOT refused'}: {told}", flush=True)
             failed += not is_refused
     return failed
 
@@ -216,7 +218,7 @@ def check():
     found = misfits()
     for finding in found:
         print(finding)
-    print(f"mutants: {len(found)} findings" if found else f"mutants: all {len(list(ideas()))} ideas fit the code")
+    print(f"mutants: findings: {len(found)}" if found else f"mutants: all {len(list(ideas()))} ideas fit the code")
     return 1 if found else 0
 
 
@@ -251,4 +253,7 @@ def main():
 
 
 if __name__ == "__main__":
-    sys.exit(main())
+    try:
+        sys.exit(main())
+    except Malformed as malformed:
+        sys.exit(f"mutants: {malformed}")
