@@ -10,7 +10,7 @@ It prints each finding, or 'check_text: ok', and writes nothing. It looks for:
 - an .rt or .antt file outside of a crate's src/, specs/ and proofs/;
 - a clause of more than 100 columns;
 - a must-fail edit that the claims of docs/proofs don't name in as many rows as there are crates with that edit;
-- a wrong body that a claim names and no crate has;
+- a mutant that a claim names and no crate has;
 - an idea of a mutant, in docs/proofs/ideas.md, that cannot be read or no longer fits the code;
 - a call, a clause or a word that a claim names and that stands neither in the crates of its section nor in a crate that
   the row names.
@@ -72,7 +72,7 @@ def claims():
 
 
 def claimed_edits():
-    """The wrong bodies that the rows of the table of claims name: those in the cell before the last."""
+    """The mutants that the rows of the table of claims name: those in the cell before the last."""
     cells = [row[3] for _, _, _, row in claims()]
     return collections.Counter(name for cell in cells for name in set(re.findall(r"`([a-z0-9_]+)`", cell)))
 
@@ -106,9 +106,9 @@ def edit_findings(listed):
     claimed = claimed_edits()
     for name in sorted(there.keys() | claimed.keys()):
         if claimed[name] < there[name]:
-            yield f"{name}: docs/proofs names this wrong body in {claimed[name]} rows, {there[name]} crates have it"
+            yield f"{name}: docs/proofs names this mutant in {claimed[name]} rows, {there[name]} crates have it"
         if there[name] == 0:
-            yield f"{name}: docs/proofs names this wrong body, and no crate has it"
+            yield f"{name}: docs/proofs names this mutant, and no crate has it"
 
 
 def main():
