@@ -11,7 +11,7 @@ is read. The gate tries the edits; this is no part of it, and tries the ideas to
 mutant. It copies the repository, with the proofs that are kept, writes the mutants as the only edits of their crates there,
 and runs `rt must-fail` on each crate: it takes as long as the checks of the crate, a mutant each. For each mutant it prints
 what the prover said of it. It ends with 1 where one is not refused, or no longer fits: an old text is no longer in its file
-exactly once. It writes the folder `mutants` in FOLDER, or in a temporary one that it removes.
+exactly once. It writes the folder `mutants` in FOLDER anew, or in a temporary one that it removes.
 """
 import argparse
 import collections
@@ -146,13 +146,13 @@ def lay_out(mutants, copy):
 
 
 def copied(folder):
-    """A copy of the repository in the folder, without its history."""
+    """A copy of the repository in the folder, without its history and its built program."""
     copy = os.path.join(folder, "mutants")
     if os.path.realpath(copy).startswith(os.path.realpath(".") + os.sep):
         sys.exit("mutants: the folder is in the repository, which would be copied into itself")
     shutil.rmtree(copy, ignore_errors=True)
     # times are kept: a proof is kept for a text that has not changed
-    shutil.copytree(".", copy, symlinks=True, ignore=shutil.ignore_patterns(".git"))
+    shutil.copytree(".", copy, symlinks=True, ignore=shutil.ignore_patterns(".git", ".qserv"))
     return copy
 
 
