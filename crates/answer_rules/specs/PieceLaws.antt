@@ -1,4 +1,4 @@
--- Laws of pieces: they join over disjoint sets of chunks, in any order, and finish as the answer.
+-- Lemmas about pieces: they join over disjoint sets of chunks, in any order, and finish as the answer.
 use Rattle.std.specs.Prelude.{◌≡◌, ◌⊎◌, ℕ, ℤ, true, false, List, [], ◌++◌, Option, None}
 use Rattle.table_rules.specs.Objects.{Obj, IdsAscend}
 use Rattle.sky_rules.specs.Partition.{Partition}

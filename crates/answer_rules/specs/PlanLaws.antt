@@ -1,4 +1,4 @@
--- Laws of plans: what a plan lists, what a join reaches that is not refused, and how a test of ids can be judged.
+-- Lemmas about plans: what a plan lists, what a join reaches that is not refused, and how a test of ids can be judged.
 use Rattle.std.specs.Prelude.{◌≡◌, ◌<◌, ℕ, ℤ, true, List, [], ◌∷◌, None, All, AllPairs}
 use Rattle.std.specs.List.{list_any}
 use Rattle.table_rules.specs.Objects.{Obj, IdsAscend}

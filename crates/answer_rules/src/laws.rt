@@ -1,4 +1,4 @@
-//! Laws of orders, of pieces and of answers, as functions that do nothing: a caller has what they ensure.
+//! Lemmas about orders, pieces and answers, stated as functions that do nothing: a caller obtains what they ensure.
 
 ghost use Rattle.answer_rules.specs.Coverage.{AnswerIsFlat, FoundInOne, PlanCovers, PlanFinishes};
 ghost use Rattle.answer_rules.specs.KeyLaws.{KeysAscend, NoKeyTwice, RowsAreGrouped, ValueIsTold};
@@ -122,7 +122,7 @@ pub fn found_in_one()
     ensures { FoundInOne }
 {}
 
-/// The law of coverage: over its plan a query answers what it answers over the whole table.
+/// The lemma of coverage: over its plan a query answers what it answers over the whole table.
 #[tactic(auto, using(crate::proofs::Covering::plan_covers))]
 pub fn plan_covers()
     ensures { PlanCovers }

@@ -1,4 +1,4 @@
--- Laws of binding: a query that binds can be run, and its chunk tests are among its conditions.
+-- Lemmas about binding: a query that binds can be run, and its chunk tests are among its conditions.
 use Rattle.std.specs.Prelude.{◌≡◌, ℕ, pos, int_le, Bool, true, if◌then◌else◌, List, [], ◌∷◌, ◌++◌, length, All, IsTrue, Option, Some, Ok}
 use Rattle.std.specs.List.{list_all, flat_map}
 use Rattle.table_rules.specs.Names.{column_names}

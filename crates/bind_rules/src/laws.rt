@@ -1,4 +1,4 @@
-//! Laws of binding, as functions that do nothing: a caller has what they ensure.
+//! Lemmas about binding, stated as functions that do nothing: a caller obtains what they ensure.
 
 ghost use Rattle.bind_rules.specs.BoundWhere.{ConjunctsAreBound, WhereHoldsAsBound};
 ghost use Rattle.bind_rules.specs.Laws.{AreasAreConjuncts, BoundIsSound, BoundIsTested, ValuesAreInRange};

@@ -10,19 +10,19 @@ use Rattle.sky_rules.specs.Bounds.{in_chunk}
 abbrev pub is_filled : Partition → List Obj → ℕ → Bool
 is_filled g table c = list_any (λ o. in_chunk g c o.at) table
 
--- the chunks, ascending, that hold a row
+-- the chunks that hold a row, in ascending order
 abbrev pub filled_chunks : Partition → List Obj → List ℕ
 filled_chunks g table = filter (λ c. is_filled g table c) (all_chunks g)
 
--- those are chunks of the partition
+-- the filled chunks are chunks of the partition
 abbrev pub FilledAreChunks : Type 0
 FilledAreChunks = (g : Partition) (table : List Obj) → All (λ c. c < chunk_count g) (filled_chunks g table)
 
--- and they ascend
+-- the filled chunks ascend
 abbrev pub FilledAscend : Type 0
 FilledAscend = (g : Partition) (table : List Obj) → AllPairs (λ a b. a < b) (filled_chunks g table)
 
--- and each chunk that holds a row is among them
+-- each chunk that holds a row is among the filled chunks
 abbrev pub EachFilledIsListed : Type 0
 EachFilledIsListed =
     (g : Partition) (table : List Obj) (c : ℕ) → c < chunk_count g → is_filled g table c ≡ true

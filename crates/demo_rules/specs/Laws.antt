@@ -1,4 +1,4 @@
--- Laws of the demo's catalogue.
+-- Lemmas about the demo's catalogue.
 use Rattle.std.specs.Prelude.{◌≡◌, ℕ, ◌≤◌}
 use Rattle.table_rules.specs.Objects.{Catalogue, IsCatalogue}
 use Rattle.table_rules.specs.declared.limits.TheConstants.{ROWS_MOST}
@@ -13,6 +13,6 @@ abbrev pub DemoIsTheOnlyOne : Type 0
 DemoIsTheOnlyOne =
     (count seed : ℕ) (c d : Catalogue) → IsDemoCatalogue count seed c → IsDemoCatalogue count seed d → c ≡ d
 
--- of at most 2^22 rows it is one that the engine takes: in ascending id, each row within the limits
+-- of at most 2^22 rows it is one that the engine takes: in ascending order of id, each row within the limits
 abbrev pub DemoIsACatalogue : Type 0
 DemoIsACatalogue = (count seed : ℕ) (c : Catalogue) → count ≤ ROWS_MOST → IsDemoCatalogue count seed c → IsCatalogue c

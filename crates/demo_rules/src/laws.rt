@@ -1,4 +1,4 @@
-//! Laws of the demo's catalogue, as functions that do nothing: a caller has what they ensure.
+//! Lemmas about the demo's catalogue, stated as functions that do nothing: a caller obtains what they ensure.
 
 ghost use Rattle.demo_rules.specs.Laws.{DemoIsACatalogue, DemoIsTheOnlyOne, DemoIsThere};
 
@@ -8,7 +8,8 @@ pub fn demo_is_one()
     ensures only { DemoIsTheOnlyOne }
 {}
 
-/// The demo's catalogue of at most 2^22 rows is a catalogue: its rows stand in ascending id, each within the limits.
+/// The demo's catalogue of at most 2^22 rows is a catalogue: its rows stand in ascending order of id, each within the
+/// limits.
 pub fn demo_is_a_catalogue()
     ensures { DemoIsACatalogue }
 {}

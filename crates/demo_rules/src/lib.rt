@@ -1,9 +1,9 @@
 //! The demo's input: a catalogue made from a count and a seed, a sky plan and a script.
 //!
 //! Callers see the catalogue as the rows of `specs/DemoRows.antt`, and the two texts as bytes (`specs/DemoTexts.antt`).
-//! Below: `table_rules` for rows, `sky_vector` for points. Above: `sky_generate`, which makes the three, and `demo_laws`,
-//! for what the two texts say.
-//! No algorithm: definitions, laws, and worked examples that the checker computes.
+//! Below: `table_rules` for rows, `sky_vector` for points. Above: `sky_generate`, which makes the three, and
+//! `demo_laws`, for what the two texts say. No algorithm: definitions, lemmas, and worked examples that the checker
+//! computes.
 #![tactic(auto)]
 
 pub mod examples;

@@ -1,4 +1,4 @@
-//! The numbers of the demo's generator: each stands here once, and definitions and code cite it.
+//! The numbers of the demo's generator. Each is defined here once; definitions and code refer to it.
 
 use sky_vector::limits::RADIUS;
 

@@ -1,4 +1,4 @@
--- Laws of texts that are written out of symbols.
+-- Lemmas about texts that are written out of symbols.
 use Rattle.std.specs.Prelude.{◌≡◌, IsTrue, Bool, List, map, Ok}
 use Rattle.std.specs.List.{list_all}
 use Rattle.sql_token.specs.declared.token.Token.{Token}

@@ -64,7 +64,7 @@ symbol_text (Fixed m) = mark_text m
 abbrev pub spaced_text : Spaced → Bytes
 spaced_text s = (if s.spaced then codes " " else []) ++ symbol_text s.symbol
 
--- the text that symbols write, one behind another
+-- the text that symbols write, one after another
 abbrev pub text_of : List Spaced → Bytes
 text_of = flat_map spaced_text
 

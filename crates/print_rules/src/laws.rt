@@ -1,4 +1,4 @@
-//! Laws of printed texts, as functions that do nothing: a caller has what they ensure.
+//! Lemmas about printed texts, stated as functions that do nothing: a caller obtains what they ensure.
 
 ghost use Rattle.print_rules.specs.Gaps.{APrintedQueryIsItsSymbols};
 ghost use Rattle.print_rules.specs.Laws.{WrittenSymbolsAreRead};

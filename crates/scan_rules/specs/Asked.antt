@@ -1,4 +1,4 @@
--- Laws on a run over a root: what its queries want, and what they are served, the root asks of them.
+-- Lemmas on a run over a root: what its queries want, and what they are served, the root asks of them.
 use Rattle.std.specs.Prelude.{◌≡◌, ℕ, ◌++◌, true}
 use Rattle.scan_rules.specs.Numbers.{has}
 use Rattle.scan_rules.specs.Queries.{Journal, wanted, is_served}

@@ -1,4 +1,4 @@
--- Laws for those who call a board and read its lines: what is left to take, and what a query wants.
+-- Lemmas for those who call a board and read its lines: what is left to take, and what a query wants.
 use Rattle.std.specs.Prelude.{◌≡◌, ℕ, List, ◌∷◌, ◌++◌, false, None}
 use Rattle.scan_rules.specs.declared.journal_line.JournalLine.TheVariants.{Attach}
 use Rattle.scan_rules.specs.Queries.{Journal, wanted}

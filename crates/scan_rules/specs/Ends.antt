@@ -1,4 +1,4 @@
--- Laws on states, and on how runs go on: by one line more, within a bound, and with the ends of queries kept.
+-- Lemmas on states, and on how runs go on: by one line more, within a bound, and with the ends of queries kept.
 use Rattle.std.specs.Prelude.{◌≡◌, ℕ, ◌<◌, ◌≤◌, [], ◌∷◌, ◌++◌, length, true, false, ◌↔◌}
 use Rattle.scan_rules.specs.declared.journal_line.JournalLine.{JournalLine}
 use Rattle.scan_rules.specs.declared.limits.TheConstants.{LINES_BOUND, RING_MOST}

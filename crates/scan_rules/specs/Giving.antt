@@ -1,4 +1,4 @@
--- Laws on what is given, which a board's pieces follow: it changes by Delivers alone, each by its one task.
+-- Lemmas on what is given, which a board's pieces follow: it changes by Delivers alone, each by its one task.
 use Rattle.std.specs.Prelude.{◌≡◌, ℕ, ◌==◌, List, [], ◌∷◌, ◌++◌, true, false, ◌&&◌, ◌||◌}
 use Rattle.std.specs.List.{list_any}
 use Rattle.scan_rules.specs.declared.journal_line.JournalLine.{JournalLine}

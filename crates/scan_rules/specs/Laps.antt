@@ -1,4 +1,4 @@
--- Laws on one lap of the shared scan, counted in takes. They say nothing of time.
+-- Lemmas on one lap of the shared scan, counted in takes. They say nothing of time.
 use Rattle.std.specs.Prelude.{◌≡◌, ℕ, ◌≤◌, List, [], ◌∷◌, ◌++◌, length, true, false}
 use Rattle.scan_rules.specs.declared.journal_line.JournalLine.TheVariants.{Take}
 use Rattle.scan_rules.specs.Numbers.{has, are_distinct}

@@ -1,4 +1,4 @@
--- A law on the lines of one seat: a task is delivered by the seat that took it, so its own lines tell whether it is.
+-- A lemma on the lines of one seat: a task is delivered by the seat that took it, so its own lines tell whether it is.
 use Rattle.std.specs.Prelude.{◌≡◌, ℕ, ◌==◌, true, filter}
 use Rattle.std.specs.List.{list_any}
 use Rattle.scan_rules.specs.Lines.{seat_of, took}

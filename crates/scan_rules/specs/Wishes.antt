@@ -1,4 +1,5 @@
--- Laws on what a query wants and what it was given: at its start, at each Deliver of one of its tasks, and at its end.
+-- Lemmas on what a query wants and what it was given: at its start, at each Deliver of one of its tasks, and at its
+-- end.
 use Rattle.std.specs.Prelude.{◌≡◌, ℕ, ◌≤◌, ◌==◌, List, [], ◌∷◌, ◌++◌, length, true, false, ◌||◌}
 use Rattle.scan_rules.specs.declared.journal_line.JournalLine.TheVariants.{Attach, Take, Deliver}
 use Rattle.scan_rules.specs.Numbers.{has}

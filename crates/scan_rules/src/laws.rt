@@ -1,4 +1,4 @@
-//! Laws of every run. A call here does nothing: its clause is the law.
+//! Lemmas about every run. A call here does nothing: its clause is the lemma.
 ghost use Rattle.scan_rules.specs.Serving.{ServedOnce, ServedOwnAlone, DoneServedAll, TakeServesAll};
 ghost use Rattle.scan_rules.specs.Laps.{LapServesAll, LapRepeatsNone};
 ghost use Rattle.scan_rules.specs.Ends.{StatesTell, NoLinesRun, FrontsRun, RunsGoOn, RunsAreShort, EndsStay};

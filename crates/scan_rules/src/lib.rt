@@ -1,11 +1,11 @@
-//! What a legal history of the shared scan is, with its laws.
+//! What a legal history of the shared scan is, with its lemmas.
 //!
 //! Callers see a journal as the list of its lines, oldest first. Each word on it is a filter or a count over that list
 //! (`specs/Queries.antt`, `specs/Scan.antt`); `specs/Runs.antt` says which line may follow and what a run is. The
 //! chunks of a `ChunkSet` and the queries of a `QuerySet` are ascending lists. Below: `sky_io` because an allocation
 //! failed; the limits are those of scripts (`text_rules`) and skies (`sky_rules`). Above: the board keeps a run, and
-//! its callers rely on the laws of every run. No board, no threads and no work on chunks: a law is a function without a
-//! body whose clause is the law.
+//! its callers rely on the lemmas of every run. No board, no threads and no work on chunks: a lemma is a function
+//! without a body whose clause is the lemma.
 #![tactic(auto)]
 
 pub mod chunk_set;

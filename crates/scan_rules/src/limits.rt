@@ -1,4 +1,4 @@
-//! The limits of the shared scan: each stands here once, and definitions and code cite it.
+//! The limits of the shared scan. Each is defined here once; definitions and code refer to it.
 
 use sky_rules::limits::CHUNKS_MOST;
 use text_rules::limits::QUERIES_MOST;

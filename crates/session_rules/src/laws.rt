@@ -1,4 +1,4 @@
-//! Laws of ends, as functions that do nothing: a caller has what they ensure.
+//! Lemmas about ends, stated as functions that do nothing: a caller obtains what they ensure.
 
 ghost use Rattle.session_rules.specs.Laws.{CancelStands, FitsByEach, PromptIsASplit};
 

@@ -1,4 +1,4 @@
-//! The limits of a session: each stands here once, and definitions and code cite it.
+//! The limits of a session. Each is defined here once; definitions and code refer to it.
 
 /// The most workers beside the czar.
 pub const WORKERS_MOST: u32 = 16;

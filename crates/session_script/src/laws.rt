@@ -1,4 +1,4 @@
-//! What the definition of scripts comes to, as functions that do nothing: each ensures a law.
+//! What the definition of scripts comes to, as functions that do nothing: each ensures a lemma.
 ghost use Rattle.std.specs.Prelude.{◌≡◌, ℕ, List, All, Ok, Some, slice_get, slice_range};
 ghost use Rattle.sql_token.specs.declared.token.Span.{Span};
 ghost use Rattle.session_script.specs.declared.step.Step.{Step};

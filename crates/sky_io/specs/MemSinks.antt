@@ -1,10 +1,11 @@
--- A sink in memory whose calls fail where they are told to, and where its room ends.
+-- A sink in memory with injected failures and a fixed capacity.
 use Rattle.std.specs.Prelude.{ℕ, ◌+◌, ◌<◌, List, [], ◌++◌, length, Some, Bool, true, false, if◌then◌else◌, nat_lt, IsTrue}
 use Rattle.sky_io.specs.Counts.{counted, is_listed}
 use Rattle.sky_io.specs.Sinks.{SinkState}
 
--- What a sink in memory is: the bytes written and the most that it takes, the number of calls so far and the numbers,
--- from 1, of those that are to fail, how often it has failed, and whether bytes came since it was last flushed.
+-- The state of a sink in memory: the bytes written and the most that it accepts, the number of calls so far and the
+-- numbers, from 1, of those that are to fail, how often it has failed, and whether bytes were written since it was last
+-- flushed.
 pub record MemSinkState : Type 0 where
   pub written : List ℕ
   pub room : ℕ
@@ -13,11 +14,11 @@ pub record MemSinkState : Type 0 where
   pub faults : ℕ
   pub dirty : Bool
 
--- it tells its bytes, and holds them back until it is flushed
+-- the state that it shows as a sink: its bytes are observable, and held back until it is flushed
 abbrev pub sink_of : MemSinkState → SinkState
 sink_of sink = record { written = Some sink.written; held = sink.dirty; faults = sink.faults }
 
--- a sink to which nothing was done
+-- a sink on which no call was made
 abbrev pub new_sink : ℕ → List ℕ → MemSinkState
 new_sink room failing =
     record { written = []; room = room; calls = 0; failing = failing; faults = 0; dirty = false }
@@ -30,11 +31,11 @@ IsListed sink = IsTrue (is_listed sink.calls sink.failing)
 abbrev pub IsTooLong : MemSinkState → List ℕ → Type 0
 IsTooLong sink piece = sink.room < length sink.written + length piece
 
--- bytes are held back after a piece was put, be it only from before
+-- bytes are held back after a piece was written, possibly only from before
 abbrev pub is_dirty_after : MemSinkState → List ℕ → Bool
 is_dirty_after sink piece = if nat_lt 0 (length piece) then true else sink.dirty
 
--- the sink after a piece was put
+-- the sink after a piece was written
 abbrev pub after_put : MemSinkState → List ℕ → MemSinkState
 after_put sink piece =
     record sink { written = sink.written ++ piece; calls = counted sink.calls; dirty = is_dirty_after sink piece }

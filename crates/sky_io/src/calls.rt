@@ -2,7 +2,7 @@
 ghost use Rattle.std.specs.Prelude.{◌≡◌};
 ghost use Rattle.sky_io.specs.Counts.{counted, is_listed};
 
-/// How many calls there were, and the numbers of those that are to fail.
+/// The number of calls so far, and the numbers of those that are to fail.
 #[derive(Drop)]
 pub(crate) struct Calls {
     pub(crate) made: u64,
@@ -10,7 +10,7 @@ pub(crate) struct Calls {
 }
 
 impl Calls {
-    /// Counts a call, and tells whether it is to fail.
+    /// Counts a call and reports whether it is to fail.
     pub(crate) fn next_fails(&mut self) -> bool
         ensures value { result ≡ is_listed self.old.made self.old.failing.items }
         ensures counted { self.new ≡ record self.old { made = counted self.old.made } }

@@ -8,10 +8,11 @@ use std::io::Read;
 use std::marker::Model;
 use std::rt::Files;
 
-// How many bytes of a file are read at once at most.
+// The most bytes of a file that one read takes.
 const AT_ONCE: usize = 8192;
 
-/// The files of the current folder, by their names, which are handed to the system as they are. It tells no texts.
+/// The files of the current folder, by their names, which are passed to the system unchanged. Its texts are not visible
+/// to contracts.
 #[derive(Drop)]
 pub struct FolderShelf<'a, R: Files> {
     rt: &'a R,
@@ -67,7 +68,7 @@ impl<'a, R: Files> Shelf for FolderShelf<'a, R> {
     }
 }
 
-// Opens the file and reads of it.
+// Opens the file and reads its beginning.
 fn read_file<R: Files>(rt: &R, name: &str, limit: usize, into: &mut Vec<u8>) -> Fetch
     requires { into.old.items ≡ [] }
     ensures { result ≡ Fetch.Done → length into.new.items ≤ limit + 1 }
@@ -78,7 +79,7 @@ fn read_file<R: Files>(rt: &R, name: &str, limit: usize, into: &mut Vec<u8>) -> 
     }
 }
 
-// Reads the first `limit + 1` bytes, or all of fewer. A read that gives nothing is the end.
+// Reads the first `limit + 1` bytes, or all if there are fewer. A read that gives nothing is the end.
 pub(crate) fn read_some<F: Read>(file: &mut F, limit: usize, into: &mut Vec<u8>) -> Fetch
     requires { into.old.items ≡ [] }
     ensures { result ≡ Fetch.Done → length into.new.items ≤ limit + 1 }
@@ -99,6 +100,6 @@ pub(crate) fn read_some<F: Read>(file: &mut F, limit: usize, into: &mut Vec<u8>)
             Err(_) => return Fetch::Failed,
         }
     }
-    // No file gives so many pieces.
+    // The loop's bound is never reached: no file gives that many pieces.
     Fetch::Failed
 }

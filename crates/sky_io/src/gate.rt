@@ -1,13 +1,13 @@
-//! A gate that a worker passes before the work on a chunk, so that a test can hold it there.
+//! A gate that a worker passes before it scans a chunk, so that a test can hold the worker there.
 use std::sync::Wait;
 
-/// What a worker passes before each piece of work.
+/// The gate that a worker passes before it scans a chunk for a task.
 pub trait Gate {
-    /// Lets the worker pass to the chunk, both by their numbers from 0. May wait.
+    /// Lets the worker pass to the chunk. Both are given by their numbers, from 0. May wait.
     fn pass<R: Wait>(&self, rt: &R, worker: u32, chunk: u32);
 }
 
-/// Lets all pass.
+/// A gate that lets all pass.
 #[derive(Clone, Copy, Debug, PartialEq, Eq)]
 pub struct OpenGate;
 

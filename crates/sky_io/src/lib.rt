@@ -1,10 +1,12 @@
-//! The outside of the program, as traits: a shelf of named texts, a sink of bytes, a gate, and a value with a past.
+//! The program's environment as traits: a shelf of named texts, a sink of bytes, a gate, and a value with a history.
 //!
-//! Callers see a shelf as a `ShelfState` (`specs/Shelves.antt`) and a sink as a `SinkState` (`specs/Sinks.antt`): what
-//! it holds, where it tells that, and what has failed. What stands in memory tells all, files and streams tell nothing.
-//! Below: std, and `arrayvec` for the notes of a gate. Above: every crate that reads, writes or may want memory;
-//! `proofs/Writes.antt` is for those.
-//! No formats, no SQL, no sky: a text is bytes, and a gate does not look at the work that passes it.
+//! Callers see a shelf as a `ShelfState` (`specs/Shelves.antt`) and a sink as a `SinkState` (`specs/Sinks.antt`): its
+//! content, if that is observable, and what has failed. The content is observable in memory, and not in files and
+//! streams.
+//!
+//! Below: std, and `arrayvec` for the records of a gate. Above: every crate that reads, writes or may run out of
+//! memory; `proofs/Writes.antt` is for those. There are no formats, no SQL and no sky here: a text is bytes, and a gate
+//! does not inspect the work that passes it.
 #![tactic(auto)]
 
 ghost use Rattle.std.specs.Prelude.{◌≡◌};
@@ -38,7 +40,7 @@ pub use sink::{Put, Sink};
 use std::alloc::{AllocError, AllocFailed};
 pub use step_gate::StepGate;
 
-/// An allocation failure, which is no refusal: the same call may succeed later.
+/// An allocation failure. It is not a refusal: the same call may succeed later.
 #[derive(Clone, Copy, Debug, PartialEq, Eq)]
 pub struct Memory;
 

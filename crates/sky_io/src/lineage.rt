@@ -1,24 +1,24 @@
-//! A value that only grows, by entries that each carry the number of a seat.
+//! A value that only grows, by entries that each carry the number of a participant.
 ghost use Rattle.std.specs.Prelude.{◌≡◌, ℕ, ◌<◌, ◌^◌, List, length};
 
-/// A value with a past: a list of entries that grows at its end alone.
+/// A value with a history: a list of entries that grows only at its end.
 pub trait Lineage {
-    /// The type of what the value rests on.
+    /// The type of the root, the fixed state from which the value started.
     type Root;
 
     /// The type of an entry.
     type Entry;
 
-    /// What the value rests on from its start.
+    /// The fixed state from which the value started.
     ghost root: { Self → Self.Root };
 
-    /// The entries so far, oldest first.
+    /// The history: the entries so far, oldest first.
     ghost past: { Self → List Self.Entry };
 
-    /// The number of the seat that an entry carries.
+    /// The number of the participant that an entry carries.
     ghost seat_of: { Self.Entry → ℕ };
 
-    /// How many entries the past has, where they are fewer than 2^62. Does not allocate.
+    /// The length of the history, if it is below 2^62. Does not allocate.
     fn past_len(&self) -> u64
         ensures { length (past self.now) < 2 ^ 62 → result ≡ length (past self.now) };
 }

@@ -1,4 +1,4 @@
-//! A shelf in memory whose fetches fail where they are told to.
+//! A shelf in memory with injected failures.
 ghost use Rattle.std.specs.Prelude.{◌≡◌, ◌≢◌, ◌↔◌, []};
 ghost use Rattle.sky_io.specs.Shelves.{pairs_of};
 ghost use Rattle.sky_io.specs.MemShelves.{shelf_of, new_shelf, Fails, after_fetch, FetchedOf};
@@ -8,7 +8,7 @@ use crate::shelf::{Fetch, Shelf, find_text, give, note};
 use std::alloc::Global;
 use std::marker::Model;
 
-/// Texts in memory. A fetch fails where its number, from 1, is listed, and where no pair has the name.
+/// Texts in memory. A fetch fails if its number, from 1, is listed, and if no pair has the name.
 #[derive(Drop)]
 pub struct MemShelf {
     alloc: Global,
@@ -32,7 +32,7 @@ impl Model for MemShelf {
 }
 
 impl MemShelf {
-    /// A shelf of these pairs of a name and a text, none of which was fetched yet. Does not allocate.
+    /// A shelf of these pairs of a name and a text, none of which has been fetched yet. Does not allocate.
     pub fn new(alloc: Global, texts: Vec<(String, Vec<u8>)>, failing: Vec<u64>) -> MemShelf
         ensures { result ≡ new_shelf (pairs_of texts.items) failing.items }
     {
@@ -48,7 +48,7 @@ impl MemShelf {
 impl Shelf for MemShelf {
     ghost state = { shelf_of };
 
-    /// As every shelf does; a fetch that wants memory counts as a call too.
+    /// Fetches as every shelf does. A fetch that runs out of memory counts as a call too.
     #[tactic(auto, using(crate::proofs::Fetches::fetch_done, crate::proofs::Fetches::fetch_memory, crate::proofs::Fetches::fetch_failed))]
     fn fetch(&mut self, name: &str, limit: usize, into: &mut Vec<u8>) -> Fetch
         requires { into.old.items ≡ [] }

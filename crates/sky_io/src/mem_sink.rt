@@ -1,4 +1,4 @@
-//! A sink in memory whose calls fail where they are told to, and where its room ends.
+//! A sink in memory with injected failures and a fixed capacity.
 ghost use Rattle.std.specs.Prelude.{◌≡◌, ◌≤◌, ◌↔◌, ◌⊎◌, IfOk};
 ghost use Rattle.sky_io.specs.Sinks.{Wrote, Flushed};
 ghost use Rattle.sky_io.specs.MemSinks.{MemSinkState, sink_of, new_sink, IsListed, IsTooLong, after_put, after_flush, after_fault};
@@ -9,7 +9,7 @@ use crate::sink::{Put, Sink, fault};
 use std::alloc::Global;
 use std::marker::Model;
 
-/// Bytes in memory. It takes room for all of them when it is made and none later.
+/// Bytes in memory. It allocates room for all of them when it is made, and none later.
 #[derive(Drop)]
 pub struct MemSink {
     bytes: Vec<u8>,
@@ -38,8 +38,8 @@ impl Model for MemSink {
 }
 
 impl MemSink {
-    /// A sink with room for `room` bytes, whose `put` and `flush_out`, numbered together from 1, fail where they are
-    /// listed.
+    /// A sink with room for `room` bytes. Its calls of `put` and `flush_out` are numbered together from 1, and fail if
+    /// they are listed.
     pub fn new(alloc: Global, room: usize, failing: Vec<u64>) -> Result<MemSink, Memory>
         ensures { IfOk result (λ sink. sink ≡ new_sink room failing.items) }
     {
@@ -63,7 +63,7 @@ impl MemSink {
 impl Sink for MemSink {
     ghost state = { sink_of };
 
-    /// Appends a piece, or nothing where it fails.
+    /// Appends a piece, or nothing if it fails.
     fn put(&mut self, piece: &[u8]) -> Put
         ensures wrote { Wrote (sink_of self.old) (sink_of self.new) piece.now result }
         ensures fails { (result ≡ Put.Failed) ↔ (IsListed self.old ⊎ IsTooLong self.old piece.now) }

@@ -6,11 +6,11 @@ use crate::sink::{Put, Sink, fault};
 use std::io::{Stderr, Stdout};
 use std::marker::Model;
 
-// The bytes that a stream's buffer holds back at most.
+// The most bytes that a stream's buffer holds back.
 const ROOM: usize = 8192;
 
-/// A sink over a printer, with a buffer of 8,192 bytes. It doesn't tell what was written, and a fault loses what was
-/// held back.
+/// A sink over a printer, with a buffer of 8,192 bytes. Its content is not observable, and a fault loses what was held
+/// back.
 #[derive(Drop)]
 pub struct PrintSink<P: Print> {
     out: P,
@@ -37,7 +37,7 @@ impl<P: Print> Model for PrintSink<P> {
 }
 
 impl PrintSink<Stdout> {
-    /// Nothing is held back yet, and nothing has failed. Does not allocate.
+    /// Standard output, with nothing held back and no fault yet. Does not allocate.
     pub fn new(rt: &HostRuntime) -> OutSink
         ensures { result ≡ unused_stream }
     {
@@ -46,7 +46,7 @@ impl PrintSink<Stdout> {
 }
 
 impl PrintSink<Stderr> {
-    /// Nothing is held back yet, and nothing has failed. Does not allocate.
+    /// Standard error, with nothing held back and no fault yet. Does not allocate.
     pub fn new(rt: &HostRuntime) -> ErrSink
         ensures { result ≡ unused_stream }
     {
@@ -55,7 +55,7 @@ impl PrintSink<Stderr> {
 }
 
 impl<P: Print> PrintSink<P> {
-    // A sink over the printer, to which nothing was written yet.
+    // A sink over the printer, with nothing written yet.
     fn over(out: P) -> PrintSink<P>
         ensures { result ≡ unused_stream }
     {
@@ -67,7 +67,7 @@ impl<P: Print> PrintSink<P> {
         }
     }
 
-    // Sends the buffer, and tells whether it could. It is empty then in both cases.
+    // Sends the buffer and reports whether it could. The buffer is empty afterwards in both cases.
     fn empty_buffer(&mut self) -> bool
         ensures { self.new ≡ record self.old { held = false } }
     {
@@ -104,7 +104,7 @@ impl<P: Print> Sink for PrintSink<P> {
     }
 }
 
-// Writes all of the bytes, and tells whether it could. A write that takes none of them is an error.
+// Writes all of the bytes and reports whether it could. A write that accepts none of them is an error.
 pub(crate) fn send<P: Print>(out: &P, bytes: &[u8]) -> bool {
     let mut rest = bytes;
     while !rest.is_empty() {

@@ -3,24 +3,24 @@ ghost use Rattle.std.specs.Prelude.{◌≡◌, ◌≢◌, ◌+◌, ◌<◌, [], 
 ghost use Rattle.std.specs.String.{string_bytes};
 ghost use Rattle.sky_io.specs.Shelves.{has_name, named_text, names_of, pairs_of, ShelfState, Fetched};
 
-/// What a fetch comes to.
+/// The result of a fetch.
 #[derive(Clone, Copy, Debug, PartialEq, Eq)]
 pub enum Fetch {
     /// The text was given.
     Done,
-    /// The text cannot be had, and the count of its name has risen.
+    /// The text is not available, and the count of failures of its name has risen.
     Failed,
-    /// Memory was wanting, and no failure is counted.
+    /// Memory ran out, and no failure is counted.
     Memory,
 }
 
-/// Texts under names, any of which may fail to be had.
+/// Texts under names, any of which may be unavailable.
 pub trait Shelf {
-    /// The texts, where the shelf tells them, and the names whose fetch has failed.
+    /// The texts, if they are observable, and the names whose fetch has failed.
     ghost state: { Self → ShelfState };
 
-    /// Gives the first `limit + 1` bytes of the named text, or all of a shorter one, so that a text of more than
-    /// `limit` bytes shows itself. Allocates memory.
+    /// Gives the first `limit + 1` bytes of the named text, or all of a shorter one. So the caller can recognise a text
+    /// of more than `limit` bytes. Allocates memory.
     fn fetch(&mut self, name: &str, limit: usize, into: &mut Vec<u8>) -> Fetch
         requires { into.old.items ≡ [] }
         ensures { Fetched (state self.old) (state self.new) name.now limit into.new.items result };
@@ -40,7 +40,7 @@ pub(crate) fn find_text<'a>(texts: &'a [(String, Vec<u8>)], name: &str) -> Optio
     None
 }
 
-// Notes a name whose fetch has failed. There is room for it.
+// Records a name whose fetch has failed. There is room for it.
 pub(crate) fn note(names: &mut Vec<String>, name: String) -> Fetch
     requires { vec_len names.old < vec_capacity names.old }
     ensures noted { names_of names.new.items ≡ names_of names.old.items ++ string_bytes name ∷ [] }

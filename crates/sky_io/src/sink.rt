@@ -3,21 +3,21 @@ ghost use Rattle.std.specs.Prelude.{◌≡◌};
 ghost use Rattle.sky_io.specs.Counts.{counted};
 ghost use Rattle.sky_io.specs.Sinks.{Wrote, Flushed, SinkState};
 
-/// What a writing call comes to.
+/// The result of a call that writes.
 #[derive(Clone, Copy, Debug, PartialEq, Eq)]
 pub enum Put {
-    /// All was taken.
+    /// Everything was accepted.
     Done,
     /// The sink failed, and its count of faults has risen.
     Failed,
 }
 
-/// Bytes that are written one piece behind another, with a count of faults up to 2^64-1.
+/// Bytes that are written piece after piece, with a count of faults up to 2^64-1.
 pub trait Sink {
-    /// What was written, where the sink tells it, whether bytes may be held back, and how often the sink has failed.
+    /// What was written, if that is observable, whether bytes may be held back, and how often the sink has failed.
     ghost state: { Self → SinkState };
 
-    /// Appends a piece. A failure may leave a first part of it behind. Does not allocate.
+    /// Appends a piece. A failure may leave a prefix of it written. Does not allocate.
     fn put(&mut self, piece: &[u8]) -> Put
         ensures { Wrote (state self.old) (state self.new) piece.now result };
 
@@ -26,7 +26,7 @@ pub trait Sink {
         ensures { Flushed (state self.old) (state self.new) result };
 }
 
-// Counts a fault, and answers it.
+// Counts a fault and returns `Put::Failed`.
 pub(crate) fn fault(faults: &mut u64) -> Put
     ensures counted { faults.new ≡ counted faults.old }
     ensures answer { result ≡ Put.Failed }

@@ -1,13 +1,13 @@
-//! A gate that holds its passes until enough of them stand in it at the same time.
+//! A gate that holds its passes until enough of them are in it at the same time.
 
 use crate::gate::Gate;
 use std::sync::Wait;
 use std::sync::atomic::{AtomicBool, AtomicU32, Ordering};
 use std::thread;
 
-/// Holds every pass until `at_once` passes have stood in it at the same time, and lets all pass from then on: a test
-/// sees by it that threads met. A held pass gives the processor away at most `turns` times, and where its turns run
-/// out all pass from then on, so no test hangs.
+/// A gate that holds every pass until `at_once` passes have been in it at the same time, and lets all pass from then
+/// on. A test sees by it that threads met. A held pass yields the processor at most `turns` times. When one has used up
+/// its turns, all pass from then on, so no test hangs.
 #[derive(Drop)]
 pub struct StepGate {
     at_once: u32,
@@ -18,7 +18,7 @@ pub struct StepGate {
 }
 
 impl StepGate {
-    /// A gate that nobody has passed. Does not allocate.
+    /// A gate that no worker has passed. Does not allocate.
     pub fn new(at_once: u32, turns: u32) -> StepGate {
         StepGate {
             at_once,
@@ -29,7 +29,7 @@ impl StepGate {
         }
     }
 
-    /// Whether as many passes as it waits for have stood in it at the same time.
+    /// Whether as many passes as it waits for have been in it at the same time.
     pub fn met(&self) -> bool {
         self.has_met.load(Ordering::SeqCst)
     }
@@ -44,7 +44,7 @@ impl StepGate {
         self.met() || self.given_up()
     }
 
-    // Gives the processor away until the gate is open, or the turns have run out.
+    // Yields the processor until the gate is open or the turns have run out.
     fn hold(&self) {
         for _ in 0..self.turns {
             if self.is_open() {

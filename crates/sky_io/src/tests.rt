@@ -1,4 +1,4 @@
-//! What no clause says: that calls succeed with memory left, and what the adapters make of their streams.
+//! Tests of what no clause says: that calls succeed if memory is left, and how the adapters use their streams.
 ghost use Rattle.std.specs.Prelude.{◌≡◌, []};
 
 use crate::folder_shelf::read_some;
@@ -80,7 +80,7 @@ fn a_sink_in_memory_fails_where_it_is_told_to_and_past_its_room(
     Ok(())
 }
 
-// Fetches a text and puts it, and tells whether all of it came through.
+// Fetches a text, writes it to the sink, and reports whether all of it arrived.
 fn copies<S: Shelf, K: Sink>(shelf: &mut S, sink: &mut K, into: &mut Vec<u8>) -> bool
     requires { into.old.items ≡ [] }
 {
@@ -131,7 +131,7 @@ fn the_standard_streams_take_pieces_past_their_buffer(rt: HostRuntime) {
     assert_eq!(rt; err.flush_out(), Put::Done);
 }
 
-// Gives at most two bytes a read, and fails in place of the end where it is told to.
+// A file that gives at most two bytes a read, and can fail in place of the end.
 #[derive(Drop)]
 struct TwoAtOnce {
     bytes: &'static [u8],
@@ -173,7 +173,8 @@ fn a_file_is_read_to_its_end_or_to_a_byte_past_the_limit(rt: HostRuntime) {
     }
 }
 
-// Takes at most so many bytes a write, and keeps the bytes as the digits of a number to the base 256.
+// A printer that accepts a limited number of bytes a write, and keeps the bytes as the digits of a number to the base
+// 256.
 #[derive(Drop)]
 struct Taker {
     at_once: usize,

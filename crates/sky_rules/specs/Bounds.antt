@@ -1,6 +1,5 @@
--- Which points a chunk and a subchunk hold, and which are near it.
--- Overlap rows are Qserv's idea (SC 2011); which points are near, by half planes and not by angles, is a rule of this
--- repository.
+-- The points that a chunk and a subchunk hold, and the points near them. Overlap rows are Qserv's idea (SC 2011). Which
+-- points are near, by half planes and not by angles, is a rule of this repository.
 use Rattle.std.specs.Prelude.{ℕ, ◌+◌, ◌*◌, ◌/◌, ◌%◌, ℤ, pos, ◌+ℤ◌, ◌-ℤ◌, nat_abs, int_le, int_lt}
 use Rattle.std.specs.Prelude.{Bool, true, ◌&&◌, ◌||◌, nat_eq, Option, None, Some, if◌then◌else◌}
 use Rattle.std.specs.Ordering.{int_eq}
@@ -9,13 +8,13 @@ use Rattle.sky_vector.specs.Plane.{is_near_line}
 use Rattle.wedge_rules.specs.Heading.{Direction, heading, past}
 use Rattle.sky_rules.specs.Partition.{Partition, Site, site_of, overlap_at}
 
--- The two side directions of a part of the sky, the second less than half a turn on from the first.
+-- The two side directions of a part of the sky, the second less than half a turn after the first.
 pub record Sides : Type 0 where
   pub first : Direction
   pub second : Direction
 
--- The bounds of a part of the sky: its lowest and its highest z, its two sides where it does not go all round, and
--- whether the axis x = y = 0 belongs to it.
+-- The bounds of a part of the sky: its lowest and its highest z, its two sides if it does not go all round, and whether
+-- the axis x = y = 0 belongs to it.
 pub record Bounds : Type 0 where
   pub z_low : ℤ
   pub z_high : ℤ
@@ -26,7 +25,7 @@ pub record Bounds : Type 0 where
 abbrev pub sides_of : ℕ → ℕ → Option Sides
 sides_of n k = if nat_eq n 1 then None else Some (record { first = heading n k; second = heading n (k + 1) })
 
--- the bounds of wedge k of n, from z_low up to and without `end`; the axis belongs to wedge 0
+-- the bounds of wedge k of n, from z_low up to but without `end`; the axis belongs to wedge 0
 abbrev pub wedge_bounds : ℕ → ℕ → ℤ → ℤ → Bounds
 wedge_bounds n k z_low end = record { z_low = z_low; z_high = end -ℤ pos 1; sides = sides_of n k; axis = nat_eq k 0 }
 
@@ -38,7 +37,7 @@ chunk_bounds site = wedge_bounds site.stripe.chunks site.wedge site.stripe.z_low
 abbrev pub height_of : Site → ℕ
 height_of site = nat_abs (site.end -ℤ site.stripe.z_low)
 
--- where substripe t of a site begins: the stripe's height is cut into its rows, rounded down
+-- the lowest z of substripe t of a site: the stripe's height is cut into its rows, rounded down
 abbrev pub row_start : Site → ℕ → ℤ
 row_start site t = site.stripe.z_low +ℤ pos (t * height_of site / site.stripe.rows)
 
@@ -64,14 +63,14 @@ sub_bounds_of g c s = sub_bounds (site_of g c) s
 abbrev pub is_on_axis : Point → Bool
 is_on_axis p = int_eq p.x (pos 0) && int_eq p.y (pos 0)
 
--- the point is at or past the first side and short of the second; on the axis the bounds tell
+-- the point is at or past the first side and short of the second; for a point on the axis the given Boolean decides
 abbrev pub in_sides : Option Sides → Bool → Point → Bool
 in_sides None axis p = true
 in_sides (Some sides) axis p =
     if is_on_axis p then axis
     else int_le (pos 0) (past sides.first p.x p.y) && int_lt (past sides.second p.x p.y) (pos 0)
 
--- the point lies within the bounds
+-- the point is within the bounds
 abbrev pub in_bounds : Bounds → Point → Bool
 in_bounds bounds p = int_le bounds.z_low p.z && int_le p.z bounds.z_high && in_sides bounds.sides bounds.axis p
 

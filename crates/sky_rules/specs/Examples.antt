@@ -13,7 +13,7 @@ two_stripes = codes "overlap 5\nstripe -268435472 4 2 2\nstripe 0 4 2 2\n"
 abbrev pub south : ℕ → Stripe
 south r = record { z_low = negsuc 268435471; chunks = 4; columns = 2; rows = 2; overlap = r }
 
--- the same above the equator
+-- the same stripe above the equator
 abbrev pub north : ℕ → Stripe
 north r = record { z_low = pos 0; chunks = 4; columns = 2; rows = 2; overlap = r }
 
@@ -41,19 +41,19 @@ two_chunks = codes "overlap 5\nstripe -268435472 2 2 2\nstripe 0 4 2 2\n"
 abbrev pub bottom_twice : List ℕ
 bottom_twice = codes "overlap 5\nstripe -268435472 4 2 2\nstripe -268435472 4 2 2\n"
 
--- a stripe of as many chunks as one can have
+-- a stripe with the most chunks that a stripe can have
 abbrev pub full_stripe : Stripe
 full_stripe = record { z_low = negsuc 268435471; chunks = 1024; columns = 1; rows = 1; overlap = 5 }
 
--- as many stripes as there can be
+-- the most stripes that a sky can have
 abbrev pub all_stripes : List Stripe
 all_stripes = repeat 256 (south 5 ∷ [])
 
--- as many chunks as there can be, in sixteen stripes
+-- the most chunks that a sky can have, in sixteen stripes
 abbrev pub most_chunks : List Stripe
 most_chunks = repeat 16 (full_stripe ∷ [])
 
--- the numbers of one more stripe on the equator, with so many chunks
+-- the numbers of one more stripe on the equator, with the given number of chunks
 abbrev pub one_more : ℕ → Said
 one_more chunks = record { z_low = pos 0; chunks = pos chunks; columns = pos 1; rows = pos 1; overlap = pos 5 }
 
@@ -62,7 +62,7 @@ abbrev pub numbers : (z_low chunks columns rows overlap : ℤ) → Said
 numbers z_low chunks columns rows overlap =
     record { z_low = z_low; chunks = chunks; columns = columns; rows = rows; overlap = overlap }
 
--- the numbers of a stripe on the equator, cut so
+-- the numbers of a stripe on the equator with the given chunks, columns and rows
 abbrev pub cut_so : (chunks columns rows : ℕ) → Said
 cut_so chunks columns rows = numbers (pos 0) (pos chunks) (pos columns) (pos rows) (pos 5)
 

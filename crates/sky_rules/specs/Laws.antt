@@ -1,4 +1,4 @@
--- Laws of the partition.
+-- Lemmas about the partition.
 use Rattle.std.specs.Prelude.{◌≡◌, ℕ, ◌+◌, ◌-◌, ◌*◌, ◌/◌, ◌<◌, ◌≤◌, ◌≤ℤ◌, pos, List, IsTrue, Ok}
 use Rattle.sky_vector.specs.Points.{Point, IsAdmissible, chord_squared, square}
 use Rattle.sky_rules.specs.Partition.{Partition, chunk_count, sub_count, overlap_at}
@@ -6,11 +6,11 @@ use Rattle.sky_rules.specs.Bounds.{in_chunk, in_sub, near_chunk, near_sub}
 use Rattle.sky_rules.specs.Limits.{IsSky}
 use Rattle.sky_rules.specs.SkyText.{sky_of}
 
--- what a sky text is accepted as is a partition within the limits
+-- the partition that a sky text is accepted as is within the limits
 abbrev pub AcceptedIsWithinLimits : Type 0
 AcceptedIsWithinLimits = (text : List ℕ) (g : Partition) → sky_of text ≡ Ok g → IsSky g
 
--- The one place of a point: its chunk and its subchunk, and that no other chunk and no other subchunk of any chunk holds it.
+-- The one place of a point: its chunk and its subchunk, and no other chunk and no other subchunk of any chunk holds it.
 pub record IsOnlyPlace (g : Partition) (c s : ℕ) (p : Point) : Type 0 where
   pub chunk_there : c < chunk_count g
   pub sub_there : s < sub_count g c
@@ -24,7 +24,7 @@ abbrev pub ExactlyOnePlace : Type 0
 ExactlyOnePlace =
     (g : Partition) (p : Point) → IsSky g → IsAdmissible p → (c : ℕ) × ((s : ℕ) × IsOnlyPlace g c s p)
 
--- what a subchunk holds, its chunk holds
+-- a subchunk's points are points of its chunk
 abbrev pub SubLiesInItsChunk : Type 0
 SubLiesInItsChunk =
     (g : Partition) (c s : ℕ) (p : Point) → IsSky g → c < chunk_count g → s < sub_count g c
@@ -38,7 +38,7 @@ NearEnough =
     → IsTrue (in_sub g c s u) → chord_squared u v ≤ℤ square (pos (overlap_at g c))
     → IsTrue (near_sub g c s v) × IsTrue (near_chunk g c v)
 
--- the row that holds the height d above the bound of a stripe is found by one division
+-- the row that contains the height d above the bound of a stripe is found by one division
 abbrev pub RowByDivision : Type 0
 RowByDivision =
     (height rows d t : ℕ) → 0 < rows → d < height → t ≡ ((d + 1) * rows - 1) / height

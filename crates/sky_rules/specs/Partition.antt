@@ -1,5 +1,5 @@
--- The partition of the sky: stripes by height, and in each stripe chunks by direction, numbered from 0 through the stripes
--- upwards and in a stripe by their wedges. Stripes, chunks and subchunks are Qserv's (SC 2011).
+-- The partition of the sky: stripes by height, and in each stripe chunks by direction. Chunks are numbered from 0,
+-- upwards through the stripes and in a stripe by their wedges. Stripes, chunks and subchunks are Qserv's (SC 2011).
 use Rattle.std.specs.Prelude.{ℕ, ◌+◌, ◌-◌, ◌*◌, ℤ, pos, neg_ℤ, List, [], ◌∷◌, map, min, max, nat_lt, if◌then◌else◌, unwrap_or}
 use Rattle.std.specs.List.{sum_by, reduce}
 use Rattle.sky_vector.specs.declared.limits.TheConstants.{COORDINATE_MOST}
@@ -24,7 +24,7 @@ sky_bottom = neg_ℤ (pos COORDINATE_MOST)
 abbrev pub sky_end : ℤ
 sky_end = pos (COORDINATE_MOST + 1)
 
--- where the stripe below these ones ends: at the next stripe's bound, and the last at the end of the sky
+-- the first z above the stripe that precedes these: the next stripe's lowest z, or the end of the sky if there is none
 abbrev pub floor_of : List Stripe → ℤ
 floor_of [] = sky_end
 floor_of (next ∷ rest) = next.z_low
@@ -37,24 +37,24 @@ chunks_in stripes = sum_by (λ s. s.chunks) stripes
 abbrev pub chunk_count : Partition → ℕ
 chunk_count g = chunks_in g.stripes
 
--- Where a chunk stands: its stripe, the first z above it, and the chunk's wedge.
+-- The site of a chunk: its stripe, the first z above the stripe, and the chunk's wedge.
 pub record Site : Type 0 where
   pub stripe : Stripe
   pub end : ℤ
   pub wedge : ℕ
 
--- no chunk: a stripe without height above the sky
+-- the site of no chunk: a stripe without height above the sky
 abbrev pub nowhere : Site
 nowhere = record { stripe = record { z_low = sky_end; chunks = 0; columns = 0; rows = 0; overlap = 0 }; end = sky_end; wedge = 0 }
 
--- where chunk c of these stripes stands, counted from their first one
+-- the site of chunk c of these stripes, counted from their first one
 abbrev pub site_in : List Stripe → ℕ → Site
 site_in [] c = nowhere
 site_in (s ∷ rest) c =
     if nat_lt c s.chunks then record { stripe = s; end = floor_of rest; wedge = c }
     else site_in rest (c - s.chunks)
 
--- where chunk c stands
+-- the site of chunk c
 abbrev pub site_of : Partition → ℕ → Site
 site_of g c = site_in g.stripes c
 

@@ -1,4 +1,4 @@
-//! Worked examples of sky texts and of places, computed by the checker.
+//! Worked examples of sky texts and of positions, evaluated by the checker.
 
 ghost use Rattle.std.specs.Prelude.{◌≡◌, ℕ, [], ◌∷◌, ◌++◌, Err, Ok, Some, codes, false, negsuc, pos, true};
 ghost use Rattle.std.specs.List.{filter, range_with_len, repeat};
@@ -10,7 +10,7 @@ ghost use Rattle.sky_rules.specs.Examples.{north, numbers, on_diagonal, on_merid
 ghost use Rattle.sky_rules.specs.Examples.{two_chunks, two_stripes};
 ghost use Rattle.sky_rules.specs.declared.fault.SkyFault.TheVariants.{Count, Order, Overlap, Syntax, TooMany};
 
-/// Two stripes that share an overlap of 5, and two that have 5 and 2 of their own.
+/// Two stripes that share an overlap of 5, and two that have overlaps of their own, 5 and 2.
 #[tactic(auto, unfolding(crate::specs::SkyText::sky_of))]
 pub fn sky_of_two_stripes()
     ensures shared { sky_of two_stripes ≡ Ok halves }
@@ -26,7 +26,8 @@ pub fn sky_of_faulty_lines()
     ensures order { sky_of bottom_twice ≡ Err (Order 3) }
 {}
 
-/// A text without its first line, and texts without a stripe: the fault stands behind the last line, notes counted.
+/// A text without its first line, and texts without a stripe. The fault is after the last line, with comment lines
+/// counted.
 #[tactic(auto, unfolding(crate::specs::SkyText::sky_of))]
 pub fn sky_of_missing_lines()
     ensures empty { sky_of [] ≡ Err (Syntax 1) }
@@ -34,7 +35,7 @@ pub fn sky_of_missing_lines()
     ensures note_last { sky_of (codes "overlap 5\n\n# none") ≡ Err (Syntax 4) }
 {}
 
-/// Words are parted by exactly one space, and a carriage return at the very end stays.
+/// Words are separated by exactly one space, and a carriage return at the very end is kept.
 #[tactic(auto, unfolding(crate::specs::SkyText::sky_of))]
 pub fn sky_of_stray_bytes()
     ensures spaces { sky_of (codes "overlap  5") ≡ Err (Syntax 1) }
@@ -42,7 +43,7 @@ pub fn sky_of_stray_bytes()
     ensures returns { sky_of (codes "overlap 5" ++ (13 ∷ [])) ≡ Err (Syntax 1) }
 {}
 
-/// The 257th stripe is too many, and so is a chunk more than 16,384; a stripe that fills the sky to both is not.
+/// The 257th stripe is too many, and so is a chunk beyond 16,384. A stripe that fills the sky to both limits is not.
 pub fn stripes_too_many()
     ensures stripes { judged_stripe 9 all_stripes (Some (one_more 1)) ≡ Err (TooMany 9) }
     ensures chunks { judged_stripe 9 most_chunks (Some (one_more 1)) ≡ Err (TooMany 9) }
@@ -50,7 +51,7 @@ pub fn stripes_too_many()
     ensures last { is_room (repeat 255 (south 5 ∷ [])) (pos 4) ≡ true }
 {}
 
-/// Of a line with more than one fault the first is told, in the order overlap, order, count, too many.
+/// Of a line with more than one fault the first is reported, in the order overlap, order, count, too many.
 pub fn first_fault_of_a_line()
     ensures overlap { judged_stripe 9 all_stripes
         (Some (numbers (negsuc 268435471) (pos 2) (pos 1) (pos 1) (negsuc 0))) ≡ Err (Overlap 9) }
@@ -59,7 +60,7 @@ pub fn first_fault_of_a_line()
     ensures count { judged_stripe 9 all_stripes (Some (cut_so 2 1 1)) ≡ Err (Count 9) }
 {}
 
-/// A stripe of 3 or of 1,024 chunks, of 64 columns and rows, is cut as it can be, and one past either is not.
+/// A stripe may have 3 or 1,024 chunks, and a chunk 64 columns and rows. A count beyond these limits is a fault.
 pub fn counts_at_their_limits()
     ensures few { is_cut (cut_so 3 1 1) ≡ true }
     ensures most { is_cut (cut_so 1024 64 64) ≡ true }
@@ -70,8 +71,8 @@ pub fn counts_at_their_limits()
     ensures halves { is_cut (cut_so 1 2 1) ≡ false }
 {}
 
-/// A stripe may begin 64 above the one before it and 64 below the end of the sky, and not one nearer; an overlap is at
-/// most 2^24.
+/// A stripe may begin 64 above the one before it and 64 below the end of the sky, but no nearer. An overlap is at most
+/// 2^24.
 pub fn heights_and_overlaps_at_their_limits()
     ensures above { is_in_order (south 5 ∷ []) (negsuc 268435407) ≡ true }
     ensures too_low { is_in_order (south 5 ∷ []) (negsuc 268435408) ≡ false }
@@ -89,14 +90,14 @@ pub fn counts()
     ensures upper { overlap_at (record { stripes = south 5 ∷ north 2 ∷ [] }) 4 ≡ 2 }
 {}
 
-/// The point on the diagonal is in chunk 4, in its second column; the second fine wedge begins there.
+/// The point on the diagonal is in chunk 4, in its second column: the second fine wedge begins there.
 #[tactic(auto, unfolding(wedge_rules::specs::Heading::heading, wedge_rules::specs::Heading::walk))]
 pub fn place_on_the_diagonal()
     ensures chunks { filter (λ c. in_chunk halves c on_diagonal) eight ≡ 4 ∷ [] }
     ensures subs { filter (λ s. in_sub halves 4 s on_diagonal) (range_with_len 0 4) ≡ 1 ∷ [] }
 {}
 
-/// Beside its own chunk 4, the point on the meridian is near chunks 0, 3 and 7.
+/// The point on the meridian is in chunk 4 and also near chunks 0, 3 and 7.
 #[tactic(auto, unfolding(wedge_rules::specs::Heading::heading, wedge_rules::specs::Heading::walk))]
 pub fn near_chunks_of_the_meridian()
     ensures { filter (λ c. near_chunk halves c on_meridian) eight ≡ 0 ∷ 3 ∷ 4 ∷ 7 ∷ [] }

@@ -1,18 +1,18 @@
-//! What may be wrong with a sky text.
+//! The faults of a sky text.
 
 use thiserror::Error;
 
 /// The first fault of a sky text, with the number of its line, from 1.
 #[derive(Clone, Copy, Debug, PartialEq, Eq, Error)]
 pub enum SkyFault {
-    /// The first line is neither `overlap` and a number nor `version 2`, or a later one is no stripe line.
+    /// The first line is neither `overlap` and a number nor `version 2`, or a later one is not a stripe line.
     #[error("not a line of a sky plan")]
     Syntax { line: u32 },
     /// An overlap is outside 0 to 2^24.
     #[error("overlap out of range")]
     Overlap { line: u32 },
-    /// A stripe begins at the wrong height: the first not at the bottom of the sky, another less than 64 above the one
-    /// before it, or any less than 64 below the top of the sky.
+    /// A stripe begins at a wrong height. The first is not at the bottom of the sky, a later one is less than 64 above
+    /// the one before it, or any is less than 64 below the top of the sky.
     #[error("stripe out of order")]
     Order { line: u32 },
     /// A number of chunks, of columns or of rows is not among those that a stripe can have.

@@ -1,10 +1,10 @@
-//! The partition of the sky: stripes, chunks, subchunks and their near regions, and which text says a partition.
+//! The partition of the sky: stripes, chunks, subchunks and their near regions, and which text spells a partition.
 //!
-//! Callers see a partition as its list of stripes (`specs/Partition.antt`), a part of the sky as its bounds
-//! (`specs/Bounds.antt`), and a sky text as the partition or the fault that it is (`specs/SkyText.antt`).
-//! Below: `wedge_rules` for wedges, `text_rules` for lines and numbers. Above: the code that reads a sky text and places
-//! positions, and every definition that speaks of chunks.
-//! No algorithm: definitions, worked examples and laws.
+//! Callers see a partition as its list of stripes (`specs/Partition.antt`) and a part of the sky as its bounds
+//! (`specs/Bounds.antt`). They see a sky text as the partition or the fault that it spells (`specs/SkyText.antt`).
+//! Below: `wedge_rules` for wedges, `text_rules` for lines and numbers. Above: the code that reads a sky text or finds
+//! the chunk of a position, and every definition about chunks. This crate has no algorithms: definitions, worked
+//! examples and lemmas.
 #![tactic(auto)]
 
 pub mod examples;

@@ -1,4 +1,4 @@
-//! The limits of a sky plan: each stands here once, and definitions and code cite it.
+//! The limits of a sky plan. Each is defined here once; definitions and code refer to it.
 
 use sky_vector::limits::COORDINATE_MOST;
 

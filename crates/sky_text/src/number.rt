@@ -6,7 +6,7 @@ ghost use Rattle.text_rules.specs.declared.limits.TheConstants.{INT_DIGITS_MOST}
 
 use text_rules::limits::INT_DIGITS_MOST;
 
-// The number that at most 19 digits write, or `None` where a byte is no digit.
+// The number that at most 19 digits write, or `None` if a byte is no digit.
 #[tactic(auto, using(crate::proofs::Digits::more_digits, crate::proofs::Digits::few_digits))]
 fn read_digits(text: &[u8]) -> Option<u64>
     requires { length text.now ≤ INT_DIGITS_MOST }
@@ -23,7 +23,7 @@ fn read_digits(text: &[u8]) -> Option<u64>
     Some(n)
 }
 
-/// The number of one digit or more and at most `most`, or `None` where the text is something else. Leading zeros may
+/// The number of one digit or more and at most `most`, or `None` if the text is something else. Leading zeros may
 /// stand. Does not allocate.
 pub fn read_natural(text: &[u8], most: usize) -> Option<u64>
     requires { most ≤ INT_DIGITS_MOST }
@@ -35,7 +35,7 @@ pub fn read_natural(text: &[u8], most: usize) -> Option<u64>
     read_digits(text)
 }
 
-/// The number of an optional minus and at most `most` digits, or `None` where the text is something else. Does not
+/// The number of an optional minus and at most `most` digits, or `None` if the text is something else. Does not
 /// allocate.
 pub fn read_whole(text: &[u8], most: usize) -> Option<i128>
     requires { most ≤ INT_DIGITS_MOST }
@@ -48,7 +48,7 @@ pub fn read_whole(text: &[u8], most: usize) -> Option<i128>
     }
 }
 
-/// The number of an optional minus and 1 to 19 digits, or `None` where the text is something else. Does not allocate.
+/// The number of an optional minus and 1 to 19 digits, or `None` if the text is something else. Does not allocate.
 pub fn read_int(text: &[u8]) -> Option<i128>
     ensures { result ≡ int_of text.now }
 {

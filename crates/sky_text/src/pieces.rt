@@ -41,7 +41,7 @@ impl<'a> Pieces<'a> {
         }
     }
 
-    /// Cuts off the first piece, or answers `None` where none is left. Does not allocate.
+    /// Cuts off the first piece, or answers `None` if none is left. Does not allocate.
     #[tactic(auto, using(crate::proofs::PieceEnds::piece_found, crate::proofs::PieceEnds::piece_last))]
     pub fn next(&mut self) -> Option<&'a [u8]>
         ensures none { IfNone result ((self.old ≡ []) × (self.new ≡ [])) }

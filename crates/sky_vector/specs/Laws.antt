@@ -1,4 +1,4 @@
--- Laws of the plane and of positions.
+-- Lemmas about the plane and positions.
 use Rattle.std.specs.Prelude.{◌≡◌, ℤ, pos, ◌+ℤ◌, ◌*ℤ◌, ◌≤ℤ◌}
 use Rattle.sky_vector.specs.Points.{IsAdmissible, IsCoordinate, Point, square, chord_squared}
 use Rattle.sky_vector.specs.Plane.{plane_product, length_squared, IsNearLine}

@@ -6,6 +6,6 @@ use Rattle.sky_vector.specs.declared.limits.TheConstants.{NUMBER_MOST}
 abbrev pub IsQueryNumber : ℤ → Type 0
 IsQueryNumber z = (neg_ℤ (pos NUMBER_MOST) ≤ℤ z) × (z ≤ℤ pos NUMBER_MOST)
 
--- the same as a test
+-- `IsQueryNumber` as a Boolean test
 abbrev pub is_query_number : ℤ → Bool
 is_query_number z = int_le (neg_ℤ (pos NUMBER_MOST)) z && int_le z (pos NUMBER_MOST)

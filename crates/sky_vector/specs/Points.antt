@@ -12,11 +12,11 @@ pub record Point : Type 0 where
 abbrev pub IsWithin : ℤ → Type 0
 IsWithin part = (neg_ℤ (pos PART_MOST) ≤ℤ part) × (part ≤ℤ pos PART_MOST)
 
--- a coordinate of a position of the sky is no longer than such a position may be
+-- a coordinate of a position of the sky is within the largest size of such a position's coordinates
 abbrev pub IsCoordinate : ℤ → Type 0
 IsCoordinate part = (neg_ℤ (pos COORDINATE_MOST) ≤ℤ part) × (part ≤ℤ pos COORDINATE_MOST)
 
--- the same as a test
+-- `IsCoordinate` as a Boolean test
 abbrev pub is_coordinate : ℤ → Bool
 is_coordinate part = int_le (neg_ℤ (pos COORDINATE_MOST)) part && int_le part (pos COORDINATE_MOST)
 
@@ -28,12 +28,12 @@ square a = a *ℤ a
 abbrev pub square_of : Point → ℤ
 square_of p = square p.x +ℤ square p.y +ℤ square p.z
 
--- the point lies near enough to the sphere of radius 2^28: its distance from the centre is from 2^28 - 16 to 2^28 + 16
+-- the point is near enough to the sphere of radius 2^28: its distance from the centre is from 2^28 - 16 to 2^28 + 16
 abbrev pub is_admissible : Point → Bool
 is_admissible p =
     int_le (pos (LENGTH_LEAST * LENGTH_LEAST)) (square_of p) && int_le (square_of p) (pos (LENGTH_MOST * LENGTH_MOST))
 
--- the same as a fact
+-- `is_admissible` as a proposition
 abbrev pub IsAdmissible : Point → Type 0
 IsAdmissible p = is_admissible p ≡ true
 

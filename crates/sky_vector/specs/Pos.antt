@@ -1,4 +1,4 @@
--- A position as contracts see it.
+-- A position, as contracts see it.
 use Rattle.sky_vector.specs.Points.{Point}
 use Rattle.sky_vector.specs.declared.position.Pos.{Pos}
 

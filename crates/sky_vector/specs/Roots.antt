@@ -1,4 +1,4 @@
--- Square roots in whole numbers.
+-- Integer square roots.
 use Rattle.std.specs.Prelude.{ℕ, ◌+◌, ◌*◌, ◌≤◌, ◌<◌}
 
 -- r is the square root of n, rounded down

@@ -1,4 +1,4 @@
-//! A direction of the plane, and on which side of it and how near to it a position lies.
+//! A direction of the plane, and on which side of it and how near to it a position is.
 
 ghost use Rattle.std.specs.Prelude.{◌≡◌, ◌↔◌, ◌-ℤ◌, ◌*ℤ◌, ◌≤◌, ◌^◌, IfNone, IfSome, IsTrue, pos, unsigned_abs};
 ghost use Rattle.sky_vector.specs.Points.{IsWithin, square};
@@ -18,7 +18,7 @@ pub struct Dir {
 }
 
 impl Dir {
-    /// The direction with these parts, or `None` where one is outside ±2^29. Does not allocate.
+    /// The direction with these parts, or `None` if one is outside ±2^29. Does not allocate.
     pub fn new(dx: i64, dy: i64) -> Option<Dir>
         ensures made { IfSome result (λ d. (d.dx ≡ dx) × (d.dy ≡ dy)) }
         ensures none { IfNone result ((IsWithin dx × IsWithin dy) → ⊥) }
@@ -31,8 +31,8 @@ impl Dir {
     }
 }
 
-/// The plane product of a direction and a position: above 0 where the position lies left of the direction, by less than
-/// half a turn, and 0 on its line. Its size is at most 2^59. Does not allocate.
+/// The plane product of a direction and a position. It is above 0 if the position is left of the direction by less than
+/// half a turn, and 0 if it is on the direction's line. Its size is at most 2^59. Does not allocate.
 pub fn cross(d: &Dir, p: &Pos) -> i64
     ensures value { result ≡ plane_product d.now.dx d.now.dy p.now.x p.now.y }
     ensures size { unsigned_abs result ≤ 2 ^ 59 }
@@ -40,8 +40,8 @@ pub fn cross(d: &Dir, p: &Pos) -> i64
     difference(product(d.dx, p.y), product(d.dy, p.x))
 }
 
-/// The plane product of two directions: above 0 where the second lies left of the first, by less than half a turn, and
-/// 0 on its line. Its size is at most 2^59. Does not allocate.
+/// The plane product of two directions. It is above 0 if the second is left of the first by less than half a turn, and
+/// 0 if it is on the first one's line. Its size is at most 2^59. Does not allocate.
 pub fn turn(a: &Dir, b: &Dir) -> i64
     ensures value { result ≡ plane_product a.now.dx a.now.dy b.now.dx b.now.dy }
     ensures size { unsigned_abs result ≤ 2 ^ 59 }
@@ -49,8 +49,8 @@ pub fn turn(a: &Dir, b: &Dir) -> i64
     difference(product(a.dx, b.dy), product(a.dy, b.dx))
 }
 
-/// Whether the position is, in the plane, no farther from the direction's line than the root of n, for n in squared
-/// grid units of at most 2^62. Compares squares. Does not allocate.
+/// Whether the position is, in the plane, no farther from the direction's line than the root of n. The unit of n is
+/// squared grid units, and n is at most 2^62. Compares squares. Does not allocate.
 pub fn within(d: &Dir, p: &Pos, n: u64) -> bool
     requires { n ≤ CHORD_SQUARED_MOST }
     ensures { IsTrue result ↔ IsNearLine d.now.dx d.now.dy p.now.x p.now.y (pos n) }
@@ -58,7 +58,7 @@ pub fn within(d: &Dir, p: &Pos, n: u64) -> bool
     squared(cross(d, p)) <= scaled(squared_length(d), n)
 }
 
-/// The difference of two products of parts.
+/// The difference of two products of parts, each of size at most 2^58.
 fn difference(a: i64, b: i64) -> i64
     requires a_size { unsigned_abs a ≤ 2 ^ 58 }
     requires b_size { unsigned_abs b ≤ 2 ^ 58 }
@@ -76,7 +76,7 @@ fn squared_length(d: &Dir) -> u64
     part_squared(d.dx) + part_squared(d.dy)
 }
 
-/// The square of a plane product, which 64 bits do not hold.
+/// The square of a plane product, which can exceed 64 bits.
 fn squared(a: i64) -> i128
     requires { unsigned_abs a ≤ 2 ^ 59 }
     ensures { result ≡ square a }
@@ -85,7 +85,7 @@ fn squared(a: i64) -> i128
     wide * wide
 }
 
-/// A squared length times the square of a distance, which 64 bits do not hold.
+/// A squared length times the square of a distance, which can exceed 64 bits.
 fn scaled(length: u64, n: u64) -> i128
     requires length_most { length ≤ 2 ^ 59 }
     requires n_most { n ≤ CHORD_SQUARED_MOST }

@@ -1,4 +1,5 @@
-//! Laws of the plane's products and of positions, as functions that do nothing: a caller has what they ensure.
+//! Lemmas about the plane's products and positions, stated as functions that do nothing: a caller obtains what they
+//! ensure.
 
 ghost use Rattle.sky_vector.specs.Laws.{NearAcross, PartsAreCoordinates, PlaneLaw, SameChord, ThreeTerms};
 

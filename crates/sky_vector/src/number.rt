@@ -26,7 +26,7 @@ impl Model for Num {
 const MOST: i128 = NUMBER_MOST as i128;
 
 impl Num {
-    /// The number with this value, or `None` where it is outside ±2^100. Does not allocate.
+    /// The number with this value, or `None` if it is outside ±2^100. Does not allocate.
     pub fn new(n: i128) -> Option<Num>
         ensures made { IfSome result (λ number. number ≡ n) }
         ensures none { IfNone result (IsQueryNumber n → ⊥) }

@@ -19,7 +19,7 @@ pub struct Pos {
 impl Pos {
     ghost use Rattle.sky_vector.specs.Pos.{point};
 
-    /// The position with these parts, or `None` where one is outside ±2^29. Does not allocate.
+    /// The position with these parts, or `None` if one is outside ±2^29. Does not allocate.
     pub fn new(x: i64, y: i64, z: i64) -> Option<Pos>
         ensures made { IfSome result (λ p. point p ≡ record { x = x; y = y; z = z }) }
         ensures none { IfNone result ((IsWithin x × IsWithin y × IsWithin z) → ⊥) }

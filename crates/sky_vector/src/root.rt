@@ -1,4 +1,4 @@
-//! The square root in whole numbers.
+//! The integer square root.
 
 ghost use Rattle.std.specs.Prelude.{◌<◌, ◌^◌};
 ghost use Rattle.sky_vector.specs.Roots.{IsRoot};

@@ -6,6 +6,6 @@ use Rattle.sky_vector.specs.declared.limits.TheConstants.{CHORD_SQUARED_MOST}
 abbrev pub IsSquaredRadius : ℤ → Type 0
 IsSquaredRadius n = (pos 0 ≤ℤ n) × (n ≤ℤ pos CHORD_SQUARED_MOST)
 
--- the same as a test
+-- `IsSquaredRadius` as a Boolean test
 abbrev pub is_squared_radius : ℤ → Bool
 is_squared_radius n = int_le (pos 0) n && int_le n (pos CHORD_SQUARED_MOST)

@@ -30,7 +30,7 @@ impl Model for SquaredRadius {
 const MOST: i64 = CHORD_SQUARED_MOST as i64;
 
 impl SquaredRadius {
-    /// The squared radius of this value, or `None` where it is below 0 or above 2^62. Does not allocate.
+    /// The squared radius of this value, or `None` if it is below 0 or above 2^62. Does not allocate.
     pub fn new(n: i64) -> Option<SquaredRadius>
         ensures made { IfSome result (λ radius. radius ≡ n) }
         ensures none { IfNone result (IsSquaredRadius n → ⊥) }

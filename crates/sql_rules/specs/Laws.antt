@@ -1,4 +1,4 @@
--- Laws of reading.
+-- Lemmas about reading.
 use Rattle.std.specs.Prelude.{◌≡◌, ℕ, List, Ok, Err}
 use Rattle.sql_token.specs.declared.token.Token.{Token}
 use Rattle.sql_token.specs.Tokens.{tokens_of}

@@ -1,5 +1,5 @@
 //! Worked examples of the definitions, as functions that do nothing: each ensures what the checker computes. Those that
-//! stand here refuse a wrong idea that no law of this crate refuses.
+//! stand here refuse a wrong idea that no lemma of this crate refuses.
 
 ghost use Rattle.std.specs.Prelude.{◌≡◌, codes, Ok, Some};
 ghost use Rattle.sql_rules.specs.Examples.{all_columns};

@@ -1,4 +1,4 @@
-//! Laws of the language, as functions that do nothing: a caller has what they ensure.
+//! Lemmas about the language, stated as functions that do nothing: a caller obtains what they ensure.
 
 ghost use Rattle.sql_rules.specs.Laws.{OneTree, SyntaxIsNothing};
 ghost use Rattle.sql_rules.specs.Laws.{WhatIsReadIsWritten, WhatIsWrittenIsRead};

@@ -1,4 +1,4 @@
-//! The limits of the grammar: each stands here once, and definitions and code cite it.
+//! The limits of the grammar. Each is defined here once; definitions and code refer to it.
 
 use sql_token::limits::BRACKETS_MOST;
 

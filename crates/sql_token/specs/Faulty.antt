@@ -8,7 +8,7 @@ use Rattle.sql_token.specs.declared.token.TokenKind.{TokenKind}
 use Rattle.sql_token.specs.Bytes.{is_blank}
 use Rattle.sql_token.specs.Laws.{IsFirst, IsShaped, StandFrom}
 
--- from a place on the text is, up to another place, these tokens one behind another, with blanks alone before, between
+-- from a place on the text is, up to another place, these tokens one after another, with blanks alone before, between
 -- and behind them
 abbrev pub StandUpTo : List ℕ → ℕ → List Token → ℕ → Type 0
 StandUpTo text place [] to = (place ≤ to) × IsTrue (list_all is_blank (slice_range text place to))

@@ -47,7 +47,7 @@ pub record IsFirst (text : List ℕ) (place : ℕ) (t : Token) : Type 0 where
   pub longest : (to : ℕ) → t.span.to < to → to ≤ length text
       → (k : TokenKind) → IsShaped k (slice_range text t.span.from to) → ⊥
 
--- from a place on the text is these tokens one behind another, with blanks alone before, between and behind them
+-- from a place on the text is these tokens one after another, with blanks alone before, between and behind them
 abbrev pub StandFrom : List ℕ → ℕ → List Token → Type 0
 StandFrom text place [] = IsTrue (list_all is_blank (drop place text))
 StandFrom text place (t ∷ ts) = IsFirst text place t × StandFrom text t.span.to ts

@@ -26,7 +26,7 @@ impl Model for Int {
 }
 
 impl Int {
-    /// The int of this value, or `None` where it is above 2^63 - 1. Does not allocate.
+    /// The int of this value, or `None` if it is above 2^63 - 1. Does not allocate.
     pub fn new(n: u64) -> Option<Int>
         ensures made { IfSome result (λ int. int ≡ pos n) }
         ensures none { IfNone result (INT_MOST < n) }

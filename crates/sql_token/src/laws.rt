@@ -1,4 +1,4 @@
-//! What the definition of tokens comes to, as functions that do nothing: each ensures a law.
+//! What the definition of tokens comes to, as functions that do nothing: each ensures a lemma.
 ghost use Rattle.std.specs.Prelude.{◌≡◌, ◌↔◌, ℕ, List, Ok, Err};
 ghost use Rattle.sql_token.specs.declared.token.Token.{Token};
 ghost use Rattle.sql_token.specs.Faults.{BadByte, Literal, TooMany};
@@ -6,7 +6,7 @@ ghost use Rattle.sql_token.specs.Faulty.{IsBadByte, IsLargeInt, IsTooMany};
 ghost use Rattle.sql_token.specs.Laws.{StandFrom};
 ghost use Rattle.sql_token.specs.Tokens.{tokens_from, tokens_of, within_limits};
 
-/// A text is its tokens one behind another, each written by the bytes of its span, and blanks.
+/// A text is its tokens one after another, each written by the bytes of its span, and blanks.
 #[tactic(auto, using(crate::proofs::Stand::tokens_stand))]
 pub fn tokens_stand_in_their_text()
     ensures { (text : List ℕ) (ts : List Token) → tokens_of text ≡ Ok ts → StandFrom text 0 ts }

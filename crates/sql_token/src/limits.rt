@@ -1,4 +1,4 @@
-//! The limits of the tokens of a text: each stands here once, and definitions and code cite it.
+//! The limits of the tokens of a text. Each is defined here once; definitions and code refer to it.
 
 /// The most tokens of a text.
 pub const TOKENS_MOST: usize = 2048;

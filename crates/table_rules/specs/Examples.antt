@@ -9,11 +9,11 @@ use Rattle.table_rules.specs.declared.fault.LoadFault.{LoadFault}
 abbrev pub four : List ℕ → List ℕ → List ℕ → List ℕ → List (List ℕ)
 four a b c d = a ∷ b ∷ c ∷ d ∷ []
 
--- what these data rows are under the header of the first four columns
+-- what the records of these data rows are under the header of the first four columns
 abbrev pub under_four : List (List (List ℕ)) → Result Catalogue LoadFault
 under_four rows = catalogue_of_records (first_names ∷ rows)
 
--- the header with a extra column
+-- the header with an extra column
 abbrev pub with_flux : List (List ℕ)
 with_flux = first_names ++ (codes "flux" ∷ [])
 
@@ -21,11 +21,11 @@ with_flux = first_names ++ (codes "flux" ∷ [])
 abbrev pub meridian : List (List ℕ)
 meridian = four (codes "1") (codes "268435456") (codes "0") (codes "0")
 
--- a row of the same id at the pole
+-- a row at the pole with the same id
 abbrev pub pole : List (List ℕ)
 pole = four (codes "1") (codes "0") (codes "0") (codes "268435456")
 
--- a row of a lower id at the other pole
+-- a row at the other pole with a lower id
 abbrev pub lower_id : List (List ℕ)
 lower_id = four (codes "0") (codes "0") (codes "-0") (codes "-268435456")
 
@@ -37,7 +37,7 @@ on_meridian further = record { id = pos 1; at = record { x = pos 268435456; y = 
 abbrev pub at_lower_pole : Obj
 at_lower_pole = record { id = pos 0; at = record { x = pos 0; y = pos 0; z = negsuc 268435455 }; further = [] }
 
--- twelve further names
+-- twelve extra names
 abbrev pub twelve : List (List ℕ)
 twelve =
     four (codes "a") (codes "b") (codes "c") (codes "d")

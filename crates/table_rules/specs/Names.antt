@@ -5,7 +5,7 @@ use Rattle.std.specs.Str.{bytes_eq}
 use Rattle.text_rules.specs.Words.{begins_word, continues_word}
 use Rattle.table_rules.specs.declared.limits.TheConstants.{COLUMNS_MOST, NAME_MOST}
 
--- the text has a first byte, and a word begins with it
+-- the text has a first byte, and a word can begin with it
 abbrev pub begins_as_a_name : List ℕ → Bool
 begins_as_a_name [] = false
 begins_as_a_name (b ∷ bs) = begins_word b
@@ -18,14 +18,14 @@ is_name text = begins_as_a_name text && list_all continues_word text && nat_le (
 abbrev pub first_names : List (List ℕ)
 first_names = codes "objectId" ∷ codes "x" ∷ codes "y" ∷ codes "z" ∷ []
 
--- the names of all columns, in their order, where these are those of the further ones
+-- the names of all columns in order, given those of the extra ones
 abbrev pub column_names : List (List ℕ) → List (List ℕ)
 column_names names = first_names ++ names
 
--- one more column behind these can have the text as its name: it is a name and none of theirs, and they are fewer than 16
+-- the text can be the name of one more column after these: it is a name and none of theirs, and they are fewer than 16
 abbrev pub can_follow : List (List ℕ) → List ℕ → Bool
 can_follow columns text = nat_lt (length columns) COLUMNS_MOST && is_name text && not (list_any (bytes_eq text) columns)
 
--- the number of the column with this name, from 0, and None where none has it
+-- the number of the column with this name, from 0, and None if no column has it
 abbrev pub column_of : List (List ℕ) → List ℕ → Option ℕ
 column_of names name = position (bytes_eq name) (column_names names)

@@ -36,7 +36,7 @@ column_bound col =
     else if nat_le col 3 then pos COORDINATE_MOST
     else pos FURTHER_MOST
 
--- a extra value is NULL or no larger than the bound
+-- an extra value is NULL or no larger than the bound
 abbrev pub is_further : Option ℤ → Bool
 is_further None = true
 is_further (Some z) = int_le (neg_ℤ (pos FURTHER_MOST)) z && int_le z (pos FURTHER_MOST)
@@ -49,12 +49,12 @@ pub record IsRow (o : Obj) : Type 0 where
   pub further : IsTrue (list_all is_further o.further)
   pub few : length o.further ≤ FURTHER_COLUMNS_MOST
 
--- the ids ascend strictly, so no two rows have one
+-- the ids ascend strictly, so no two rows have the same id
 abbrev pub IdsAscend : List Obj → Type 0
 IdsAscend objects = AllPairs (λ a b. a.id <ℤ b.id) objects
 
--- Rows that are a table: not too many, in strictly ascending id, each within the limits of its columns and with a value
--- for each extra column.
+-- Rows that are a table: not too many, in strictly ascending order of id, each within the limits of its columns and
+-- with a value for each extra column.
 pub record IsCatalogue (c : Catalogue) : Type 0 where
   pub few_names : length c.names ≤ FURTHER_COLUMNS_MOST
   pub few : length c.objects ≤ ROWS_MOST
@@ -62,7 +62,7 @@ pub record IsCatalogue (c : Catalogue) : Type 0 where
   pub wide : All (λ o. length o.further ≡ length c.names) c.objects
   pub rows : All IsRow c.objects
 
--- The table of these rows: the same rows in strictly ascending id. Where an id repeats there is none.
+-- The table of these rows: the same rows in strictly ascending order of id. If an id repeats, there is none.
 pub record IsTable (rows table : List Obj) : Type 0 where
   pub same : IsPermutation rows table
   pub ascend : IdsAscend table

@@ -16,11 +16,11 @@ use Rattle.table_rules.specs.declared.limits.TheConstants.{FIRST_COLUMNS, ROWS_M
 use Rattle.table_rules.specs.declared.fault.LoadFault.{LoadFault}
 use Rattle.table_rules.specs.declared.fault.LoadFault.TheVariants.{Header, FieldCount, Number, Range, Length, Repeated, TooManyRows}
 
--- the fault, where it isn't right
+-- the fault, if the test is false
 abbrev pub unless : Bool → LoadFault → List LoadFault
 unless right fault = if right then [] else fault ∷ []
 
--- the field of a column, and an empty one where the record ends before it
+-- the field of a column, and an empty one if the record ends before it
 abbrev pub field_in : List (List ℕ) → ℕ → List ℕ
 field_in fields col = get_or fields col []
 
@@ -44,12 +44,12 @@ column_least col = if col == 0 then pos 0 else neg_ℤ (column_bound col)
 abbrev pub is_in_range : ℕ → ℤ → Bool
 is_in_range col z = int_le (column_least col) z && int_le z (column_bound col)
 
--- the fault of a field, where it has to be a number: it is none, or one out of the range of its column
+-- the fault of a field that has to be a number: it is none, or one outside the range of its column
 abbrev pub number_faults : ℕ → ℕ → Option ℤ → List LoadFault
 number_faults row col None = Number row (col + 1) ∷ []
 number_faults row col (Some z) = unless (is_in_range col z) (Range row (col + 1) z)
 
--- the field is NULL: it is an empty one of a extra column
+-- the field is NULL: it is an empty field of an extra column
 abbrev pub is_null : ℕ → List ℕ → Bool
 is_null col field = nat_le FIRST_COLUMNS col && (length field == 0)
 
@@ -61,7 +61,7 @@ field_faults row col field = if is_null col field then [] else number_faults row
 abbrev pub number_in : List (List ℕ) → ℕ → ℤ
 number_in fields col = unwrap_or (int_of (field_in fields col)) (pos 0)
 
--- the row that a record says; an empty extra field is no number, and so it is NULL
+-- the row that a record spells; an empty extra field is no number, and so it is NULL
 abbrev pub row_of : List (List ℕ) → Obj
 row_of fields = record {
   id = number_in fields 0;
@@ -69,21 +69,22 @@ row_of fields = record {
   further = map int_of (drop FIRST_COLUMNS fields);
 }
 
--- the faults of a record by itself, in the order in which they are judged, where the header has so many fields
+-- the faults of a record by itself, in the order in which they are checked, for a header with the given number of
+-- fields
 abbrev pub own_faults : ℕ → ℕ → List (List ℕ) → List LoadFault
 own_faults width row fields =
     unless (length fields == width) (FieldCount row (length fields))
     ++ flat_map (λ col. field_faults row col (field_in fields col)) (range_with_len 0 (length fields))
     ++ unless (is_admissible (row_of fields).at) (Length row)
 
--- the faults of a record behind these rows: there are not too many, and no two of one id
+-- the faults of a record that follows these rows: there are not too many, and no two of one id
 abbrev pub row_faults : ℕ → List Obj → List (List ℕ) → List LoadFault
 row_faults width earlier fields =
     unless (nat_lt (length earlier) ROWS_MOST) TooManyRows
     ++ own_faults width (length earlier + 1) fields
     ++ unless (not (has_id earlier (row_of fields).id)) (Repeated (length earlier + 1) (row_of fields).id)
 
--- the faults of the data rows, row by row, each judged behind those before it
+-- the faults of the data rows, row by row, each checked after those before it
 abbrev pub data_faults : ℕ → List (List (List ℕ)) → List LoadFault
 data_faults width rows =
     flat_map (λ i. row_faults width (map row_of (take i rows)) (get_or rows i [])) (range_with_len 0 (length rows))

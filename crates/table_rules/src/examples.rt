@@ -1,4 +1,4 @@
-//! Worked examples of records that are a catalogue or have a first fault, computed by the checker.
+//! Worked examples of records that are a catalogue or have a first fault, evaluated by the checker.
 
 ghost use Rattle.std.specs.Prelude.{◌≡◌, [], ◌∷◌, ◌++◌, Err, Ok, None, Some, codes, false, pos, take, true};
 ghost use Rattle.table_rules.specs.Names.{can_follow, column_of, first_names, is_name};
@@ -17,7 +17,7 @@ pub fn limits_of_the_table()
     ensures rows { ROWS_MOST ≡ 4194304 }
 {}
 
-/// A fault in each of a row's parts.
+/// A fault in each part of a row.
 pub fn faults_of_a_row()
     ensures length { under_four (four (codes "1") (codes "268435439") (codes "0") (codes "0") ∷ [])
         ≡ Err (Length 1) }
@@ -35,7 +35,7 @@ pub fn faults_of_a_row()
         ≡ Err (Number 1 3) }
 {}
 
-/// Of two rows of one id the second is the fault, and an earlier row's fault goes before it, whatever its column.
+/// Of two rows with one id the second is the fault. An earlier row's fault is reported first, whatever its column.
 pub fn first_of_the_rows()
     ensures repeated { under_four (meridian ∷ pole ∷ []) ≡ Err (Repeated 2 (pos 1)) }
     ensures later { under_four (meridian ∷ lower_id ∷ pole ∷ (codes "1" ∷ []) ∷ [])
@@ -56,7 +56,7 @@ pub fn faults_of_a_header()
         ≡ Err (Header 17) }
 {}
 
-/// A header alone is a table without rows, and rows stand in ascending id; a last field that is empty is NULL.
+/// A header alone is a table without rows. Rows are in ascending order of id. An empty last field is NULL.
 pub fn accepted_rows()
     ensures none { under_four [] ≡ Ok (record { names = []; objects = [] }) }
     ensures order { under_four (meridian ∷ lower_id ∷ [])

@@ -1,21 +1,21 @@
-//! What may be wrong with a catalogue.
+//! The faults of a catalogue.
 
 use thiserror::Error;
 
 /// The first fault of a catalogue. Data rows and fields are numbered from 1.
 #[derive(Clone, Copy, Debug, PartialEq, Eq, Error)]
 pub enum LoadFault {
-    /// The header's field isn't the name that it has to be: one of the first four is another, a further one is no name, is
-    /// there already or is the 17th, or one of the first four is missing.
+    /// A field of the header is not the name that it has to be. One of the first four has another name or is missing,
+    /// or an extra one is no name, repeats a name or is the 17th.
     #[error("wrong header")]
     Header { field: u32 },
-    /// The row has `count` fields, and the header another number.
+    /// The row has `count` fields, and the header has another number of them.
     #[error("wrong number of fields")]
     FieldCount { row: u32, count: u32 },
-    /// The field isn't a number, and isn't an empty field past the fourth.
+    /// The field is neither a number nor an empty field after the fourth.
     #[error("not a number")]
     Number { row: u32, field: u32 },
-    /// The field is a number out of the range of its column.
+    /// The field is a number outside the range of its column.
     #[error("number out of range")]
     Range { row: u32, field: u32, value: i128 },
     /// The row's position isn't admissible: it is too far from the sphere.

@@ -1,8 +1,8 @@
-//! Laws of accepted catalogues, as functions that do nothing: a caller has what they ensure.
+//! Lemmas about accepted catalogues, stated as functions that do nothing: a caller obtains what they ensure.
 
 ghost use Rattle.table_rules.specs.Laws.{AcceptedIsCatalogue, ApartHaveATable, ObjectsAreTheDataRows, OneTable};
 
-/// What records are accepted as is a catalogue of rows within the limits.
+/// The catalogue that records are accepted as has rows within the limits.
 pub fn accepted_is_catalogue()
     ensures { AcceptedIsCatalogue }
 {}
@@ -12,12 +12,12 @@ pub fn objects_are_the_data_rows()
     ensures { ObjectsAreTheDataRows }
 {}
 
-/// Rows no two of which have one id are, in ascending id, their table.
+/// Rows no two of which have the same id have a table: they are its rows in ascending order of id.
 pub fn apart_have_a_table()
     ensures { ApartHaveATable }
 {}
 
-/// Rows have one table at most.
+/// Rows have at most one table.
 pub fn one_table()
     ensures { OneTable }
 {}

@@ -1,12 +1,12 @@
-//! The limits of the object table: each stands here once, and definitions and code cite it.
+//! The limits of the object table. Each is defined here once; definitions and code refer to it.
 
 /// The largest id. The least is 0.
 pub const ID_MOST: u64 = (1 << 63) - 1;
 
-/// The largest size of a extra value.
+/// The largest size of an extra value.
 pub const FURTHER_MOST: u64 = 1 << 50;
 
-/// How many columns every catalogue has: objectId, x, y and z.
+/// The number of columns that every catalogue has: objectId, x, y and z.
 pub const FIRST_COLUMNS: usize = 4;
 
 /// The most extra columns.

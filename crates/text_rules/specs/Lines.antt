@@ -1,4 +1,4 @@
--- The lines and the pieces of a text, and which lines are notes.
+-- The lines of a text, its pieces between separators, and which lines are comment lines.
 use Rattle.std.specs.Prelude.{ℕ, ◌+◌, ◌==◌, Bool, false, ◌||◌, List, [], ◌∷◌}
 use Rattle.std.specs.List.{list_all, slice_split}
 use Rattle.std.specs.Str.Lines.{lines}
@@ -18,7 +18,7 @@ numbered n (text ∷ rest) = record { number = n; text = text } ∷ numbered (n 
 abbrev pub lines_of : List ℕ → List Line
 lines_of bs = numbered 1 (lines bs)
 
--- the pieces of a text between the bytes b: there is one more of them than there are such bytes, and a piece may be empty
+-- the pieces of a text between the bytes b: there is one piece more than there are such bytes, and a piece may be empty
 abbrev pub pieces : ℕ → List ℕ → List (List ℕ)
 pieces b bs = slice_split (λ x. x == b) bs
 
@@ -31,6 +31,6 @@ abbrev pub begins_with_hash : List ℕ → Bool
 begins_with_hash [] = false
 begins_with_hash (b ∷ bs) = b == 35
 
--- the line is skipped: it is spaces and tabs alone, or its first byte is #
+-- the line is a comment line and is skipped: it is spaces and tabs alone, or its first byte is #
 abbrev pub is_note : List ℕ → Bool
 is_note text = list_all is_space_or_tab text || begins_with_hash text

@@ -1,12 +1,12 @@
--- The bytes of which a word is made: a name of a column, and a name or a reserved word of a query.
+-- The bytes of a word: a column's name, and a name or a reserved word of a query.
 use Rattle.std.specs.Prelude.{ℕ, Bool, ◌||◌, ◌==◌}
 use Rattle.std.specs.Char.{is_ascii_alphabetic, is_ascii_digit}
 use Rattle.std.specs.Str.{byte}
 
--- a word begins with the byte: it is a letter of ASCII or an underscore
+-- a word can begin with the byte: it is a letter of ASCII or an underscore
 abbrev pub begins_word : ℕ → Bool
 begins_word b = is_ascii_alphabetic b || (b == byte "_")
 
--- a word goes on with the byte: it is a letter, an underscore or a digit
+-- a word can continue with the byte: it is a letter, an underscore or a digit
 abbrev pub continues_word : ℕ → Bool
 continues_word b = begins_word b || is_ascii_digit b

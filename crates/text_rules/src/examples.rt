@@ -1,25 +1,25 @@
-//! Worked examples of lines, pieces, words and numbers, computed by the checker.
+//! Worked examples of lines, split pieces, names and numbers, evaluated by the checker.
 
 ghost use Rattle.std.specs.Prelude.{◌≡◌, [], ◌∷◌, ◌++◌, None, Some, codes, false, map, true, pos, negsuc};
 ghost use Rattle.text_rules.specs.Lines.{is_note, lines_of, pieces};
 ghost use Rattle.text_rules.specs.Numbers.{four_decimals, int_of};
 ghost use Rattle.text_rules.specs.Words.{begins_word, continues_word};
 
-/// A carriage return before a line feed is dropped, an empty line is one, and a last line without its line feed keeps its
-/// carriage return.
+/// A carriage return before a line feed is dropped, and an empty line counts as a line. A last line without a line feed
+/// keeps its carriage return.
 pub fn lines_of_three_ends()
     ensures { lines_of ((codes "a" ++ (13 ∷ 10 ∷ 10 ∷ [])) ++ (codes "b" ++ (13 ∷ [])))
         ≡ record { number = 1; text = codes "a" } ∷ record { number = 2; text = [] }
         ∷ record { number = 3; text = codes "b" ++ (13 ∷ []) } ∷ [] }
 {}
 
-/// Of two carriage returns before a line feed one stays, and an empty rest is no line.
+/// Of two carriage returns before a line feed one is kept. An empty rest is no line.
 pub fn lines_of_two_returns()
     ensures returns { lines_of (13 ∷ 13 ∷ 10 ∷ []) ≡ record { number = 1; text = 13 ∷ [] } ∷ [] }
     ensures empty { lines_of [] ≡ [] }
 {}
 
-/// A line of blanks and one that begins with # are notes; one with a blank before # is not.
+/// A line of blanks and a line that begins with # are comment lines. A line with a blank before # is not.
 pub fn notes()
     ensures blank { is_note (32 ∷ 9 ∷ []) ≡ true }
     ensures empty { is_note [] ≡ true }
@@ -27,14 +27,16 @@ pub fn notes()
     ensures later { is_note (codes " # sky") ≡ false }
 {}
 
-/// Between two bytes side by side, and before and behind one at an end, stands an empty piece; of no bytes it is the only one.
+/// Two adjacent separators enclose an empty piece, and a separator at an end of the text has an empty piece outside it.
+/// An empty text is one empty piece.
 pub fn pieces_of_texts()
     ensures words { pieces 32 (codes " a  b") ≡ [] ∷ codes "a" ∷ [] ∷ codes "b" ∷ [] }
     ensures end { pieces 10 (codes "a\n") ≡ codes "a" ∷ [] ∷ [] }
     ensures nothing { pieces 32 [] ≡ [] ∷ [] }
 {}
 
-/// The bytes beside a letter, an underscore and a digit are of no word, and no word begins with a digit.
+/// The bytes next to a letter, an underscore and a digit in ASCII are not part of a word, and no word begins with a
+/// digit.
 pub fn bytes_of_words()
     ensures small { map begins_word (codes "`az{") ≡ false ∷ true ∷ true ∷ false ∷ [] }
     ensures large { map begins_word (codes "@AZ[") ≡ false ∷ true ∷ true ∷ false ∷ [] }
@@ -43,7 +45,8 @@ pub fn bytes_of_words()
     ensures none { map continues_word (codes "/:.-") ≡ false ∷ false ∷ false ∷ false ∷ [] }
 {}
 
-/// A number of 19 digits is read, with a minus too, and leading zeros count as digits; one of 20 is not, nor a plus.
+/// A number of 19 digits is accepted, also with a minus. Leading zeros count as digits. A number of 20 digits and a
+/// plus are not accepted.
 pub fn numbers_of_texts()
     ensures longest { int_of (codes "9999999999999999999") ≡ Some (pos 9999999999999999999) }
     ensures minus { int_of (codes "-0000000000000000012") ≡ Some (negsuc 11) }
@@ -52,7 +55,7 @@ pub fn numbers_of_texts()
     ensures sign { int_of (codes "-") ≡ None }
 {}
 
-/// A mean of -1, 0 and 0 is -0.3333, and the four digits keep their zeros.
+/// The mean of -1, 0 and 0 is -0.3333, and the four decimals keep their zeros.
 pub fn decimals()
     ensures third { four_decimals (negsuc 3332) ≡ codes "-0.3333" }
     ensures nothing { four_decimals (pos 0) ≡ codes "0.0000" }

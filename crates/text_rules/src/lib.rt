@@ -1,9 +1,11 @@
-//! What the numbers, the lines, the words and the readings of a text are: definitions that other crates' contracts cite.
+//! The syntax shared by all text formats: numbers, lines, names and reading part by part, as definitions for contracts.
 //!
-//! Callers see texts as lists of bytes, numbers as whole numbers (`specs/Numbers.antt`), lines as their numbers and texts
-//! (`specs/Lines.antt`), words by their bytes (`specs/Words.antt`), and what is read part by part (`specs/Readings.antt`).
-//! Below: nothing. Above: `sky_text` reads and writes them, and the definitions of all formats cite them.
-//! No algorithm: only worked examples, which the checker computes.
+//! Callers see a text as a list of bytes and a number as a whole number (`specs/Numbers.antt`). A line is its number
+//! and its text (`specs/Lines.antt`). `specs/Words.antt` defines the bytes of a word, and `specs/Readings.antt` a text
+//! that is read part by part.
+//!
+//! Below: nothing. Above: `sky_text`, which reads and writes them, and the definitions of all formats. This crate has
+//! no algorithms, only worked examples that the checker evaluates.
 #![tactic(auto)]
 
 pub mod examples;

@@ -1,4 +1,4 @@
-//! The limits of texts: each stands here once, and definitions and code cite it.
+//! The limits of texts. Each is defined here once; definitions and code refer to it.
 
 /// The most bytes of a catalogue, and of any text that is cut into lines or records.
 pub const TEXT_MOST: usize = 1 << 29;

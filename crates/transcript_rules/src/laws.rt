@@ -1,4 +1,4 @@
-//! Laws of transcripts, as functions that do nothing: a caller has what they ensure.
+//! Lemmas about transcripts, stated as functions that do nothing: a caller obtains what they ensure.
 
 ghost use Rattle.transcript_rules.specs.KeyedTexts.{PlainItemsByKeys};
 ghost use Rattle.transcript_rules.specs.BlockLaws.{AnsweredIsItsTable, CancelledIsItsLine};

@@ -1,4 +1,5 @@
--- Laws of the tests and ranges of columns: a condition that is one holds exactly where the value in the column passes.
+-- Lemmas about the tests and ranges of columns: a condition that is one holds exactly where the value in the column
+-- passes.
 use Rattle.std.specs.Prelude.{◌≡◌, ℤ, false, ◌&&◌, [], Option, None, Some}
 use Rattle.sky_vector.specs.declared.direction.Dir.{Dir}
 use Rattle.sky_vector.specs.Points.{Point}

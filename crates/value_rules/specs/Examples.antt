@@ -132,7 +132,7 @@ middle_box = Boxed (negsuc 9) (pos 10) east north
 abbrev pub id_times_flux : BoundExpr
 id_times_flux = product_of (column 0) (column 4 ∷ [])
 
--- a*a*a*0, where a is a extra column
+-- a*a*a*0, where a is an extra column
 abbrev pub zero_last : BoundExpr
 zero_last = product_of (column 4) (column 4 ∷ column 4 ∷ atom.Int (pos 0) ∷ [])
 

@@ -1,4 +1,4 @@
--- Laws of values and of truth.
+-- Lemmas about values and truth.
 use Rattle.std.specs.Prelude.{◌≡◌, ℕ, ℤ, nat_abs, Bool, true, false, List, Option, None, Some}
 use Rattle.table_rules.specs.Objects.{Obj, IsRow, cell, column_bound}
 use Rattle.sql_bound.specs.declared.cond.BoundPred.{BoundPred}

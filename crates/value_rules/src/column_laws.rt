@@ -1,4 +1,5 @@
-//! Laws of conditions that compare one column with numbers, as functions that do nothing: a caller has what they ensure.
+//! Lemmas about conditions that compare one column with numbers, stated as functions that do nothing: a caller obtains
+//! what they ensure.
 
 ghost use Rattle.sql_bound.specs.declared.cond.BoundCond.{BoundCond};
 ghost use Rattle.value_rules.specs.ColumnLaws.{AbsentFailsRange, AbsentFailsTest, BetweenIsARange};

@@ -44,7 +44,7 @@ pub fn values_of_rows()
     ensures null { value_of flux_times_id second ≡ None }
 {}
 
-/// Each front of a product counts: `a*a*a*0` is too wide, and `0*a*a*a` is not; an id times a extra column is.
+/// Each front of a product counts: `a*a*a*0` is too wide, and `0*a*a*a` is not; an id times an extra column is.
 pub fn widths_of_products()
     ensures wide { widest_of zero_last ≡ 2 ^ 150 }
     ensures narrow { widest_of zero_first ≡ 2 ^ 50 }

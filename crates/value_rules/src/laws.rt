@@ -1,4 +1,4 @@
-//! Laws of values and of truth, as functions that do nothing: a caller has what they ensure.
+//! Lemmas about values and truth, stated as functions that do nothing: a caller obtains what they ensure.
 
 ghost use Rattle.value_rules.specs.Laws.{AndTable, BetweenIsTwoComparisons, CellIsWithin, NotAmong, NotBetween};
 ghost use Rattle.value_rules.specs.Laws.{NotIsNegation, IsNotNull, NotTable, OrTable, PairIsWithin, RowIsWithin};

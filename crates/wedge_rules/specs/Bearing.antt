@@ -1,4 +1,4 @@
--- The number of the wedge that a point lies in, by one division.
+-- The number of the wedge that a point is in, by one division.
 use Rattle.std.specs.Prelude.{ℕ, ◌+◌, ◌-◌, ◌*◌, ◌/◌, ◌<◌, ℤ, ◌+ℤ◌, nat_abs, nat_lt, if◌then◌else◌}
 use Rattle.wedge_rules.specs.Heading.{LiesBetween}
 
@@ -6,11 +6,12 @@ use Rattle.wedge_rules.specs.Heading.{LiesBetween}
 unfoldable pub from_middle : ℕ → ℕ → ℕ
 from_middle n steps = if nat_lt steps n then steps + 7 * n else steps - n
 
--- the wedge of a point that, turned back to the right side by so many steps, lies so far ahead and so far to the side
+-- the wedge of a point, given the steps by which it is rotated back to the right side, and there how far ahead and how
+-- far to the side it is
 unfoldable pub wedge_at : ℕ → ℤ → ℤ → ℕ → ℕ
 wedge_at n ahead side turned = from_middle n (n * nat_abs (side +ℤ ahead) / nat_abs ahead + turned) / 8
 
--- a wedge that there is, and between whose directions the point lies
+-- wedge k exists, and the point is between its directions
 pub record IsBearing (n k : ℕ) (x y : ℤ) : Type 0 where
   pub inside : k < n
   pub between : LiesBetween n k x y

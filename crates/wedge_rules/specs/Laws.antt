@@ -1,4 +1,4 @@
--- Laws of the wedges of a stripe, and of the fine wedges into which its chunks are cut again.
+-- Lemmas about the wedges of a stripe, and about the fine wedges into which its chunks are cut again.
 use Rattle.std.specs.Prelude.{◌≡◌, ◌↔◌, IsTrue, ℕ, ℤ, pos, ◌+◌, ◌*◌, ◌<◌, ◌≤◌, ◌<ℤ◌}
 use Rattle.wedge_rules.specs.Heading.{heading, past, scaled}
 use Rattle.wedge_rules.specs.Wedge.{IsWedgeCount, InWedge, in_wedge}
@@ -9,7 +9,7 @@ ExactlyOneWedge =
     (n : ℕ) (x y : ℤ) → IsWedgeCount n
     → (k : ℕ) × (k < n) × InWedge n k x y × ((j : ℕ) → j < n → InWedge n j x y → j ≡ k)
 
--- where c wedges are cut into m fine wedges each, a fine wedge of a wedge lies in that wedge
+-- if c wedges are cut into m fine wedges each, a fine wedge of a wedge is a subset of that wedge
 abbrev pub FineLiesInItsWedge : Type 0
 FineLiesInItsWedge =
     (c m w j : ℕ) (x y : ℤ) → IsWedgeCount c → w < c → j < m
@@ -32,7 +32,7 @@ LessThanHalfATurn =
     (n k : ℕ) → 3 ≤ n → k < n
     → pos 0 <ℤ past (heading n k) (heading n (k + 1)).dx (heading n (k + 1)).dy
 
--- the test is true exactly where the wedge holds the point
+-- the test is true exactly if the wedge holds the point
 abbrev pub TestIsTheFact : Type 0
 TestIsTheFact =
     (n k : ℕ) (x y : ℤ) → IsWedgeCount n → IsTrue (in_wedge n k x y) ↔ InWedge n k x y

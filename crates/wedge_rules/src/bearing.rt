@@ -1,5 +1,5 @@
-//! Finds the wedge of a position by a division: the position is turned back by quarters to the right side of the square,
-//! and its step there is a quotient.
+//! Finds the wedge of a position by a division. The position is rotated by quarter turns to the right side of the
+//! square. The number of its step there is a quotient.
 
 ghost use Rattle.std.specs.Prelude.{◌≡◌, ◌*◌, ◌^◌, ◌<◌, ◌≤◌, pos, neg_ℤ, ◌<ℤ◌, ◌≤ℤ◌, ◌⊎◌};
 ghost use Rattle.sky_vector.specs.declared.limits.TheConstants.{PART_MOST};
@@ -8,7 +8,7 @@ ghost use Rattle.wedge_rules.specs.Bearing.{IsBearing, wedge_at};
 
 use sky_vector::Pos;
 
-/// The wedge of a point that is turned back to the right side.
+/// The wedge of a point after its rotation to the right side.
 #[tactic(auto, unfolding(crate::specs::Bearing::wedge_at, crate::specs::Bearing::from_middle))]
 fn turned_wedge(wedges: u64, ahead: i64, side: i64, turned: u64) -> u64
     requires few { wedges ≤ 2 ^ 32 }
@@ -52,7 +52,8 @@ fn bearing(wedges: u64, x: i64, y: i64) -> u64
     }
 }
 
-/// The number of the wedge that holds the position, from 0, of 1 wedge or of 3 and more. Does not allocate.
+/// The number of the wedge that holds the position, from 0. There is 1 wedge, or there are 3 or more. Does not
+/// allocate.
 pub fn wedge_of(wedges: u32, p: &Pos) -> u32
     requires { IsWedgeCount wedges }
     ensures inside { result < wedges }

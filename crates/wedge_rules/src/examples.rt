@@ -1,4 +1,4 @@
-//! Worked examples of the directions, computed by the checker.
+//! Worked examples of the directions, evaluated by the checker.
 
 ghost use Rattle.std.specs.Prelude.{◌≡◌, ℤ, negsuc, pos};
 ghost use Rattle.wedge_rules.specs.Heading.{heading, towards};

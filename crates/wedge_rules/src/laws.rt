@@ -1,4 +1,4 @@
-//! Laws of wedges and fine wedges, as functions that do nothing: a caller has what they ensure.
+//! Lemmas about wedges and fine wedges, stated as functions that do nothing: a caller obtains what they ensure.
 
 ghost use Rattle.wedge_rules.specs.Laws.{ExactlyOneFineWedge, ExactlyOneWedge, FineLiesInItsWedge};
 ghost use Rattle.wedge_rules.specs.Laws.{LessThanHalfATurn, PlanesAgree, TestIsTheFact};
@@ -9,7 +9,7 @@ pub fn exactly_one_wedge()
     ensures { ExactlyOneWedge }
 {}
 
-/// A fine wedge lies in the wedge that it is a part of.
+/// A fine wedge is a subset of the wedge that it is a part of.
 pub fn fine_lies_in_its_wedge()
     ensures { FineLiesInItsWedge }
 {}
@@ -32,7 +32,7 @@ pub fn less_than_half_a_turn()
     ensures { LessThanHalfATurn }
 {}
 
-/// The test of a wedge is true exactly where it holds the point.
+/// The test of a wedge is true exactly if the wedge holds the point.
 #[tactic(auto, using(crate::proofs::Tests::test_is_the_fact))]
 pub fn test_is_the_fact()
     ensures { TestIsTheFact }
