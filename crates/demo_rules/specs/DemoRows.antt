@@ -9,39 +9,39 @@ use Rattle.sky_vector.specs.Roots.{IsRoot}
 use Rattle.demo_rules.specs.declared.limits.TheConstants.{FLUXES, HEIGHTS, KINDS, LEAN_MIDDLE}
 use Rattle.demo_rules.specs.Draws.{draw_of}
 
--- a number divided by a natural one, cut towards zero
+-- a number divided by a natural one, rounded towards zero
 abbrev pub cut_quotient : ℤ → ℕ → ℤ
 cut_quotient (pos n) h = pos (n / h)
 cut_quotient (negsuc n) h = neg_ℤ (pos ((n + 1) / h))
 
--- the height of object i: its first draw, brought to the heights of the sphere
+-- the height of object i: its first draw, reduced to the heights of the sphere
 abbrev pub height : ℕ → ℕ → ℤ
 height seed i = pos (draw_of seed i 1 % HEIGHTS) -ℤ pos RADIUS
 
--- how far object i leans to x: its second draw about 0
+-- the x component of object i's direction: its second draw minus the middle
 abbrev pub lean_x : ℕ → ℕ → ℤ
 lean_x seed i = pos (draw_of seed i 2) -ℤ pos LEAN_MIDDLE
 
--- how far object i leans to y: its third draw about 0
+-- the y component of object i's direction: its third draw minus the middle
 abbrev pub lean_y : ℕ → ℕ → ℤ
 lean_y seed i = pos (draw_of seed i 3) -ℤ pos LEAN_MIDDLE
 
--- the point of the equator on the first meridian, where objects stand that have no other place
+-- the point of the equator on the first meridian, the default position of objects
 abbrev pub on_meridian : Point
 on_meridian = record { x = pos RADIUS; y = pos 0; z = pos 0 }
 
--- the point, where it is a position of the sky
+-- the point, if it is a position of the sky, and else the default position
 abbrev pub kept_point : Point → Point
 kept_point p =
     if is_coordinate p.x && is_coordinate p.y && is_coordinate p.z && is_admissible p then p else on_meridian
 
--- the point at a height that leans to (u, v): t from the axis, where (u, v) has the length h
+-- the point at a height in the direction (u, v): t from the axis, if (u, v) has the length h
 abbrev pub leaning_point : (z u v : ℤ) → (t h : ℕ) → Point
 leaning_point z u v t h =
     if nat_eq h 0 then on_meridian
     else kept_point (record { x = cut_quotient (u *ℤ pos t) h; y = cut_quotient (v *ℤ pos t) h; z = z })
 
--- Where object i stands: at its height on the sphere, in the direction to which it leans.
+-- The position of object i: at its height on the sphere, in its direction.
 pub record StandsAt (seed i : ℕ) (at : Point) : Type 0 where
   pub t : ℕ
   pub h : ℕ
@@ -59,7 +59,7 @@ pub record IsDemoObject (seed i : ℕ) (o : Obj) : Type 0 where
   pub at : StandsAt seed i o.at
   pub further : o.further ≡ further_values seed i
 
--- The demo's catalogue of so many objects: object i stands at place i - 1.
+-- The demo's catalogue of the given number of objects: object i is at index i - 1.
 pub record IsDemoCatalogue (count seed : ℕ) (c : Catalogue) : Type 0 where
   pub names : c.names ≡ codes "flux" ∷ codes "kind" ∷ []
   pub all : length c.objects ≡ count

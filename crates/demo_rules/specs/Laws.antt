@@ -8,11 +8,11 @@ use Rattle.demo_rules.specs.DemoRows.{IsDemoCatalogue}
 abbrev pub DemoIsThere : Type 0
 DemoIsThere = (count seed : ℕ) → (c : Catalogue) × IsDemoCatalogue count seed c
 
--- and no other one
+-- no other catalogue has the count and the seed
 abbrev pub DemoIsTheOnlyOne : Type 0
 DemoIsTheOnlyOne =
     (count seed : ℕ) (c d : Catalogue) → IsDemoCatalogue count seed c → IsDemoCatalogue count seed d → c ≡ d
 
--- of at most 2^22 rows it is one that the engine takes: in ascending order of id, each row within the limits
+-- at most 2^22 rows are a catalogue that the engine accepts: in ascending order of id, each row within the limits
 abbrev pub DemoIsACatalogue : Type 0
 DemoIsACatalogue = (count seed : ℕ) (c : Catalogue) → count ≤ ROWS_MOST → IsDemoCatalogue count seed c → IsCatalogue c

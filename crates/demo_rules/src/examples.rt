@@ -1,4 +1,4 @@
-//! Worked examples of the demo, computed by the checker.
+//! Worked examples of the demo, evaluated by the checker.
 
 ghost use Rattle.std.specs.Prelude.{◌≡◌, [], ◌∷◌, map, negsuc, pos};
 ghost use Rattle.sky_vector.specs.Roots.{IsRoot};
@@ -18,7 +18,7 @@ pub fn draws_of_another_seed()
         ≡ 337897 ∷ 1278240558 ∷ 449829614 ∷ 518142577 ∷ 1665781405 ∷ [] }
 {}
 
-/// The height of the first object of seed 1, how far it leans, and where it stands then.
+/// The height of the first object of seed 1, its direction, and its position.
 pub fn first_leaning()
     ensures height { height 1 1 ≡ negsuc 268387184 }
     ensures lean_x { lean_x 1 1 ≡ negsuc 891136028 }
@@ -34,13 +34,13 @@ pub fn first_of_seed_1()
     ensures { IsDemoObject 1 1 first_object }
 {}
 
-/// The second object of seed 1, which takes the draws from the sixth on.
+/// The second object of seed 1, which uses the draws from the sixth on.
 #[tactic(auto, using(crate::proofs::First::second))]
 pub fn second_of_seed_1()
     ensures { IsDemoObject 1 2 second_object }
 {}
 
-/// A point that leans nowhere stands on the meridian, and so does one whose place is off the sphere.
+/// A point without a direction is placed on the meridian, and so is a point that would be off the sphere.
 pub fn points_without_a_place()
     ensures nowhere { leaning_point (pos 5) (pos 0) (pos 0) 7 0 ≡ on_meridian }
     ensures off { leaning_point (pos 5) (pos 1) (pos 0) 7 1 ≡ on_meridian }

@@ -8,7 +8,7 @@ pub fn demo_is_one()
     ensures only { DemoIsTheOnlyOne }
 {}
 
-/// The demo's catalogue of at most 2^22 rows is a catalogue: its rows stand in ascending order of id, each within the
+/// The demo's catalogue of at most 2^22 rows is a catalogue: its rows are in ascending order of id, each within the
 /// limits.
 pub fn demo_is_a_catalogue()
     ensures { DemoIsACatalogue }

@@ -1,11 +1,11 @@
--- Lemmas for those who call a board and read its lines: what is left to take, and what a query wants.
+-- Lemmas for callers of a board that read its lines: what is left to take, and what a query wants.
 use Rattle.std.specs.Prelude.{◌≡◌, ℕ, List, ◌∷◌, ◌++◌, false, None}
 use Rattle.scan_rules.specs.declared.journal_line.JournalLine.TheVariants.{Attach}
 use Rattle.scan_rules.specs.Queries.{Journal, wanted}
 use Rattle.scan_rules.specs.Scan.{needs, next_chunk}
 use Rattle.scan_rules.specs.Runs.{IsRun}
 
--- where no chunk is next, no query has a chunk left that it was not served
+-- if no chunk is next, no query has a chunk left that it was not served
 abbrev pub NothingIsNeeded : Type 0
 NothingIsNeeded =
     (ring : ℕ) (past : Journal) (q chunk : ℕ)

@@ -1,11 +1,12 @@
--- Lemmas on states, and on how runs go on: by one line more, within a bound, and with the ends of queries kept.
+-- Lemmas about states, and about how runs continue: by one more line, within a bound, and with the ends of queries
+-- kept.
 use Rattle.std.specs.Prelude.{◌≡◌, ℕ, ◌<◌, ◌≤◌, [], ◌∷◌, ◌++◌, length, true, false, ◌↔◌}
 use Rattle.scan_rules.specs.declared.journal_line.JournalLine.{JournalLine}
 use Rattle.scan_rules.specs.declared.limits.TheConstants.{LINES_BOUND, RING_MOST}
 use Rattle.scan_rules.specs.Queries.{Journal, is_attached, is_running, is_done, QueryState, Running, Done, state_of}
 use Rattle.scan_rules.specs.Runs.{MayFollow, IsRun}
 
--- a query runs exactly where that is its state, and so for a query that is done
+-- a query runs exactly if its state is Running, and is done exactly if its state is Done
 abbrev pub StatesTell : Type 0
 StatesTell =
     (past : Journal) (q : ℕ)
@@ -16,11 +17,11 @@ StatesTell =
 abbrev pub NoLinesRun : Type 0
 NoLinesRun = (ring : ℕ) → IsRun ring []
 
--- a front of a run is a run
+-- a prefix of a run is a run
 abbrev pub FrontsRun : Type 0
 FrontsRun = (ring : ℕ) (front rest : Journal) → IsRun ring (front ++ rest) → IsRun ring front
 
--- a run goes on by each line that may follow
+-- a run continues with each line that may follow
 abbrev pub RunsGoOn : Type 0
 RunsGoOn =
     (ring : ℕ) (past : Journal) (line : JournalLine)

@@ -1,10 +1,11 @@
--- Worked histories on a ring of 8 chunks. Seat 0 attaches, cancels, collects and closes; seats 1 and 2 take and deliver.
+-- Worked histories on a ring of 8 chunks. Participant 0 attaches, cancels, collects and closes; 1 and 2 take and
+-- deliver.
 use Rattle.std.specs.Prelude.{◌+◌, [], ◌∷◌, map}
 use Rattle.scan_rules.specs.declared.journal_line.JournalLine.TheVariants.{Attach, Take, Deliver, Cancel, Collect, Close}
 use Rattle.scan_rules.specs.Numbers.{below}
 use Rattle.scan_rules.specs.Queries.{Journal}
 
--- two queries want chunks 0 and 4, and the second comes when the first was already served chunk 0
+-- two queries want chunks 0 and 4, and the second is attached after the first was served chunk 0
 abbrev pub late_query : Journal
 late_query =
     Attach 0 1 (0 ∷ 4 ∷ []) ∷ Take 1 0 0 (1 ∷ []) ∷ Attach 0 2 (0 ∷ 4 ∷ []) ∷ Take 2 1 4 (1 ∷ 2 ∷ [])

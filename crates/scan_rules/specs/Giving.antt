@@ -1,4 +1,4 @@
--- Lemmas on what is given, which a board's pieces follow: it changes by Delivers alone, each by its one task.
+-- Lemmas about what is given: it changes by Delivers alone, each by its one task.
 use Rattle.std.specs.Prelude.{◌≡◌, ℕ, ◌==◌, List, [], ◌∷◌, ◌++◌, true, false, ◌&&◌, ◌||◌}
 use Rattle.std.specs.List.{list_any}
 use Rattle.scan_rules.specs.declared.journal_line.JournalLine.{JournalLine}
@@ -8,13 +8,13 @@ use Rattle.scan_rules.specs.Lines.{is_deliver, serves_with}
 use Rattle.scan_rules.specs.Queries.{Journal, is_attached, is_delivered, wanted, is_given, given}
 use Rattle.scan_rules.specs.Runs.{MayFollow, IsRun}
 
--- what is given is of the query's list
+-- each chunk that is given to a query is in the query's list
 abbrev pub GivenIsWanted : Type 0
 GivenIsWanted =
     (ring : ℕ) (past : Journal) (q chunk : ℕ)
     → IsRun ring past → is_given past q chunk ≡ true → has (wanted past q) chunk ≡ true
 
--- a line that is no Deliver leaves what is given to an attached query
+-- a line that is no Deliver does not change what is given to an attached query
 abbrev pub GivenByDeliversAlone : Type 0
 GivenByDeliversAlone =
     (ring : ℕ) (past : Journal) (line : JournalLine) (q : ℕ)
@@ -36,7 +36,7 @@ TicketServes =
     → list_any (serves_with ticket q chunk) (before ++ Take seat ticket taking queries ∷ rest)
     ≡ ((taking == chunk) && has queries q)
 
--- a task that is in flight was given to none of its queries
+-- the chunk of a task in flight was given to none of its queries
 abbrev pub InFlightIsNotGiven : Type 0
 InFlightIsNotGiven =
     (ring : ℕ) (before rest : Journal) (seat ticket taking : ℕ) (queries : List ℕ) (q : ℕ)

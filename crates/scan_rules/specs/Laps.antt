@@ -1,4 +1,4 @@
--- Lemmas on one lap of the shared scan, counted in takes. They say nothing of time.
+-- Lemmas about one lap of the shared scan, counted in takes. They say nothing about time.
 use Rattle.std.specs.Prelude.{◌≡◌, ℕ, ◌≤◌, List, [], ◌∷◌, ◌++◌, length, true, false}
 use Rattle.scan_rules.specs.declared.journal_line.JournalLine.TheVariants.{Take}
 use Rattle.scan_rules.specs.Numbers.{has, are_distinct}
@@ -12,8 +12,8 @@ pub record Stands (past : Journal) (q : ℕ) : Type 0 where
   pub not_cancelled : is_cancelled past q ≡ false
   pub not_lost : is_lost past q ≡ false
 
--- once as many takes have followed as there are different wanted chunks, a query has been served all of its list:
--- they are counted from any place at which it is attached
+-- a query has been served its whole list once as many takes have followed as there are different wanted chunks: they
+-- are counted from any point at which the query is attached
 abbrev pub LapServesAll : Type 0
 LapServesAll =
     (ring : ℕ) (before after : Journal) (q chunk : ℕ)
@@ -21,7 +21,7 @@ LapServesAll =
     → lap_length ring (before ++ after) ≤ length (taken after)
     → has (wanted (before ++ after) q) chunk ≡ true → is_served (before ++ after) q chunk ≡ true
 
--- up to the take of the last chunk of a query, the takes since then have different chunks
+-- from a point at which the query is attached up to the take of its last chunk, the takes have different chunks
 abbrev pub LapRepeatsNone : Type 0
 LapRepeatsNone =
     (ring : ℕ) (before after : Journal) (seat ticket taking : ℕ) (queries : List ℕ) (rest : Journal) (q chunk : ℕ)

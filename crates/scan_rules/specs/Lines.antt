@@ -1,10 +1,10 @@
--- What a single line of the journal does, as tests on the line. Its lists are ascending, as its types keep them.
+-- What a single line of the journal does, as tests on the line. Its lists are ascending, as its types guarantee.
 use Rattle.std.specs.Prelude.{ℕ, ◌==◌, List, [], ◌∷◌, Bool, true, false, ◌&&◌, cond}
 use Rattle.scan_rules.specs.declared.journal_line.JournalLine.{JournalLine}
 use Rattle.scan_rules.specs.declared.journal_line.JournalLine.TheVariants.{Attach, Take, Deliver, Cancel, Collect, Close}
 use Rattle.scan_rules.specs.Numbers.{has}
 
--- the seat that made the line
+-- the participant that made the line
 abbrev pub seat_of : JournalLine → ℕ
 seat_of (Attach seat q chunks) = seat
 seat_of (Take seat ticket chunk queries) = seat
@@ -58,7 +58,7 @@ abbrev pub has_ticket : ℕ → JournalLine → Bool
 has_ticket number (Take seat ticket chunk queries) = ticket == number
 has_ticket number _ = false
 
--- it takes with this ticket, from this seat
+-- it takes with this ticket, by this participant
 abbrev pub took : ℕ → ℕ → JournalLine → Bool
 took from number (Take seat ticket chunk queries) = (seat == from) && (ticket == number)
 took from number _ = false
@@ -82,7 +82,7 @@ abbrev pub delivers : ℕ → JournalLine → Bool
 delivers number (Deliver seat ticket lost) = ticket == number
 delivers number _ = false
 
--- it makes this query spent
+-- it loses this query, because an allocation failed
 abbrev pub loses : ℕ → JournalLine → Bool
 loses query (Deliver seat ticket lost) = has lost query
 loses query _ = false

@@ -3,7 +3,7 @@ use Rattle.std.specs.Prelude.{ℕ, ◌+◌, ◌==◌, List, [], ◌∷◌, ◌++
 use Rattle.std.specs.List.{list_any}
 use Rattle.scan_rules.specs.declared.limits.TheConstants.{QUERY_MOST}
 
--- the list has this number
+-- the list contains this number
 abbrev pub has : List ℕ → ℕ → Bool
 has numbers number = list_any (λ other. other == number) numbers
 
@@ -12,11 +12,11 @@ unfoldable pub below : ℕ → List ℕ
 below zero = []
 below (suc bound) = below bound ++ bound ∷ []
 
--- the numbers among which queries are looked for: a query has one from 1 to 255
+-- the numbers from 0 to 255, among which queries are searched: a query has one from 1 to 255
 abbrev pub query_numbers : List ℕ
 query_numbers = below (QUERY_MOST + 1)
 
--- no number stands twice
+-- no number occurs twice
 abbrev pub are_distinct : List ℕ → Bool
 are_distinct [] = true
 are_distinct (number ∷ numbers) = not (has numbers number) && are_distinct numbers

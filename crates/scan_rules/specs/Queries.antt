@@ -1,5 +1,5 @@
--- What a journal says of one query: its list, what was served and given, and its state.
--- Each word is a test of single lines, carried over the whole list; none is a machine that reads it.
+-- The content of a journal for one query: its list, what was served and given, and its state. Each definition is a test
+-- of single lines over the whole list; none is a machine that reads the list.
 use Rattle.std.specs.Prelude.{ℕ, ◌==◌, List, Bool, false, not, ◌&&◌, if◌then◌else◌}
 use Rattle.std.specs.Prelude.{filter, count_by, flat_map}
 use Rattle.std.specs.List.{list_any, list_all}
@@ -69,19 +69,19 @@ is_complete past q = list_all (is_given past q) (wanted past q)
 abbrev pub is_standing : Journal → ℕ → Bool
 is_standing past q = is_attached past q && (not (is_cancelled past q) && not (is_lost past q))
 
--- the query stands, and not all is given
+-- the query is attached, neither cancelled nor lost, and not all of its chunks are given
 abbrev pub is_running : Journal → ℕ → Bool
 is_running past q = is_standing past q && not (is_complete past q)
 
--- the query stands, and all is given: at once where its list is empty
+-- the query is attached, neither cancelled nor lost, and all of its chunks are given: at once if its list is empty
 abbrev pub is_done : Journal → ℕ → Bool
 is_done past q = is_standing past q && is_complete past q
 
--- the query is done, cancelled or spent
+-- the query is done, cancelled or lost
 abbrev pub is_ended : Journal → ℕ → Bool
 is_ended past q = is_attached past q && not (is_running past q)
 
--- where a query stands
+-- The states of a query.
 pub data QueryState : Type 0 where
   Fresh : QueryState
   Running : QueryState

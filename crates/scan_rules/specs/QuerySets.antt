@@ -1,4 +1,4 @@
--- A set of query numbers in four words of 64 bits: query q is bit q % 64 of word q / 64.
+-- A set of query numbers in four 64-bit integers: query q is bit q % 64 of integer q / 64.
 use Rattle.std.specs.Prelude.{◌≡◌, ℕ, ◌/◌, ◌%◌, ◌^◌, ◌<◌, ◌==◌, List, [], ◌∷◌, All, length, slice_index}
 use Rattle.std.specs.Prelude.{Bool, cond, filter, sum_by}
 use Rattle.std.specs.Int.{bit_at}
@@ -12,16 +12,16 @@ is_set words q = bit_at (slice_index words (q / 64)) (q % 64) == 1
 abbrev pub set_queries : List ℕ → List ℕ
 set_queries words = filter (is_set words) query_numbers
 
--- there are four words, of 64 bits each
+-- there are four integers, of 64 bits each
 pub record AreFourWords (words : List ℕ) : Type 0 where
   pub four : length words ≡ 4
   pub fit : All (λ word. word < 2 ^ 64) words
 
--- what the query adds to the word of this place
+-- what the query adds to the integer at this position
 abbrev pub bit_in : ℕ → ℕ → ℕ
 bit_in place q = cond (q / 64 == place) (2 ^ (q % 64)) 0
 
--- the four words of a set of these queries
+-- the four integers of a set of these queries
 abbrev pub words_of : List ℕ → List ℕ
 words_of queries =
     sum_by (bit_in 0) queries ∷ sum_by (bit_in 1) queries ∷ sum_by (bit_in 2) queries ∷ sum_by (bit_in 3) queries ∷ []

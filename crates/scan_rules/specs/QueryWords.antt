@@ -1,4 +1,4 @@
--- That the list of a query set gives its four words back, as the model of a type that is copied has to show.
+-- The list of a query set determines its four integers, which the model of a copied type has to show.
 use Rattle.std.proofs.Common.{◌≡◌, ℕ, ◌+◌, ◌-◌, ◌*◌, ◌/◌, ◌%◌, ◌^◌, ◌==◌, min, List, [], ◌∷◌, slice_index}
 use Rattle.std.proofs.Common.{Bool, true, false, cond, zero, suc, ⊎_elim, refl, sym, ◌∙◌, ap, arith, filter, sum_by, eq-eqb, ne_eqb}
 use Rattle.std.specs.Int.{bit_at}
@@ -10,25 +10,25 @@ use Rattle.std.proofs.lemmas.Nat.{mod-pow-add}
 use Rattle.scan_rules.specs.Numbers.{below}
 use Rattle.scan_rules.specs.QuerySets.{is_set, set_queries, AreFourWords, bit_in, words_of}
 
--- how many bits of the word of this place belong to queries below n
+-- how many bits of the integer at this position belong to queries below n
 abbrev bits_below : ℕ → ℕ → ℕ
 bits_below place n = min 64 (n - 64 * place)
 
--- what query n adds to the word of this place, where its bit is 1
+-- what query n adds to the integer at this position, if its bit is 1
 added : (words : List ℕ) (place n : ℕ) → sum_by (bit_in place) (cond (is_set words n) (n ∷ []) []) ≡ cond (is_set words n) (bit_in place n) 0
 added words place n = ⊎_elim
     (λ t. ap (λ b. sum_by (bit_in place) (cond b (n ∷ []) [])) t ∙ (omega arith ∙ sym (cond-true _ (bit_in place n) 0 t)))
     (λ f. ap (λ b. sum_by (bit_in place) (cond b (n ∷ []) [])) f ∙ sym (cond-false _ (bit_in place n) 0 f))
     (cases_Bool (is_set words n))
 
--- a bit that is 1 counts as its power
+-- a bit that is 1 counts as its power of two
 weighs : (word bit : ℕ) → cond (bit_at word bit == 1) (2 ^ bit) 0 ≡ bit_at word bit * 2 ^ bit
 weighs word bit = ⊎_elim
     (λ e. cond-true _ _ _ (eq-eqb _ _ e) ∙ sym (ap (λ b. b * 2 ^ bit) e ∙ omega arith))
     (λ ne. let z : bit_at word bit ≡ 0 = omega (arith, ne) in cond-false _ _ _ (ne_eqb _ _ ne) ∙ sym (ap (λ b. b * 2 ^ bit) z ∙ omega arith))
     (cases_eq (bit_at word bit) 1)
 
--- query n adds the next bit to its own word, and nothing to another
+-- query n adds the next bit to its own integer, and nothing to another
 next_bit : (words : List ℕ) (place n : ℕ) → slice_index words place % 2 ^ bits_below place n + cond (is_set words n) (bit_in place n) 0 ≡ slice_index words place % 2 ^ bits_below place (suc n)
 next_bit words place n = ⊎_elim
     (λ e. let word : ℕ = slice_index words place in
@@ -52,7 +52,7 @@ next_bit words place n = ⊎_elim
     none true = refl
     none false = refl
 
--- the bits of the queries below n make up the low bits of the word
+-- the bits of the queries below n make up the low bits of the integer
 low_bits : (words : List ℕ) (place n : ℕ) → sum_by (bit_in place) (filter (is_set words) (below n)) ≡ slice_index words place % 2 ^ bits_below place n
 unfolding below
 low_bits words place zero = let e : bits_below place 0 ≡ 0 = omega arith in sym (ap (λ k. slice_index words place % 2 ^ k) e ∙ mod-one (slice_index words place))
@@ -62,7 +62,7 @@ low_bits words place (suc n) =
     ∙ (ap (λ k. k + sum_by (bit_in place) (cond (is_set words n) (n ∷ []) [])) (low_bits words place n)
     ∙ (ap (λ k. slice_index words place % 2 ^ bits_below place n + k) (added words place n) ∙ next_bit words place n)))
 
--- the words are those of their list
+-- the four integers are those of their list
 pub words_return : (words : List ℕ) → AreFourWords words → words_of (set_queries words) ≡ words
 words_return [] h = let l = h.four in absurd (omega (arith, l))
 words_return (a ∷ []) h = let l = h.four in absurd (omega (arith, l))

@@ -17,13 +17,13 @@ pub record MayAttach (ring : ℕ) (past : Journal) (q : ℕ) (chunks : List ℕ)
   pub room : running_count past < RUNNING_MOST
   pub in_ring : list_all (λ chunk. nat_lt chunk ring) chunks ≡ true
 
--- the chunk may be taken with this ticket for these queries: tickets count from 0
+-- the chunk may be taken with this ticket for these queries; tickets count from 0
 pub record MayTake (ring : ℕ) (past : Journal) (ticket chunk : ℕ) (queries : List ℕ) : Type 0 where
   pub counted : ticket ≡ count_by takes past
   pub next : next_chunk ring past ≡ Some chunk
   pub all : queries ≡ takers past chunk
 
--- the seat may deliver the task of this ticket, and make these queries spent
+-- the participant may deliver the task of this ticket, and lose these queries
 pub record MayDeliver (past : Journal) (seat ticket : ℕ) (lost : List ℕ) : Type 0 where
   pub same_seat : list_any (took seat ticket) past ≡ true
   pub in_flight : is_delivered past ticket ≡ false

@@ -1,4 +1,4 @@
--- Lemmas on what a run serves: each chunk of a query's list once, and no other.
+-- Lemmas about what a run serves: each chunk of a query's list once, and no other.
 use Rattle.std.specs.Prelude.{◌≡◌, ℕ, ◌≤◌, List, ◌∷◌, ◌++◌, true, false}
 use Rattle.scan_rules.specs.declared.journal_line.JournalLine.TheVariants.{Take}
 use Rattle.scan_rules.specs.Numbers.{has}

@@ -1,4 +1,4 @@
--- Lemmas on what a query wants and what it was given: at its start, at each Deliver of one of its tasks, and at its
+-- Lemmas about what a query wants and what it was given: at its start, at each Deliver of one of its tasks, and at its
 -- end.
 use Rattle.std.specs.Prelude.{◌≡◌, ℕ, ◌≤◌, ◌==◌, List, [], ◌∷◌, ◌++◌, length, true, false, ◌||◌}
 use Rattle.scan_rules.specs.declared.journal_line.JournalLine.TheVariants.{Attach, Take, Deliver}
@@ -7,7 +7,7 @@ use Rattle.scan_rules.specs.Queries.{Journal, wanted, given, is_attached, is_com
 use Rattle.scan_rules.specs.Runs.{IsRun}
 use Rattle.scan_rules.specs.Scan.{lap_length}
 
--- a query that was attached just now was given nothing
+-- a query that was attached by the last line was given nothing
 abbrev pub FreshHasNothing : Type 0
 FreshHasNothing =
     (ring : ℕ) (past : Journal) (seat q : ℕ) (chunks : List ℕ)
@@ -43,7 +43,7 @@ abbrev pub CollectedRests : Type 0
 CollectedRests =
     (ring : ℕ) (past : Journal) (q : ℕ) → IsRun ring past → is_collected past q ≡ true → is_running past q ≡ false
 
--- where each list has filled chunks alone, one lap has at most as many takes as there are filled chunks
+-- if each list has filled chunks alone, one lap has at most as many takes as there are filled chunks
 abbrev pub LapIsFilled : Type 0
 LapIsFilled =
     (ring : ℕ) (past : Journal) (filled : List ℕ)

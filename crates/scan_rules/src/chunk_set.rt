@@ -32,7 +32,7 @@ impl ChunkSet {
         }
     }
 
-    /// The same chunks once more. Allocates memory.
+    /// A copy of the set. Allocates memory.
     pub fn copy(&self, alloc: Global) -> Result<ChunkSet, Memory>
         ensures { IfOk result (λ copy. copy ≡ self.now) }
     {
@@ -41,7 +41,7 @@ impl ChunkSet {
         Ok(ChunkSet { chunks })
     }
 
-    /// Appends a chunk above the last one. Allocates memory; after `Err` the set is unchanged.
+    /// Appends a chunk above the last one. Allocates memory. After `Err` the set is unchanged.
     #[tactic(auto, using(crate::proofs::ChunkSets::ascending_push))]
     pub fn push(&mut self, c: u32) -> Result<(), Memory>
         requires above { IfSome (last_or None self.old) (λ last. last < c) }
@@ -51,7 +51,7 @@ impl ChunkSet {
         Ok(self.chunks.push(c)?)
     }
 
-    /// The chunks, ascending. Does not allocate.
+    /// The chunks, in ascending order. Does not allocate.
     pub fn as_slice(&self) -> &[u32]
         ensures items { result.now ≡ self.now }
         ensures ascending { AllPairs (λ a b. a < b) result.now }

@@ -1,4 +1,4 @@
-//! Worked histories, computed by the checker. A call here does nothing: its clauses are what the definitions give.
+//! Worked histories, evaluated by the checker. A call here does nothing: its clauses are what the definitions give.
 ghost use Rattle.std.specs.Prelude.{◌≡◌, List, [], ◌∷◌, ◌++◌, Some, None, take, true};
 ghost use Rattle.scan_rules.specs.declared.journal_line.JournalLine.TheVariants.{Attach, Take, Deliver, Cancel, Collect};
 ghost use Rattle.scan_rules.specs.Queries.{given, is_closed, state_of, Fresh, Running, Done, Cancelled, Spent};
@@ -14,7 +14,7 @@ pub fn a_scan_begins_at_chunk_0()
     ensures queries { takers (take 1 late_query) 0 ≡ 1 ∷ [] }
 {}
 
-/// A query that comes later is served from the next take on.
+/// A query that is attached later is served from the next take on.
 #[tactic(auto, unfolding(crate::specs::Numbers::below))]
 pub fn a_late_query_joins_at_the_next_chunk()
     ensures place { place 8 (take 3 late_query) ≡ 1 }
@@ -30,7 +30,7 @@ pub fn a_late_query_is_served_the_rest_on_the_next_round()
     ensures queries { takers (take 6 late_query) 0 ≡ 2 ∷ [] }
 {}
 
-/// Chunks count as given once their tasks are delivered, in any order, and a query is done when it has all.
+/// Chunks count as given once their tasks are delivered, in any order. A query is done when it has all of its chunks.
 #[tactic(auto, unfolding(crate::specs::Numbers::below))]
 pub fn a_query_is_done_once_all_is_delivered()
     ensures one { given (take 5 late_query) 1 ≡ 4 ∷ [] }
@@ -40,7 +40,7 @@ pub fn a_query_is_done_once_all_is_delivered()
     ensures late { state_of (take 6 late_query) 2 ≡ Running }
 {}
 
-/// With nothing left to take, a query runs until its last task is delivered.
+/// A query with nothing left to take still runs until its last task is delivered.
 #[tactic(auto, unfolding(crate::specs::Numbers::below))]
 pub fn a_query_runs_while_its_last_task_is_in_flight()
     ensures idle { next_chunk 8 (take 7 late_query) ≡ None }
@@ -49,7 +49,7 @@ pub fn a_query_runs_while_its_last_task_is_in_flight()
     ensures closed { is_closed late_query ≡ true }
 {}
 
-/// Its 11 lines are a run.
+/// The 11 lines of the history of a late query are a run.
 pub fn the_history_of_a_late_query_is_a_run()
     ensures { IsRun 8 late_query }
 {}
@@ -60,7 +60,7 @@ pub fn the_place_after_the_last_chunk_is_0()
     ensures { place 8 (take 2 three_ends) ≡ 0 }
 {}
 
-/// Each state of a query: a query without chunks is done at once.
+/// Each state of a query. A query without chunks is done at once.
 #[tactic(auto, unfolding(crate::specs::Numbers::below))]
 pub fn a_query_is_fresh_running_done_cancelled_or_spent()
     ensures fresh { state_of three_ends 4 ≡ Fresh }
@@ -70,13 +70,13 @@ pub fn a_query_is_fresh_running_done_cancelled_or_spent()
     ensures spent { state_of three_ends 1 ≡ Spent }
 {}
 
-/// Its 6 lines are a run.
+/// The 6 lines of the history of three ends are a run.
 pub fn the_history_of_three_ends_is_a_run()
     ensures { IsRun 8 three_ends }
 {}
 
-/// What may not follow: a task from another seat than the one that took it, a query attached twice or after the
-/// close, one collected twice or while it runs, and one cancelled when it is done.
+/// Lines that may not follow. A task is delivered by another participant than the one that took it. A query is attached
+/// twice or after the close, collected twice or while it runs, or cancelled when it is done.
 #[tactic(auto, unfolding(crate::specs::Numbers::below))]
 pub fn some_lines_may_not_follow()
     ensures seat { MayFollow 8 (take 2 late_query) (Deliver 2 0 []) → ⊥ }
@@ -87,8 +87,8 @@ pub fn some_lines_may_not_follow()
     ensures late { MayFollow 8 (take 6 late_query) (Cancel 0 1) → ⊥ }
 {}
 
-/// What is no take: of the first of two queries that need the chunk alone, of a query that was served the chunk before
-/// the scan went round, and of a chunk that is not the next one.
+/// Takes that may not follow. One serves only the first of two queries that need the chunk, one serves a query that was
+/// served the chunk before the scan went round, and one is of a chunk that is not the next one.
 #[tactic(auto, unfolding(crate::specs::Numbers::below))]
 pub fn some_takes_may_not_follow()
     ensures first { MayFollow 8 (take 3 late_query) (Take 2 1 4 (1 ∷ [])) → ⊥ }

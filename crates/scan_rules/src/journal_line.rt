@@ -1,10 +1,10 @@
-//! One line of the journal: an event of the board, with the seat that caused it.
+//! One line of the journal: an event of the board, with the participant that caused it.
 
 use crate::chunk_set::ChunkSet;
 use crate::query_set::QuerySet;
 
-/// An event that changed the board. `seat` is the participant that caused it, `q` a query's number from 1 to 255,
-/// `chunk` a chunk's number from 0, and `ticket` a task's number, counted from 0 in the order of the takes.
+/// An event that changed the board. `seat` is the participant that caused it, and `q` a query's number from 1 to 255.
+/// `chunk` is a chunk's number from 0, and `ticket` a task's number, counted from 0 in the order of the takes.
 #[derive(Drop)]
 pub enum JournalLine {
     /// The query was attached, and wants these chunks.
@@ -20,7 +20,7 @@ pub enum JournalLine {
         chunk: u32,
         queries: QuerySet,
     },
-    /// The task was delivered, and these of its queries were made spent.
+    /// The task was delivered, and these of its queries were lost because an allocation failed.
     Deliver {
         seat: u32,
         ticket: u32,
@@ -31,7 +31,7 @@ pub enum JournalLine {
         seat: u32,
         q: u32,
     },
-    /// The end of the query was collected.
+    /// The result of the query was collected.
     Collect {
         seat: u32,
         q: u32,

@@ -8,7 +8,7 @@ ghost use Rattle.scan_rules.specs.Wishes.{FreshHasNothing, GivenGrows, CompleteI
 ghost use Rattle.scan_rules.specs.Wishes.{CancelledIsAttached, CollectedRests};
 ghost use Rattle.scan_rules.specs.Giving.{GivenIsWanted, GivenByDeliversAlone, DeliverGives, TicketServes, InFlightIsNotGiven};
 
-/// However the seats take turns, a query is served each chunk at most once.
+/// In every interleaving of the participants, a query is served each chunk at most once.
 pub fn a_query_is_served_each_chunk_at_most_once()
     ensures { ServedOnce }
 {}
@@ -28,14 +28,14 @@ pub fn a_take_serves_every_query_that_needs_its_chunk()
     ensures { TakeServesAll }
 {}
 
-/// As many takes as there are different wanted chunks serve a query its whole list, wherever on the ring it was
-/// attached; and up to the take of its last chunk no chunk is taken twice.
+/// As many takes as there are different wanted chunks serve a query its whole list, at whatever point of the ring it
+/// was attached. Up to the take of its last chunk no chunk is taken twice.
 pub fn one_lap_serves_a_query_its_whole_list()
     ensures whole { LapServesAll }
     ensures different { LapRepeatsNone }
 {}
 
-/// Runs are built line by line, and any front of one is a run.
+/// Runs are built line by line, and any prefix of one is a run.
 pub fn a_run_goes_on_by_each_line_that_may_follow()
     ensures start { NoLinesRun }
     ensures next { RunsGoOn }
@@ -47,17 +47,17 @@ pub fn a_run_has_fewer_than_two_to_the_23_lines()
     ensures { RunsAreShort }
 {}
 
-/// A query runs exactly where its state is running, and is done exactly where its state is done.
+/// A query runs exactly if its state is Running, and is done exactly if its state is Done.
 pub fn a_query_runs_where_its_state_says_so()
     ensures { StatesTell }
 {}
 
-/// A query that is done, cancelled or spent stays so.
+/// A query that is done, cancelled or lost stays so.
 pub fn a_query_that_has_ended_stays_as_it_is()
     ensures { EndsStay }
 {}
 
-/// What is given to a query changes by Delivers alone: each gives the one chunk that was taken with its ticket, to the
+/// What is given to a query changes by Delivers alone. Each gives the one chunk that was taken with its ticket to the
 /// queries of that take, and none of them had it before.
 pub fn what_is_given_changes_by_delivers_alone()
     ensures wanted { GivenIsWanted }
@@ -67,12 +67,13 @@ pub fn what_is_given_changes_by_delivers_alone()
     ensures new { InFlightIsNotGiven }
 {}
 
-/// A task is delivered by the seat that took it alone, so the seat's own lines tell whether it is delivered.
+/// A task is delivered only by the participant that took it, so the participant's own lines show whether it is
+/// delivered.
 pub fn own_lines_tell_what_is_delivered()
     ensures { OwnLinesTell }
 {}
 
-/// Where no chunk is next, each running query was served its whole list.
+/// If no chunk is next, each running query was served its whole list.
 pub fn nothing_is_needed_where_no_chunk_is_next()
     ensures { NothingIsNeeded }
 {}
@@ -82,7 +83,7 @@ pub fn a_query_wants_what_it_was_attached_with()
     ensures { WantedIsAttached }
 {}
 
-/// A query that was attached just now was given nothing.
+/// A query that was attached by the last line was given nothing.
 pub fn a_query_just_attached_was_given_nothing()
     ensures { FreshHasNothing }
 {}
@@ -102,7 +103,7 @@ pub fn a_query_that_wants_nothing_is_never_cancelled_nor_lost()
     ensures { NoWishNoLoss }
 {}
 
-/// Where each list has filled chunks alone, one lap has at most as many takes as there are filled chunks.
+/// If each list has filled chunks alone, one lap has at most as many takes as there are filled chunks.
 pub fn a_lap_is_no_longer_than_the_filled_chunks()
     ensures { LapIsFilled }
 {}

@@ -1,11 +1,13 @@
-//! What a legal history of the shared scan is, with its lemmas.
+//! The legal histories of the shared scan, with lemmas about them.
 //!
-//! Callers see a journal as the list of its lines, oldest first. Each word on it is a filter or a count over that list
-//! (`specs/Queries.antt`, `specs/Scan.antt`); `specs/Runs.antt` says which line may follow and what a run is. The
-//! chunks of a `ChunkSet` and the queries of a `QuerySet` are ascending lists. Below: `sky_io` because an allocation
-//! failed; the limits are those of scripts (`text_rules`) and skies (`sky_rules`). Above: the board keeps a run, and
-//! its callers rely on the lemmas of every run. No board, no threads and no work on chunks: a lemma is a function
-//! without a body whose clause is the lemma.
+//! Callers see a journal as the list of its lines, oldest first. Each definition on it is a filter or a count over that
+//! list (`specs/Queries.antt`, `specs/Scan.antt`). `specs/Runs.antt` defines which line may follow and what a run is.
+//! The chunks of a `ChunkSet` and the queries of a `QuerySet` are ascending lists.
+//!
+//! Below: `sky_io` because an allocation can fail; the limits are those of scripts (`text_rules`) and skies
+//! (`sky_rules`). Above: the board, whose journal is a run, and its callers, which rely on the lemmas about every run.
+//! There is no board, no thread and no work on chunks here: a lemma is a function without a body whose clause is the
+//! lemma.
 #![tactic(auto)]
 
 pub mod chunk_set;

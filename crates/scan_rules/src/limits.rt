@@ -6,11 +6,12 @@ use text_rules::limits::QUERIES_MOST;
 /// The most chunks of the ring: those of a sky.
 pub const RING_MOST: u32 = CHUNKS_MOST;
 
-/// The largest number of a query: queries are numbered from 1, as their script has them.
+/// The largest number of a query. Queries are numbered from 1, as in their script.
 pub const QUERY_MOST: u32 = QUERIES_MOST;
 
 /// The most queries that run at once.
 pub const RUNNING_MOST: u32 = 64;
 
-/// More lines than a run has: for each query a take and a Deliver of each chunk at most, and the lines of its own.
+/// A bound above the number of lines of any run. Each query has at most a take and a Deliver of each chunk, and the
+/// lines of its own.
 pub const LINES_BOUND: u32 = 1 << 23;

@@ -1,4 +1,4 @@
-//! A set of query numbers in four words.
+//! A set of query numbers, as a bitmap of four 64-bit integers.
 ghost use Rattle.std.specs.Prelude.{◌≡◌, ℕ, ◌<◌, ◌≤◌, List, [], ◌∷◌, ◌++◌, Contains, IfSome, None, IsTrue, ◌↔◌};
 ghost use Rattle.std.specs.List.{last_or};
 ghost use Rattle.scan_rules.specs.declared.limits.TheConstants.{QUERY_MOST};

@@ -6,8 +6,8 @@ ghost use Rattle.text_rules.specs.Numbers.{four_decimals, four_digits, ten_thous
 use crate::put::put_natural;
 use sky_io::{Put, Sink};
 
-/// Writes a number of ten-thousandths, of a size of at most 2^120, as a whole part, a point and four digits, with a
-/// minus where it is negative. Does not allocate.
+/// Writes a number of ten-thousandths, of a size of at most 2^120: a whole part, a point and four digits, after a minus
+/// if it is negative. Does not allocate.
 #[tactic(auto, using(crate::proofs::Decimals::negative, crate::proofs::Decimals::from_zero))]
 pub fn put_decimal4<K: Sink>(sink: &mut K, scaled: i128) -> Put
     requires { nat_abs scaled ≤ 2 ^ 120 }
@@ -40,7 +40,7 @@ fn put_size<K: Sink>(sink: &mut K, size: u128) -> Put
     }
 }
 
-// Writes a point, and so many ten-thousandths in four digits.
+// Writes a point and the given number of ten-thousandths in four digits.
 fn put_decimals<K: Sink>(sink: &mut K, part: u32) -> Put
     requires { part < 10000 }
     ensures { Wrote (K.state sink.old) (K.state sink.new) (46 ∷ four_digits part) result }

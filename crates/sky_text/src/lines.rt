@@ -51,7 +51,7 @@ impl<'a> Lines<'a> {
     }
 }
 
-// Where the first line feed stands, if there is one.
+// The position of the first line feed, if there is one.
 fn end_of_line(text: &[u8]) -> Option<usize>
     ensures { result ≡ position (λ b. b == 10) text.now }
 {
@@ -97,7 +97,7 @@ impl<'a> Iterator for Lines<'a> {
     }
 }
 
-// Whether a line is spaces and tabs alone; an empty one is.
+// Whether a line is spaces and tabs alone. An empty line is.
 fn is_blank(text: &[u8]) -> bool
     ensures { result ≡ list_all is_space_or_tab text.now }
 {
@@ -111,7 +111,8 @@ fn begins_with_hash(text: &[u8]) -> bool
     matches!(text, [b'#', ..])
 }
 
-/// Whether a line is skipped: it is spaces and tabs alone, or its first byte is `#`. Does not allocate.
+/// Whether the line is a comment line, which is skipped: it is spaces and tabs alone, or its first byte is `#`. Does
+/// not allocate.
 pub fn is_note(text: &[u8]) -> bool
     ensures { result ≡ is_note text.now }
 {

@@ -1,4 +1,4 @@
-//! Reads numbers in decimal, each in one pass over its bytes.
+//! Reads numbers in decimal, scanning the bytes of each once.
 ghost use Rattle.std.specs.Prelude.{◌≡◌, ◌≤◌, length, None, Some, if◌then◌else◌};
 ghost use Rattle.std.specs.List.{list_all};
 ghost use Rattle.text_rules.specs.Numbers.{int_of, is_digit, natural, value_after, whole_number};
@@ -23,8 +23,8 @@ fn read_digits(text: &[u8]) -> Option<u64>
     Some(n)
 }
 
-/// The number of one digit or more and at most `most`, or `None` if the text is something else. Leading zeros may
-/// stand. Does not allocate.
+/// The number that one to `most` digits write, or `None` if the text is something else. Leading zeros are accepted.
+/// Does not allocate.
 pub fn read_natural(text: &[u8], most: usize) -> Option<u64>
     requires { most ≤ INT_DIGITS_MOST }
     ensures { result ≡ natural most text.now }
@@ -35,7 +35,7 @@ pub fn read_natural(text: &[u8], most: usize) -> Option<u64>
     read_digits(text)
 }
 
-/// The number of an optional minus and at most `most` digits, or `None` if the text is something else. Does not
+/// The number of an optional minus and one to `most` digits, or `None` if the text is something else. Does not
 /// allocate.
 pub fn read_whole(text: &[u8], most: usize) -> Option<i128>
     requires { most ≤ INT_DIGITS_MOST }

@@ -1,12 +1,11 @@
-//! The pieces of a text between equal bytes, cut off one by one.
+//! The pieces of a text between equal bytes, split off one by one.
 ghost use Rattle.std.specs.Prelude.{◌≡◌, [], ◌∷◌, IfNone, IfSome, ◌==◌, IsTrue, ◌↔◌};
 ghost use Rattle.std.specs.List.{position};
 ghost use Rattle.text_rules.specs.Lines.{pieces};
 
 use std::marker::Model;
 
-/// The pieces that are left of a text: what stands before, between and behind the bytes that part them, each of which may
-/// be empty.
+/// The remaining pieces of a text: what is before, between and after its separators. Each piece may be empty.
 #[derive(Drop)]
 pub struct Pieces<'a> {
     rest: Option<&'a [u8]>,
@@ -23,7 +22,7 @@ impl<'a> Model for Pieces<'a> {
     ghost view = { λ p. left_of p.by (option_copied p.rest) };
 }
 
-/// Where the byte first stands, from 0.
+/// The position of the first such byte, from 0.
 fn place_of(text: &[u8], by: u8) -> Option<usize>
     ensures { result ≡ position (λ b. b == by) text.now }
 {
@@ -41,7 +40,7 @@ impl<'a> Pieces<'a> {
         }
     }
 
-    /// Cuts off the first piece, or answers `None` if none is left. Does not allocate.
+    /// Splits off the first piece, or returns `None` if none is left. Does not allocate.
     #[tactic(auto, using(crate::proofs::PieceEnds::piece_found, crate::proofs::PieceEnds::piece_last))]
     pub fn next(&mut self) -> Option<&'a [u8]>
         ensures none { IfNone result ((self.old ≡ []) × (self.new ≡ [])) }

@@ -6,7 +6,7 @@ ghost use Rattle.sky_io.specs.Sinks.{Wrote};
 use itoa::Buffer;
 use sky_io::{Put, Sink};
 
-/// Writes a whole number in decimal, with a minus where it is negative. Does not allocate.
+/// Writes a whole number in decimal, after a minus if it is negative. Does not allocate.
 pub fn put_int<K: Sink>(sink: &mut K, n: i128) -> Put
     ensures { Wrote (K.state sink.old) (K.state sink.new) (signed_decimal n) result }
 {

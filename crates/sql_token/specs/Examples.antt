@@ -25,22 +25,22 @@ no_items =
     ∷ token kind.Name 12 6
     ∷ []
 
--- `SELECT ` and so many opening brackets
+-- `SELECT ` and the given number of opening brackets
 abbrev pub brackets : ℕ → List ℕ
 brackets n = codes "SELECT " ++ replicate n (byte "(")
 
--- `ab` cut into two names
+-- `ab`, split into two names
 abbrev pub cut_word : List Token
 cut_word = token kind.Name 0 1 ∷ token kind.Name 1 1 ∷ []
 
--- `<=` cut into `<` and `=`
+-- `<=`, split into `<` and `=`
 abbrev pub cut_sign : List Token
 cut_sign = token (kind.Sign sign.Less) 0 1 ∷ token (kind.Sign sign.Equal) 1 1 ∷ []
 
--- `12` cut into 1 and 2
+-- `12`, split into 1 and 2
 abbrev pub cut_int : List Token
 cut_int = token (kind.Int (pos 1)) 0 1 ∷ token (kind.Int (pos 2)) 1 1 ∷ []
 
--- `9223372036854775808` as an int of that number
+-- `9223372036854775808`, as an integer of that value
 abbrev pub large_int : List Token
 large_int = token (kind.Int (pos 9223372036854775808)) 0 19 ∷ []

@@ -1,4 +1,4 @@
--- The reserved words, and which of them a word is.
+-- The reserved words, and which of them a word spells.
 use Rattle.std.specs.Prelude.{ℕ, Bool, List, [], ◌∷◌, Option, codes, find}
 use Rattle.std.specs.Str.{str_eq_ignore_ascii_case}
 use Rattle.sql_token.specs.declared.keyword.Keyword.{Keyword}
@@ -46,6 +46,6 @@ keywords =
 abbrev pub is_spelled : List ℕ → Keyword → Bool
 is_spelled word k = str_eq_ignore_ascii_case word (spelling k)
 
--- the keyword that a word is; any other word is a name
+-- the keyword that a word spells; any other word is a name
 unfoldable pub keyword_of : List ℕ → Option Keyword
 keyword_of word = find (is_spelled word) keywords

@@ -1,4 +1,4 @@
--- Where the tokens of a text stand in it, and which bytes write them.
+-- The positions of the tokens of a text, and the bytes that write them.
 use Rattle.std.specs.Prelude.{◌≡◌, ℕ, ◌<◌, ◌≤◌, Bool, false, ◌&&◌, List, [], ◌∷◌, length, drop, slice_range, pos}
 use Rattle.std.specs.Prelude.{Option, None, Some, IsTrue}
 use Rattle.std.specs.List.{list_all}
@@ -18,26 +18,26 @@ abbrev pub is_word : List ℕ → Bool
 is_word [] = false
 is_word (b ∷ bs) = begins_word b && list_all continues_word bs
 
--- the sign that all these bytes write
+-- the sign that exactly these bytes write
 abbrev pub sign_of : List ℕ → Option Sign
 sign_of (a ∷ []) = short_sign a
 sign_of (a ∷ b ∷ []) = long_sign a b
 sign_of _ = None
 
--- the bytes have the shape of a token of the kind: a word, digits of whatever number, or a sign
+-- the bytes have the shape of a token of the kind: a word, digits of any value, or a sign
 abbrev pub IsShaped : TokenKind → List ℕ → Type 0
 IsShaped (kind.Keyword k) bytes = IsTrue (is_spelled bytes k)
 IsShaped kind.Name bytes = IsTrue (is_word bytes) × (keyword_of bytes ≡ None)
 IsShaped (kind.Int z) bytes = IsTrue (list_all is_digit bytes) × (z ≡ pos (value_after 0 bytes))
 IsShaped (kind.Sign s) bytes = sign_of bytes ≡ Some s
 
--- the bytes write a token of the kind: they have its shape, and an int is at most 2^63 - 1
+-- the bytes write a token of the kind: they have its shape, and an integer is at most 2^63 - 1
 abbrev pub IsWritten : TokenKind → List ℕ → Type 0
 IsWritten (kind.Int z) bytes = IsShaped (kind.Int z) bytes × (value_after 0 bytes ≤ INT_MOST)
 IsWritten k bytes = IsShaped k bytes
 
--- The token is the first one from a place on: it stands behind blanks alone, its bytes write it, and no more
--- bytes from its first on have the shape of a token of any kind.
+-- The token is the first one from a position on: only blanks are before it, its bytes write it, and no longer range of
+-- bytes from its start has the shape of a token of any kind.
 pub record IsFirst (text : List ℕ) (place : ℕ) (t : Token) : Type 0 where
   pub after : place ≤ t.span.from
   pub blanks : IsTrue (list_all is_blank (slice_range text place t.span.from))
@@ -47,7 +47,7 @@ pub record IsFirst (text : List ℕ) (place : ℕ) (t : Token) : Type 0 where
   pub longest : (to : ℕ) → t.span.to < to → to ≤ length text
       → (k : TokenKind) → IsShaped k (slice_range text t.span.from to) → ⊥
 
--- from a place on the text is these tokens one after another, with blanks alone before, between and behind them
+-- from a position on the text is these tokens one after another, with blanks alone before, between and after them
 abbrev pub StandFrom : List ℕ → ℕ → List Token → Type 0
 StandFrom text place [] = IsTrue (list_all is_blank (drop place text))
 StandFrom text place (t ∷ ts) = IsFirst text place t × StandFrom text t.span.to ts

@@ -1,4 +1,4 @@
--- The signs, as two bytes or one write them.
+-- The signs, written by two bytes or by one.
 use Rattle.std.specs.Prelude.{ℕ, ◌&&◌, ◌==◌, if◌then◌else◌, Option, None, Some}
 use Rattle.std.specs.Str.{byte}
 use Rattle.sql_token.specs.declared.sign.Sign.{Sign}

@@ -1,4 +1,4 @@
-//! How many brackets are open at a token.
+//! The number of open brackets at each token.
 ghost use Rattle.std.specs.Prelude.{◌≡◌, ◌≤◌, true};
 ghost use Rattle.sql_token.specs.declared.limits.TheConstants.{TOKENS_MOST};
 ghost use Rattle.sql_token.specs.Tokens.{opens, closes, open_behind, too_deep};
@@ -21,7 +21,7 @@ fn closes(token: &Token) -> bool
     matches!(token.kind, TokenKind::Sign(Sign::Close))
 }
 
-// How many brackets are open behind a token.
+// The number of open brackets after a token.
 fn open_behind(depth: u32, token: &Token) -> u32
     requires { depth ≤ TOKENS_MOST }
     ensures { result ≡ open_behind depth token.now }
@@ -35,7 +35,7 @@ fn open_behind(depth: u32, token: &Token) -> u32
     }
 }
 
-/// The place of the first bracket with which 33 are open. Does not allocate.
+/// The position of the first bracket with which 33 are open. Does not allocate.
 #[tactic(auto, unfolding(crate::specs::Tokens::too_deep))]
 pub(crate) fn too_deep(tokens: &[Token]) -> Option<u32>
     ensures { result ≡ too_deep 0 tokens.now }

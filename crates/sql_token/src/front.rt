@@ -1,4 +1,4 @@
-//! The token at the front of a text.
+//! The token at the start of a text.
 ghost use Rattle.std.specs.Prelude.{◌≡◌, ◌+◌, ◌≤◌, ◌<◌, Ok, length, true, pos};
 ghost use Rattle.std.specs.List.{list_all};
 ghost use Rattle.text_rules.specs.Numbers.{is_digit, value_after};
@@ -14,7 +14,7 @@ use crate::keyword::keyword_of;
 use crate::sign::{long_sign, short_sign};
 use crate::token::{Span, Token, TokenKind, TokenStop};
 
-// The token of this kind that has so many bytes, from a place on.
+// The token of this kind that begins at the position and has the given number of bytes.
 fn token(kind: TokenKind, place: u32, bytes: usize) -> Token
     requires { place + bytes ≤ QUERY_TEXT_MOST }
     ensures { result ≡ token kind place bytes }
@@ -28,7 +28,7 @@ fn token(kind: TokenKind, place: u32, bytes: usize) -> Token
     }
 }
 
-// The keyword or the name at the front of the text, which stands at the place.
+// The keyword or the name at the start of the text, which begins at the position.
 fn word_at(place: u32, text: &[u8]) -> Token
     requires { place + length text.now ≤ QUERY_TEXT_MOST }
     ensures { result ≡ word_at place text.now }
@@ -41,7 +41,7 @@ fn word_at(place: u32, text: &[u8]) -> Token
     token(kind, place, bytes)
 }
 
-// The number that digits write, where it is at most 2^63 - 1.
+// The number that digits write, if it is at most 2^63 - 1.
 fn small_int(digits: &[u8]) -> Option<Int>
     requires { list_all is_digit digits.now ≡ true }
     ensures { result ≡ small_int (value_after 0 digits.now) }
@@ -53,7 +53,7 @@ fn small_int(digits: &[u8]) -> Option<Int>
     Int::new(n)
 }
 
-// The int at the front of the text, or the fault of one above 2^63 - 1.
+// The integer at the start of the text, or the fault of one above 2^63 - 1.
 #[tactic(auto, using(crate::proofs::Ints::all_digits))]
 fn int_at(place: u32, text: &[u8]) -> Result<Token, TokenStop>
     requires { place + length text.now ≤ QUERY_TEXT_MOST }
@@ -77,7 +77,7 @@ fn short_at(place: u32, byte: u8) -> Result<Token, TokenStop>
     }
 }
 
-// The sign at the front of the text: one of two bytes goes before one of its first byte.
+// The sign at the start of the text. One of two bytes takes precedence over one of its first byte.
 fn sign_at(place: u32, text: &[u8]) -> Result<Token, TokenStop>
     requires some { 0 < length text.now }
     requires short { place + length text.now ≤ QUERY_TEXT_MOST }
@@ -92,7 +92,7 @@ fn sign_at(place: u32, text: &[u8]) -> Result<Token, TokenStop>
     }
 }
 
-/// The token that begins at a place, of the text from there on. Does not allocate.
+/// The token that begins at a position, given the text from there on. Does not allocate.
 pub(crate) fn token_at(place: u32, text: &[u8]) -> Result<Token, TokenStop>
     requires some { 0 < length text.now }
     requires short { place + length text.now ≤ QUERY_TEXT_MOST }

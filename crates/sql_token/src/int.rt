@@ -1,4 +1,4 @@
-//! The ints of a text.
+//! The integers of a text.
 
 ghost use Rattle.std.specs.Prelude.{◌≡◌, ◌<◌, IfNone, IfSome, pos};
 ghost use Rattle.sql_token.specs.Ints.{IsInt};
@@ -6,7 +6,7 @@ ghost use Rattle.sql_token.specs.declared.limits.TheConstants.{INT_MOST};
 
 use std::marker::Model;
 
-/// A whole number that digits of a text may write: from 0 to 2^63 - 1.
+/// An integer literal without sign, from 0 to 2^63 - 1.
 #[derive(Clone, Copy, Debug, PartialEq, Eq)]
 pub struct Int {
     value: i64,
@@ -26,7 +26,7 @@ impl Model for Int {
 }
 
 impl Int {
-    /// The int of this value, or `None` if it is above 2^63 - 1. Does not allocate.
+    /// The integer of this value, or `None` if it is above 2^63 - 1. Does not allocate.
     pub fn new(n: u64) -> Option<Int>
         ensures made { IfSome result (λ int. int ≡ pos n) }
         ensures none { IfNone result (INT_MOST < n) }

@@ -105,7 +105,7 @@ fn is_spelled(word: &[u8], keyword: Keyword) -> bool
     word.eq_ignore_ascii_case(keyword.spelling())
 }
 
-/// The keyword that the word is, in capitals or small letters, or `None` if it is a name. Does not allocate.
+/// The keyword that the word spells, in capitals or small letters, or `None` if it is a name. Does not allocate.
 #[tactic(auto, unfolding(crate::specs::Keywords::keyword_of))]
 pub(crate) fn keyword_of(word: &[u8]) -> Option<Keyword>
     ensures { result ≡ keyword_of word.now }

@@ -1,4 +1,4 @@
-//! What the definition of tokens comes to, as functions that do nothing: each ensures a lemma.
+//! Lemmas about the definition of tokens, stated as functions that do nothing: a caller obtains what they ensure.
 ghost use Rattle.std.specs.Prelude.{◌≡◌, ◌↔◌, ℕ, List, Ok, Err};
 ghost use Rattle.sql_token.specs.declared.token.Token.{Token};
 ghost use Rattle.sql_token.specs.Faults.{BadByte, Literal, TooMany};
@@ -12,7 +12,7 @@ pub fn tokens_stand_in_their_text()
     ensures { (text : List ℕ) (ts : List Token) → tokens_of text ≡ Ok ts → StandFrom text 0 ts }
 {}
 
-/// No other tokens stand in a text so: those that do are the ones that are read.
+/// A text has only one list of tokens in this sense: any list that satisfies it is the one that is read.
 #[tactic(auto, using(crate::proofs::Only::only_tokens, crate::proofs::Only::only_within))]
 pub fn tokens_that_stand_are_read()
     ensures all { (text : List ℕ) (ts : List Token) → StandFrom text 0 ts
@@ -21,8 +21,8 @@ pub fn tokens_that_stand_are_read()
         → within_limits ts ≡ Ok ts → tokens_of text ≡ Ok ts }
 {}
 
-/// A fault is told by where it stands: tokens stand up to a bad byte, at which none begins, or up to an int above
-/// 2^63 - 1; or the whole text is tokens, more than 2,048 of them. No text stands so that does not have the fault.
+/// A fault is characterised by its position. Tokens extend up to a bad byte, at which none begins, or up to an integer
+/// above 2^63 - 1; or the whole text is tokens, more than 2,048 of them. Any text of that description has the fault.
 #[tactic(auto, using(crate::proofs::Faulty::too_many))]
 pub fn faults_stand_in_their_text()
     ensures bad_byte { (text : List ℕ) (place : ℕ)

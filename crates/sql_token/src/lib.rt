@@ -1,8 +1,8 @@
 //! The tokens of SQL text.
 //!
-//! Callers see the tokens of a text as a list, each with its kind and its span (`specs/Tokens.antt`).
-//! Below: `text_rules` for what digits write. Above: `sql_tree` and `sql_reader`, for which no text is left but names.
-//! No grammar: any row of tokens is accepted.
+//! Callers see the tokens of a text as a list, each with its kind and its span (`specs/Tokens.antt`). Below:
+//! `text_rules` for the numbers that digits write. Above: `sql_tree` and `sql_reader`, which need no more of the text
+//! than its names. There is no grammar here: any sequence of tokens is accepted.
 #![tactic(auto)]
 
 mod byte;

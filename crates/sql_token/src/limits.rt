@@ -3,8 +3,8 @@
 /// The most tokens of a text.
 pub const TOKENS_MOST: usize = 2048;
 
-/// The most brackets that may be open at a place.
+/// The most brackets that may be open at a position.
 pub const BRACKETS_MOST: u32 = 32;
 
-/// The largest int.
+/// The largest integer.
 pub const INT_MOST: u64 = (1 << 63) - 1;

@@ -10,7 +10,7 @@ use crate::token::{Token, TokenStop};
 use crate::tokens::Tokens;
 use std::alloc::Global;
 
-// The place of the first byte from a place on that is no blank, or the end of the text.
+// The position of the first byte that is no blank, from a position on, or the end of the text.
 fn after_blanks(text: &[u8], place: usize) -> usize
     requires { place ≤ length text.now }
     ensures same { behind text.now place ≡ behind text.now result }
@@ -21,7 +21,7 @@ fn after_blanks(text: &[u8], place: usize) -> usize
     place + blanks_len(&text[place..])
 }
 
-// The next token from a place on.
+// The next token from a position on.
 fn next_token(text: &[u8], place: usize) -> Result<Option<Token>, TokenStop>
     requires short { length text.now ≤ QUERY_TEXT_MOST }
     requires within { place ≤ length text.now }
@@ -37,7 +37,7 @@ fn next_token(text: &[u8], place: usize) -> Result<Option<Token>, TokenStop>
     }
 }
 
-/// All tokens of a text, or the first byte where none can be read.
+/// All tokens of a text, or the first fault.
 pub(crate) fn scan(alloc: Global, text: &[u8]) -> Result<Tokens, TokenStop>
     requires { length text.now ≤ QUERY_TEXT_MOST }
     ensures { Gives (behind text.now 0) result }

@@ -1,8 +1,8 @@
-//! The signs.
+//! The signs: operators and punctuation.
 ghost use Rattle.std.specs.Prelude.{◌≡◌};
 ghost use Rattle.sql_token.specs.Signs.{long_sign, short_sign};
 
-/// A sign of SQL.
+/// An operator or a punctuation mark of SQL.
 #[derive(Clone, Copy, Debug, PartialEq, Eq)]
 pub enum Sign {
     /// `<=`

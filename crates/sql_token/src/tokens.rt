@@ -27,7 +27,7 @@ impl Model for Tokens {
 }
 
 impl Tokens {
-    /// No tokens. Does not allocate.
+    /// An empty list of tokens. Does not allocate.
     pub(crate) fn new(alloc: Global) -> Tokens
         ensures { result ≡ [] }
     {
@@ -36,7 +36,7 @@ impl Tokens {
         }
     }
 
-    /// Puts a token behind the others.
+    /// Appends a token.
     pub(crate) fn push(&mut self, token: Token) -> Result<(), TokenStop>
         ensures ok { OnOk result (self.new ≡ self.old ++ token ∷ []) }
         ensures err { IfErr result (λ why. why ≡ TokenStop.Memory) }
@@ -48,8 +48,8 @@ impl Tokens {
         }
     }
 
-    /// The tokens of a text of at most 16,384 bytes, or its first fault. An allocation failure may come in place of any
-    /// answer.
+    /// The tokens of a text of at most 16,384 bytes, or its first fault. Allocates memory. An allocation failure can
+    /// take the place of any result.
     pub fn read(alloc: Global, text: &[u8]) -> Result<Tokens, TokenStop>
         requires { length text.now ≤ QUERY_TEXT_MOST }
         ensures tokens { IfOk result (λ tokens. tokens_of text.now ≡ Ok tokens) }
@@ -65,7 +65,7 @@ impl Tokens {
         }
     }
 
-    /// The tokens. Does not allocate.
+    /// The tokens, as a slice. Does not allocate.
     pub fn as_slice(&self) -> &[Token]
         ensures { result.now ≡ self.now }
     {

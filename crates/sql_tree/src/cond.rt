@@ -5,7 +5,7 @@ use crate::name::Name;
 use sql_token::{Int, Span};
 use sqlite_items::{Boxed, Items};
 
-/// A comparison. `<>` and `!=` are one.
+/// A comparison operator. `<>` and `!=` are the same one.
 #[derive(Clone, Copy, Debug, PartialEq, Eq)]
 pub enum Cmp {
     Equal,
@@ -24,14 +24,14 @@ pub enum AreaKind {
     Boxed,
 }
 
-/// An int as it is written: its sign and its size. `-0` and `0` are one to `same`, and print alike.
+/// An integer as it is written: its sign and its size. `-0` and `0` are equal for `same`, and print alike.
 #[derive(Clone, Copy, Debug, PartialEq, Eq)]
 pub struct SignedInt {
     pub minus: bool,
     pub size: Int,
 }
 
-/// One int or more.
+/// A non-empty list of integers.
 #[derive(Drop)]
 pub struct IntList {
     pub first: SignedInt,
@@ -54,7 +54,7 @@ pub struct Conj {
     pub rest: Items<Neg>,
 }
 
-/// A predicate, and whether NOT stands before it.
+/// A predicate, and whether NOT precedes it.
 #[cycle(cond)]
 #[derive(Drop)]
 pub struct Neg {
@@ -62,7 +62,7 @@ pub struct Neg {
     pub pred: Pred,
 }
 
-/// What a condition is made of.
+/// The kinds of predicates.
 #[cycle(cond)]
 #[derive(Drop)]
 pub enum Pred {
@@ -89,13 +89,13 @@ pub enum Pred {
         not: bool,
         value: Expr,
     },
-    /// An area function; the span is that of its word.
+    /// An area function. The span is that of its name.
     Area {
         kind: AreaKind,
         span: Span,
         args: IntList,
     },
-    /// `CHORD2(left, right) <= n`, or `< n` where it is strict.
+    /// `CHORD2(left, right) <= n`, or `< n` if it is strict.
     Chord {
         left: Name,
         right: Name,

@@ -4,7 +4,7 @@ use crate::name::Col;
 use sql_token::Int;
 use sqlite_items::{Boxed, Items};
 
-/// A sum or difference of products, taken from the left.
+/// A sum or difference of products, evaluated from the left.
 #[cycle(expr)]
 #[derive(Drop)]
 pub struct Expr {
@@ -12,7 +12,7 @@ pub struct Expr {
     pub rest: Items<Signed>,
 }
 
-/// A further product of a sum, and whether it is taken away.
+/// A later product of a sum, and whether it is subtracted.
 #[cycle(expr)]
 #[derive(Drop)]
 pub struct Signed {
@@ -28,7 +28,7 @@ pub struct Prod {
     pub rest: Items<Factor>,
 }
 
-/// An atom, and whether a minus stands before it.
+/// An atom, and whether a minus precedes it.
 #[cycle(expr)]
 #[derive(Drop)]
 pub struct Factor {
@@ -36,7 +36,7 @@ pub struct Factor {
     pub atom: Atom,
 }
 
-/// What an expression is made of.
+/// The kinds of atoms.
 #[cycle(expr)]
 #[derive(Drop)]
 pub enum Atom {

@@ -1,11 +1,10 @@
-//! The tree of a written query.
+//! The syntax tree of a query.
 //!
 //! Callers see a tree as plain data: a list for each `Items`, a value for each `Boxed`. Names and the words that a
-//! fault may point at keep their span; `same` looks past spans, and takes `-0` for `0` in a list of ints
-//! (`specs/Bare.antt`).
-//! Below: `sql_token` for spans, `sqlite_items` for lists that contracts see as lists. Above: `sql_rules`, which says
-//! what text spells a tree, and every crate that reads or writes one.
-//! No grammar and no meaning.
+//! fault may point at keep their span. `same` compares trees without their spans, and takes `-0` for `0` in a list of
+//! integers (`specs/Bare.antt`). Below: `sql_token` for spans, `sqlite_items` for lists that contracts see as lists.
+//! Above: `sql_rules`, which defines which text spells a tree, and every crate that reads or writes one. There is no
+//! grammar and no meaning here.
 #![tactic(auto)]
 
 pub mod cond;

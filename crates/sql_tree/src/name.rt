@@ -5,7 +5,7 @@ ghost use Rattle.sql_tree.specs.Spans.{col_span};
 use sql_token::Span;
 use sqlite_items::Items;
 
-/// A name: its bytes, and where it stands in its text.
+/// A name: its bytes, and its span in its text.
 #[derive(Drop)]
 pub struct Name {
     pub text: Items<u8>,
@@ -20,7 +20,7 @@ pub struct Col {
 }
 
 impl Col {
-    /// Where the column stands: from its first name to the end of its last, blanks around the dot included. Does not
+    /// The span of the column: from its first name to the end of its last, blanks around the dot included. Does not
     /// allocate.
     pub fn span(&self) -> Span
         ensures { result ≡ col_span self.now }

@@ -14,35 +14,35 @@ pub struct Query {
     /// The second table of a join.
     pub second: Option<TableRef>,
     pub cond: Option<Cond>,
-    /// The columns behind GROUP BY, at most four; none where there is no GROUP BY.
+    /// The columns after GROUP BY, at most four. There are none without GROUP BY.
     pub group: Items<Col>,
     pub order: Option<OrderBy>,
     pub limit: Option<Int>,
 }
 
-/// What stands between SELECT and FROM.
+/// The select list, between SELECT and FROM.
 #[derive(Drop)]
 pub enum Selection {
-    /// `*`, and where it stands.
+    /// `*`, and its span.
     Star { span: Span },
     List(ItemList),
 }
 
-/// One item or more.
+/// A non-empty list of items.
 #[derive(Drop)]
 pub struct ItemList {
     pub first: Item,
     pub rest: Items<Item>,
 }
 
-/// An item, and the alias behind AS.
+/// An item, and the alias after AS.
 #[derive(Drop)]
 pub struct Item {
     pub what: ItemKind,
     pub alias: Option<Name>,
 }
 
-/// What an item is.
+/// The kinds of items.
 #[derive(Drop)]
 pub enum ItemKind {
     Plain(Expr),

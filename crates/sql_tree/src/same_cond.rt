@@ -1,4 +1,4 @@
-//! Whether two conditions are the same but for their spans and the sign of a zero in a list of ints.
+//! Compares conditions up to their spans and the sign of a zero in a list of integers.
 ghost use Rattle.std.specs.Prelude.{◌≡◌, ◌↔◌, IsTrue, map};
 ghost use Rattle.sql_tree.specs.Bare.{bare_cond, bare_conj, bare_expr, bare_int, bare_ints, bare_name, bare_neg, bare_pred, is_minus};
 
@@ -177,7 +177,7 @@ fn same_neg(a: &Neg, b: &Neg) -> bool
     a.not == b.not && same_pred(&a.pred, &b.pred)
 }
 
-// Of each form, whether the other predicate is of this form too, with the same parts.
+// For each kind of predicate, whether the other predicate is of this kind too, with the same parts.
 #[cycle(same)]
 fn is_bracket(cond: &Cond, other: &Pred) -> bool
     ensures { IsTrue result ↔ (bare_pred (Pred.Bracket cond.now) ≡ bare_pred other.now) }

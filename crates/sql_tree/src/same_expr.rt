@@ -1,4 +1,4 @@
-//! Whether two expressions are the same but for their spans.
+//! Compares expressions up to their spans.
 ghost use Rattle.std.specs.Prelude.{◌≡◌, ◌↔◌, IsTrue, map};
 ghost use Rattle.std.specs.Option.{option_map};
 ghost use Rattle.sql_tree.specs.Bare.{bare_name, bare_col, bare_atom, bare_expr, bare_factor, bare_prod, bare_signed};

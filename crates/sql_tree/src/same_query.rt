@@ -1,4 +1,4 @@
-//! Whether two queries are the same but for their spans and the sign of a zero in a list of ints.
+//! Compares queries up to their spans and the sign of a zero in a list of integers.
 ghost use Rattle.std.specs.Prelude.{◌≡◌, ◌↔◌, IsTrue, map};
 ghost use Rattle.std.specs.Option.{option_map};
 ghost use Rattle.sql_tree.specs.Bare.{bare, bare_col, bare_cond, bare_item, bare_items, bare_kind, bare_order, bare_table};
@@ -150,7 +150,7 @@ fn same_end(a: &Query, b: &Query) -> bool
         && same_limit(&a.limit, &b.limit)
 }
 
-/// Whether two trees are the same but for their spans and the sign of a zero in a list of ints. Does not allocate.
+/// Whether two trees are the same up to their spans and the sign of a zero in a list of integers. Does not allocate.
 #[tactic(auto, unfolding(crate::specs::Bare::bare))]
 pub fn same(a: &Query, b: &Query) -> bool
     ensures { IsTrue result ↔ (bare a.now ≡ bare b.now) }
