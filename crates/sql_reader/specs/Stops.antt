@@ -1,4 +1,4 @@
--- What the reading of a whole text answers.
+-- The results of the reading of a whole text.
 use Rattle.std.specs.Prelude.{◌≡◌, ⊤, ℕ, List, Option, None, Some, Result, Ok, Err}
 use Rattle.sky_io.specs.declared.Stop.{Stop}
 use Rattle.sky_io.specs.Stops.{IfBad}
@@ -18,7 +18,7 @@ use Rattle.sql_reader.specs.declared.query.Before.{Before}
 use Rattle.sql_reader.specs.declared.ahead.ReadStop.{ReadStop}
 use Rattle.sql_reader.specs.declared.ahead.ReadStop.TheVariants.{Memory, Syntax}
 
--- what stands before WHERE, as the definition has it
+-- the part of a query before WHERE, as the definition has it
 abbrev pub front_of : Before → Front
 front_of b = record { items = b.items; first = b.first; second = b.second }
 
@@ -30,18 +30,19 @@ from_group_at front cond ts = group_at ts >>= λ group us. query_with front cond
 abbrev pub from_where_at : Front → Reader Query
 from_where_at front ts = where_at ts >>= λ cond us. from_group_at front cond us
 
--- the reader answers what stands there, seen by a view, and what comes behind it, or that none does, or wants memory
+-- the reader returns a value whose view is what can be read, and the rest; or that nothing can be read; or is out of
+-- memory
 abbrev pub GivesBy : {X A : Type 0} → (X → A) → Answer A → Result (X × List Symbol) ReadStop → Type 0
 GivesBy view answer (Ok x) = answer ≡ Got (view x.0) x.1
 GivesBy view answer (Err why) = Fails answer why
 
--- the reader answers the query of the tokens, or that they are none, or wants memory
+-- the reader returns the query of the tokens, or that they are none, or is out of memory
 abbrev pub GivesQuery : Option Query → Result Query ReadStop → Type 0
 GivesQuery spec (Ok query) = spec ≡ Some query
 GivesQuery spec (Err Memory) = ⊤
 GivesQuery spec (Err Syntax) = spec ≡ None
 
--- where the tokens of a text stop so, its tree does
+-- if the tokens of a text stop for this reason, its tree stops with this fault
 abbrev pub MeansStop : TokenStop → Stop SqlFault → Type 0
 MeansStop why stop =
     (text : List ℕ) → (tokens : Result (List Token) TokenFault) → StopsBy tokens why

@@ -1,4 +1,4 @@
-//! The tokens ahead of a reader, and the keywords and signs that it takes from their front.
+//! The tokens ahead of a reader, and the keywords and signs that it takes from their start.
 ghost use Rattle.std.specs.Prelude.{◌≡◌, ◌≢◌, ◌<◌, ◌≤◌, ◌↔◌, [], length, IsTrue};
 ghost use Rattle.sql_rules.specs.Marks.{keyword_number, same_mark, sign_number};
 ghost use Rattle.sql_rules.specs.Symbols.{OfSign, OfKeyword, symbols};
@@ -28,22 +28,22 @@ impl From<AllocError> for ReadStop {
     }
 }
 
-// The keywords are the same.
+// Whether the keywords are equal.
 fn is_same_keyword(a: Keyword, b: Keyword) -> bool
     ensures { result ≡ same_mark (OfKeyword a) (OfKeyword b) }
 {
     a == b
 }
 
-// The signs are the same.
+// Whether the signs are equal.
 fn is_same_sign(a: Sign, b: Sign) -> bool
     ensures { result ≡ same_mark (OfSign a) (OfSign b) }
 {
     a == b
 }
 
-/// What was read before, beside what is read now; it is dropped where nothing is read. A tree that goes out of scope at a
-/// `?` would be dropped part by part there, and the function's proof be several times as long.
+/// Pairs what was read before with what is read now, and drops it if nothing is read. Without this call a tree that
+/// goes out of scope at a `?` is dropped part by part there, and the function's proof is several times as long.
 pub(crate) fn beside<T: Drop, U>(held: T, answer: Result<U, ReadStop>) -> Result<(T, U), ReadStop>
     ensures { result ≡ beside held answer }
 {
@@ -53,7 +53,7 @@ pub(crate) fn beside<T: Drop, U>(held: T, answer: Result<U, ReadStop>) -> Result
     }
 }
 
-/// The tokens of a text from one on.
+/// The remaining tokens of a text.
 #[derive(Drop)]
 pub(crate) struct Ahead<'a> {
     text: &'a [u8],
@@ -77,7 +77,7 @@ impl<'a> Ahead<'a> {
         Ahead { text, tokens }
     }
 
-    /// The same tokens.
+    /// A copy of this view of the tokens.
     pub(crate) fn again(&self) -> Ahead<'a>
         ensures { result ≡ self.now }
     {
@@ -87,21 +87,21 @@ impl<'a> Ahead<'a> {
         }
     }
 
-    /// How many tokens are ahead.
+    /// The number of remaining tokens.
     pub(crate) fn len(&self) -> usize
         ensures { result ≡ length self.now }
     {
         self.tokens.len()
     }
 
-    /// No token is left.
+    /// Whether no token is left.
     pub(crate) fn is_empty(&self) -> bool
         ensures { IsTrue result ↔ (self.now ≡ []) }
     {
         self.tokens.is_empty()
     }
 
-    /// What comes behind a keyword, where it stands at the front.
+    /// The rest after a keyword, if the keyword is first.
     pub(crate) fn after_key(&self, keyword: Keyword) -> Option<Ahead<'a>>
         requires { keyword_number keyword < 23 }
         ensures { Passes (OfKeyword keyword) (mark_at (OfKeyword keyword) self.now) result }
@@ -127,7 +127,7 @@ impl<'a> Ahead<'a> {
         }
     }
 
-    /// What comes behind a sign, where it stands at the front.
+    /// The rest after a sign, if the sign is first.
     pub(crate) fn after_sign(&self, sign: Sign) -> Option<Ahead<'a>>
         requires from { 32 ≤ sign_number sign }
         requires plus { sign_number sign ≢ 36 }
@@ -155,7 +155,7 @@ impl<'a> Ahead<'a> {
         }
     }
 
-    /// Whether a keyword stands at the front, and what comes behind it, or all where it doesn't.
+    /// Whether a keyword is first, and the rest after it, or everything if it is not.
     pub(crate) fn maybe_key(&self, keyword: Keyword) -> (bool, Ahead<'a>)
         requires { keyword_number keyword < 23 }
         ensures { maybe_at (OfKeyword keyword) self.now ≡ result }
@@ -166,7 +166,7 @@ impl<'a> Ahead<'a> {
         }
     }
 
-    /// Whether a sign stands at the front, and what comes behind it, or all where it doesn't.
+    /// Whether a sign is first, and the rest after it, or everything if it is not.
     pub(crate) fn maybe_sign(&self, sign: Sign) -> (bool, Ahead<'a>)
         requires from { 32 ≤ sign_number sign }
         requires plus { sign_number sign ≢ 36 }

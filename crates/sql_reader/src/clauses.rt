@@ -1,4 +1,4 @@
-//! Tables, and the clauses from WHERE on. One function reads one rule of the grammar.
+//! Parses tables, and the clauses from WHERE on. One function reads one rule of the grammar.
 ghost use Rattle.std.specs.Prelude.{◌≡◌, ◌-◌};
 ghost use Rattle.sql_rules.specs.declared.limits.TheConstants.{GROUP_COLUMNS_MOST};
 ghost use Rattle.sql_rules.specs.Symbols.{OfSign};
@@ -18,7 +18,7 @@ use sql_tree::{Col, Cond, Name, OrderBy, TableRef};
 use sqlite_items::Items;
 use std::alloc::Global;
 
-// The alias of a table, where one stands there.
+// The alias of a table, if there is one.
 #[tactic(auto, unfolding(sql_rules::specs::ReadQueries::alias_at))]
 fn alias<'a>(alloc: Global, ahead: &Ahead<'a>) -> Result<(Option<Name>, Ahead<'a>), ReadStop>
     ensures { Gives (alias_at ahead.now) result }
@@ -44,7 +44,7 @@ pub(crate) fn table<'a>(alloc: Global, ahead: &Ahead<'a>) -> Result<(TableRef, A
     Ok((TableRef { name, alias }, rest))
 }
 
-/// The second table, where a comma stands there.
+/// The second table, if a comma is first.
 #[tactic(auto, unfolding(sql_rules::specs::ReadQueries::second_at))]
 pub(crate) fn second<'a>(
     alloc: Global,
@@ -61,7 +61,7 @@ pub(crate) fn second<'a>(
     }
 }
 
-/// The condition, where WHERE stands there.
+/// The condition, if WHERE is first.
 #[tactic(auto, unfolding(sql_rules::specs::ReadQueries::where_at))]
 pub(crate) fn where_clause<'a>(
     alloc: Global,
@@ -78,7 +78,7 @@ pub(crate) fn where_clause<'a>(
     }
 }
 
-// The columns behind commas, as many as GROUP BY may have behind its first.
+// The columns after commas, at most as many as GROUP BY may have after its first.
 fn more_cols<'a>(alloc: Global, ahead: &Ahead<'a>) -> Result<(Items<Col>, Ahead<'a>), ReadStop>
     ensures { Gives (many (mark_at (OfSign sign.Comma)) (λ _. col_at) (GROUP_COLUMNS_MOST - 1)
         ahead.now) result }
@@ -98,7 +98,7 @@ fn more_cols<'a>(alloc: Global, ahead: &Ahead<'a>) -> Result<(Items<Col>, Ahead<
     Ok((found, rest))
 }
 
-// One column to four.
+// One to four columns.
 #[tactic(auto, unfolding(sql_rules::specs::ReadQueries::cols_at))]
 fn cols<'a>(alloc: Global, ahead: &Ahead<'a>) -> Result<(Items<Col>, Ahead<'a>), ReadStop>
     ensures { Gives (cols_at ahead.now) result }
@@ -111,7 +111,7 @@ fn cols<'a>(alloc: Global, ahead: &Ahead<'a>) -> Result<(Items<Col>, Ahead<'a>),
     Ok((found, rest))
 }
 
-/// The columns to group by, none where GROUP does not stand there.
+/// The columns to group by, or none if GROUP is not first.
 #[tactic(auto, unfolding(sql_rules::specs::ReadQueries::group_at))]
 pub(crate) fn group_clause<'a>(
     alloc: Global,
@@ -142,7 +142,7 @@ fn way<'a>(ahead: &Ahead<'a>) -> Option<(bool, Ahead<'a>)>
     }
 }
 
-// The order key, and the way of the order.
+// The order key, and whether the order is descending.
 #[tactic(auto, unfolding(sql_rules::specs::ReadQueries::sorted_at))]
 fn sorted<'a>(alloc: Global, ahead: &Ahead<'a>) -> Result<(Option<OrderBy>, Ahead<'a>), ReadStop>
     ensures { Gives (sorted_at ahead.now) result }
@@ -157,7 +157,7 @@ fn sorted<'a>(alloc: Global, ahead: &Ahead<'a>) -> Result<(Option<OrderBy>, Ahea
     }
 }
 
-/// The order, where ORDER stands there.
+/// The order, if ORDER is first.
 #[tactic(auto, unfolding(sql_rules::specs::ReadQueries::order_at))]
 pub(crate) fn order_clause<'a>(
     alloc: Global,
@@ -174,7 +174,7 @@ pub(crate) fn order_clause<'a>(
     }
 }
 
-/// The most rows of the answer, where LIMIT stands there.
+/// The most rows of the answer, if LIMIT is first.
 #[tactic(auto, unfolding(sql_rules::specs::ReadQueries::limit_at))]
 pub(crate) fn limit_clause<'a>(ahead: &Ahead<'a>) -> Option<(Option<Int>, Ahead<'a>)>
     ensures { Shows (limit_at ahead.now) result }

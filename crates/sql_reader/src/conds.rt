@@ -1,4 +1,4 @@
-//! Conditions. One function reads one rule of the grammar.
+//! Parses conditions. One function reads one rule of the grammar.
 ghost use Rattle.std.specs.Prelude.{◌≡◌, ◌<◌, ◌-◌};
 ghost use Rattle.sql_rules.specs.Symbols.{OfKeyword};
 ghost use Rattle.sql_rules.specs.Readers.{each, mark_at};
@@ -16,7 +16,7 @@ use sql_tree::{Cond, Conj, Neg, Pred};
 use sqlite_items::{Boxed, Items};
 use std::alloc::Global;
 
-/// A condition with brackets below so many levels.
+/// A condition with at most the given number of levels of nesting.
 #[cycle(cond)]
 #[tactic(auto, using(crate::proofs::Steps::cond_level, crate::proofs::Steps::cond_none))]
 pub(crate) fn cond<'a>(
@@ -48,7 +48,7 @@ fn any<'a>(
     Ok((Boxed::new(alloc, Cond { first, rest })?, ahead))
 }
 
-// The further conjunctions of a condition.
+// The later conjunctions of a condition.
 #[cycle(cond)]
 fn more_conjs<'a>(
     alloc: Global,
@@ -86,7 +86,7 @@ fn conj<'a>(alloc: Global, ahead: &Ahead<'a>, levels: u32) -> Result<(Conj, Ahea
     Ok((Conj { first, rest }, ahead))
 }
 
-// The further predicates of a conjunction.
+// The later predicates of a conjunction.
 #[cycle(cond)]
 fn more_negs<'a>(
     alloc: Global,
@@ -126,7 +126,7 @@ fn neg<'a>(alloc: Global, ahead: &Ahead<'a>, levels: u32) -> Result<(Neg, Ahead<
     }
 }
 
-// An expression and what is said of it, or another predicate where no expression stands.
+// An expression and the rest of its predicate, or another predicate if no expression is first.
 #[cycle(cond)]
 #[tactic(auto, using(crate::proofs::Skips::pred_valued, crate::proofs::Skips::pred_other))]
 fn pred<'a>(alloc: Global, ahead: &Ahead<'a>, levels: u32) -> Result<(Pred, Ahead<'a>), ReadStop>
@@ -158,7 +158,7 @@ fn other<'a>(alloc: Global, ahead: &Ahead<'a>, levels: u32) -> Result<(Pred, Ahe
     }
 }
 
-// What stands behind the opening bracket of a condition, and the closing one.
+// A condition after its opening bracket, and the closing bracket.
 #[cycle(cond)]
 #[tactic(auto, unfolding(sql_rules::specs::ReadConds::group_with))]
 fn group<'a>(alloc: Global, ahead: &Ahead<'a>, levels: u32) -> Result<(Pred, Ahead<'a>), ReadStop>

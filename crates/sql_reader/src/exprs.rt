@@ -1,4 +1,4 @@
-//! Expressions, and ints in brackets. One function reads one rule of the grammar.
+//! Parses expressions, and integers in brackets. One function reads one rule of the grammar.
 ghost use Rattle.std.specs.Prelude.{◌≡◌, Bool};
 ghost use Rattle.sql_rules.specs.Symbols.{OfSign};
 ghost use Rattle.sql_rules.specs.Readers.{adds_at, each, mark_at};
@@ -40,7 +40,7 @@ pub(crate) fn col<'a>(alloc: Global, ahead: &Ahead<'a>) -> Result<(Col, Ahead<'a
     }
 }
 
-/// An expression with brackets below so many levels.
+/// An expression with at most the given number of levels of nesting.
 #[cycle(expr)]
 #[tactic(auto, using(crate::proofs::Steps::expr_level, crate::proofs::Steps::expr_none))]
 pub(crate) fn expr<'a>(
@@ -56,7 +56,7 @@ pub(crate) fn expr<'a>(
     sum(alloc, ahead, levels - 1)
 }
 
-// A sum of products, whose brackets go so many levels further.
+// A sum of products, in whose brackets the given number of further levels may nest.
 #[cycle(expr)]
 #[tactic(auto, unfolding(sql_rules::specs::ReadExprs::sum_with))]
 fn sum<'a>(alloc: Global, ahead: &Ahead<'a>, inner: u32) -> Result<(Expr, Ahead<'a>), ReadStop>
@@ -67,7 +67,7 @@ fn sum<'a>(alloc: Global, ahead: &Ahead<'a>, inner: u32) -> Result<(Expr, Ahead<
     Ok((Expr { first, rest }, ahead))
 }
 
-// The further products of a sum.
+// The later products of a sum.
 #[cycle(expr)]
 fn more_prods<'a>(
     alloc: Global,
@@ -91,7 +91,7 @@ fn more_prods<'a>(
     Ok((found, rest))
 }
 
-// The product behind a plus or a minus.
+// The product after a plus or a minus.
 #[cycle(expr)]
 #[tactic(auto, unfolding(sql_rules::specs::ReadExprs::signed_with))]
 fn signed<'a>(
@@ -117,7 +117,7 @@ fn prod<'a>(alloc: Global, ahead: &Ahead<'a>, inner: u32) -> Result<(Prod, Ahead
     Ok((Prod { first, rest }, ahead))
 }
 
-// The further factors of a product.
+// The later factors of a product.
 #[cycle(expr)]
 fn more_factors<'a>(
     alloc: Global,
@@ -153,7 +153,7 @@ fn factor<'a>(alloc: Global, ahead: &Ahead<'a>, inner: u32) -> Result<(Factor, A
     Ok((Factor { minus, atom }, rest))
 }
 
-// An int, a column, or an expression in brackets.
+// An integer, a column, or an expression in brackets.
 #[cycle(expr)]
 #[tactic(auto, unfolding(sql_rules::specs::ReadExprs::atom_with))]
 fn atom<'a>(alloc: Global, ahead: &Ahead<'a>, inner: u32) -> Result<(Atom, Ahead<'a>), ReadStop>
@@ -171,7 +171,7 @@ fn atom<'a>(alloc: Global, ahead: &Ahead<'a>, inner: u32) -> Result<(Atom, Ahead
     }
 }
 
-// What stands behind an opening bracket, and the closing one.
+// An expression after its opening bracket, and the closing bracket.
 #[cycle(expr)]
 #[tactic(auto, unfolding(sql_rules::specs::ReadExprs::bracket_with))]
 fn bracket<'a>(alloc: Global, ahead: &Ahead<'a>, inner: u32) -> Result<(Atom, Ahead<'a>), ReadStop>
@@ -187,7 +187,7 @@ fn bracket<'a>(alloc: Global, ahead: &Ahead<'a>, inner: u32) -> Result<(Atom, Ah
     }
 }
 
-// An int, and the minus before it.
+// An integer, and the minus before it.
 #[tactic(auto, unfolding(sql_rules::specs::ReadExprs::int_at))]
 fn int<'a>(ahead: &Ahead<'a>) -> Option<(SignedInt, Ahead<'a>)>
     ensures { Shows (int_at ahead.now) result }
@@ -197,7 +197,7 @@ fn int<'a>(ahead: &Ahead<'a>) -> Option<(SignedInt, Ahead<'a>)>
     Some((SignedInt { minus, size }, rest))
 }
 
-// The ints behind commas.
+// The integers after commas.
 fn further_ints<'a>(
     alloc: Global,
     ahead: &Ahead<'a>,
@@ -221,7 +221,7 @@ fn further_ints<'a>(
     Ok((found, rest))
 }
 
-// The ints behind the first of a list, and the closing bracket.
+// The integers after the first of a list, and the closing bracket.
 #[tactic(auto, unfolding(sql_rules::specs::ReadExprs::more_ints_at))]
 fn more_ints<'a>(
     alloc: Global,
@@ -237,7 +237,7 @@ fn more_ints<'a>(
     }
 }
 
-/// Ints in brackets.
+/// Integers in brackets.
 #[tactic(auto, unfolding(sql_rules::specs::ReadExprs::ints_at))]
 pub(crate) fn ints<'a>(alloc: Global, ahead: &Ahead<'a>) -> Result<(IntList, Ahead<'a>), ReadStop>
     ensures { Gives (ints_at ahead.now) result }

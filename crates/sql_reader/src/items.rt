@@ -1,4 +1,4 @@
-//! What stands between SELECT and FROM. One function reads one rule of the grammar.
+//! Parses the select list. One function reads one rule of the grammar.
 ghost use Rattle.std.specs.Prelude.{◌≡◌};
 ghost use Rattle.sql_rules.specs.Symbols.{OfSign};
 ghost use Rattle.sql_rules.specs.Readers.{each, mark_at};
@@ -39,7 +39,7 @@ fn kind_by(call: Call, e: Expr) -> ItemKind
     }
 }
 
-// The expression behind an opening bracket, and the closing one.
+// The expression after an opening bracket, and the closing bracket.
 #[tactic(auto, unfolding(sql_rules::specs::ReadQueries::argument_at))]
 fn argument<'a>(
     alloc: Global,
@@ -58,7 +58,7 @@ fn argument<'a>(
     }
 }
 
-// What follows COUNT and its opening bracket.
+// The rest of an item after COUNT and its opening bracket.
 #[tactic(auto, unfolding(sql_rules::specs::ReadQueries::counted_at))]
 fn counted<'a>(alloc: Global, ahead: &Ahead<'a>) -> Result<(ItemKind, Ahead<'a>), ReadStop>
     ensures { Gives (counted_at ahead.now) result }
@@ -72,7 +72,7 @@ fn counted<'a>(alloc: Global, ahead: &Ahead<'a>) -> Result<(ItemKind, Ahead<'a>)
     }
 }
 
-// What follows COUNT.
+// The rest of an item after COUNT.
 fn count<'a>(alloc: Global, ahead: &Ahead<'a>) -> Result<(ItemKind, Ahead<'a>), ReadStop>
     ensures { Gives (called_at counted_at ahead.now) result }
 {
@@ -82,7 +82,7 @@ fn count<'a>(alloc: Global, ahead: &Ahead<'a>) -> Result<(ItemKind, Ahead<'a>), 
     }
 }
 
-// What follows the word of another function.
+// The rest of an item after the name of another function.
 fn called<'a>(
     alloc: Global,
     ahead: &Ahead<'a>,
@@ -119,7 +119,7 @@ fn high<'a>(alloc: Global, ahead: &Ahead<'a>) -> Result<(ItemKind, Ahead<'a>), R
     }
 }
 
-// An expression, or a function of the rows.
+// An expression, or an aggregate function.
 #[tactic(auto, unfolding(sql_rules::specs::ReadQueries::kind_at))]
 fn kind<'a>(alloc: Global, ahead: &Ahead<'a>) -> Result<(ItemKind, Ahead<'a>), ReadStop>
     ensures { Gives (kind_at ahead.now) result }
@@ -136,7 +136,7 @@ fn kind<'a>(alloc: Global, ahead: &Ahead<'a>) -> Result<(ItemKind, Ahead<'a>), R
     }
 }
 
-// The alias behind AS, where AS stands there.
+// The alias after AS, if AS is first.
 #[tactic(auto, unfolding(sql_rules::specs::ReadQueries::as_at))]
 fn alias_behind_as<'a>(
     alloc: Global,
@@ -163,7 +163,7 @@ fn item<'a>(alloc: Global, ahead: &Ahead<'a>) -> Result<(Item, Ahead<'a>), ReadS
     Ok((Item { what, alias }, rest))
 }
 
-// The items behind commas.
+// The items after commas.
 fn more_items<'a>(alloc: Global, ahead: &Ahead<'a>) -> Result<(Items<Item>, Ahead<'a>), ReadStop>
     ensures { Gives (each (mark_at (OfSign sign.Comma)) (λ _. item_at) ahead.now) result }
 {
@@ -182,7 +182,7 @@ fn more_items<'a>(alloc: Global, ahead: &Ahead<'a>) -> Result<(Items<Item>, Ahea
     Ok((found, rest))
 }
 
-// Items.
+// A non-empty list of items.
 #[tactic(auto, unfolding(sql_rules::specs::ReadQueries::item_list_at))]
 fn item_list<'a>(alloc: Global, ahead: &Ahead<'a>) -> Result<(Selection, Ahead<'a>), ReadStop>
     ensures { Gives (item_list_at ahead.now) result }
@@ -192,7 +192,7 @@ fn item_list<'a>(alloc: Global, ahead: &Ahead<'a>) -> Result<(Selection, Ahead<'
     Ok((Selection::List(ItemList { first, rest }), ahead))
 }
 
-/// A star, which would stand at a span, or items.
+/// A star with the given span, or items.
 #[tactic(auto, unfolding(sql_rules::specs::ReadQueries::items_at))]
 pub(crate) fn items<'a>(
     alloc: Global,

@@ -1,8 +1,8 @@
-//! The reader of SQL: a text becomes its one tree, or its first fault.
+//! The SQL parser: a text becomes its one tree, or its first fault.
 //!
-//! Callers see one call, `read`, which answers what `sql_rules` defines as the tree of a text (`tree_of`).
-//! Below: `sql_token` for tokens, `sql_rules` for the grammar. Above: `czar`, for the queries of a script, and `judge`.
-//! No schema and no meaning: a name is read as it is written, known or not.
+//! Callers see one call, `read`, which returns what `sql_rules` defines as the tree of a text (`tree_of`). Below:
+//! `sql_token` for tokens, `sql_rules` for the grammar. Above: the crates that take the text of a query. There is no
+//! schema and no meaning here: a name is read as it is written, whether or not a table has it.
 #![tactic(auto)]
 
 mod ahead;

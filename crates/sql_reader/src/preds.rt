@@ -1,4 +1,4 @@
-//! Predicates without conditions inside. One function reads one rule of the grammar.
+//! Parses predicates without conditions inside. One function reads one rule of the grammar.
 ghost use Rattle.std.specs.Prelude.{◌≡◌};
 ghost use Rattle.sql_rules.specs.ReadExprs.{expr_at};
 ghost use Rattle.sql_rules.specs.ReadConds.{area_with, between_with, chord_at, chord_behind, chord_by};
@@ -12,7 +12,7 @@ use sql_token::{Keyword, Sign, Span};
 use sql_tree::{AreaKind, Cmp, Expr, Name, Pred};
 use std::alloc::Global;
 
-// What follows BETWEEN.
+// The rest of a predicate after BETWEEN.
 #[tactic(auto, unfolding(sql_rules::specs::ReadConds::between_with))]
 fn between<'a>(
     alloc: Global,
@@ -40,7 +40,7 @@ fn between<'a>(
     ))
 }
 
-// What follows an expression and NOT, or an expression where no NOT stands.
+// The rest of a predicate after an expression and NOT, or after an expression if NOT is not there.
 #[tactic(auto, unfolding(sql_rules::specs::ReadConds::range_with))]
 fn range<'a>(
     alloc: Global,
@@ -66,7 +66,7 @@ fn range<'a>(
     }
 }
 
-// What follows IS.
+// The rest of a predicate after IS.
 #[tactic(auto, unfolding(sql_rules::specs::ReadConds::null_at))]
 fn null<'a>(ahead: &Ahead<'a>, value: Expr) -> Result<(Pred, Ahead<'a>), ReadStop>
     ensures { Gives (null_at value ahead.now) result }
@@ -81,7 +81,7 @@ fn null<'a>(ahead: &Ahead<'a>, value: Expr) -> Result<(Pred, Ahead<'a>), ReadSto
     }
 }
 
-// What is said of an expression, whose brackets go below so many levels.
+// The rest of a predicate after its first expression. Its brackets have at most the given number of levels of nesting.
 #[tactic(auto, unfolding(sql_rules::specs::ReadConds::said_with))]
 fn said<'a>(
     alloc: Global,
@@ -106,7 +106,7 @@ fn said<'a>(
     }
 }
 
-/// An expression with brackets below so many levels, and what is said of it.
+/// An expression with at most the given number of levels of nesting, and the rest of its predicate.
 pub(crate) fn valued<'a>(
     alloc: Global,
     ahead: &Ahead<'a>,
@@ -118,7 +118,7 @@ pub(crate) fn valued<'a>(
     said(alloc, &rest, value, levels)
 }
 
-/// What follows an area word.
+/// The rest of an area test after the name of its function.
 #[tactic(auto, unfolding(sql_rules::specs::ReadConds::area_with))]
 pub(crate) fn area<'a>(
     alloc: Global,
@@ -132,7 +132,7 @@ pub(crate) fn area<'a>(
     Ok((Pred::Area { kind, span, args }, rest))
 }
 
-// What follows the comparison of a chord.
+// The rest of a chord test after its comparison operator.
 fn chord_by<'a>(
     ahead: &Ahead<'a>,
     left: Name,
@@ -160,7 +160,7 @@ fn chord_by<'a>(
     }
 }
 
-// What follows the first name of a chord.
+// The rest of a chord test after its first name.
 #[tactic(auto, unfolding(sql_rules::specs::ReadConds::chord_behind))]
 fn chord_behind<'a>(
     alloc: Global,
@@ -182,7 +182,7 @@ fn chord_behind<'a>(
     }
 }
 
-/// What follows CHORD2.
+/// The rest of a chord test after CHORD2.
 #[tactic(auto, unfolding(sql_rules::specs::ReadConds::chord_at))]
 pub(crate) fn chord<'a>(alloc: Global, ahead: &Ahead<'a>) -> Result<(Pred, Ahead<'a>), ReadStop>
     ensures { Gives (chord_at ahead.now) result }

@@ -1,4 +1,4 @@
-//! Whole queries.
+//! Parses whole queries.
 ghost use Rattle.std.specs.Prelude.{◌≡◌, ◌≤◌, length, IfOk, IfErr, Ok, Err, Some, None, if◌then◌else◌};
 ghost use Rattle.sky_io.specs.Stops.{IfBad};
 ghost use Rattle.text_rules.specs.declared.limits.TheConstants.{QUERY_TEXT_MOST};
@@ -19,7 +19,7 @@ use sql_tree::{Col, Cond, Query, Selection, TableRef};
 use sqlite_items::Items;
 use std::alloc::Global;
 
-/// What stands before WHERE.
+/// The part of a query before WHERE.
 #[derive(Drop)]
 pub(crate) struct Before {
     pub(crate) items: Selection,
@@ -52,7 +52,7 @@ fn from<'a>(
     ))
 }
 
-// All that stands before WHERE; a star would stand at a span.
+// The part of a query before WHERE. A star has the given span.
 #[tactic(auto, unfolding(sql_rules::specs::Trees::front_at))]
 fn front<'a>(alloc: Global, ahead: &Ahead<'a>, star: Span) -> Result<(Before, Ahead<'a>), ReadStop>
     ensures { GivesBy front_of (front_at star ahead.now) result }
@@ -64,7 +64,7 @@ fn front<'a>(alloc: Global, ahead: &Ahead<'a>, star: Span) -> Result<(Before, Ah
     from(alloc, &rest, items)
 }
 
-// The query of what stands before ORDER BY, and what follows it.
+// The query with the given parts before ORDER BY, and the rest of the tokens.
 fn query_with<'a>(
     alloc: Global,
     ahead: &Ahead<'a>,
@@ -133,7 +133,7 @@ fn from_where<'a>(
     }
 }
 
-// A query, up to its semicolon; a star would stand at a span.
+// A query, up to its semicolon. A star has the given span.
 #[tactic(auto, unfolding(sql_rules::specs::Trees::query_at))]
 fn query_at<'a>(
     alloc: Global,
@@ -146,7 +146,7 @@ fn query_at<'a>(
     from_where(alloc, &rest, before)
 }
 
-// Nothing but a semicolon is left.
+// Whether nothing but a semicolon is left.
 fn is_end(ahead: &Ahead<'_>) -> bool
     ensures { (query : Query) → whole (Got query ahead.now) ≡ if result then Some query else None }
 {
@@ -164,7 +164,7 @@ fn second_span(tokens: &[Token]) -> Span
     }
 }
 
-// The query that all tokens of a text are.
+// The query that all tokens of a text spell.
 #[tactic(auto, unfolding(sql_rules::specs::Trees::query_of))]
 fn query_of(alloc: Global, text: &[u8], tokens: &[Token]) -> Result<Query, ReadStop>
     ensures { GivesQuery (query_of text.now tokens.now) result }
@@ -179,7 +179,7 @@ fn query_of(alloc: Global, text: &[u8], tokens: &[Token]) -> Result<Query, ReadS
     }
 }
 
-// What it means for a query that its text has no list of tokens.
+// The fault of a query whose text has no list of tokens.
 fn stop_of(stop: TokenStop) -> Stop<SqlFault>
     ensures { MeansStop stop result }
 {
@@ -192,8 +192,8 @@ fn stop_of(stop: TokenStop) -> Stop<SqlFault>
     }
 }
 
-/// The one tree of a text of at most 16,384 bytes, or its first fault. An allocation failure may come in place of any
-/// answer. Allocates memory for the tree and its names; the text is not kept.
+/// The one tree of a text of at most 16,384 bytes, or its first fault. Allocates memory for the tree and its names; the
+/// text is not kept. An allocation failure can take the place of any result.
 #[tactic(auto, unfolding(sql_rules::specs::Trees::tree_of))]
 pub fn read(alloc: Global, text: &[u8]) -> Result<Query, Stop<SqlFault>>
     requires { length text.now ≤ QUERY_TEXT_MOST }

@@ -1,7 +1,7 @@
-//! Passes over an expression and builds nothing.
+//! Skips an expression without building its tree.
 //!
-//! A bracket may open an expression or a condition, and which one shows at its end alone. So what stands there is passed
-//! over first: building a tree to throw it away, at each of 32 brackets in one another, would cost 32 trees.
+//! A bracket may open an expression or a condition, and only its end shows which. So its content is skipped first. To
+//! build a tree and throw it away, at each of 32 nested brackets, would cost 32 trees.
 ghost use Rattle.std.specs.Prelude.{◌≡◌};
 ghost use Rattle.sql_rules.specs.Symbols.{OfSign};
 ghost use Rattle.sql_rules.specs.Readers.{adds_at, each, mark_at};
@@ -13,7 +13,7 @@ ghost use Rattle.sql_reader.specs.Answers.{rest_of};
 use crate::ahead::Ahead;
 use sql_token::Sign;
 
-// What comes behind a column.
+// The rest after a column.
 #[tactic(auto, using(crate::proofs::Skips::col_none, crate::proofs::Skips::col_plain, crate::proofs::Skips::col_of_table))]
 fn skip_col<'a>(ahead: &Ahead<'a>) -> Option<Ahead<'a>>
     ensures { rest_of (col_at ahead.now) ≡ result }
@@ -25,7 +25,7 @@ fn skip_col<'a>(ahead: &Ahead<'a>) -> Option<Ahead<'a>>
     }
 }
 
-/// What comes behind an expression with brackets below so many levels. Does not allocate.
+/// The rest after an expression with at most the given number of levels of nesting. Does not allocate.
 #[cycle(skip)]
 #[tactic(auto, using(crate::proofs::Steps::expr_level, crate::proofs::Steps::expr_none))]
 pub(crate) fn skip_expr<'a>(ahead: &Ahead<'a>, levels: u32) -> Option<Ahead<'a>>
@@ -37,7 +37,7 @@ pub(crate) fn skip_expr<'a>(ahead: &Ahead<'a>, levels: u32) -> Option<Ahead<'a>>
     skip_sum(ahead, levels - 1)
 }
 
-// What comes behind a sum of products.
+// The rest after a sum of products.
 #[cycle(skip)]
 #[tactic(auto, using(crate::proofs::Skips::sum_none, crate::proofs::Skips::sum_some))]
 fn skip_sum<'a>(ahead: &Ahead<'a>, inner: u32) -> Option<Ahead<'a>>
@@ -47,7 +47,7 @@ fn skip_sum<'a>(ahead: &Ahead<'a>, inner: u32) -> Option<Ahead<'a>>
     skip_prods(&rest, inner)
 }
 
-// What comes behind the further products of a sum.
+// The rest after the later products of a sum.
 #[cycle(skip)]
 fn skip_prods<'a>(ahead: &Ahead<'a>, inner: u32) -> Option<Ahead<'a>>
     ensures { rest_of (each adds_at (signed_with (expr_at inner)) ahead.now) ≡ result }
@@ -64,7 +64,7 @@ fn skip_prods<'a>(ahead: &Ahead<'a>, inner: u32) -> Option<Ahead<'a>>
     Some(rest)
 }
 
-// What comes behind a product of factors.
+// The rest after a product of factors.
 #[cycle(skip)]
 #[tactic(auto, using(crate::proofs::Skips::prod_none))]
 fn skip_prod<'a>(ahead: &Ahead<'a>, inner: u32) -> Option<Ahead<'a>>
@@ -74,7 +74,7 @@ fn skip_prod<'a>(ahead: &Ahead<'a>, inner: u32) -> Option<Ahead<'a>>
     skip_factors(&rest, inner)
 }
 
-// What comes behind the further factors of a product.
+// The rest after the later factors of a product.
 #[cycle(skip)]
 fn skip_factors<'a>(ahead: &Ahead<'a>, inner: u32) -> Option<Ahead<'a>>
     ensures { rest_of
@@ -92,7 +92,7 @@ fn skip_factors<'a>(ahead: &Ahead<'a>, inner: u32) -> Option<Ahead<'a>>
     Some(rest)
 }
 
-// What comes behind an atom, and the minus before it.
+// The rest after an atom, and the minus before it.
 #[cycle(skip)]
 fn skip_factor<'a>(ahead: &Ahead<'a>, inner: u32) -> Option<Ahead<'a>>
     ensures { rest_of (factor_with (expr_at inner) ahead.now) ≡ result }
@@ -101,7 +101,7 @@ fn skip_factor<'a>(ahead: &Ahead<'a>, inner: u32) -> Option<Ahead<'a>>
     skip_atom(&rest, inner)
 }
 
-// What comes behind an int, a column, or an expression in brackets.
+// The rest after an integer, a column, or an expression in brackets.
 #[cycle(skip)]
 #[tactic(auto, using(crate::proofs::Skips::atom_open, crate::proofs::Skips::atom_int, crate::proofs::Skips::atom_col))]
 fn skip_atom<'a>(ahead: &Ahead<'a>, inner: u32) -> Option<Ahead<'a>>
@@ -116,7 +116,7 @@ fn skip_atom<'a>(ahead: &Ahead<'a>, inner: u32) -> Option<Ahead<'a>>
     }
 }
 
-// What comes behind the closing bracket of an expression.
+// The rest after the closing bracket of an expression.
 #[cycle(skip)]
 #[tactic(auto, using(crate::proofs::Skips::bracket_none))]
 fn skip_bracket<'a>(ahead: &Ahead<'a>, inner: u32) -> Option<Ahead<'a>>

@@ -19,11 +19,11 @@ use Rattle.sql_tree.specs.declared.query.ItemKind.TheVariants as what
 use Rattle.sql_tree.specs.declared.query.Query.{Query}
 use Rattle.sql_tree.specs.declared.query.Selection.TheVariants as selection
 
--- `SELECT ` and so many opening brackets
+-- `SELECT ` and the given number of opening brackets
 abbrev pub brackets : ℕ → List ℕ
 brackets n = codes "SELECT " ++ replicate n (byte "(")
 
--- the name at a place
+-- the name with the given span
 abbrev pub name : List ℕ → ℕ → ℕ → Name
 name text from to = record { text = text; span = record { from = from; to = to } }
 
@@ -39,11 +39,11 @@ unqualified n = atom.Col (record { table = None; name = n })
 abbrev pub alone : Atom → Expr
 alone a = roll-Expr (record { first = lone a; rest = [] })
 
--- a further product that is taken away
+-- a later product that is subtracted
 abbrev pub less : Atom → Signed
 less a = roll-Signed (record { minus = true; prod = lone a })
 
--- a query of one item from the table `Object` at a place
+-- a query of one item from the table `Object` at a position
 abbrev pub query_of_one : Expr → ℕ → Option Cond → Query
 query_of_one e at cond = record {
   items = selection.List (record { first = record { what = what.Plain e; alias = None }; rest = [] });
@@ -75,7 +75,7 @@ all_columns = record {
   limit = None;
 }
 
--- what is compared with a small int
+-- the comparison of a column with a small integer
 abbrev pub below : Name → ℤ → Pred
 below n z = pred.Compare (alone (unqualified n)) cmp.Less (alone (atom.Int z))
 

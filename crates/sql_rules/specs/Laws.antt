@@ -13,7 +13,7 @@ pub record Writes (text : List ℕ) (q : Query) : Type 0 where
   pub are : tokens_of text ≡ Ok tokens
   pub spell : Spells text tokens q
 
--- the tree that is read of a text is one that the text writes
+-- the tree that is read from a text is one that the text writes
 abbrev pub WhatIsReadIsWritten : Type 0
 WhatIsReadIsWritten = (text : List ℕ) (q : Query) → tree_of text ≡ Ok q → Writes text q
 
@@ -25,6 +25,6 @@ WhatIsWrittenIsRead = (text : List ℕ) (q : Query) → Writes text q → tree_o
 abbrev pub OneTree : Type 0
 OneTree = (text : List ℕ) (q r : Query) → Writes text q → Writes text r → q ≡ r
 
--- where the fault is `Syntax`, the text has tokens within the limits, and they spell nothing
+-- if the fault is `Syntax`, the text has tokens within the limits, and they spell nothing
 abbrev pub SyntaxIsNothing : Type 0
 SyntaxIsNothing = (text : List ℕ) → tree_of text ≡ Err fault.Syntax → (q : Query) → Writes text q → ⊥

@@ -1,4 +1,4 @@
--- When two keywords, or two signs, are the same.
+-- Equality of keywords, and of signs.
 use Rattle.std.specs.Prelude.{ℕ, Bool, nat_eq}
 use Rattle.sql_token.specs.declared.keyword.Keyword.{Keyword}
 use Rattle.sql_token.specs.declared.keyword.Keyword.TheVariants as keyword
@@ -6,7 +6,7 @@ use Rattle.sql_token.specs.declared.sign.Sign.{Sign}
 use Rattle.sql_token.specs.declared.sign.Sign.TheVariants as sign
 use Rattle.sql_rules.specs.Symbols.{Mark, OfKeyword, OfSign}
 
--- the number of a keyword in their list
+-- the number of a keyword in the list of keywords
 abbrev pub keyword_number : Keyword → ℕ
 keyword_number keyword.Select = 0
 keyword_number keyword.From = 1
@@ -35,7 +35,7 @@ keyword_number keyword.AreaBand = 23
 keyword_number keyword.AreaCap = 24
 keyword_number keyword.AreaBox = 25
 
--- the number of a sign in their list, which goes on behind the keywords
+-- the number of a sign in the list of signs, which continues that of the keywords
 abbrev pub sign_number : Sign → ℕ
 sign_number sign.AtMost = 26
 sign_number sign.AtLeast = 27
@@ -57,6 +57,6 @@ abbrev pub mark_number : Mark → ℕ
 mark_number (OfKeyword k) = keyword_number k
 mark_number (OfSign s) = sign_number s
 
--- the marks are the same
+-- the marks are equal
 abbrev pub same_mark : Mark → Mark → Bool
 same_mark a b = nat_eq (mark_number a) (mark_number b)

@@ -1,4 +1,4 @@
--- Texts of queries, and how they are printed.
+-- Texts of queries, and their printed texts.
 use Rattle.std.specs.Prelude.{ℕ, List, ◌++◌, Option, None, Some, Result, Ok, Err, codes}
 use Rattle.sql_tree.specs.declared.query.Query.{Query}
 use Rattle.sql_rules.specs.Printed.{printed}
@@ -10,7 +10,7 @@ abbrev pub and_printed : Result Query SqlFault → Option (List ℕ)
 and_printed (Ok q) = Some (printed q)
 and_printed (Err why) = None
 
--- how the tree of a text is printed
+-- the printed text of the tree of a text
 abbrev pub print_of : List ℕ → Option (List ℕ)
 print_of text = and_printed (tree_of text)
 
@@ -20,7 +20,7 @@ loosely_written =
     codes "select count ( * ) , avg(x)as m from Object as o where not(x != 1)and (x+001)*2 not between -2 and - 1 "
     ++ codes "or g is not null and x in(-0,-2)and Area_Box(1,-0) group by a , o . b order by a asc ;"
 
--- the same query as it is printed
+-- the printed text of the same query
 abbrev pub closely_written : List ℕ
 closely_written =
     codes "SELECT COUNT(*),AVG(x) AS m FROM Object o WHERE NOT (x<>1) AND (x+1)*2 NOT BETWEEN -2 AND -1 "
@@ -31,7 +31,7 @@ abbrev pub signs_written : List ℕ
 signs_written =
     codes "Select -x , ( x ) , x - -1,-(x)*-y as q From Object"
 
--- the same as it is printed
+-- the printed text of the same items
 abbrev pub signs_printed : List ℕ
 signs_printed =
     codes "SELECT -x,(x),x--1,-(x)*-y AS q FROM Object"

@@ -1,4 +1,4 @@
--- What spells a query.
+-- The symbols that spell a query.
 use Rattle.std.specs.Prelude.{◌≡◌, ⊤, ℕ, ◌≤◌, ℤ, Bool, true, false, List, [], ◌∷◌, ◌++◌, length, map}
 use Rattle.std.specs.Prelude.{Option, None, Some}
 use Rattle.sql_token.specs.declared.keyword.Keyword.{Keyword}
@@ -23,7 +23,7 @@ use Rattle.sql_rules.specs.Symbols.{Named, Number, of_keyword, of_sign, symbols}
 use Rattle.sql_rules.specs.Spelling.{Symbols, optional, led_by, bracketed, spell_col, spell_expr}
 use Rattle.sql_rules.specs.SpellingConds.{spell_cond}
 
--- The words that the tree does not tell: whether each is written.
+-- Which of the optional words that the tree does not determine are written.
 pub record FreeWords : Type 0 where
   pub first_as : Bool
   pub second_as : Bool
@@ -110,7 +110,7 @@ abbrev pub second_span : List Token → Span
 second_span (a ∷ b ∷ ts) = b.span
 second_span _ = record { from = 0; to = 0 }
 
--- a star stands where the second token does
+-- a star has the span of the second token
 abbrev pub StarStands : List Token → Selection → Type 0
 StarStands ts (selection.Star span) = span ≡ second_span ts
 StarStands ts (selection.List l) = ⊤

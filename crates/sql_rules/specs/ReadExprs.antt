@@ -1,4 +1,4 @@
--- Reading expressions: one function for each rule of the grammar.
+-- Parsers of expressions: one function for each rule of the grammar.
 use Rattle.std.specs.Prelude.{ℕ, zero, suc, Bool, None, Some}
 use Rattle.sql_token.specs.declared.sign.Sign.TheVariants as sign
 use Rattle.sql_tree.specs.declared.cond.IntList.{IntList}
@@ -22,7 +22,7 @@ col_at ts =
     (λ _ vs. name_at vs >>= λ second rest. Got (record { table = Some first; name = second }) rest)
     (Got (record { table = None; name = first }) us)
 
--- what stands in a bracket, and its end; `inner` reads what stands in brackets
+-- an expression after its opening bracket, and the closing one; `inner` reads the expression
 unfoldable pub bracket_with : Reader Expr → Reader Atom
 bracket_with inner ts = inner ts >>= λ e us. mark_at (OfSign sign.Close) us >>= λ _ rest. Got (atom.Bracket e) rest
 
@@ -44,7 +44,7 @@ prod_with inner ts =
     each (mark_at (OfSign sign.Star)) (λ _. factor_with inner) us >>= λ fs rest.
     Got (roll-Prod (record { first = f; rest = fs })) rest
 
--- the product behind a plus or a minus
+-- a product after a plus or a minus
 unfoldable pub signed_with : Reader Expr → Bool → Reader Signed
 signed_with inner minus ts =
     prod_with inner ts >>= λ p rest. Got (roll-Signed (record { minus = minus; prod = p })) rest
@@ -56,7 +56,7 @@ sum_with inner ts =
     each adds_at (signed_with inner) us >>= λ ps rest.
     Got (roll-Expr (record { first = p; rest = ps })) rest
 
--- an expression with brackets below so many levels
+-- an expression with at most the given number of levels of nesting
 unfoldable pub expr_at : ℕ → Reader Expr
 expr_at zero ts = Stuck
 expr_at (suc n) ts = sum_with (expr_at n) ts

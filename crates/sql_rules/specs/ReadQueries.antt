@@ -1,4 +1,4 @@
--- Reading a query: one function for each rule of the grammar.
+-- Parsers of a query: one function for each rule of the grammar.
 use Rattle.std.specs.Prelude.{◌-◌, Bool, true, false, List, [], ◌∷◌, Option, None, Some, ℤ}
 use Rattle.sql_token.specs.declared.keyword.Keyword.{Keyword}
 use Rattle.sql_token.specs.declared.keyword.Keyword.TheVariants as keyword
@@ -27,13 +27,13 @@ unfoldable pub argument_at : (Expr → ItemKind) → Reader ItemKind
 argument_at make ts =
     expr_at LEVELS_MOST ts >>= λ e us. mark_at (OfSign sign.Close) us >>= λ _ rest. Got (make e) rest
 
--- what follows COUNT ( : * ) | expr )
+-- after COUNT ( : * ) | expr )
 unfoldable pub counted_at : Reader ItemKind
 counted_at ts =
     either (mark_at (OfSign sign.Star) ts) (λ _ us. mark_at (OfSign sign.Close) us >>= λ _ rest. Got what.Count rest)
     (argument_at what.CountOf ts)
 
--- a word, a bracket and what follows it; where the word doesn't stand there, the other
+-- the function's name, a bracket and what follows it; if the name does not begin there, the alternative
 abbrev pub call_at : Keyword → Reader ItemKind → Answer ItemKind → Reader ItemKind
 call_at word inner other ts =
     either (mark_at (OfKeyword word) ts) (λ _ us. mark_at (OfSign sign.Open) us >>= λ _ vs. inner vs) other
@@ -69,7 +69,7 @@ item_list_at ts =
     each (mark_at (OfSign sign.Comma)) (λ _. item_at) us >>= λ is rest.
     Got (selection.List (record { first = i; rest = is })) rest
 
--- items = * | item {, item}; a star would stand at `star`
+-- items = * | item {, item}; a star has the span `star`
 unfoldable pub items_at : Span → Reader Selection
 items_at star ts =
     either (mark_at (OfSign sign.Star) ts) (λ _ rest. Got (selection.Star star) rest) (item_list_at ts)

@@ -1,4 +1,4 @@
--- What spells an expression: one equation for each rule of the grammar.
+-- The symbols that spell an expression: one equation for each rule of the grammar.
 use Rattle.std.specs.Prelude.{List, [], ◌∷◌, ◌++◌, Bool, if◌then◌else◌, Option, None, Some, true}
 use Rattle.std.specs.List.{flat_map}
 use Rattle.text_rules.specs.Readings.{joined}
@@ -18,11 +18,11 @@ use Rattle.sql_rules.specs.Symbols.{Symbol, Named, Number, Adds, of_sign}
 abbrev pub Symbols : Type 0
 Symbols = List Symbol
 
--- a symbol that may stand there
+-- the symbol if the test is true, and else none
 abbrev pub optional : Bool → Symbol → Symbols
 optional there p = if there then p ∷ [] else []
 
--- each part behind one and the same symbol: {p part}
+-- each part after the given symbol: {p part}
 abbrev pub led_by : Symbol → List Symbols → Symbols
 led_by p = flat_map (λ part. p ∷ part)
 
@@ -61,22 +61,22 @@ at_signed s = Adds s.minus ∷ s.prod
 abbrev pub at_expr : Expr-F Symbols Symbols Symbols Symbols Symbols → Symbols
 at_expr e = e.first ++ joined e.rest
 
--- what spells an atom
+-- the symbols of an atom
 abbrev pub spell_atom : Atom → Symbols
 spell_atom = fold-Atom Symbols Symbols Symbols Symbols Symbols at_atom at_expr at_factor at_prod at_signed
 
--- what spells an expression
+-- the symbols of an expression
 abbrev pub spell_expr : Expr → Symbols
 spell_expr = fold-Expr Symbols Symbols Symbols Symbols Symbols at_atom at_expr at_factor at_prod at_signed
 
--- what spells a factor
+-- the symbols of a factor
 abbrev pub spell_factor : Factor → Symbols
 spell_factor = fold-Factor Symbols Symbols Symbols Symbols Symbols at_atom at_expr at_factor at_prod at_signed
 
--- what spells a product
+-- the symbols of a product
 abbrev pub spell_prod : Prod → Symbols
 spell_prod = fold-Prod Symbols Symbols Symbols Symbols Symbols at_atom at_expr at_factor at_prod at_signed
 
--- what spells a further product, with its sign
+-- the symbols of a later product of a sum, with its sign
 abbrev pub spell_signed : Signed → Symbols
 spell_signed = fold-Signed Symbols Symbols Symbols Symbols Symbols at_atom at_expr at_factor at_prod at_signed

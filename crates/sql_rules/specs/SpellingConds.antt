@@ -1,4 +1,4 @@
--- What spells a condition: one equation for each rule of the grammar.
+-- The symbols that spell a condition: one equation for each rule of the grammar.
 use Rattle.std.specs.Prelude.{[], ◌∷◌, ◌++◌, Bool, if◌then◌else◌, map, true}
 use Rattle.sql_token.specs.declared.keyword.Keyword.TheVariants as keyword
 use Rattle.sql_token.specs.declared.sign.Sign.TheVariants as sign
@@ -27,7 +27,7 @@ spell_ints l = bracketed (spell_int l.first ++ led_by (of_sign sign.Comma) (map 
 abbrev pub chord_op : Bool → Cmp
 chord_op strict = if strict then cmp.Less else cmp.AtMost
 
--- pred, its seven forms
+-- pred, in its seven kinds
 abbrev pub at_pred : Pred-F Symbols Symbols Symbols Symbols → Symbols
 at_pred (Pred-F.Bracket c) = bracketed c
 at_pred (Pred-F.Compare left op right) = spell_expr left ++ (Compares op ∷ spell_expr right)
@@ -56,18 +56,18 @@ at_conj c = c.first ++ led_by (of_keyword keyword.And) c.rest
 abbrev pub at_cond : Cond-F Symbols Symbols Symbols Symbols → Symbols
 at_cond c = c.first ++ led_by (of_keyword keyword.Or) c.rest
 
--- what spells a condition
+-- the symbols of a condition
 abbrev pub spell_cond : Cond → Symbols
 spell_cond = fold-Cond Symbols Symbols Symbols Symbols at_pred at_cond at_conj at_neg
 
--- what spells a conjunction
+-- the symbols of a conjunction
 abbrev pub spell_conj : Conj → Symbols
 spell_conj = fold-Conj Symbols Symbols Symbols Symbols at_pred at_cond at_conj at_neg
 
--- what spells a predicate, with the NOT before it
+-- the symbols of a predicate, with the NOT before it
 abbrev pub spell_neg : Neg → Symbols
 spell_neg = fold-Neg Symbols Symbols Symbols Symbols at_pred at_cond at_conj at_neg
 
--- what spells a predicate
+-- the symbols of a predicate
 abbrev pub spell_pred : Pred → Symbols
 spell_pred = fold-Pred Symbols Symbols Symbols Symbols at_pred at_cond at_conj at_neg

@@ -1,5 +1,5 @@
--- A symbol of the grammar is a token as the grammar sees it: a name with its text and its span, an area word with its
--- span, any other token without its place.
+-- The symbols of the grammar. A symbol is a token as the grammar sees it: a name with its text and its span, the name
+-- of an area function with its span, any other token without its span.
 use Rattle.std.specs.Prelude.{ℕ, ℤ, Bool, true, false, List, map, slice_range}
 use Rattle.sql_token.specs.declared.keyword.Keyword.{Keyword}
 use Rattle.sql_token.specs.declared.keyword.Keyword.TheVariants as keyword
@@ -15,12 +15,12 @@ use Rattle.sql_tree.specs.declared.cond.Cmp.{Cmp}
 use Rattle.sql_tree.specs.declared.cond.Cmp.TheVariants as cmp
 use Rattle.sql_tree.specs.declared.name.Name.{Name}
 
--- A token that is always the same: a keyword or a sign.
+-- A token with a fixed text: a keyword or a sign.
 pub data Mark : Type 0 where
   OfKeyword : Keyword → Mark
   OfSign : Sign → Mark
 
--- A token as the grammar sees it. `Adds` is a plus, or a minus where it is true.
+-- A token as the grammar sees it. `Adds` is a minus if it is true, and else a plus.
 pub data Symbol : Type 0 where
   Named : Name → Symbol
   Number : ℤ → Symbol
@@ -37,7 +37,7 @@ of_keyword k = Fixed (OfKeyword k)
 abbrev pub of_sign : Sign → Symbol
 of_sign s = Fixed (OfSign s)
 
--- the symbol of a keyword: an area word keeps its place
+-- the symbol of a keyword: that of an area function keeps its span
 abbrev pub keyword_symbol : Keyword → Span → Symbol
 keyword_symbol keyword.AreaBand span = AreaName area.Band span
 keyword_symbol keyword.AreaCap span = AreaName area.Cap span
@@ -56,11 +56,11 @@ sign_symbol sign.More = Compares cmp.More
 sign_symbol sign.AtLeast = Compares cmp.AtLeast
 sign_symbol s = of_sign s
 
--- the name that the bytes of a span are
+-- the name spelled by the bytes of a span
 abbrev pub name_of : List ℕ → Span → Name
 name_of text span = record { text = slice_range text span.from span.to; span = span }
 
--- the symbol of a token of that kind and span
+-- the symbol of a token of the given kind and span
 abbrev pub kind_symbol : List ℕ → TokenKind → Span → Symbol
 kind_symbol text (kind.Keyword k) span = keyword_symbol k span
 kind_symbol text kind.Name span = Named (name_of text span)

@@ -18,7 +18,7 @@ use Rattle.sql_rules.specs.ReadQueries.{items_at, table_at, second_at, where_at,
 use Rattle.sql_rules.specs.declared.fault.SqlFault.{SqlFault}
 use Rattle.sql_rules.specs.declared.fault.SqlFault.TheVariants as fault
 
--- what stands before WHERE
+-- the part of a query before WHERE
 pub record Front : Type 0 where
   pub items : Selection
   pub first : TableRef
@@ -32,12 +32,12 @@ from_at items ts =
     second_at vs >>= λ second rest.
     Got (record { items = items; first = first; second = second }) rest
 
--- SELECT items FROM table [, table]; a star would stand at `star`
+-- SELECT items FROM table [, table]; a star has the span `star`
 unfoldable pub front_at : Span → Reader Front
 front_at star ts =
     mark_at (OfKeyword keyword.Select) ts >>= λ _ us. items_at star us >>= λ items vs. from_at items vs
 
--- the query of its parts
+-- the rest of a query from ORDER BY on, given its earlier parts
 abbrev pub query_with : Front → Option Cond → List Col → Reader Query
 query_with front cond group ts =
     order_at ts >>= λ order us.
@@ -52,7 +52,7 @@ query_with front cond group ts =
       limit = limit;
     }) rest
 
--- a query, up to its semicolon; a star would stand at `star`
+-- a query, up to its semicolon; a star has the span `star`
 unfoldable pub query_at : Span → Reader Query
 query_at star ts =
     front_at star ts >>= λ front us.
@@ -60,17 +60,17 @@ query_at star ts =
     group_at vs >>= λ group ws.
     query_with front cond group ws
 
--- the query, where nothing is left
+-- the query, if nothing is left
 abbrev pub nothing_left : Query → List Symbol → Option Query
 nothing_left q [] = Some q
 nothing_left q (p ∷ ps) = None
 
--- the query that was read, where nothing but a semicolon comes behind it
+-- the query that was read, if nothing but a semicolon follows it
 abbrev pub whole : Answer Query → Option Query
 whole (Got q rest) = nothing_left q (maybe_at (OfSign sign.Semicolon) rest).1
 whole Stuck = None
 
--- the query that all the tokens are
+-- the query that all the tokens spell
 unfoldable pub query_of : List ℕ → List Token → Option Query
 query_of text ts = whole (query_at (second_span ts) (symbols text ts))
 
@@ -81,12 +81,12 @@ fault_of (Literal place) = fault.Literal place
 fault_of TooMany = fault.TooMany
 fault_of (Depth place) = fault.Depth place
 
--- a query, or that there is none
+-- the query, or the fault `Syntax` if there is none
 abbrev pub or_syntax : Option Query → Result Query SqlFault
 or_syntax (Some q) = Ok q
 or_syntax None = Err fault.Syntax
 
--- what tokens are a query, and what fault they have else
+-- the query that the tokens spell, or the fault
 abbrev pub tree_from : List ℕ → Result (List Token) TokenFault → Result Query SqlFault
 tree_from text (Ok ts) = or_syntax (query_of text ts)
 tree_from text (Err why) = Err (fault_of why)

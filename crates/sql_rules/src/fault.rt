@@ -1,15 +1,15 @@
-//! What may be wrong with the text of a query.
+//! The faults of the text of a query.
 
 use thiserror::Error;
 
-/// The first fault of a text that is no query. A place is a count of bytes from 0. First comes the first bad byte or
-/// large int, by its place; where there is none, too many tokens; then depth; then the grammar.
+/// The first fault of a text that is no query. A place is an offset in bytes from 0. The order is: the first bad byte
+/// or large integer, by its place; if there is none, too many tokens; then depth; then the grammar.
 #[derive(Clone, Copy, Debug, PartialEq, Eq, Error)]
 pub enum SqlFault {
     /// A byte that begins no token and is no blank.
     #[error("bad byte")]
     BadByte { place: u32 },
-    /// The first digit of an int above 2^63 - 1.
+    /// The first digit of an integer above 2^63 - 1.
     #[error("number too large")]
     Literal { place: u32 },
     /// More than 2,048 tokens.

@@ -1,9 +1,9 @@
-//! The language: which text is which query, how a query is printed, and what a text may have wrong.
+//! The SQL language: its grammar, the printed text of a query, and the faults of a text.
 //!
-//! Callers see a text as its one tree or its first fault (`specs/Trees.antt`), which is the grammar of
-//! `specs/Spelling.antt`, `specs/SpellingConds.antt` and `specs/Queries.antt`: the lemma says so both ways. Below:
-//! `sql_token` for tokens, `sql_tree` for trees. Above: the reader, the binder and the printer of queries. No
-//! algorithm: definitions, worked examples and lemmas.
+//! Callers see a text as its one tree or its first fault (`specs/Trees.antt`). That agrees with the grammar of
+//! `specs/Spelling.antt`, `specs/SpellingConds.antt` and `specs/Queries.antt`, and a lemma states it in both
+//! directions. Below: `sql_token` for tokens, `sql_tree` for trees. Above: the reader, the binder and the printer of
+//! queries. This crate has no code that reads: definitions, worked examples and lemmas.
 #![tactic(auto)]
 
 pub mod examples;

@@ -2,7 +2,7 @@
 
 use sql_token::limits::BRACKETS_MOST;
 
-/// The most expressions that stand one in another: an outermost one, and one in each bracket that may be open.
+/// The most levels of nested expressions: the outermost one, and one in each bracket that may be open.
 pub const LEVELS_MOST: u32 = BRACKETS_MOST + 1;
 
 /// The most columns of GROUP BY.

@@ -1,4 +1,5 @@
-//! The single tokens that carry a value: a sign of a sum, a comparison, an area word, a name, an int.
+//! The single tokens that carry a value: a sign of a sum, a comparison operator, the name of an area function, a name,
+//! an integer.
 ghost use Rattle.std.specs.Prelude.{◌≡◌, ◌∷◌, List, slice_range, MatchOption};
 ghost use Rattle.sql_rules.specs.Symbols.{Adds, Compares, Symbol, AreaName};
 ghost use Rattle.sql_rules.specs.Symbols.{keyword_symbol, sign_symbol};
@@ -13,7 +14,7 @@ use sqlite_items::Items;
 use std::alloc::Global;
 use std::cmp::min;
 
-// The bytes of a span; one that ends behind the text is cut there, so that nothing rests on where it ends.
+// The bytes of a span. A span that ends after the text is cut there, so that nothing depends on where it ends.
 fn bytes_of(text: &[u8], span: Span) -> &[u8]
     ensures { result.now ≡ slice_range text.now span.from span.to }
 {
@@ -22,7 +23,7 @@ fn bytes_of(text: &[u8], span: Span) -> &[u8]
     &text[from..to]
 }
 
-// Whether a sign is a minus, of a plus or a minus.
+// For a plus or a minus, whether it is a minus.
 fn adds_of(sign: Sign) -> Option<bool>
     ensures { MatchOption result ((ts : List Symbol) → adds_at (sign_symbol sign ∷ ts) ≡ Stuck)
         (λ minus. sign_symbol sign ≡ Adds minus) }
@@ -34,7 +35,7 @@ fn adds_of(sign: Sign) -> Option<bool>
     }
 }
 
-// The comparison that a sign is.
+// The comparison operator that a sign is.
 fn cmp_of(sign: Sign) -> Option<Cmp>
     ensures { MatchOption result ((ts : List Symbol) → cmp_at (sign_symbol sign ∷ ts) ≡ Stuck)
         (λ cmp. sign_symbol sign ≡ Compares cmp) }
@@ -50,7 +51,7 @@ fn cmp_of(sign: Sign) -> Option<Cmp>
     }
 }
 
-// The area function whose word a keyword is.
+// The area function that a keyword names.
 fn area_of(keyword: Keyword) -> Option<AreaKind>
     ensures { MatchOption result
         ((span : Span) → (ts : List Symbol) → area_at (keyword_symbol keyword span ∷ ts) ≡ Stuck)
@@ -65,7 +66,7 @@ fn area_of(keyword: Keyword) -> Option<AreaKind>
 }
 
 impl<'a> Ahead<'a> {
-    /// The plus or minus at the front, and whether it is a minus.
+    /// For a plus or minus that is first, whether it is a minus.
     pub(crate) fn adds(&self) -> Option<(bool, Ahead<'a>)>
         ensures { Shows (adds_at self.now) result }
     {
@@ -90,7 +91,7 @@ impl<'a> Ahead<'a> {
         }
     }
 
-    /// Whether a minus stands at the front, and what comes behind it, or all where it doesn't.
+    /// Whether a minus is first, and the rest after it, or everything if it is not.
     pub(crate) fn maybe_minus(&self) -> (bool, Ahead<'a>)
         ensures { minus_at self.now ≡ result }
     {
@@ -100,7 +101,7 @@ impl<'a> Ahead<'a> {
         }
     }
 
-    /// The comparison at the front.
+    /// The comparison operator that is first.
     pub(crate) fn cmp(&self) -> Option<(Cmp, Ahead<'a>)>
         ensures { Shows (cmp_at self.now) result }
     {
@@ -125,7 +126,7 @@ impl<'a> Ahead<'a> {
         }
     }
 
-    /// The area word at the front, and its span.
+    /// The area function whose name is first, with the span of the name.
     pub(crate) fn area(&self) -> Option<((AreaKind, Span), Ahead<'a>)>
         ensures { MatchOption result (area_at self.now ≡ Stuck)
             (λ x. area_at self.now ≡ Got (record { kind = x.0.0; span = x.0.1 }) x.1) }
@@ -151,7 +152,7 @@ impl<'a> Ahead<'a> {
         }
     }
 
-    /// The name at the front, copied.
+    /// A copy of the name that is first.
     pub(crate) fn name(&self, alloc: Global) -> Result<(Name, Ahead<'a>), ReadStop>
         ensures { Gives (name_at self.now) result }
     {
@@ -176,7 +177,7 @@ impl<'a> Ahead<'a> {
         }
     }
 
-    /// What comes behind the name at the front, which isn't copied.
+    /// The rest after the name that is first, without copying the name.
     pub(crate) fn after_name(&self) -> Option<Ahead<'a>>
         ensures { rest_of (name_at self.now) ≡ result }
     {
@@ -195,7 +196,7 @@ impl<'a> Ahead<'a> {
         }
     }
 
-    /// The int at the front.
+    /// The integer that is first.
     pub(crate) fn number(&self) -> Option<(Int, Ahead<'a>)>
         ensures { Shows (number_at self.now) result }
     {
