@@ -1,12 +1,12 @@
--- What is printed of a query is read as that query.
+-- The printed text of a query is read as that query.
 use Rattle.std.specs.Prelude.{◌≡◌, ℕ, List, Ok}
 use Rattle.sql_tree.specs.Bare.{bare}
 use Rattle.sql_tree.specs.declared.query.Query.{Query}
 use Rattle.sql_rules.specs.Printed.{printed}
 use Rattle.sql_rules.specs.Trees.{tree_of}
 
--- where a query is read of a text, what is printed of it is read as the same query, but for places and the sign of a
--- zero in a list of ints
+-- if a query is read from a text, its printed text is read as the same query, up to spans and the sign of a zero in a
+-- list of integers
 abbrev pub APrintedQueryReadsBack : Type 0
 APrintedQueryReadsBack =
     (text : List ℕ) (q : Query) → tree_of text ≡ Ok q

@@ -1,4 +1,4 @@
--- How the queries of a script may end, given what holds of each, however its session goes.
+-- The ends that the queries of a script may have, given the facts about each that hold in every session.
 use Rattle.std.specs.Prelude.{ℕ, ◌+◌, Bool, true, false, not, ◌&&◌, ◌||◌, List, [], ◌∷◌, length, nat_eq, nat_le}
 use Rattle.std.specs.Prelude.{if◌then◌else◌}
 use Rattle.std.specs.List.{list_any, take_while}
@@ -9,7 +9,7 @@ use Rattle.session_script.specs.Scripts.{query_count}
 use Rattle.session_rules.specs.declared.end.EndKind.{EndKind}
 use Rattle.session_rules.specs.declared.end.EndKind.TheVariants.{Answered, Refused, Cancelled, Spent}
 
--- What holds of a query, however its session goes.
+-- The facts about a query that hold in every session.
 pub record Judged : Type 0 where
   -- it is refused for its grammar, its binding or its radius
   pub early : Bool
@@ -50,41 +50,40 @@ cancels k (step.Query n span) = false
 cancels k (step.Wait n) = false
 cancels k (step.Cancel n) = nat_eq n k
 
--- the steps behind that of query k
+-- the steps after that of query k
 abbrev pub behind_query : ℕ → List Step → List Step
 behind_query k [] = []
 behind_query k (s ∷ ss) = if asks k s then ss else behind_query k ss
 
--- a cancel of query k stands behind it with no wait for it between
+-- a cancel of query k is after it, with no wait for it between
 abbrev pub has_cancel : List Step → ℕ → Bool
 has_cancel steps k = list_any (cancels k) (take_while (λ s. not (waits_for k s)) (behind_query k steps))
 
--- a cancel of query k stands behind it with no wait for any query between
+-- a cancel of query k is after it, with no wait for any query between
 abbrev pub has_prompt_cancel : List Step → ℕ → Bool
 has_prompt_cancel steps k = list_any (cancels k) (take_while (λ s. not (is_wait s)) (behind_query k steps))
 
--- query k has to end cancelled: there are no workers and no more queries than run at once, so no chunk of it is scanned before its
--- cancel
+-- query k has to end cancelled: there are no workers and no more queries than run at once, so no chunk of it is scanned
+-- before its cancel
 abbrev pub must_be_cancelled : ℕ → List Step → ℕ → Judged → Bool
 must_be_cancelled workers steps k j =
     nat_eq workers 0 && nat_le (query_count steps) RUNNING_MOST && has_work j && has_prompt_cancel steps k
 
--- query k may end so: an early refusal is told always; a query is cancelled only by its own cancel, and spent only by
--- an allocation failure in its own work
+-- query k may have this end: an early refusal is always reported; a query is cancelled only by its own cancel, and
+-- spent only by an allocation failure in its own work
 abbrev pub may_end : ℕ → List Step → ℕ → Judged → EndKind → Bool
 may_end workers steps k j Answered = not (is_refused j) && not (must_be_cancelled workers steps k j)
 may_end workers steps k j Refused = is_refused j && not (must_be_cancelled workers steps k j)
 may_end workers steps k j Cancelled = has_work j && has_cancel steps k
 may_end workers steps k j Spent = has_work j && not (must_be_cancelled workers steps k j)
 
--- the queries from number k on may end so, one after the other
+-- the queries from number k on may have these ends, one by one
 abbrev pub may_end_from : ℕ → List Step → ℕ → List Judged → List EndKind → Bool
 may_end_from workers steps k [] [] = true
 may_end_from workers steps k (j ∷ js) (e ∷ es) = may_end workers steps k j e && may_end_from workers steps (k + 1) js es
 may_end_from workers steps k _ _ = false
 
--- the ends fit the script, with so many workers: there is one for each query, as there is what holds of it, and each
--- may end so
+-- the ends fit the script with the given number of workers: each query has its facts and one end, and may have that end
 abbrev pub fit : ℕ → List Step → List Judged → List EndKind → Bool
 fit workers steps judged ends =
     nat_eq (length judged) (query_count steps) && may_end_from workers steps 1 judged ends

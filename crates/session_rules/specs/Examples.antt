@@ -1,4 +1,4 @@
--- Scripts of worked examples, and what holds of their queries.
+-- Scripts of worked examples, and the facts about their queries.
 use Rattle.std.specs.Prelude.{ℕ, true, false, List, [], ◌∷◌, ◌++◌, map, replicate}
 use Rattle.std.specs.List.{range_with_len}
 use Rattle.session_script.specs.declared.step.Step.{Step}
@@ -23,7 +23,7 @@ too_large = record { early = false; total = true; idle = false }
 abbrev pub nowhere : Judged
 nowhere = record { early = false; total = false; idle = true }
 
--- the step of query k; where its line stands plays no part
+-- the step of query k; the position of its line is irrelevant
 abbrev pub query : ℕ → Step
 query k = step.Query k (record { from = 0; to = 0 })
 
@@ -31,7 +31,7 @@ query k = step.Query k (record { from = 0; to = 0 })
 abbrev pub cancel_second : List Step
 cancel_second = query 1 ∷ query 2 ∷ query 3 ∷ step.Cancel 2 ∷ step.Wait 1 ∷ []
 
--- the same with the wait before the cancel
+-- the same script with the wait before the cancel
 abbrev pub wait_first : List Step
 wait_first = query 1 ∷ query 2 ∷ query 3 ∷ step.Wait 1 ∷ step.Cancel 2 ∷ []
 
@@ -43,14 +43,14 @@ cancel_late = query 1 ∷ query 2 ∷ query 3 ∷ step.Wait 2 ∷ step.Cancel 2 
 abbrev pub three_plain : List Judged
 three_plain = plain ∷ plain ∷ plain ∷ []
 
--- so many queries, then a cancel of the second
+-- the given number of queries, then a cancel of the second
 abbrev pub cancel_second_of : ℕ → List Step
 cancel_second_of count = map query (range_with_len 1 count) ++ (step.Cancel 2 ∷ [])
 
--- so many plain queries
+-- the given number of plain queries
 abbrev pub all_plain : ℕ → List Judged
 all_plain count = replicate count plain
 
--- so many queries that end answered
+-- the given number of queries that end answered
 abbrev pub all_answered : ℕ → List EndKind
 all_answered count = replicate count Answered

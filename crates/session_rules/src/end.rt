@@ -1,4 +1,4 @@
-//! How a query ends.
+//! The ends of queries.
 
 ghost use Rattle.std.specs.Prelude.{◌≡◌};
 
@@ -13,11 +13,11 @@ pub enum EndKind {
     Refused,
     /// The script cancelled it in time.
     Cancelled,
-    /// Memory was wanting in its own work.
+    /// An allocation failed in its own work.
     Spent,
 }
 
-/// The ends of a script's queries, in their order.
+/// The ends of a script's queries, in the queries' order.
 #[derive(Drop)]
 pub struct Ends {
     ends: Vec<EndKind>,

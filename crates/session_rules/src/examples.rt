@@ -1,4 +1,4 @@
-//! Worked examples of ends that fit a script and of ends that don't, computed by the checker.
+//! Worked examples of ends that fit a script and of ends that do not, evaluated by the checker.
 
 ghost use Rattle.std.specs.Prelude.{◌≡◌, [], ◌∷◌, true, false};
 ghost use Rattle.session_rules.specs.Ends.{fit};
@@ -7,8 +7,8 @@ ghost use Rattle.session_rules.specs.Examples.{query, three_plain, too_large, wa
 ghost use Rattle.session_rules.specs.Examples.{all_answered, all_plain, cancel_second_of};
 ghost use Rattle.session_rules.specs.declared.end.EndKind.TheVariants.{Answered, Cancelled, Refused, Spent};
 
-/// With no workers a query whose cancel comes before any wait ends cancelled, neither answered nor spent; with workers
-/// the cancel may come too late.
+/// With no workers, a query whose cancel comes before any wait ends cancelled, neither answered nor out of memory. With
+/// workers the cancel may come too late.
 pub fn cancelled_in_time()
     ensures alone { fit 0 cancel_second three_plain (Answered ∷ Cancelled ∷ Answered ∷ []) ≡ true }
     ensures answered { fit 0 cancel_second three_plain
@@ -20,21 +20,22 @@ pub fn cancelled_in_time()
         (Cancelled ∷ Answered ∷ Answered ∷ []) ≡ false }
 {}
 
-/// At most 64 queries run at once: with 65 it is open whether a cancel comes in time, with 64 it is not.
+/// At most 64 queries run at once. With 65 it is open whether a cancel comes in time, with 64 it is not.
 pub fn more_queries_than_can_run()
     ensures open { fit 0 (cancel_second_of 65) (all_plain 65) (all_answered 65) ≡ true }
     ensures pinned { fit 0 (cancel_second_of 64) (all_plain 64) (all_answered 64) ≡ false }
 {}
 
-/// A wait for another query leaves it open whether a cancel comes in time, and one for the query itself ends that.
+/// After a wait for another query it is open whether a cancel comes in time. After a wait for the query itself no
+/// cancel does.
 pub fn cancelled_behind_a_wait()
     ensures open { fit 0 wait_first three_plain (Answered ∷ Answered ∷ Answered ∷ []) ≡ true }
     ensures cancelled { fit 0 wait_first three_plain (Answered ∷ Cancelled ∷ Answered ∷ []) ≡ true }
     ensures late { fit 0 cancel_late three_plain (Answered ∷ Cancelled ∷ Answered ∷ []) ≡ false }
 {}
 
-/// A fault of grammar is told though the query is cancelled; a total out of range may be cancelled first, and has to be
-/// where the cancel comes in time; a query with no chunk is never cancelled.
+/// A fault of grammar is reported even if the query is cancelled. A query with a total out of range may be cancelled
+/// first, and has to be if the cancel comes in time. A query with no chunk is never cancelled.
 pub fn refused_and_cancelled()
     ensures faulty { fit 0 cancel_second (plain ∷ faulty ∷ plain ∷ [])
         (Answered ∷ Refused ∷ Answered ∷ []) ≡ true }
@@ -48,7 +49,8 @@ pub fn refused_and_cancelled()
         (Answered ∷ Answered ∷ Answered ∷ []) ≡ true }
 {}
 
-/// There is one end for each query; a query without a refusal isn't refused, and one without work isn't spent.
+/// There is one end for each query. A query without a refusal is not refused, and one without work is not out of
+/// memory.
 pub fn ends_that_do_not_fit()
     ensures few { fit 4 (query 1 ∷ []) (plain ∷ []) [] ≡ false }
     ensures unknown { fit 4 (query 1 ∷ []) [] [] ≡ false }

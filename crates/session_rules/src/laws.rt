@@ -2,13 +2,13 @@
 
 ghost use Rattle.session_rules.specs.Laws.{CancelStands, FitsByEach, PromptIsASplit};
 
-/// Whether ends fit is told from each query by itself.
+/// Ends fit if each of them fits its query.
 pub fn ends_fit_by_each()
     ensures { FitsByEach }
 {}
 
-/// A cancel that stands behind its query, with no wait for it between, comes in time; a prompt one parts the steps, with no
-/// wait at all between.
+/// A cancel after its query with no wait for that query between comes in time. A prompt cancel splits the steps, with
+/// no wait at all between the query and the cancel.
 pub fn cancels_part_the_steps()
     ensures stands { CancelStands }
     ensures prompt { PromptIsASplit }

@@ -4,7 +4,7 @@ use Rattle.sql_token.specs.declared.token.Span.{Span}
 use Rattle.session_script.specs.declared.step.Step.{Step}
 use Rattle.session_script.specs.declared.step.Step.TheVariants as step
 
--- the bytes between two places
+-- the bytes between two positions
 abbrev pub span : (from to : ℕ) → Span
 span from to = record { from = from; to = to }
 
@@ -14,7 +14,7 @@ five_lines =
     codes "SELECT objectId FROM Object\nSELECT COUNT(*) FROM Object\nSELECT MAX(flux) FROM Object\n"
     ++ codes "cancel 2\nwait 1\n"
 
--- their steps
+-- the steps of the five lines
 abbrev pub five_steps : List Step
 five_steps =
     step.Query 1 (span 0 27)

@@ -16,32 +16,32 @@ use Rattle.session_script.specs.declared.fault.ScriptFault.{ScriptFault}
 use Rattle.session_script.specs.declared.fault.ScriptFault.TheVariants as fault
 use Rattle.session_script.specs.Places.{placed_lines}
 
--- the number that is all that stands behind a word at the front, in few enough digits
+-- the number that is the whole rest of the text after a word at its start, if it has few enough digits
 abbrev pub number_behind : (word text : List ℕ) → Option ℕ
 number_behind word text =
     if starts_with nat_eq text word then natural QUERY_DIGITS_MOST (drop (length word) text) else None
 
--- of the other lines, one that begins with `wait ` and a number is a wait, and any other is a query
+-- of the other lines, one that is `wait ` and a number is a wait, and any other is a query
 abbrev pub wait_or_query : Option ℕ → Saying
 wait_or_query (Some n) = Waits n
 wait_or_query None = Asks
 
--- a line that begins with `cancel ` and a number is a cancel
+-- a line that is `cancel ` and a number is a cancel
 abbrev pub cancel_or_else : Option ℕ → Option ℕ → Saying
 cancel_or_else (Some n) wait = Cancels n
 cancel_or_else None wait = wait_or_query wait
 
--- what a line says
+-- the meaning of a line by itself
 abbrev pub said_by : List ℕ → Saying
 said_by text =
     if is_note text then Note
     else cancel_or_else (number_behind (codes "cancel ") text) (number_behind (codes "wait ") text)
 
--- a number is that of one of so many queries
+-- a number is that of one of the given number of queries
 abbrev pub is_query : ℕ → ℕ → Bool
 is_query queries n = nat_le 1 n && nat_le n queries
 
--- the step that names a query by its number, on a line behind so many queries
+-- the step that names a query by its number, on a line after the given number of queries
 abbrev pub naming : ℕ → Line → ℕ → Step → Result (Option Step) ScriptFault
 naming queries line n s =
     if is_query queries n then Ok (Some s) else Err (fault.UnknownQuery line.number n)
@@ -50,39 +50,40 @@ naming queries line n s =
 abbrev pub span_at : ℕ → Line → Span
 span_at place line = record { from = place; to = place + length line.text }
 
--- the step of the next query behind so many
+-- the step of the next query after the given number of queries
 abbrev pub asking : ℕ → ℕ → Line → Result (Option Step) ScriptFault
 asking queries place line =
     if nat_lt queries QUERIES_MOST then Ok (Some (step.Query (queries + 1) (span_at place line)))
     else Err (fault.TooManyQueries line.number)
 
--- the step of what a line says, and none of a note
+-- the step of a line with the given meaning, and none for a comment line
 abbrev pub step_said : ℕ → ℕ → Line → Saying → Result (Option Step) ScriptFault
 step_said queries place line Note = Ok None
 step_said queries place line (Cancels n) = naming queries line n (step.Cancel n)
 step_said queries place line (Waits n) = naming queries line n (step.Wait n)
 step_said queries place line Asks = asking queries place line
 
--- the step of a line that begins at a place, behind lines with so many queries
+-- the step of a line that begins at a position, after lines with the given number of queries
 abbrev pub step_of : ℕ → ℕ → Line → Result (Option Step) ScriptFault
 step_of queries place line =
     if nat_lt QUERY_TEXT_MOST (length line.text) then Err (fault.LineTooLong line.number)
     else step_said queries place line (said_by line.text)
 
--- how many queries there are up to a step
+-- the number of queries up to and with a step
 abbrev pub queries_with : ℕ → Step → ℕ
 queries_with queries (step.Query n span) = queries + 1
 queries_with queries (step.Wait n) = queries
 queries_with queries (step.Cancel n) = queries
 
--- the steps from a line on, of its own and of what follows, which is told how many queries there are before it
+-- the steps from a line on: its own, followed by those of a function for the rest, whose argument is how many queries
+-- precede it
 abbrev pub and_behind : ℕ → Result (Option Step) ScriptFault → (ℕ → Result (List Step) ScriptFault)
     → Result (List Step) ScriptFault
 and_behind queries (Ok None) more = more queries
 and_behind queries (Ok (Some s)) more = put_before s (more (queries_with queries s))
 and_behind queries (Err why) more = Err why
 
--- the steps of these lines behind so many queries, or the first fault
+-- the steps of these lines after the given number of queries, or the first fault
 unfoldable pub steps_from : ℕ → List (ℕ × Line) → Result (List Step) ScriptFault
 steps_from queries [] = Ok []
 steps_from queries (l ∷ ls) = and_behind queries (step_of queries l.0 l.1) (λ q. steps_from q ls)
@@ -98,11 +99,11 @@ query_spans (step.Query n span ∷ ss) = span ∷ query_spans ss
 query_spans (step.Wait n ∷ ss) = query_spans ss
 query_spans (step.Cancel n ∷ ss) = query_spans ss
 
--- how many of the steps are queries
+-- the number of queries among the steps
 abbrev pub query_count : List Step → ℕ
 query_count ss = length (query_spans ss)
 
--- the part of a text that a span is
+-- the part of a text in a span
 abbrev pub part_of : List ℕ → Option Span → List ℕ
 part_of text None = []
 part_of text (Some span) = slice_range text span.from span.to

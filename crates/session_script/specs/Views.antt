@@ -1,4 +1,4 @@
--- A script as callers see it.
+-- A script, as callers see it.
 use Rattle.std.specs.Prelude.{ℕ, ◌+◌, ◌≤◌, List, Some, map}
 use Rattle.sql_token.specs.declared.token.Span.{Span}
 use Rattle.text_rules.specs.declared.limits.TheConstants.{QUERY_TEXT_MOST}
@@ -14,7 +14,7 @@ pub record ScriptView : Type 0 where
 abbrev pub query_lines : ScriptView → List (List ℕ)
 query_lines s = map (λ span. part_of s.text (Some span)) (query_spans s.steps)
 
--- The span is a line, not above the longest one, of a text of so many bytes.
+-- The span is a line of a text of the given number of bytes, and no longer than the longest line.
 pub record IsLine (bytes : ℕ) (span : Span) : Type 0 where
   pub ordered : span.from ≤ span.to
   pub within : span.to ≤ bytes

@@ -1,4 +1,4 @@
-//! Worked examples of the definitions, as functions that do nothing: each ensures what the checker computes.
+//! Worked examples of the definitions, stated as functions that do nothing: each ensures what the checker computes.
 ghost use Rattle.std.specs.Prelude.{◌≡◌, ◌++◌, [], ◌∷◌, codes, Ok, Err};
 ghost use Rattle.session_script.specs.Examples.{five_lines, five_steps, span};
 ghost use Rattle.session_script.specs.Scripts.{script_of};
@@ -10,12 +10,12 @@ pub fn steps_of_five_lines()
     ensures { script_of five_lines ≡ Ok five_steps }
 {}
 
-/// Behind three queries there is no query 9, and lines are counted from 1.
+/// After three queries there is no query 9, and lines are counted from 1.
 pub fn unknown_query_on_the_sixth_line()
     ensures { script_of (five_lines ++ codes "cancel 9\n") ≡ Err (UnknownQuery 6 9) }
 {}
 
-/// Notes are no steps, and are counted as lines; a carriage return before a line feed is no part of a query.
+/// Comment lines are not steps, but they count as lines. A carriage return before a line feed is not part of a query.
 pub fn notes_are_counted_as_lines()
     ensures steps { script_of (codes "# a note\n \nq\r\nwait 1")
         ≡ Ok (Query 1 (span 11 12) ∷ Wait 1 ∷ []) }
@@ -33,7 +33,7 @@ pub fn other_lines_are_queries()
         ≡ Ok (Query 1 (span 0 1) ∷ Cancel 1 ∷ []) }
 {}
 
-/// A query has to stand on an earlier line.
+/// A wait may name only a query on an earlier line.
 pub fn a_later_query_is_unknown()
     ensures { script_of (codes "wait 1\nq") ≡ Err (UnknownQuery 1 1) }
 {}

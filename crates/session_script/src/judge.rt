@@ -1,4 +1,4 @@
-//! The step that a line is, behind the lines before it.
+//! The step of a line, given the lines before it.
 ghost use Rattle.std.specs.Prelude.{◌≡◌, ◌≤◌, ◌+◌, length};
 ghost use Rattle.text_rules.specs.declared.limits.TheConstants.{TEXT_MOST};
 ghost use Rattle.sky_text.specs.LineItems.{line_of};
@@ -11,7 +11,7 @@ use sky_text::Line;
 use sql_token::Span;
 use text_rules::limits::{QUERIES_MOST, QUERY_TEXT_MOST};
 
-// The step that names a query by its number.
+// The step that names a query by its number, or a fault if there is no such query yet.
 fn naming(
     queries: u32,
     line: &Line<'_>,
@@ -30,7 +30,7 @@ fn naming(
     }
 }
 
-// Where the line stands in a script, if it begins at the place.
+// The span of the line in a script, if it begins at the position.
 fn span_at(place: usize, line: &Line<'_>) -> Span
     requires { place + length line.now.text.now ≤ TEXT_MOST }
     ensures { result ≡ span_at place (line_of line.now) }
@@ -56,7 +56,8 @@ fn asking(queries: u32, place: usize, line: &Line<'_>) -> Result<Option<Step>, S
     }
 }
 
-/// The step of a line that begins at a place, behind lines with so many queries; `None` of a note. Does not allocate.
+/// The step of a line that begins at a position, after lines with the given number of queries. It is `None` for a
+/// comment line. Does not allocate.
 pub(crate) fn step_of(
     queries: u32,
     place: usize,

@@ -1,4 +1,4 @@
-//! What the definition of scripts comes to, as functions that do nothing: each ensures a lemma.
+//! Lemmas about the definition of scripts, stated as functions that do nothing: a caller obtains what they ensure.
 ghost use Rattle.std.specs.Prelude.{◌≡◌, ℕ, List, All, Ok, Some, slice_get, slice_range};
 ghost use Rattle.sql_token.specs.declared.token.Span.{Span};
 ghost use Rattle.session_script.specs.declared.step.Step.{Step};
@@ -21,13 +21,13 @@ pub fn a_query_has_its_own_text()
         → query_text ss text n ≡ slice_range text span.from span.to }
 {}
 
-/// The bytes of a line stand at its place.
+/// The bytes of a line are in the text at its position.
 #[tactic(auto, using(crate::proofs::Standing::lines_stand))]
 pub fn lines_stand_at_their_places()
     ensures { (text : List ℕ) → All (StandsAt text) (placed_lines text) }
 {}
 
-/// The line of a query, counted from 0, is the text of the query of the next number.
+/// The lines of the queries, counted from 0, are the texts of the queries, counted from 1.
 #[tactic(auto, using(crate::proofs::Numbered::lines_are_texts))]
 pub fn query_lines_are_query_texts()
     ensures { LinesAreTexts }

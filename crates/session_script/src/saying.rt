@@ -1,4 +1,4 @@
-//! What a line of a script says.
+//! The meaning of a line of a script by itself.
 ghost use Rattle.std.specs.Prelude.{◌≡◌};
 ghost use Rattle.text_rules.specs.Numbers.{natural};
 ghost use Rattle.session_script.specs.declared.limits.TheConstants.{QUERY_DIGITS_MOST};
@@ -7,20 +7,20 @@ ghost use Rattle.session_script.specs.Scripts.{number_behind, said_by};
 use crate::limits::QUERY_DIGITS_MOST;
 use sky_text::{is_note, read_natural};
 
-/// What a line says, whatever stands before it.
+/// What a line asks for by itself, whatever precedes it.
 #[derive(Clone, Copy, Debug, PartialEq, Eq)]
 pub(crate) enum Saying {
-    /// Nothing.
+    /// Nothing: it is a comment line.
     Note,
     /// `cancel N`
     Cancels(u32),
     /// `wait N`
     Waits(u32),
-    /// Any other line is a query.
+    /// The query that the line is: any line that is none of the others.
     Asks,
 }
 
-// The number of a query, in few enough digits.
+// The number of a query, if it has few enough digits.
 #[tactic(auto, using(crate::proofs::NineDigits::natural_small))]
 fn query_number(text: &[u8]) -> Option<u32>
     ensures { result ≡ natural QUERY_DIGITS_MOST text.now }
@@ -29,7 +29,7 @@ fn query_number(text: &[u8]) -> Option<u32>
     Some(n as u32)
 }
 
-// The number that is all that stands behind a word at the front.
+// The number that is the whole rest of the text after a word at its start.
 fn number_behind(word: &[u8], text: &[u8]) -> Option<u32>
     ensures { result ≡ number_behind word.now text.now }
 {
@@ -40,7 +40,7 @@ fn number_behind(word: &[u8], text: &[u8]) -> Option<u32>
     }
 }
 
-/// What a line says. Does not allocate.
+/// The meaning of a line by itself. Does not allocate.
 pub(crate) fn said_by(text: &[u8]) -> Saying
     ensures { result ≡ said_by text.now }
 {

@@ -16,7 +16,7 @@ use sql_token::Span;
 use std::alloc::Global;
 use std::marker::Model;
 
-/// A script that was read, over the text that it was read from.
+/// A script that was read, borrowing the text that it was read from.
 #[derive(Drop)]
 pub struct Script<'a> {
     text: &'a [u8],
@@ -41,7 +41,7 @@ impl<'a> Model for Script<'a> {
         × NumberedFrom 0 s.steps.items };
 }
 
-// The place behind the end of a line whose text ends at a place.
+// The position after the end of a line whose text ends at a position.
 fn behind_end(text: &[u8], end: usize) -> usize
     requires { end ≤ TEXT_MOST }
     ensures { result ≡ behind_end text.now end }
@@ -52,7 +52,7 @@ fn behind_end(text: &[u8], end: usize) -> usize
     }
 }
 
-// Puts the span of a query behind the others; another step has none.
+// Appends the span of a query. Another step has none.
 fn put_span(queries: &mut Vec<Span>, step: Step)
     requires { vec_len queries.old < vec_capacity queries.old }
     ensures { queries.new.items ≡ queries.old.items ++ query_spans (step ∷ []) }
@@ -62,7 +62,7 @@ fn put_span(queries: &mut Vec<Span>, step: Step)
     }
 }
 
-// Puts a step behind the others, and its span behind those of the queries.
+// Appends a step, and its span if it is a query. After an error both lists are unchanged.
 fn put(steps: &mut Vec<Step>, queries: &mut Vec<Span>, step: Step) -> Result<(), Stop<ScriptFault>>
     ensures steps { OnOk result (steps.new.items ≡ steps.old.items ++ step ∷ []) }
     ensures queries { OnOk result
@@ -90,7 +90,7 @@ impl<'a> Script<'a> {
         }
     }
 
-    // Puts the step of a line that begins at a place behind the others.
+    // Appends the step of a line that begins at a position.
     fn add(&mut self, place: usize, line: &Line<'_>) -> Result<(), Stop<ScriptFault>>
         requires within { place + length line.now.text.now ≤ length self.old.text }
         requires fits { length self.old.text ≤ TEXT_MOST }
@@ -104,8 +104,8 @@ impl<'a> Script<'a> {
         }
     }
 
-    /// The steps of a text of at most 2^29 bytes, or its first fault. An allocation failure may come in place of any
-    /// answer.
+    /// The steps of a text of at most 2^29 bytes, or its first fault. Allocates memory. An allocation failure can take
+    /// the place of any result.
     pub fn read(alloc: Global, text: &'a [u8]) -> Result<Script<'a>, Stop<ScriptFault>>
         requires { length text.now ≤ TEXT_MOST }
         ensures text { IfOk result (λ script. script.text ≡ text.now) }
@@ -121,7 +121,7 @@ impl<'a> Script<'a> {
         Ok(script)
     }
 
-    /// The steps, in the order of their lines: queries are numbered from 1, and a wait or a cancel names an earlier
+    /// The steps, in the order of their lines. Queries are numbered from 1, and a wait or a cancel names an earlier
     /// one. Does not allocate.
     pub fn steps(&self) -> &[Step]
         ensures steps { result.now ≡ self.now.steps }
@@ -130,7 +130,7 @@ impl<'a> Script<'a> {
         self.steps.as_slice()
     }
 
-    /// How many queries the script has. Does not allocate.
+    /// The number of queries of the script. Does not allocate.
     pub fn queries(&self) -> u32
         ensures count { result ≡ query_count self.now.steps }
         ensures few { result ≤ QUERIES_MOST }

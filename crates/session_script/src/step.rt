@@ -2,7 +2,7 @@
 
 use sql_token::Span;
 
-/// What a line of a script asks for.
+/// The action of a line of a script.
 #[derive(Clone, Copy, Debug, PartialEq, Eq)]
 pub enum Step {
     /// Starts the query of the line. Queries are numbered from 1, and the span is the line's, without its end.

@@ -1,4 +1,4 @@
--- Small bound trees, made of their parts: for worked examples.
+-- Small bound trees, made of their parts, for worked examples.
 use Rattle.std.specs.Prelude.{Bool, false, List, [], ◌∷◌}
 use Rattle.sql_bound.specs.declared.expr.BoundAtom.{BoundAtom}
 use Rattle.sql_bound.specs.declared.expr.BoundExpr.{BoundExpr, roll-BoundExpr}
@@ -11,7 +11,7 @@ use Rattle.sql_bound.specs.declared.cond.BoundCond.{BoundCond, roll-BoundCond}
 use Rattle.sql_bound.specs.declared.cond.BoundPred.{BoundPred}
 use Rattle.sql_bound.specs.declared.cond.BoundPred.TheVariants as pred
 
--- an atom, or with `minus` what it takes from 0, as a factor
+-- an atom as a factor, negated if `minus` is true
 unfoldable pub factor : Bool → BoundAtom → BoundFactor
 factor minus a = roll-BoundFactor (record { minus = minus; atom = a })
 
@@ -19,7 +19,7 @@ factor minus a = roll-BoundFactor (record { minus = minus; atom = a })
 unfoldable pub product : BoundFactor → List BoundFactor → BoundProd
 product f fs = roll-BoundProd (record { first = f; rest = fs })
 
--- a product that is added, or with `minus` taken away
+-- a product that is added, or subtracted if `minus` is true
 unfoldable pub signed : Bool → BoundProd → BoundSigned
 signed minus p = roll-BoundSigned (record { minus = minus; prod = p })
 
@@ -31,15 +31,15 @@ sum p ps = roll-BoundExpr (record { first = p; rest = ps })
 abbrev pub just : BoundAtom → BoundExpr
 just a = sum (product (factor false a) []) []
 
--- a predicate, or with `negated` its negation
+-- a predicate, or its negation if `negated` is true
 unfoldable pub cond_of : Bool → BoundPred → BoundCond
 cond_of negated p = roll-BoundCond (record { not = negated; pred = p })
 
--- what is joined by AND
+-- the conjunction of these conditions
 unfoldable pub all_of : BoundCond → List BoundCond → BoundAll
 all_of c cs = roll-BoundAll (record { first = c; rest = cs })
 
--- what is joined by OR
+-- the disjunction of these conjunctions
 unfoldable pub any_of : BoundAll → List BoundAll → BoundAny
 any_of a rest = roll-BoundAny (record { first = a; rest = rest })
 

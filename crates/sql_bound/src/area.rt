@@ -1,4 +1,4 @@
-//! Tests that the chunk choice goes by: areas of the sky, and lists of ids.
+//! The tests from which the chunks of a query are chosen: areas of the sky, and lists of ids.
 
 use crate::radius::SquaredRadius;
 use sky_vector::{Dir, Pos};
@@ -9,9 +9,10 @@ use sqlite_items::Items;
 pub enum AreaTest {
     /// The heights from `lo` to `hi`.
     Band { lo: i64, hi: i64 },
-    /// What is no farther from the centre than the root of n.
+    /// The points that are no farther from the centre than the root of n.
     Cap { centre: Pos, n: SquaredRadius },
-    /// The heights from `lo` to `hi` between the directions a and b, b less than half a turn to the left of a.
+    /// The points at heights from `lo` to `hi` between the directions a and b, with b less than half a turn to the left
+    /// of a.
     Boxed { lo: i64, hi: i64, a: Dir, b: Dir },
 }
 

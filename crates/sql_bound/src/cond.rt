@@ -5,7 +5,7 @@ use crate::expr::BoundExpr;
 pub use sql_tree::Cmp;
 use sqlite_items::{Boxed, Items};
 
-/// A disjunction: what is joined by OR.
+/// A disjunction: conditions joined by OR.
 #[cycle(cond)]
 #[derive(Drop)]
 pub struct BoundAny {
@@ -13,7 +13,7 @@ pub struct BoundAny {
     pub rest: Items<BoundAll>,
 }
 
-/// A conjunction: what is joined by AND.
+/// A conjunction: conditions joined by AND.
 #[cycle(cond)]
 #[derive(Drop)]
 pub struct BoundAll {
@@ -21,7 +21,7 @@ pub struct BoundAll {
     pub rest: Items<BoundCond>,
 }
 
-/// A predicate, or with `not` its negation.
+/// A predicate, or its negation if `not` is true.
 #[cycle(cond)]
 #[derive(Drop)]
 pub struct BoundCond {

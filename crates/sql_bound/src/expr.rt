@@ -19,7 +19,7 @@ pub struct BoundExpr {
     pub rest: Items<BoundSigned>,
 }
 
-/// A product that is added, or with `minus` taken away.
+/// A product that is added, or subtracted if `minus` is true.
 #[cycle(expr)]
 #[derive(Drop)]
 pub struct BoundSigned {
@@ -43,7 +43,7 @@ pub struct BoundFactor {
     pub atom: BoundAtom,
 }
 
-/// An int, a column, or an expression in brackets.
+/// An integer, a column, or an expression in brackets.
 #[cycle(expr)]
 #[derive(Drop)]
 pub enum BoundAtom {

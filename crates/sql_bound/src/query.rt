@@ -9,19 +9,19 @@ use sqlite_items::Items;
 /// Columns, in their order.
 pub type ColList = Items<BoundCol>;
 
-/// What a query goes over.
+/// The source of a query: rows, pairs of rows, or groups.
 #[derive(Drop)]
 pub enum Shape {
     /// The rows of the table.
     Rows,
-    /// The ordered pairs of rows whose squared chord is at most the limit, which is -1 where no pair is asked for.
+    /// The ordered pairs of rows whose squared chord is at most the limit. The limit is -1 if no pair is asked for.
     Pairs { limit: i64 },
-    /// The groups of rows with equal keys; with no keys there is one group.
+    /// The groups of rows with equal keys. With no keys there is one group.
     Groups { keys: ColList },
 }
 
 /// An item of a query: an expression of a row, a pair or a group's keys, or an aggregate of a group. `Count` counts the
-/// rows, and the others look at those where their expression is not NULL.
+/// rows, and the other aggregates ignore rows for which their expression is NULL.
 #[derive(Drop)]
 pub enum BoundItem {
     Plain(BoundExpr),
@@ -36,7 +36,7 @@ pub enum BoundItem {
 /// The items of a query, in their order.
 pub type BoundItems = Items<BoundItem>;
 
-/// What a query is ordered by: the item at a place, from 0, or a column.
+/// The key of an order: the item at a position, from 0, or a column.
 #[derive(Clone, Copy, Debug, PartialEq, Eq)]
 pub enum BoundKey {
     Item(usize),
@@ -50,8 +50,8 @@ pub struct BoundOrder {
     pub down: bool,
 }
 
-/// A bound query. `conds` are the conjuncts of WHERE that stand at its top, but for a join's chord test, which is the
-/// limit of its shape; the area tests and the id tests are among them, and again in `areas` and `ids`.
+/// A bound query. `conds` are the top-level conjuncts of WHERE, but for a join's chord test, which is the limit of its
+/// shape. The area tests and the id tests are among them, and again in `areas` and `ids`.
 #[derive(Drop)]
 pub struct Bound {
     pub shape: Shape,

@@ -5,26 +5,26 @@ use Rattle.sql_rules.specs.PrintedExprs.{Bytes}
 use Rattle.sql_rules.specs.Printed.{print_items, print_table, print_second, print_where, print_group, print_order}
 use Rattle.sql_rules.specs.Printed.{print_limit}
 
--- what stands from ORDER BY on
+-- the printed text from ORDER BY on
 unfoldable pub from_order : Query → Bytes
 from_order q = print_order q.order ++ print_limit q.limit
 
--- what stands from GROUP BY on
+-- the printed text from GROUP BY on
 unfoldable pub from_group : Query → Bytes
 from_group q = print_group q.group ++ from_order q
 
--- what stands from WHERE on
+-- the printed text from WHERE on
 unfoldable pub from_where : Query → Bytes
 from_where q = print_where q.cond ++ from_group q
 
--- what stands from the second table on
+-- the printed text from the second table on
 unfoldable pub from_second : Query → Bytes
 from_second q = print_second q.second ++ from_where q
 
--- what stands from the first table on
+-- the printed text from the first table on
 unfoldable pub from_first : Query → Bytes
 from_first q = print_table q.first ++ from_second q
 
--- what stands behind SELECT
+-- the printed text after SELECT
 unfoldable pub from_items : Query → Bytes
 from_items q = print_items q.items ++ (codes " FROM " ++ from_first q)

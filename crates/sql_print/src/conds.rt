@@ -1,4 +1,4 @@
-//! Conditions as they are printed. One function writes one rule of the printed form.
+//! Prints conditions. One function writes one rule of the printed syntax.
 ghost use Rattle.std.specs.Prelude.{◌≡◌, ◌++◌, codes, map};
 ghost use Rattle.sky_io.specs.Sinks.{Wrote};
 ghost use Rattle.sql_rules.specs.PrintedConds.{print_cond, print_conj, print_neg, print_pred};
@@ -20,7 +20,7 @@ pub fn put_cond<K: Sink>(sink: &mut K, cond: &Cond) -> Put
     }
 }
 
-// The further conjunctions of a condition.
+// Writes the later conjunctions of a condition.
 #[cycle(put)]
 fn put_conjs<K: Sink>(sink: &mut K, rest: &[Conj]) -> Put
     ensures { Wrote (K.state sink.old) (K.state sink.new)
@@ -35,7 +35,7 @@ fn put_conjs<K: Sink>(sink: &mut K, rest: &[Conj]) -> Put
     Put::Done
 }
 
-// A further conjunction, and the OR before it.
+// Writes a later conjunction, and the OR before it.
 #[cycle(put)]
 fn put_or_conj<K: Sink>(sink: &mut K, conj: &Conj) -> Put
     ensures { Wrote (K.state sink.old) (K.state sink.new)
@@ -47,7 +47,7 @@ fn put_or_conj<K: Sink>(sink: &mut K, conj: &Conj) -> Put
     }
 }
 
-// A conjunction.
+// Writes a conjunction.
 #[cycle(put)]
 fn put_conj<K: Sink>(sink: &mut K, conj: &Conj) -> Put
     ensures { Wrote (K.state sink.old) (K.state sink.new) (print_conj conj.now) result }
@@ -58,7 +58,7 @@ fn put_conj<K: Sink>(sink: &mut K, conj: &Conj) -> Put
     }
 }
 
-// The further predicates of a conjunction.
+// Writes the later predicates of a conjunction.
 #[cycle(put)]
 fn put_negs<K: Sink>(sink: &mut K, rest: &[Neg]) -> Put
     ensures { Wrote (K.state sink.old) (K.state sink.new)
@@ -73,7 +73,7 @@ fn put_negs<K: Sink>(sink: &mut K, rest: &[Neg]) -> Put
     Put::Done
 }
 
-// A further predicate, and the AND before it.
+// Writes a later predicate, and the AND before it.
 #[cycle(put)]
 fn put_and_neg<K: Sink>(sink: &mut K, neg: &Neg) -> Put
     ensures { Wrote (K.state sink.old) (K.state sink.new)
@@ -85,7 +85,7 @@ fn put_and_neg<K: Sink>(sink: &mut K, neg: &Neg) -> Put
     }
 }
 
-// A predicate, and the NOT before it.
+// Writes a predicate, and the NOT before it.
 #[cycle(put)]
 fn put_neg<K: Sink>(sink: &mut K, neg: &Neg) -> Put
     ensures { Wrote (K.state sink.old) (K.state sink.new) (print_neg neg.now) result }
@@ -96,7 +96,7 @@ fn put_neg<K: Sink>(sink: &mut K, neg: &Neg) -> Put
     }
 }
 
-// A predicate.
+// Writes a predicate.
 #[cycle(put)]
 fn put_pred<K: Sink>(sink: &mut K, pred: &Pred) -> Put
     ensures { Wrote (K.state sink.old) (K.state sink.new) (print_pred pred.now) result }
@@ -122,7 +122,7 @@ fn put_pred<K: Sink>(sink: &mut K, pred: &Pred) -> Put
     }
 }
 
-// A condition in brackets.
+// Writes a condition in brackets.
 #[cycle(put)]
 fn put_group<K: Sink>(sink: &mut K, cond: &Cond) -> Put
     ensures { Wrote (K.state sink.old) (K.state sink.new)
@@ -134,7 +134,7 @@ fn put_group<K: Sink>(sink: &mut K, cond: &Cond) -> Put
     }
 }
 
-// A condition, and the closing bracket.
+// Writes a condition, and the closing bracket.
 #[cycle(put)]
 fn put_closed<K: Sink>(sink: &mut K, cond: &Cond) -> Put
     ensures { Wrote (K.state sink.old) (K.state sink.new)

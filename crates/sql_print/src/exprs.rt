@@ -1,4 +1,4 @@
-//! Expressions as they are printed. One function writes one rule of the printed form.
+//! Prints expressions. One function writes one rule of the printed syntax.
 ghost use Rattle.std.specs.Prelude.{◌≡◌, ◌++◌, [], codes, if◌then◌else◌, map};
 ghost use Rattle.sky_io.specs.Sinks.{Wrote};
 ghost use Rattle.sql_rules.specs.PrintedExprs.{behind_each, in_brackets, print_atom, print_expr, print_factor};
@@ -20,7 +20,7 @@ pub fn put_expr<K: Sink>(sink: &mut K, e: &Expr) -> Put
     }
 }
 
-// The further products of a sum.
+// Writes the later products of a sum.
 #[cycle(put)]
 fn put_signeds<K: Sink>(sink: &mut K, rest: &[Signed]) -> Put
     ensures { Wrote (K.state sink.old) (K.state sink.new)
@@ -35,7 +35,7 @@ fn put_signeds<K: Sink>(sink: &mut K, rest: &[Signed]) -> Put
     Put::Done
 }
 
-// A further product of a sum.
+// Writes a later product of a sum.
 #[cycle(put)]
 fn put_signed<K: Sink>(sink: &mut K, signed: &Signed) -> Put
     ensures { Wrote (K.state sink.old) (K.state sink.new) (print_signed signed.now) result }
@@ -46,7 +46,7 @@ fn put_signed<K: Sink>(sink: &mut K, signed: &Signed) -> Put
     }
 }
 
-// The sign of a further product.
+// Writes the sign of a later product.
 fn put_plus_or_minus<K: Sink>(sink: &mut K, minus: bool) -> Put
     ensures { Wrote (K.state sink.old) (K.state sink.new)
         (if minus then codes "-" else codes "+") result }
@@ -58,7 +58,7 @@ fn put_plus_or_minus<K: Sink>(sink: &mut K, minus: bool) -> Put
     }
 }
 
-// A product.
+// Writes a product.
 #[cycle(put)]
 fn put_prod<K: Sink>(sink: &mut K, prod: &Prod) -> Put
     ensures { Wrote (K.state sink.old) (K.state sink.new) (print_prod prod.now) result }
@@ -69,7 +69,7 @@ fn put_prod<K: Sink>(sink: &mut K, prod: &Prod) -> Put
     }
 }
 
-// The further factors of a product.
+// Writes the later factors of a product.
 #[cycle(put)]
 fn put_factors<K: Sink>(sink: &mut K, rest: &[Factor]) -> Put
     ensures { Wrote (K.state sink.old) (K.state sink.new)
@@ -84,7 +84,7 @@ fn put_factors<K: Sink>(sink: &mut K, rest: &[Factor]) -> Put
     Put::Done
 }
 
-// A further factor, and the star before it.
+// Writes a later factor, and the star before it.
 #[cycle(put)]
 fn put_times<K: Sink>(sink: &mut K, factor: &Factor) -> Put
     ensures { Wrote (K.state sink.old) (K.state sink.new)
@@ -96,7 +96,7 @@ fn put_times<K: Sink>(sink: &mut K, factor: &Factor) -> Put
     }
 }
 
-// A factor.
+// Writes a factor.
 #[cycle(put)]
 fn put_factor<K: Sink>(sink: &mut K, factor: &Factor) -> Put
     ensures { Wrote (K.state sink.old) (K.state sink.new) (print_factor factor.now) result }
@@ -107,7 +107,7 @@ fn put_factor<K: Sink>(sink: &mut K, factor: &Factor) -> Put
     }
 }
 
-// An atom.
+// Writes an atom.
 #[cycle(put)]
 fn put_atom<K: Sink>(sink: &mut K, atom: &Atom) -> Put
     ensures { Wrote (K.state sink.old) (K.state sink.new) (print_atom atom.now) result }
@@ -130,7 +130,7 @@ pub(crate) fn put_bracket<K: Sink>(sink: &mut K, e: &Expr) -> Put
     }
 }
 
-// An expression, and the closing bracket.
+// Writes an expression, and the closing bracket.
 #[cycle(put)]
 fn put_closed<K: Sink>(sink: &mut K, e: &Expr) -> Put
     ensures { Wrote (K.state sink.old) (K.state sink.new) (print_expr e.now ++ codes ")") result }
@@ -141,7 +141,7 @@ fn put_closed<K: Sink>(sink: &mut K, e: &Expr) -> Put
     }
 }
 
-/// Writes words, and an expression behind them.
+/// Writes words followed by an expression.
 pub(crate) fn put_led_expr<K: Sink>(sink: &mut K, words: &[u8], e: &Expr) -> Put
     ensures { Wrote (K.state sink.old) (K.state sink.new) (words.now ++ print_expr e.now) result }
 {

@@ -1,4 +1,4 @@
-//! Ints, and lists of ints, as they are printed. One function writes one rule of the printed form.
+//! Prints integers and lists of integers. One function writes one rule of the printed syntax.
 ghost use Rattle.std.specs.Prelude.{◌≡◌, ◌++◌, codes, map};
 ghost use Rattle.std.specs.Fmt.{signed_decimal};
 ghost use Rattle.sky_io.specs.Sinks.{Wrote};
@@ -11,14 +11,14 @@ use sky_io::{Put, Sink};
 use sky_text::put_int;
 use sql_tree::{Int, IntList, SignedInt};
 
-/// Writes an int.
+/// Writes an integer.
 pub fn put_size<K: Sink>(sink: &mut K, size: &Int) -> Put
     ensures { Wrote (K.state sink.old) (K.state sink.new) (signed_decimal size.now) result }
 {
     put_int(sink, i128::from(size.get()))
 }
 
-/// Writes words, and an int behind them.
+/// Writes words followed by an integer.
 pub fn put_led_size<K: Sink>(sink: &mut K, words: &[u8], size: &Int) -> Put
     ensures { Wrote (K.state sink.old) (K.state sink.new) (words.now ++ signed_decimal size.now)
         result }
@@ -29,14 +29,14 @@ pub fn put_led_size<K: Sink>(sink: &mut K, words: &[u8], size: &Int) -> Put
     }
 }
 
-// Whether the int is below zero: a zero has no sign.
+// Whether the integer is below zero: a zero has no sign.
 fn is_below_zero(int: &SignedInt) -> bool
     ensures { result ≡ is_minus int.now }
 {
     int.minus && int.size.get() != 0
 }
 
-// An int with its sign.
+// Writes an integer with its sign.
 fn put_signed_int<K: Sink>(sink: &mut K, int: &SignedInt) -> Put
     ensures { Wrote (K.state sink.old) (K.state sink.new) (print_int int.now) result }
 {
@@ -46,7 +46,7 @@ fn put_signed_int<K: Sink>(sink: &mut K, int: &SignedInt) -> Put
     }
 }
 
-// An int of a list, and the comma before it.
+// Writes a later integer of a list, and the comma before it.
 fn put_further_int<K: Sink>(sink: &mut K, int: &SignedInt) -> Put
     ensures { Wrote (K.state sink.old) (K.state sink.new) (codes "," ++ print_int int.now) result }
 {
@@ -56,7 +56,7 @@ fn put_further_int<K: Sink>(sink: &mut K, int: &SignedInt) -> Put
     }
 }
 
-// The ints behind the first of a list.
+// Writes the integers after the first of a list.
 fn put_further_ints<K: Sink>(sink: &mut K, rest: &[SignedInt]) -> Put
     ensures { Wrote (K.state sink.old) (K.state sink.new)
         (behind_each (codes ",") (map print_int rest.now)) result }
@@ -70,7 +70,7 @@ fn put_further_ints<K: Sink>(sink: &mut K, rest: &[SignedInt]) -> Put
     Put::Done
 }
 
-// Ints without brackets.
+// Writes integers without brackets.
 fn put_bare_ints<K: Sink>(sink: &mut K, ints: &IntList) -> Put
     ensures { Wrote (K.state sink.old) (K.state sink.new)
         (print_int ints.now.first ++ behind_each (codes ",") (map print_int ints.now.rest)) result }
@@ -81,7 +81,7 @@ fn put_bare_ints<K: Sink>(sink: &mut K, ints: &IntList) -> Put
     }
 }
 
-// Ints, and the closing bracket.
+// Writes integers, and the closing bracket.
 fn put_closed_ints<K: Sink>(sink: &mut K, ints: &IntList) -> Put
     ensures { Wrote (K.state sink.old) (K.state sink.new)
         ((print_int ints.now.first ++ behind_each (codes ",") (map print_int ints.now.rest))
@@ -93,7 +93,7 @@ fn put_closed_ints<K: Sink>(sink: &mut K, ints: &IntList) -> Put
     }
 }
 
-// Ints in brackets.
+// Writes integers in brackets.
 fn put_ints<K: Sink>(sink: &mut K, ints: &IntList) -> Put
     ensures { Wrote (K.state sink.old) (K.state sink.new) (print_ints ints.now) result }
 {
@@ -103,7 +103,7 @@ fn put_ints<K: Sink>(sink: &mut K, ints: &IntList) -> Put
     }
 }
 
-/// Writes words, and ints in brackets behind them.
+/// Writes words followed by integers in brackets.
 pub(crate) fn put_led_ints<K: Sink>(sink: &mut K, words: &[u8], ints: &IntList) -> Put
     ensures { Wrote (K.state sink.old) (K.state sink.new)
         (words.now ++ print_ints ints.now) result }

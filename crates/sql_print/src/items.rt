@@ -1,4 +1,4 @@
-//! What stands between SELECT and FROM, as it is printed. One function writes one rule of the printed form.
+//! Prints the select list. One function writes one rule of the printed syntax.
 ghost use Rattle.std.specs.Prelude.{◌≡◌, ◌++◌, [], codes, map};
 ghost use Rattle.sky_io.specs.Sinks.{Wrote};
 ghost use Rattle.sql_rules.specs.Printed.{heading, print_as, print_item, print_items, print_kind};
@@ -9,7 +9,7 @@ use crate::parts::{put_led_name, put_name};
 use sky_io::{Put, Sink};
 use sql_tree::{Expr, Item, ItemKind, ItemList, Name, Selection};
 
-/// Writes the word of a function, and its expression in brackets.
+/// Writes the name of a function, and its expression in brackets.
 pub fn put_call<K: Sink>(sink: &mut K, word: &[u8], e: &Expr) -> Put
     ensures { Wrote (K.state sink.old) (K.state sink.new)
         (word.now ++ in_brackets (print_expr e.now)) result }
@@ -20,7 +20,7 @@ pub fn put_call<K: Sink>(sink: &mut K, word: &[u8], e: &Expr) -> Put
     }
 }
 
-/// Writes what an item asks for, without its alias.
+/// Writes an item without its alias.
 pub fn put_kind<K: Sink>(sink: &mut K, what: &ItemKind) -> Put
     ensures { Wrote (K.state sink.old) (K.state sink.new) (print_kind what.now) result }
 {
@@ -35,7 +35,7 @@ pub fn put_kind<K: Sink>(sink: &mut K, what: &ItemKind) -> Put
     }
 }
 
-/// Writes the heading of an item: its alias, or what it asks for.
+/// Writes the heading of an item: its alias, or else the item itself.
 pub fn put_heading<K: Sink>(sink: &mut K, item: &Item) -> Put
     ensures { Wrote (K.state sink.old) (K.state sink.new) (heading item.now) result }
 {
@@ -45,7 +45,7 @@ pub fn put_heading<K: Sink>(sink: &mut K, item: &Item) -> Put
     }
 }
 
-// The alias of an item, where it has one.
+// Writes the alias of an item, if it has one.
 fn put_as<K: Sink>(sink: &mut K, alias: &Option<Name>) -> Put
     ensures { Wrote (K.state sink.old) (K.state sink.new) (print_as alias.now) result }
 {
@@ -55,7 +55,7 @@ fn put_as<K: Sink>(sink: &mut K, alias: &Option<Name>) -> Put
     }
 }
 
-// An item.
+// Writes an item.
 fn put_item<K: Sink>(sink: &mut K, item: &Item) -> Put
     ensures { Wrote (K.state sink.old) (K.state sink.new) (print_item item.now) result }
 {
@@ -65,7 +65,7 @@ fn put_item<K: Sink>(sink: &mut K, item: &Item) -> Put
     }
 }
 
-// A further item, and the comma before it.
+// Writes a later item, and the comma before it.
 fn put_further_item<K: Sink>(sink: &mut K, item: &Item) -> Put
     ensures { Wrote (K.state sink.old) (K.state sink.new)
         (codes "," ++ print_item item.now) result }
@@ -76,7 +76,7 @@ fn put_further_item<K: Sink>(sink: &mut K, item: &Item) -> Put
     }
 }
 
-// The items behind the first.
+// Writes the items after the first.
 fn put_further_items<K: Sink>(sink: &mut K, rest: &[Item]) -> Put
     ensures { Wrote (K.state sink.old) (K.state sink.new)
         (behind_each (codes ",") (map print_item rest.now)) result }
@@ -90,7 +90,7 @@ fn put_further_items<K: Sink>(sink: &mut K, rest: &[Item]) -> Put
     Put::Done
 }
 
-// One item or more.
+// Writes a non-empty list of items.
 fn put_item_list<K: Sink>(sink: &mut K, items: &ItemList) -> Put
     ensures { Wrote (K.state sink.old) (K.state sink.new)
         (print_item items.now.first ++ behind_each (codes ",") (map print_item items.now.rest))

@@ -1,4 +1,4 @@
-//! Names and columns as they are printed, and words that may stand there.
+//! Prints names, columns and optional words.
 ghost use Rattle.std.specs.Prelude.{◌≡◌, ◌++◌, [], codes};
 ghost use Rattle.sky_io.specs.Sinks.{Wrote};
 ghost use Rattle.sql_rules.specs.PrintedExprs.{print_col, print_qualifier, text_if};
@@ -6,7 +6,7 @@ ghost use Rattle.sql_rules.specs.PrintedExprs.{print_col, print_qualifier, text_
 use sky_io::{Put, Sink};
 use sql_tree::{Col, Name};
 
-/// Writes words where they stand.
+/// Writes the words if `there` is true, and else nothing.
 pub fn put_if<K: Sink>(sink: &mut K, there: bool, words: &[u8]) -> Put
     ensures { Wrote (K.state sink.old) (K.state sink.new) (text_if there words.now) result }
 {
@@ -20,7 +20,7 @@ pub(crate) fn put_name<K: Sink>(sink: &mut K, name: &Name) -> Put
     sink.put(name.text.as_slice())
 }
 
-/// Writes words, and a name behind them.
+/// Writes words followed by a name.
 pub(crate) fn put_led_name<K: Sink>(sink: &mut K, words: &[u8], name: &Name) -> Put
     ensures { Wrote (K.state sink.old) (K.state sink.new) (words.now ++ name.now.text) result }
 {
@@ -30,7 +30,7 @@ pub(crate) fn put_led_name<K: Sink>(sink: &mut K, words: &[u8], name: &Name) -> 
     }
 }
 
-// A name, and words behind it.
+// Writes a name followed by words.
 fn put_name_before<K: Sink>(sink: &mut K, name: &Name, words: &[u8]) -> Put
     ensures { Wrote (K.state sink.old) (K.state sink.new) (name.now.text ++ words.now) result }
 {
@@ -40,7 +40,7 @@ fn put_name_before<K: Sink>(sink: &mut K, name: &Name, words: &[u8]) -> Put
     }
 }
 
-// The qualifier of a column, and its dot.
+// Writes the qualifier of a column, and its dot.
 fn put_qualifier<K: Sink>(sink: &mut K, table: &Option<Name>) -> Put
     ensures { Wrote (K.state sink.old) (K.state sink.new) (print_qualifier table.now) result }
 {
@@ -50,7 +50,7 @@ fn put_qualifier<K: Sink>(sink: &mut K, table: &Option<Name>) -> Put
     }
 }
 
-/// Writes a column, with its qualifier where it has one.
+/// Writes a column, with its qualifier if it has one.
 pub fn put_col<K: Sink>(sink: &mut K, col: &Col) -> Put
     ensures { Wrote (K.state sink.old) (K.state sink.new) (print_col col.now) result }
 {
@@ -60,7 +60,7 @@ pub fn put_col<K: Sink>(sink: &mut K, col: &Col) -> Put
     }
 }
 
-/// Writes words, and a column behind them.
+/// Writes words followed by a column.
 pub(crate) fn put_led_col<K: Sink>(sink: &mut K, words: &[u8], col: &Col) -> Put
     ensures { Wrote (K.state sink.old) (K.state sink.new) (words.now ++ print_col col.now) result }
 {

@@ -1,4 +1,4 @@
-//! Predicates without conditions inside, as they are printed. One function writes one rule of the printed form.
+//! Prints predicates without conditions inside. One function writes one rule of the printed syntax.
 ghost use Rattle.std.specs.Prelude.{◌≡◌, ◌++◌, codes};
 ghost use Rattle.std.specs.Fmt.{signed_decimal};
 ghost use Rattle.sky_io.specs.Sinks.{Wrote};
@@ -12,7 +12,7 @@ use crate::parts::{put_if, put_led_name, put_name};
 use sky_io::{Put, Sink};
 use sql_tree::{AreaKind, Cmp, Expr, Int, IntList, Name};
 
-// The text of a comparison.
+// The text of a comparison operator.
 fn cmp_text(cmp: Cmp) -> &'static [u8]
     ensures { result.now ≡ print_cmp cmp }
 {
@@ -26,14 +26,14 @@ fn cmp_text(cmp: Cmp) -> &'static [u8]
     }
 }
 
-// The comparison of a chord.
+// The comparison operator of a chord test.
 fn chord_op(strict: bool) -> Cmp
     ensures { result ≡ chord_op strict }
 {
     if strict { Cmp::Less } else { Cmp::AtMost }
 }
 
-// The word of an area function.
+// The name of an area function.
 fn area_text(kind: AreaKind) -> &'static [u8]
     ensures { result.now ≡ print_area kind }
 {
@@ -55,7 +55,7 @@ pub(crate) fn put_compare<K: Sink>(sink: &mut K, left: &Expr, op: Cmp, right: &E
     }
 }
 
-// The lower end of a range, and what follows it.
+// Writes the lower end of a range, and the upper end.
 fn put_ends<K: Sink>(sink: &mut K, low: &Expr, high: &Expr) -> Put
     ensures { Wrote (K.state sink.old) (K.state sink.new)
         (print_expr low.now ++ (codes " AND " ++ print_expr high.now)) result }
@@ -66,7 +66,7 @@ fn put_ends<K: Sink>(sink: &mut K, low: &Expr, high: &Expr) -> Put
     }
 }
 
-// What follows the NOT of a range, or stands in its place.
+// Writes the rest of a BETWEEN predicate, after its value and NOT.
 fn put_range<K: Sink>(sink: &mut K, low: &Expr, high: &Expr) -> Put
     ensures { Wrote (K.state sink.old) (K.state sink.new)
         (codes " BETWEEN " ++ (print_expr low.now ++ (codes " AND " ++ print_expr high.now)))
@@ -78,7 +78,7 @@ fn put_range<K: Sink>(sink: &mut K, low: &Expr, high: &Expr) -> Put
     }
 }
 
-// What follows the value of a range.
+// Writes the rest of a BETWEEN predicate, after its value.
 fn put_not_range<K: Sink>(sink: &mut K, not: bool, low: &Expr, high: &Expr) -> Put
     ensures { Wrote (K.state sink.old) (K.state sink.new)
         (text_if not (codes " NOT")
@@ -91,7 +91,7 @@ fn put_not_range<K: Sink>(sink: &mut K, not: bool, low: &Expr, high: &Expr) -> P
     }
 }
 
-/// Writes that a value lies within a range, or not.
+/// Writes that a value is within a range, or not.
 pub(crate) fn put_between<K: Sink>(
     sink: &mut K,
     not: bool,
@@ -110,7 +110,7 @@ pub(crate) fn put_between<K: Sink>(
     }
 }
 
-// What follows the value that is looked for among ints.
+// Writes the rest of an IN predicate, after its value.
 fn put_not_in<K: Sink>(sink: &mut K, not: bool, ints: &IntList) -> Put
     ensures { Wrote (K.state sink.old) (K.state sink.new)
         (text_if not (codes " NOT") ++ (codes " IN " ++ print_ints ints.now)) result }
@@ -121,7 +121,7 @@ fn put_not_in<K: Sink>(sink: &mut K, not: bool, ints: &IntList) -> Put
     }
 }
 
-/// Writes that a value is among ints, or not.
+/// Writes that a value is in a list of integers, or not.
 pub(crate) fn put_among<K: Sink>(sink: &mut K, not: bool, value: &Expr, ints: &IntList) -> Put
     ensures { Wrote (K.state sink.old) (K.state sink.new)
         (print_expr value.now
@@ -133,7 +133,7 @@ pub(crate) fn put_among<K: Sink>(sink: &mut K, not: bool, value: &Expr, ints: &I
     }
 }
 
-// What follows IS.
+// Writes the rest of an IS NULL predicate, after IS.
 fn put_null<K: Sink>(sink: &mut K, not: bool) -> Put
     ensures { Wrote (K.state sink.old) (K.state sink.new)
         (text_if not (codes " NOT") ++ codes " NULL") result }
@@ -144,7 +144,7 @@ fn put_null<K: Sink>(sink: &mut K, not: bool) -> Put
     }
 }
 
-// What follows the value that is NULL, or not.
+// Writes the rest of an IS NULL predicate, after its value.
 fn put_is_or_not<K: Sink>(sink: &mut K, not: bool) -> Put
     ensures { Wrote (K.state sink.old) (K.state sink.new)
         (codes " IS" ++ (text_if not (codes " NOT") ++ codes " NULL")) result }
@@ -175,7 +175,7 @@ pub(crate) fn put_area<K: Sink>(sink: &mut K, kind: AreaKind, args: &IntList) ->
     put_led_ints(sink, area_text(kind), args)
 }
 
-// Two names, and the comma between them.
+// Writes two names, and the comma between them.
 fn put_names<K: Sink>(sink: &mut K, left: &Name, right: &Name) -> Put
     ensures { Wrote (K.state sink.old) (K.state sink.new)
         (left.now.text ++ (codes "," ++ right.now.text)) result }
@@ -186,7 +186,7 @@ fn put_names<K: Sink>(sink: &mut K, left: &Name, right: &Name) -> Put
     }
 }
 
-// Two names, and the closing bracket.
+// Writes two names, and the closing bracket.
 fn put_closed_names<K: Sink>(sink: &mut K, left: &Name, right: &Name) -> Put
     ensures { Wrote (K.state sink.old) (K.state sink.new)
         ((left.now.text ++ (codes "," ++ right.now.text)) ++ codes ")") result }
@@ -197,7 +197,7 @@ fn put_closed_names<K: Sink>(sink: &mut K, left: &Name, right: &Name) -> Put
     }
 }
 
-// Two names in brackets.
+// Writes two names in brackets.
 fn put_pair<K: Sink>(sink: &mut K, left: &Name, right: &Name) -> Put
     ensures { Wrote (K.state sink.old) (K.state sink.new)
         (in_brackets (left.now.text ++ (codes "," ++ right.now.text))) result }
@@ -208,7 +208,7 @@ fn put_pair<K: Sink>(sink: &mut K, left: &Name, right: &Name) -> Put
     }
 }
 
-// What follows the word of a chord.
+// Writes the rest of a chord test, after the name of its function.
 fn put_bounded_pair<K: Sink>(sink: &mut K, left: &Name, right: &Name, strict: bool, n: &Int) -> Put
     ensures { Wrote (K.state sink.old) (K.state sink.new)
         (in_brackets (left.now.text ++ (codes "," ++ right.now.text))
@@ -220,7 +220,7 @@ fn put_bounded_pair<K: Sink>(sink: &mut K, left: &Name, right: &Name, strict: bo
     }
 }
 
-/// Writes a bound on a chord.
+/// Writes a chord test.
 pub(crate) fn put_chord<K: Sink>(
     sink: &mut K,
     left: &Name,

@@ -1,4 +1,4 @@
-//! Whole queries as they are printed. One function writes one rule of the printed form.
+//! Prints whole queries. One function writes one rule of the printed syntax.
 ghost use Rattle.std.specs.Prelude.{◌≡◌, ◌∷◌, ◌++◌, [], codes, map, Some};
 ghost use Rattle.sky_io.specs.Sinks.{Wrote};
 ghost use Rattle.sql_rules.specs.Printed.{print_alias, print_group, print_limit, print_order, print_second};
@@ -13,7 +13,7 @@ use crate::parts::{put_col, put_if, put_led_col, put_led_name, put_name};
 use sky_io::{Put, Sink};
 use sql_tree::{Col, Cond, Int, Name, OrderBy, Query, TableRef};
 
-/// Writes the alias of a table, where it has one.
+/// Writes the alias of a table, if it has one.
 pub fn put_alias<K: Sink>(sink: &mut K, alias: &Option<Name>) -> Put
     ensures { Wrote (K.state sink.old) (K.state sink.new) (print_alias alias.now) result }
 {
@@ -23,7 +23,7 @@ pub fn put_alias<K: Sink>(sink: &mut K, alias: &Option<Name>) -> Put
     }
 }
 
-// A table.
+// Writes a table.
 fn put_table<K: Sink>(sink: &mut K, table: &TableRef) -> Put
     ensures { Wrote (K.state sink.old) (K.state sink.new) (print_table table.now) result }
 {
@@ -33,7 +33,7 @@ fn put_table<K: Sink>(sink: &mut K, table: &TableRef) -> Put
     }
 }
 
-// A table, and the comma before it.
+// Writes a table, and the comma before it.
 fn put_further_table<K: Sink>(sink: &mut K, table: &TableRef) -> Put
     ensures { Wrote (K.state sink.old) (K.state sink.new)
         (codes "," ++ print_table table.now) result }
@@ -44,7 +44,7 @@ fn put_further_table<K: Sink>(sink: &mut K, table: &TableRef) -> Put
     }
 }
 
-// The second table, where there is one.
+// Writes the second table, if there is one.
 fn put_second<K: Sink>(sink: &mut K, second: &Option<TableRef>) -> Put
     ensures { Wrote (K.state sink.old) (K.state sink.new) (print_second second.now) result }
 {
@@ -54,7 +54,7 @@ fn put_second<K: Sink>(sink: &mut K, second: &Option<TableRef>) -> Put
     }
 }
 
-// A condition, and the WHERE before it.
+// Writes a condition, and the WHERE before it.
 fn put_where_cond<K: Sink>(sink: &mut K, cond: &Cond) -> Put
     ensures { Wrote (K.state sink.old) (K.state sink.new) (print_where (Some cond.now)) result }
 {
@@ -64,7 +64,7 @@ fn put_where_cond<K: Sink>(sink: &mut K, cond: &Cond) -> Put
     }
 }
 
-/// Writes WHERE, where it stands.
+/// Writes the WHERE clause, if there is one.
 pub fn put_where<K: Sink>(sink: &mut K, cond: &Option<Cond>) -> Put
     ensures { Wrote (K.state sink.old) (K.state sink.new) (print_where cond.now) result }
 {
@@ -74,7 +74,7 @@ pub fn put_where<K: Sink>(sink: &mut K, cond: &Option<Cond>) -> Put
     }
 }
 
-// The columns behind the first.
+// Writes the columns after the first.
 fn put_further_cols<K: Sink>(sink: &mut K, rest: &[Col]) -> Put
     ensures { Wrote (K.state sink.old) (K.state sink.new)
         (behind_each (codes ",") (map print_col rest.now)) result }
@@ -99,7 +99,7 @@ pub fn put_cols<K: Sink>(sink: &mut K, first: &Col, rest: &[Col]) -> Put
     }
 }
 
-// Columns to group by, and the GROUP BY before them.
+// Writes columns to group by, and the GROUP BY before them.
 fn put_group_cols<K: Sink>(sink: &mut K, first: &Col, rest: &[Col]) -> Put
     ensures { Wrote (K.state sink.old) (K.state sink.new)
         (print_group (first.now ∷ rest.now)) result }
@@ -110,7 +110,7 @@ fn put_group_cols<K: Sink>(sink: &mut K, first: &Col, rest: &[Col]) -> Put
     }
 }
 
-/// Writes GROUP BY, where it stands.
+/// Writes the GROUP BY clause, if there is one.
 pub fn put_group<K: Sink>(sink: &mut K, group: &[Col]) -> Put
     ensures { Wrote (K.state sink.old) (K.state sink.new) (print_group group.now) result }
 {
@@ -120,7 +120,7 @@ pub fn put_group<K: Sink>(sink: &mut K, group: &[Col]) -> Put
     }
 }
 
-// The key of an order, and its way.
+// Writes the key of an order, and whether it is descending.
 fn put_key<K: Sink>(sink: &mut K, order: &OrderBy) -> Put
     ensures { Wrote (K.state sink.old) (K.state sink.new)
         (print_col order.now.key ++ text_if order.now.down (codes " DESC")) result }
@@ -131,7 +131,7 @@ fn put_key<K: Sink>(sink: &mut K, order: &OrderBy) -> Put
     }
 }
 
-// The key of an order, and the ORDER BY before it.
+// Writes the key of an order, and the ORDER BY before it.
 fn put_order_key<K: Sink>(sink: &mut K, order: &OrderBy) -> Put
     ensures { Wrote (K.state sink.old) (K.state sink.new) (print_order (Some order.now)) result }
 {
@@ -141,7 +141,7 @@ fn put_order_key<K: Sink>(sink: &mut K, order: &OrderBy) -> Put
     }
 }
 
-// ORDER BY, where it stands.
+// Writes the ORDER BY clause, if there is one.
 fn put_order<K: Sink>(sink: &mut K, order: &Option<OrderBy>) -> Put
     ensures { Wrote (K.state sink.old) (K.state sink.new) (print_order order.now) result }
 {
@@ -151,7 +151,7 @@ fn put_order<K: Sink>(sink: &mut K, order: &Option<OrderBy>) -> Put
     }
 }
 
-/// Writes LIMIT, where it stands.
+/// Writes the LIMIT clause, if there is one.
 pub fn put_limit<K: Sink>(sink: &mut K, limit: &Option<Int>) -> Put
     ensures { Wrote (K.state sink.old) (K.state sink.new) (print_limit limit.now) result }
 {
@@ -161,7 +161,7 @@ pub fn put_limit<K: Sink>(sink: &mut K, limit: &Option<Int>) -> Put
     }
 }
 
-// What stands from ORDER BY on.
+// Writes a query from ORDER BY on.
 fn put_from_order<K: Sink>(sink: &mut K, query: &Query) -> Put
     ensures { Wrote (K.state sink.old) (K.state sink.new) (from_order query.now) result }
 {
@@ -171,7 +171,7 @@ fn put_from_order<K: Sink>(sink: &mut K, query: &Query) -> Put
     }
 }
 
-// What stands from GROUP BY on.
+// Writes a query from GROUP BY on.
 fn put_from_group<K: Sink>(sink: &mut K, query: &Query) -> Put
     ensures { Wrote (K.state sink.old) (K.state sink.new) (from_group query.now) result }
 {
@@ -181,7 +181,7 @@ fn put_from_group<K: Sink>(sink: &mut K, query: &Query) -> Put
     }
 }
 
-// What stands from WHERE on.
+// Writes a query from WHERE on.
 fn put_from_where<K: Sink>(sink: &mut K, query: &Query) -> Put
     ensures { Wrote (K.state sink.old) (K.state sink.new) (from_where query.now) result }
 {
@@ -191,7 +191,7 @@ fn put_from_where<K: Sink>(sink: &mut K, query: &Query) -> Put
     }
 }
 
-// What stands from the second table on.
+// Writes a query from the second table on.
 fn put_from_second<K: Sink>(sink: &mut K, query: &Query) -> Put
     ensures { Wrote (K.state sink.old) (K.state sink.new) (from_second query.now) result }
 {
@@ -201,7 +201,7 @@ fn put_from_second<K: Sink>(sink: &mut K, query: &Query) -> Put
     }
 }
 
-// What stands from the first table on.
+// Writes a query from the first table on.
 fn put_from_first<K: Sink>(sink: &mut K, query: &Query) -> Put
     ensures { Wrote (K.state sink.old) (K.state sink.new) (from_first query.now) result }
 {
@@ -211,7 +211,7 @@ fn put_from_first<K: Sink>(sink: &mut K, query: &Query) -> Put
     }
 }
 
-// What stands from FROM on.
+// Writes a query from FROM on.
 fn put_tables<K: Sink>(sink: &mut K, query: &Query) -> Put
     ensures { Wrote (K.state sink.old) (K.state sink.new) (codes " FROM " ++ from_first query.now)
         result }
@@ -222,7 +222,7 @@ fn put_tables<K: Sink>(sink: &mut K, query: &Query) -> Put
     }
 }
 
-// What stands behind SELECT.
+// Writes a query after its SELECT.
 fn put_from_items<K: Sink>(sink: &mut K, query: &Query) -> Put
     ensures { Wrote (K.state sink.old) (K.state sink.new) (from_items query.now) result }
 {
