@@ -1,4 +1,4 @@
--- Which points of the sky an area test holds.
+-- The points of the sky that an area test includes.
 use Rattle.std.specs.Prelude.{ℤ, pos, int_le, Bool, ◌&&◌, not}
 use Rattle.std.specs.Ordering.{int_eq}
 use Rattle.sky_vector.specs.Points.{Point, chord_squared}
@@ -12,7 +12,7 @@ use Rattle.sql_bound.specs.declared.area.AreaTest.TheVariants.{Band, Cap, Boxed}
 abbrev pub in_band : ℤ → ℤ → ℤ → Bool
 in_band lo hi z = int_le lo z && int_le z hi
 
--- how far a point lies past a direction, which is their plane product
+-- the plane product of a direction and the point: how far the point is past the direction
 abbrev pub past_dir : Dir → Point → ℤ
 past_dir d p = plane_product d.dx d.dy p.x p.y
 
@@ -21,7 +21,7 @@ abbrev pub between_dirs : Dir → Dir → Point → Bool
 between_dirs a b p =
     not (int_eq p.x (pos 0) && int_eq p.y (pos 0)) && int_le (pos 0) (past_dir a p) && int_le (past_dir b p) (pos 0)
 
--- the test holds of the point
+-- the test is true of the point
 abbrev pub area_holds : AreaTest → Point → Bool
 area_holds (Band lo hi) p = in_band lo hi p.z
 area_holds (Cap centre n) p = int_le (chord_squared p (point centre)) n

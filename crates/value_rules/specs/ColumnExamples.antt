@@ -15,7 +15,7 @@ use Rattle.value_rules.specs.Examples.{id, flux, flux_times_id, is_bright, numbe
 abbrev pub flux_col : BoundCol
 flux_col = record { second = false; col = 4 }
 
--- a number with a minus before it
+-- a number after a minus
 abbrev pub below_zero : ℕ → BoundExpr
 below_zero n = sum (product (factor true (atom.Int (pos n))) []) []
 
@@ -55,7 +55,7 @@ faint negated = cond_of negated (pred.Between false flux (below_zero 5) (number 
 abbrev pub not_between : BoundCond
 not_between = cond_of false (pred.Between true flux (below_zero 5) (number 10))
 
--- the range of that flux
+-- the range that `faint` tests
 abbrev pub faint_range : ColumnRange
 faint_range = record { col = flux_col; low = negsuc 4; high = pos 10 }
 

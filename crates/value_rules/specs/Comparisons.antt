@@ -1,4 +1,4 @@
--- Comparisons of worked examples: each of the six at smaller, equal and larger values, and where a side is NULL.
+-- Comparisons of worked examples: each of the six at smaller, equal and larger values, and with NULL on a side.
 use Rattle.std.specs.Prelude.{ℤ, pos, negsuc, Bool, true, false, List, [], ◌∷◌, map, Option}
 use Rattle.sql_bound.specs.Trees.{factor, product, sum, cond_of}
 use Rattle.sql_bound.specs.declared.area.AreaTest.{AreaTest}
@@ -12,7 +12,7 @@ use Rattle.sky_vector.specs.declared.direction.Dir.{Dir}
 use Rattle.value_rules.specs.Examples.{column, number, flux, second, third, east}
 use Rattle.value_rules.specs.Truth.{truth_of}
 
--- the six comparisons
+-- the six comparison operators
 abbrev pub six : List Cmp
 six = Equal ∷ Differs ∷ Less ∷ AtMost ∷ More ∷ AtLeast ∷ []
 

@@ -90,7 +90,7 @@ north = record {
   dy_within = (record { le = tt }, record { le = tt });
 }
 
--- the ids of the six rows that lie in the area
+-- the ids of the six rows that are in the area
 abbrev pub ids_in : AreaTest → List ℤ
 ids_in area = map (λ o. o.id) (filter (λ o. area_holds area o.at) some_without_flux)
 
@@ -114,7 +114,7 @@ is_second = cond_of false (pred.Compare id Equal (number 2))
 abbrev pub is_third : BoundCond
 is_third = cond_of false (pred.Compare id Equal (number 3))
 
--- the flux times the id, less 1
+-- the flux times the id, minus 1
 abbrev pub flux_times_id : BoundExpr
 flux_times_id =
     sum (product (factor false (column 4)) (factor false (column 0) ∷ []))

@@ -12,7 +12,7 @@ use Rattle.sql_bound.specs.declared.cond.BoundPred.TheFolds.{fold-BoundAll, fold
 use Rattle.sql_bound.specs.declared.cond.BoundPred.TheFolds.{fold-BoundCond, fold-BoundPred}
 use Rattle.value_rules.specs.Terms.{Term, term_of}
 
--- A formula: a test of terms or of the sky, or what is said of formulas.
+-- A formula: a test of terms or of the sky, or a logical combination of formulas.
 pub data Formula : Type 0 where
   Compares : Cmp → Term → Term → Formula
   Among : Term → List ℤ → Formula
@@ -22,21 +22,22 @@ pub data Formula : Type 0 where
   And : Formula → Formula → Formula
   Or : Formula → Formula → Formula
 
--- the formula, or with `negated` its negation
+-- the formula, or its negation if `negated` is true
 abbrev pub negated_if : Bool → Formula → Formula
 negated_if negated f = if negated then Not f else f
 
--- all of a formula and those that follow it, from the left
+-- the conjunction of a formula and those that follow it, from the left
 abbrev pub all_from : Formula → List Formula → Formula
 all_from f [] = f
 all_from f (g ∷ rest) = all_from (And f g) rest
 
--- one of a formula and those that follow it, from the left
+-- the disjunction of a formula and those that follow it, from the left
 abbrev pub any_from : Formula → List Formula → Formula
 any_from f [] = f
 any_from f (g ∷ rest) = any_from (Or f g) rest
 
--- a comparison and the area test are themselves; BETWEEN is two comparisons; brackets are left out
+-- the formula of a predicate: a comparison and an area test are themselves; BETWEEN is two comparisons; brackets are
+-- left out
 abbrev pub at_pred : BoundPred-F Formula Formula Formula Formula → Formula
 at_pred (BoundPred-F.Bracket f) = f
 at_pred (BoundPred-F.Compare left op right) = Compares op (term_of left) (term_of right)
@@ -47,15 +48,15 @@ at_pred (BoundPred-F.Among negated value list) = negated_if negated (Among (term
 at_pred (BoundPred-F.IsNull negated value) = negated_if negated (IsNull (term_of value))
 at_pred (BoundPred-F.Area test) = LiesIn test
 
--- a condition is its predicate, or with NOT its negation
+-- the formula of a condition: that of its predicate, negated if it has NOT
 abbrev pub at_cond : BoundCond-F Formula Formula Formula Formula → Formula
 at_cond c = negated_if c.not c.pred
 
--- a conjunction goes from its first condition on
+-- the formula of a conjunction, from its first condition on
 abbrev pub at_all : BoundAll-F Formula Formula Formula Formula → Formula
 at_all a = all_from a.first a.rest
 
--- a disjunction goes from its first conjunction on
+-- the formula of a disjunction, from its first conjunction on
 abbrev pub at_any : BoundAny-F Formula Formula Formula Formula → Formula
 at_any a = any_from a.first a.rest
 

@@ -26,11 +26,11 @@ ValueIsWithin = (e : BoundExpr) (p : Pick) → IsWithinBounds p → IsOfSize (wi
 abbrev pub CellIsWithin : Type 0
 CellIsWithin = (o : Obj) (col : ℕ) → IsRow o → IsOfSize (nat_abs (column_bound col)) (cell o col)
 
--- so are those of a row alone
+-- the values of a single row within its limits are within the bounds of their columns
 abbrev pub RowIsWithin : Type 0
 RowIsWithin = (o : Obj) → IsRow o → IsWithinBounds (row o)
 
--- and those of a pair of rows
+-- the values of a pair of rows within their limits are within the bounds of their columns
 abbrev pub PairIsWithin : Type 0
 PairIsWithin = (u v : Obj) → IsRow u → IsRow v → IsWithinBounds (pair u v)
 
@@ -40,7 +40,7 @@ SoundValueIsInRange =
     (allowed : BoundCol → Bool) (e : BoundExpr) (p : Pick) → is_sound_expr allowed e ≡ true → IsWithinBounds p
     → IsOfSize most (value_of e p)
 
--- each number that an item or a condition of a query computes is within ±2^100, where the query can be run
+-- each number that an item or a condition of a query computes is within ±2^100, if the query can be run
 abbrev pub SoundIsInRange : Type 0
 SoundIsInRange = (columns : ℕ) (q : Bound) (p : Pick) → IsSound columns q → IsWithinBounds p → IsInRange q p
 
@@ -77,7 +77,7 @@ BetweenIsTwoComparisons =
     → truth_of (cond_of false (pred.Between false v low high)) p
     ≡ truth_of (both (cond_of false (pred.Compare low AtMost v)) (cond_of false (pred.Compare v AtMost high))) p
 
--- two parts joined by AND: false where a part is false, else unknown where a part is unknown, else true
+-- The conjunction of two parts: false if a part is false, else unknown if a part is unknown, else true.
 pub record AndTable : Type 0 where
   pub false_first : (b : Option Bool) → truth_and (Some false) b ≡ Some false
   pub false_second : (a : Option Bool) → truth_and a (Some false) ≡ Some false
@@ -86,7 +86,7 @@ pub record AndTable : Type 0 where
   pub unknown_both : truth_and None None ≡ None
   pub true_both : truth_and (Some true) (Some true) ≡ Some true
 
--- two parts joined by OR: true where a part is true, else unknown where a part is unknown, else false
+-- The disjunction of two parts: true if a part is true, else unknown if a part is unknown, else false.
 pub record OrTable : Type 0 where
   pub true_first : (b : Option Bool) → truth_or (Some true) b ≡ Some true
   pub true_second : (a : Option Bool) → truth_or a (Some true) ≡ Some true

@@ -1,4 +1,5 @@
--- The numbers that the items and the conditions of a query compute on a row or on a pair, and those on the way to them.
+-- The numbers that the items and the conditions of a query compute on a row or on a pair, intermediate results
+-- included.
 use Rattle.std.specs.Prelude.{ℤ, List, [], ◌∷◌, ◌++◌, All, Option}
 use Rattle.std.specs.List.{flat_map}
 use Rattle.sql_bound.specs.declared.expr.BoundCol.{BoundCol}
@@ -10,7 +11,7 @@ use Rattle.value_rules.specs.Terms.{Term, Number, Column, Minus, Plus, Less, Tim
 use Rattle.value_rules.specs.Values.{Pick, cell_of, value_at}
 use Rattle.value_rules.specs.Widths.{IsOfSize, most}
 
--- the term, and all that it is computed of
+-- the term and all of its subterms
 abbrev pub subterms_of : Term → List Term
 subterms_of (Number n) = Number n ∷ []
 subterms_of (Column c) = Column c ∷ []
@@ -43,11 +44,11 @@ item_terms (item.Avg e) = term_of e ∷ []
 abbrev pub terms_of : Bound → List Term
 terms_of q = flat_map item_terms q.items ++ flat_map (λ c. tested_terms (formula_of c)) q.conds
 
--- where the columns have these values, the term's is NULL or within ±2^100, and so is each that it is computed of
+-- if the columns have these values, the term's value is NULL or within ±2^100, and so is that of each of its subterms
 abbrev pub IsInRangeAt : (BoundCol → Option ℤ) → Term → Type 0
 IsInRangeAt cells t = All (λ u. IsOfSize most (value_at cells u)) (subterms_of t)
 
--- the same of the term on the row or pair
+-- on the row or pair, the term's value is NULL or within ±2^100, and so is that of each of its subterms
 abbrev pub IsTermInRange : Pick → Term → Type 0
 IsTermInRange p t = IsInRangeAt (cell_of p) t
 

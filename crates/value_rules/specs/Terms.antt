@@ -1,4 +1,4 @@
--- Expressions as terms: a bound expression without its brackets, its sums and products taken from the left.
+-- Expressions as terms: a bound expression without its brackets, its sums and products evaluated from the left.
 use Rattle.std.specs.Prelude.{ℤ, List, [], ◌∷◌, Bool, if◌then◌else◌}
 use Rattle.sql_bound.specs.declared.expr.BoundCol.{BoundCol}
 use Rattle.sql_bound.specs.declared.expr.BoundAtom.{BoundAtom}
@@ -11,7 +11,7 @@ use Rattle.sql_bound.specs.declared.expr.BoundAtom.TheOpen.{BoundProd-F, BoundSi
 use Rattle.sql_bound.specs.declared.expr.BoundAtom.TheFolds.{fold-BoundAtom, fold-BoundExpr, fold-BoundFactor}
 use Rattle.sql_bound.specs.declared.expr.BoundAtom.TheFolds.{fold-BoundProd, fold-BoundSigned}
 
--- A term: a number, a column, or what is computed of terms.
+-- A term: a number, a column, or an operation on terms.
 pub data Term : Type 0 where
   Number : ℤ → Term
   Column : BoundCol → Term
@@ -20,7 +20,7 @@ pub data Term : Type 0 where
   Less : Term → Term → Term
   Times : Term → Term → Term
 
--- A term that a sum adds, or takes away.
+-- A term that a sum adds or subtracts.
 pub record SignedTerm : Type 0 where
   pub minus : Bool
   pub term : Term
@@ -35,25 +35,25 @@ abbrev pub product_from : Term → List Term → Term
 product_from t [] = t
 product_from t (f ∷ rest) = product_from (Times t f) rest
 
--- an int is a number, a column a column, and brackets are left out
+-- the term of an atom: an integer is a number, a column is a column, and brackets are left out
 abbrev pub at_atom : BoundAtom-F Term Term Term Term SignedTerm → Term
 at_atom (BoundAtom-F.Int n) = Number n
 at_atom (BoundAtom-F.Col c) = Column c
 at_atom (BoundAtom-F.Bracket e) = e
 
--- a factor is its atom, or with a minus what that takes from 0
+-- the term of a factor: that of its atom, negated if it has a minus
 abbrev pub at_factor : BoundFactor-F Term Term Term Term SignedTerm → Term
 at_factor f = if f.minus then Minus f.atom else f.atom
 
--- a product goes from its first factor on
+-- the term of a product, from its first factor on
 abbrev pub at_prod : BoundProd-F Term Term Term Term SignedTerm → Term
 at_prod p = product_from p.first p.rest
 
--- a signed product keeps its sign for the sum
+-- the term of a signed product, with its sign for the sum
 abbrev pub at_signed : BoundSigned-F Term Term Term Term SignedTerm → SignedTerm
 at_signed s = record { minus = s.minus; term = s.prod }
 
--- a sum goes from its first product on
+-- the term of a sum, from its first product on
 abbrev pub at_expr : BoundExpr-F Term Term Term Term SignedTerm → Term
 at_expr e = sum_from e.first e.rest
 

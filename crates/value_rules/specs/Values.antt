@@ -8,7 +8,7 @@ use Rattle.sql_bound.specs.declared.expr.BoundCol.{BoundCol}
 use Rattle.sql_bound.specs.declared.expr.BoundExpr.{BoundExpr}
 use Rattle.value_rules.specs.Terms.{Term, Number, Column, Minus, Plus, Less, Times, term_of}
 
--- What a query looks at: a row, or a pair of rows.
+-- The row, or the pair of rows, to which a query applies its expressions and conditions.
 pub record Pick : Type 0 where
   pub first : Obj
   pub second : Option Obj
@@ -21,17 +21,17 @@ row o = record { first = o; second = None }
 abbrev pub pair : Obj → Obj → Pick
 pair u v = record { first = u; second = Some v }
 
--- the value in a column of the first or of the second row; a second row that is not there has no value
+-- the value in a column of the first or of the second row; a missing second row has no value
 abbrev pub cell_of : Pick → BoundCol → Option ℤ
 cell_of p c = if c.second then option_and_then (λ o. cell o c.col) p.second else cell p.first c.col
 
--- what is computed of two values, which is NULL where one of them is
+-- the result of an operation on two values, which is NULL if one of them is
 abbrev pub of_both : (ℤ → ℤ → ℤ) → Option ℤ → Option ℤ → Option ℤ
 of_both f None b = None
 of_both f (Some a) None = None
 of_both f (Some a) (Some b) = Some (f a b)
 
--- the value of a term where the columns have these values
+-- the value of a term, if the columns have these values
 abbrev pub value_at : (BoundCol → Option ℤ) → Term → Option ℤ
 value_at cells (Number n) = Some n
 value_at cells (Column c) = cells c

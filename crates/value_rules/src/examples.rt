@@ -1,4 +1,4 @@
-//! Worked examples of values and of conditions, computed by the checker.
+//! Worked examples of values and of conditions, evaluated by the checker.
 
 ghost use Rattle.std.specs.Prelude.{◌≡◌, ◌^◌, [], ◌∷◌, None, Some, false, negsuc, pos, true};
 ghost use Rattle.sql_bound.specs.Trees.{both, either};
@@ -19,17 +19,19 @@ ghost use Rattle.value_rules.specs.Truth.{truth_of};
 ghost use Rattle.value_rules.specs.Values.{value_of};
 ghost use Rattle.value_rules.specs.Widths.{widest_of, width_of};
 
-/// `NOT flux>20 OR objectId=2`: the second row is kept for its id, and the fourth, without flux, is unknown and goes.
+/// `NOT flux>20 OR objectId=2`: the second row is kept for its id. The fourth has no flux, so the condition is unknown
+/// and the row is dropped.
 pub fn unknown_is_not_kept()
     ensures { ids_that_meet faint_or_second some_without_flux ≡ pos 1 ∷ pos 2 ∷ pos 5 ∷ [] }
 {}
 
-/// `flux IS NULL` is true where there is no flux, and false elsewhere.
+/// `flux IS NULL` is true for rows without flux, and false for all others.
 pub fn rows_without_flux()
     ensures { ids_that_meet no_flux some_without_flux ≡ pos 2 ∷ pos 4 ∷ [] }
 {}
 
-/// On a row without flux a comparison of it is unknown; AND with a false part is false, OR with a true part is true.
+/// On a row without flux a comparison of it is unknown. AND with a false part is false, and OR with a true part is
+/// true.
 pub fn truths_without_flux()
     ensures alone { truth_of is_bright second ≡ None }
     ensures and_true { truth_of (both is_bright is_second) second ≡ None }
@@ -38,13 +40,14 @@ pub fn truths_without_flux()
     ensures or_false { truth_of (either is_bright is_third) second ≡ None }
 {}
 
-/// What is computed of NULL is NULL.
+/// A value computed from NULL is NULL.
 pub fn values_of_rows()
     ensures there { value_of flux_times_id third ≡ Some (pos 89) }
     ensures null { value_of flux_times_id second ≡ None }
 {}
 
-/// Each front of a product counts: `a*a*a*0` is too wide, and `0*a*a*a` is not; an id times an extra column is.
+/// Each prefix of a product counts: `a*a*a*0` is too wide, and `0*a*a*a` is not. The product of an id and an extra
+/// column is too wide.
 pub fn widths_of_products()
     ensures wide { widest_of zero_last ≡ 2 ^ 150 }
     ensures narrow { widest_of zero_first ≡ 2 ^ 50 }
@@ -54,7 +57,7 @@ pub fn widths_of_products()
     ensures absent { is_sound_expr (has_col 4 false) flux ≡ false }
 {}
 
-/// A band and a box hold their borders, and a cap what is exactly as far as it goes.
+/// A band and a box include their borders, and a cap includes the points exactly at its radius.
 pub fn areas_hold_their_borders()
     ensures band { ids_in (Band (negsuc 0) (pos 4)) ≡ pos 1 ∷ pos 2 ∷ pos 3 ∷ pos 4 ∷ pos 5 ∷ [] }
     ensures turned { ids_in (Band (pos 4) (negsuc 0)) ≡ [] }
@@ -64,7 +67,7 @@ pub fn areas_hold_their_borders()
     ensures axis { ids_in (Boxed (pos 1000) (pos 268435472) east north) ≡ [] }
 {}
 
-/// The six comparisons of 1, 2 and 3 with 2.
+/// The six comparison operators, applied to 1, 2 and 3 on the left and 2 on the right.
 pub fn six_comparisons()
     ensures equal { beside_2 Equal ≡ Some false ∷ Some true ∷ Some false ∷ [] }
     ensures differs { beside_2 Differs ≡ Some true ∷ Some false ∷ Some true ∷ [] }
@@ -84,19 +87,19 @@ pub fn null_stays()
     ensures not_found { truth_of (not_among (pos 31 ∷ [])) third ≡ Some true }
 {}
 
-/// IN of NULL is unknown; of 30 it is true where the list has 30, and else false.
+/// IN of NULL is unknown. IN of 30 is true if the list has 30, and else false.
 pub fn null_is_among_nothing()
     ensures null { truth_of (among (pos 30 ∷ [])) second ≡ None }
     ensures found { truth_of (among (pos 31 ∷ pos 30 ∷ [])) third ≡ Some true }
     ensures not_found { truth_of (among (pos 31 ∷ [])) third ≡ Some false }
 {}
 
-/// A box holds what lies on its second side, and nothing past it: 1, 3 and 5 lie on the first meridian, 2 past it.
+/// A box includes its second side, and nothing past it: 1, 3 and 5 are on the first meridian, and 2 is past it.
 pub fn a_box_holds_its_second_side()
     ensures { ids_in up_to_meridian ≡ pos 1 ∷ pos 3 ∷ pos 4 ∷ pos 5 ∷ [] }
 {}
 
-/// A column beside a number is a test of it; a negation, a second column and what is computed are none.
+/// A column compared with a number is a test of it. A negation, a second column and a computed value are not.
 pub fn tests_of_columns()
     ensures right { column_test_of is_bright ≡ Some bright }
     ensures left { column_test_of bright_from_the_left ≡ Some bright }
@@ -109,8 +112,8 @@ pub fn tests_of_columns()
     ensures range { column_test_of (faint false) ≡ None }
 {}
 
-/// A column BETWEEN two numbers and a band are ranges; a negation, two columns, a bound that is none and other areas are
-/// not.
+/// A column BETWEEN two numbers and a band are ranges. A negation, two columns, a bound that is not a number and other
+/// areas are not.
 pub fn ranges_of_columns()
     ensures between { column_range_of (faint false) ≡ Some faint_range }
     ensures negated { column_range_of (faint true) ≡ None }
@@ -124,7 +127,7 @@ pub fn ranges_of_columns()
     ensures test { column_range_of is_bright ≡ None }
 {}
 
-/// A test and a range beside values at their borders, and NULL.
+/// A test and a range, applied to values at their borders and to NULL.
 pub fn values_beside_borders()
     ensures test { which_pass bright (Some (pos 20) ∷ Some (pos 21) ∷ None ∷ [])
         ≡ false ∷ true ∷ false ∷ [] }

@@ -22,7 +22,8 @@ pub fn picks_are_within()
     ensures pair { PairIsWithin }
 {}
 
-/// What the items and the conditions of a query that can be run compute of such a row or pair is NULL or within ±2^100.
+/// All that the items and the conditions of a query that can be run compute from such a row or pair is NULL or within
+/// ±2^100.
 pub fn sound_is_in_range()
     ensures value { SoundValueIsInRange }
     ensures query { SoundIsInRange }
