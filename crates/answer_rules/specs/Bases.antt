@@ -1,4 +1,4 @@
--- What the pieces of a session rest on: a sky, a catalogue, and the chunk queries by their numbers.
+-- The base of a session's partial results: a sky, a catalogue, and the chunk queries by their numbers.
 use Rattle.std.specs.Prelude.{◌≡◌, ◌≤◌, ◌<◌, ◌+◌, ◌==◌, ℕ, true, length, List, All, AllPairs}
 use Rattle.std.specs.Prelude.{Option, Some, option_map, find}
 use Rattle.table_rules.specs.Objects.{Catalogue, IsCatalogue}
@@ -35,14 +35,14 @@ pub record IsBase (b : Base) : Type 0 where
 abbrev pub query_at : List (ℕ × ChunkQuery) → ℕ → Option ChunkQuery
 query_at queries q = option_map (λ e. e.1) (find (λ e. e.0 == q) queries)
 
--- The piece stands for the chunk query with this number over these chunks; of a number without one nothing stands.
+-- The partial result is one of the chunk query with this number over these chunks; a number without a query has none.
 pub record StandsFor (b : Base) (q : ℕ) (chunks : List ℕ) (view : PieceView) : Type 0 where
   pub base : IsBase b
   pub query : ChunkQuery
   pub known : query_at b.queries q ≡ Some query
   pub piece : PieceFor b.plan b.rows.objects query chunks view
 
--- The base lets the query with this number want the chunk.
+-- The base asks of the query with this number the chunk.
 pub record Asks (b : Base) (q c : ℕ) : Type 0 where
   pub base : IsBase b
   pub query : ChunkQuery

@@ -1,4 +1,4 @@
--- Lemmas about pieces: they join over disjoint sets of chunks, in any order, and finish as the answer.
+-- Lemmas about partial results: they combine over disjoint sets of chunks, in any order, and finish as the answer.
 use Rattle.std.specs.Prelude.{◌≡◌, ◌⊎◌, ℕ, ℤ, true, false, List, [], ◌++◌, Option, None}
 use Rattle.table_rules.specs.Objects.{Obj, IdsAscend}
 use Rattle.sky_rules.specs.Partition.{Partition}
@@ -29,60 +29,60 @@ AreDisjoint B B' = (c : ℕ) → has B c ≡ true → has B' c ≡ false
 abbrev pub AreSame : List ℕ → List ℕ → Type 0
 AreSame B B' = (c : ℕ) → has B c ≡ has B' c
 
--- two pieces joined: the rows of one behind those of the other, or parts of groups added up
+-- two partial results combined: the rows of one after those of the other, or partial aggregates combined by key
 abbrev pub joined_views : List ChunkItem → PieceView → PieceView → PieceView
 joined_views items (OfRows pushed rows) (OfRows pushed' rows') = OfRows pushed (rows ++ rows')
 joined_views items (OfRows pushed rows) (OfGroups parts') = OfRows pushed rows
 joined_views items (OfGroups parts) (OfRows pushed' rows') = OfGroups parts
 joined_views items (OfGroups parts) (OfGroups parts') = OfGroups (gathered items (parts ++ parts'))
 
--- two pieces joined by what they are: parts of groups are added up by their own ways
+-- two partial results combined without their chunk query: aggregate states combine by their own functions
 abbrev pub joined_alone : PieceView → PieceView → PieceView
 joined_alone (OfRows pushed rows) (OfRows pushed' rows') = OfRows pushed (rows ++ rows')
 joined_alone (OfRows pushed rows) (OfGroups parts') = OfRows pushed rows
 joined_alone (OfGroups parts) (OfRows pushed' rows') = OfGroups parts
 joined_alone (OfGroups parts) (OfGroups parts') = OfGroups (gather key_order add_own_sums (parts ++ parts'))
 
--- pieces over disjoint sets of chunks, joined, stand for both sets
+-- partial results over disjoint sets of chunks, combined, are a partial result over both sets
 abbrev pub PiecesJoin : Type 0
 PiecesJoin =
     (g : Partition) (table : List Obj) (cq : ChunkQuery) (B B' : List ℕ) (mine other : PieceView) → AreDisjoint B B'
     → PieceFor g table cq B mine → PieceFor g table cq B' other
     → PieceFor g table cq (B ++ B') (joined_views cq.items mine other)
 
--- so do pieces that are joined by what they are, whatever their chunk query
+-- partial results over disjoint sets of chunks, combined without their chunk query, are a partial result over both sets
 abbrev pub JoinsAlone : Type 0
 JoinsAlone =
     (g : Partition) (table : List Obj) (cq : ChunkQuery) (B B' : List ℕ) (mine other : PieceView) → AreDisjoint B B'
     → PieceFor g table cq B mine → PieceFor g table cq B' other
     → PieceFor g table cq (B ++ B') (joined_alone mine other)
 
--- a piece of rows may keep less of them, if what it keeps has the first n
+-- a partial result of rows may drop rows, if those that it keeps include the first n
 abbrev pub KeptStands : Type 0
 KeptStands =
     (g : Partition) (table : List Obj) (cq : ChunkQuery) (B : List ℕ) (pushed : Option ℕ) (rows kept : List OutRow)
     → KeepsFirst row_order pushed rows kept → PieceFor g table cq B (OfRows pushed rows)
     → PieceFor g table cq B (OfRows pushed kept)
 
--- the rows of a piece are apart in the order of rows
+-- no two rows of a partial result tie in the order of rows
 abbrev pub RowsAreApart : Type 0
 RowsAreApart =
     (g : Partition) (table : List Obj) (cq : ChunkQuery) (B : List ℕ) (pushed : Option ℕ) (rows : List OutRow)
     → IdsAscend table → PieceFor g table cq B (OfRows pushed rows) → AreApart row_order rows
 
--- a piece stands for the chunks of a set, in whatever order they are listed
+-- a partial result over a set of chunks does not depend on the order in which they are listed
 abbrev pub PieceIsForASet : Type 0
 PieceIsForASet =
     (g : Partition) (table : List Obj) (cq : ChunkQuery) (B B' : List ℕ) (view : PieceView) → AreSame B B'
     → PieceFor g table cq B view → PieceFor g table cq B' view
 
--- an empty piece: no rows with the limit of the chunk query, or no parts
+-- an empty partial result: no rows, with the limit of the chunk query, or no groups
 abbrev pub empty_view : Shape → Option ℕ → PieceView
 empty_view Rows pushed = OfRows pushed []
 empty_view (Pairs limit) pushed = OfRows pushed []
 empty_view (Groups keys) pushed = OfGroups []
 
--- an empty piece stands for no chunks
+-- an empty partial result is one over no chunks
 abbrev pub EmptyPiece : Type 0
 EmptyPiece =
     (g : Partition) (table : List Obj) (cq : ChunkQuery)
@@ -102,8 +102,8 @@ limited limit cq = record {
 abbrev pub IsPushed : Bound → Option ℤ → Type 0
 IsPushed q limit = (limit ≡ None) ⊎ (limit ≡ q.limit)
 
--- a piece of a query's chunk query, with no LIMIT or with that of the query, finishes as the query's answer over the
--- chunks that it stands for
+-- a partial result of a query's chunk query, with no LIMIT or with that of the query, finishes as the query's answer
+-- over its chunks
 abbrev pub PieceFinishes : Type 0
 PieceFinishes =
     (columns : ℕ) (g : Partition) (table : List Obj) (q : Bound) (B : List ℕ) (limit : Option ℤ) (view : PieceView)
@@ -111,7 +111,8 @@ PieceFinishes =
     → PieceFor g table (limited limit (chunk_query_of q)) B view
     → finished (merge_plan_of q) view ≡ answer_in g table q B
 
--- so does a piece of the chunk query as the query is cut, with its LIMIT where rows or pairs have one
+-- a partial result of the chunk query as the query is cut, with the LIMIT of rows or pairs, finishes as the query's
+-- answer over its chunks
 abbrev pub CutPieceFinishes : Type 0
 CutPieceFinishes =
     (columns : ℕ) (g : Partition) (table : List Obj) (q : Bound) (B : List ℕ) (view : PieceView)

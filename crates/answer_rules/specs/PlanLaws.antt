@@ -1,4 +1,5 @@
--- Lemmas about plans: what a plan lists, what a join reaches that is not refused, and how a test of ids can be judged.
+-- Lemmas about plans: which chunks a plan lists, that a join that is not refused is within the overlap, and how an
+-- index decides a test of ids.
 use Rattle.std.specs.Prelude.{◌≡◌, ◌<◌, ℕ, ℤ, true, List, [], ◌∷◌, None, All, AllPairs}
 use Rattle.std.specs.List.{list_any}
 use Rattle.table_rules.specs.Objects.{Obj, IdsAscend}
@@ -21,19 +22,19 @@ PlanIsFilled =
 abbrev pub PlanAscends : Type 0
 PlanAscends = (g : Partition) (table : List Obj) (q : Bound) → AllPairs (λ a b. a < b) (plan_of g table q)
 
--- a query that is not refused for its radius reaches at every chunk of its plan
+-- the limit of a query that is not refused for its radius is within the overlap at every chunk of its plan
 abbrev pub RadiusReaches : Type 0
 RadiusReaches =
     (g : Partition) (table : List Obj) (q : Bound) → radius_refusal g table q ≡ None
     → All (Reaches g q.shape) (plan_of g table q)
 
--- so does a query at every one of any chunks over whose overlap it is not refused
+-- a query that is not refused over the overlap of some chunks has its limit within the overlap at each of them
 abbrev pub RadiusReachesOver : Type 0
 RadiusReachesOver =
     (g : Partition) (shape : Shape) (chunks : List ℕ) → radius_by shape (overlap_of g chunks) ≡ None
     → All (Reaches g shape) chunks
 
--- a chunk holds a row with one of the ids exactly where it is the chunk of one of them
+-- a chunk holds a row with one of the ids exactly if it is the chunk of one of them
 abbrev pub IdsByTheirChunks : Type 0
 IdsByTheirChunks =
     (g : Partition) (table : List Obj) (c : ℕ) (ids : List ℤ) → IsSky g → AreInTheSky table → IdsAscend table
