@@ -1,4 +1,4 @@
--- What a query comes to over a schema: the bound query, or its first fault.
+-- The binding of a query over a schema: the bound query, or its first fault.
 use Rattle.std.specs.Prelude.{ℕ, ◌+◌, ℤ, pos, ◌-ℤ◌, Bool, true, false, if◌then◌else◌, List, [], ◌∷◌, ◌++◌, map}
 use Rattle.std.specs.Prelude.{Option, None, Some, Result, Ok, Err}
 use Rattle.std.specs.List.{flat_map}
@@ -49,7 +49,7 @@ abbrev pub columns_from : Bool → ℕ → List (List ℕ) → List BoundItem
 columns_from second at [] = []
 columns_from second at (n ∷ ns) = item.Plain (just_column second at) ∷ columns_from second (at + 1) ns
 
--- a star: all columns of the first table, then in a join all of the second
+-- the items of a star: all columns of the first table, then in a join all of the second
 abbrev pub star_items : List (List ℕ) → Bool → List BoundItem
 star_items names join =
     columns_from false 0 (column_names names) ++ (if join then columns_from true 0 (column_names names) else [])
@@ -77,19 +77,19 @@ chord_limit (Chord left right true n) = (n -ℤ pos 1) ∷ []
 chord_limit (Chord left right false n) = n ∷ []
 chord_limit _ = []
 
--- the first, where there is one
+-- the first of the numbers, or else the given one
 abbrev pub first_or : ℤ → List ℤ → ℤ
 first_or z [] = z
 first_or z (n ∷ ns) = n
 
--- pairs up to the limit of the one chord test, groups, or rows
+-- the shape of the bound query: pairs up to the limit of the one chord test, groups, or rows
 abbrev pub bound_shape : Scope → Query → Shape
 bound_shape s q =
     if is_join q then shape.Pairs (first_or (pos 0) (flat_map chord_limit (top_tests q.cond)))
     else if is_grouped q then shape.Groups (map (bound_col s) q.group)
     else shape.Rows
 
--- an alias goes before a column
+-- the key of an order: the item with that alias if there is one, and else the column
 abbrev pub key_by : Scope → Col → Option ℕ → BoundKey
 key_by s c (Some place) = bkey.Item place
 key_by s c None = bkey.Column (bound_col s c)
@@ -117,6 +117,6 @@ abbrev pub by_fault : Option BindFault → Bound → Result Bound BindFault
 by_fault (Some f) b = Err f
 by_fault None b = Ok b
 
--- what a query comes to over the schema of these extra columns
+-- the binding of a query over the schema with these extra columns
 unfoldable pub bound_of : List (List ℕ) → Query → Result Bound BindFault
 bound_of names q = by_fault (bind_fault names q) (bound_query (record { names = names; second = q.second }) q)

@@ -1,4 +1,4 @@
--- What the texts of worked examples are bound to, over a schema of two extra columns.
+-- The bound queries of the texts of worked examples, over a schema of two extra columns.
 use Rattle.std.specs.Prelude.{ℕ, pos, negsuc, true, false, List, [], ◌∷◌, Option, None, Some, Result, Ok, Err, codes}
 use Rattle.sky_vector.specs.declared.position.Pos.{Pos}
 use Rattle.sql_bound.specs.declared.area.AreaTest.TheVariants.{Band, Cap}
@@ -21,21 +21,21 @@ use Rattle.sql_rules.specs.Trees.{tree_of}
 use Rattle.bind_rules.specs.Binding.{bound_of, just_column}
 use Rattle.bind_rules.specs.Examples.{two_columns}
 
--- the query, where it binds
+-- the query, if it binds
 abbrev pub if_bound : Result Bound BindFault → Option Bound
 if_bound (Ok b) = Some b
 if_bound (Err f) = None
 
--- the bound query, where there is one
+-- the bound query, if there is one
 abbrev pub if_query : Result Query SqlFault → Option Bound
 if_query (Ok q) = if_bound (bound_of two_columns q)
 if_query (Err f) = None
 
--- what the text is bound to
+-- the bound query of the text
 abbrev pub bound_text : List ℕ → Option Bound
 bound_text text = if_query (tree_of text)
 
--- the expression that is one int
+-- the expression that is one integer
 abbrev pub just_int : ℕ → BoundExpr
 just_int n = roll-BoundExpr (record {
   first = roll-BoundProd (record {
@@ -49,11 +49,11 @@ just_int n = roll-BoundExpr (record {
 abbrev pub holds : BoundPred → BoundCond
 holds p = roll-BoundCond (record { not = false; pred = p })
 
--- one row by its id
+-- a query of one row by its id
 abbrev pub one_id_text : List ℕ
 one_id_text = codes "SELECT x AS d FROM Object WHERE (objectId=4) AND x<3 ORDER BY d DESC LIMIT 5"
 
--- what it is bound to
+-- the bound query of that text
 abbrev pub one_id : Bound
 one_id = record {
   shape = shape.Rows;
@@ -70,7 +70,7 @@ one_id = record {
 abbrev pub strict_pairs_text : List ℕ
 strict_pairs_text = codes "SELECT a.x FROM Object a,Object b WHERE chord2(b,a)<9 AND b.objectId=4 ORDER BY b.z"
 
--- what it is bound to
+-- the bound query of the join
 abbrev pub strict_pairs : Bound
 strict_pairs = record {
   shape = shape.Pairs (pos 8);
@@ -82,11 +82,11 @@ strict_pairs = record {
   limit = None;
 }
 
--- a grouping
+-- a grouped query
 abbrev pub groups_text : List ℕ
 groups_text = codes "SELECT g,AVG(flux) FROM Object WHERE objectId IN (3,-1) AND area_band(1,2) GROUP BY g"
 
--- what it is bound to
+-- the bound query of that grouped query
 abbrev pub groups_of_two : Bound
 groups_of_two = record {
   shape = shape.Groups (record { second = false; col = 5 } ∷ []);
@@ -110,11 +110,11 @@ three_four = record {
   z_within = (record { le = tt }, record { le = tt });
 }
 
--- all columns, in a cap
+-- a query of all columns, in a cap
 abbrev pub cap_text : List ℕ
 cap_text = codes "SELECT * FROM Object WHERE area_cap(3,0,-4,16)"
 
--- what it is bound to
+-- the bound query of that text
 abbrev pub all_in_a_cap : Bound
 all_in_a_cap = record {
   shape = shape.Rows;

@@ -18,7 +18,7 @@ use Rattle.sql_tree.specs.declared.query.TableRef.{TableRef}
 use Rattle.table_rules.specs.Names.{column_names, column_of}
 use Rattle.bind_rules.specs.Columns.{qualifier}
 
--- What a query's names are read by: the extra columns, and the second table of a join.
+-- The scope of a query's names: the extra columns, and the second table of a join.
 pub record Scope : Type 0 where
   pub names : List (List ℕ)
   pub second : Option TableRef
@@ -28,34 +28,33 @@ abbrev pub is_second : Option TableRef → Option Name → Bool
 is_second (Some t) (Some n) = bytes_eq n.text (qualifier t)
 is_second _ _ = false
 
--- the number of the column with this name; a name that no column has, which is refused, has the number past the last
--- column
+-- the number of the column with this name; an unknown name, which is refused, has the number after the last column
 abbrev pub column_number : List (List ℕ) → List ℕ → ℕ
 column_number names text = unwrap_or (column_of names text) (length (column_names names))
 
--- the column that is meant
+-- the column that a written column means
 abbrev pub bound_col : Scope → Col → BoundCol
 bound_col s c = record { second = is_second s.second c.table; col = column_number s.names c.name.text }
 
--- the bound atom, of what it holds
+-- the bound atom, given its bound parts
 abbrev pub bound_atom_step : Scope → Atom-F BoundAtom BoundExpr BoundFactor BoundProd BoundSigned → BoundAtom
 bound_atom_step s (Atom-F.Int n) = batom.Int n
 bound_atom_step s (Atom-F.Col c) = batom.Col (bound_col s c)
 bound_atom_step s (Atom-F.Bracket e) = batom.Bracket e
 
--- the bound sum, of its parts
+-- the bound sum, given its bound parts
 abbrev pub bound_expr_step : Expr-F BoundAtom BoundExpr BoundFactor BoundProd BoundSigned → BoundExpr
 bound_expr_step e = roll-BoundExpr (record { first = e.first; rest = e.rest })
 
--- the bound factor, of its atom
+-- the bound factor, given its bound atom
 abbrev pub bound_factor_step : Factor-F BoundAtom BoundExpr BoundFactor BoundProd BoundSigned → BoundFactor
 bound_factor_step f = roll-BoundFactor (record { minus = f.minus; atom = f.atom })
 
--- the bound product, of its factors
+-- the bound product, given its bound factors
 abbrev pub bound_prod_step : Prod-F BoundAtom BoundExpr BoundFactor BoundProd BoundSigned → BoundProd
 bound_prod_step p = roll-BoundProd (record { first = p.first; rest = p.rest })
 
--- the bound further product
+-- the bound later product of a sum, given the bound product
 abbrev pub bound_signed_step : Signed-F BoundAtom BoundExpr BoundFactor BoundProd BoundSigned → BoundSigned
 bound_signed_step p = roll-BoundSigned (record { minus = p.minus; prod = p.prod })
 

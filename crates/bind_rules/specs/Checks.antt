@@ -1,4 +1,4 @@
--- The six checks of a query over a schema, in their order, and its first fault.
+-- The six checks of a query over a schema, in order, and its first fault.
 use Rattle.std.specs.Prelude.{ℕ, Bool, false, ◌&&◌, ◌||◌, not, if◌then◌else◌}
 use Rattle.std.specs.Prelude.{List, Option, None, Some}
 use Rattle.std.specs.List.{list_any, position}
@@ -19,7 +19,7 @@ use Rattle.bind_rules.specs.Forms.{join_form, area_form}
 
 -- ---- an expression that is too wide
 
--- some expression may be too wide
+-- the fault of an expression that may be too wide, if there is one
 unfoldable pub too_wide : List (List ℕ) → Query → Option BindFault
 too_wide names q = if list_any (is_too_wide names) (all_exprs q) then Some fault.TooWide else None
 
@@ -30,11 +30,11 @@ abbrev pub is_named : Name → Option Name → Bool
 is_named n None = false
 is_named n (Some a) = bytes_eq a.text n.text
 
--- the place of the first item whose alias the key is
+-- the position of the first item whose alias is the key
 abbrev pub alias_place : Query → Col → Option ℕ
 alias_place q c = if is_some c.table then None else position (λ i. is_named c.name i.alias) (items_of q.items)
 
--- the key is a column to order by: of the table, or qualified in a join, or of a grouped query one of its keys
+-- the key is a column that the query can be ordered by: a known one, qualified in a join, and in a grouped query a key
 abbrev pub is_sortable : List (List ℕ) → Query → Col → Bool
 is_sortable names q c =
     is_known names (tables q) c && (not (is_join q) || is_some c.table) && (not (is_grouped q) || is_key q c)
@@ -46,7 +46,7 @@ order_fault names q (Some o) =
     if is_some (alias_place q o.key) || is_sortable names q o.key then None
     else Some (fault.OrderName (col_span o.key))
 
--- the order key is no column and no alias
+-- the fault of an order key that is no column and no alias
 unfoldable pub order_name : List (List ℕ) → Query → Option BindFault
 order_name names q = order_fault names q q.order
 

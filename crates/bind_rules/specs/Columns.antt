@@ -9,7 +9,7 @@ use Rattle.sql_tree.specs.declared.name.Name.{Name}
 use Rattle.sql_tree.specs.declared.query.Query.{Query}
 use Rattle.sql_tree.specs.declared.query.TableRef.{TableRef}
 
--- what a table's columns are qualified by: its alias, or else its name
+-- the qualifier of a table's columns: its alias, or else its name
 abbrev pub qualifier_by : Name → Option Name → List ℕ
 qualifier_by name None = name.text
 qualifier_by name (Some alias) = alias.text
@@ -30,15 +30,15 @@ is_join q = is_some q.second
 abbrev pub is_qualifier : List TableRef → List ℕ → Bool
 is_qualifier ts text = list_any (λ t. bytes_eq text (qualifier t)) ts
 
--- a qualifier that is written is one of these tables'
+-- a qualifier, if it is written, is that of one of these tables
 abbrev pub is_qualified_well : List TableRef → Option Name → Bool
 is_qualified_well ts None = true
 is_qualified_well ts (Some n) = is_qualifier ts n.text
 
--- the column is one of the tables' and of the schema's
+-- the column's qualifier is that of one of the tables, and its name is in the schema
 abbrev pub is_known : List (List ℕ) → List TableRef → Col → Bool
 is_known names ts c = is_qualified_well ts c.table && is_some (column_of names c.name.text)
 
--- both are one column of a query's one table
+-- both are the same column of a query of one table
 abbrev pub is_same_column : Col → Col → Bool
 is_same_column c d = bytes_eq c.name.text d.name.text

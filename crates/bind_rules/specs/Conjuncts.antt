@@ -1,5 +1,5 @@
--- The conjuncts of WHERE, as they are written: AND is taken apart, brackets are looked through, an OR of several parts
--- and a NOT stay whole.
+-- The conjuncts of WHERE, as written: AND is split and brackets are removed, but an OR of several parts and a NOT are
+-- not split.
 use Rattle.std.specs.Prelude.{ℤ, Bool, false, if◌then◌else◌, List, [], ◌∷◌, ◌++◌, map, Option, None, Some}
 use Rattle.std.specs.List.{flat_map}
 use Rattle.sql_tree.specs.declared.cond.Cond.{Cond, roll-Cond}
@@ -10,12 +10,12 @@ use Rattle.sql_tree.specs.declared.cond.Pred.TheFolds.{fold-Cond, fold-Conj, fol
 use Rattle.sql_tree.specs.declared.cond.Pred.TheOpen.{Cond-F, Conj-F, Neg-F, Pred-F}
 use Rattle.sql_tree.specs.declared.cond.Pred.TheVariants as pred
 
--- A part of a condition as it stands, and the conjuncts that it is taken apart into.
+-- A part of a condition as it is, and the conjuncts into which it is split.
 pub record Part (A : Type 0) : Type 0 where
   pub whole : A
   pub conjuncts : List Neg
 
--- a layer of a condition whose parts are taken apart
+-- a layer of a condition whose parts are split
 abbrev pub Part-F : (Type 0 → Type 0 → Type 0 → Type 0 → Type 0) → Type 0
 Part-F F = F (Part Pred) (Part Cond) (Part Conj) (Part Neg)
 
@@ -27,7 +27,7 @@ conjunct p = roll-Neg (record { not = false; pred = p })
 abbrev pub lone : Pred → Part Pred
 lone p = record { whole = p; conjuncts = conjunct p ∷ [] }
 
--- brackets are looked through
+-- the conjuncts of a predicate: brackets are removed
 abbrev pub part_at_pred : Part-F Pred-F → Part Pred
 part_at_pred (Pred-F.Bracket c) = record { whole = pred.Bracket c.whole; conjuncts = c.conjuncts }
 part_at_pred (Pred-F.Compare left op right) = lone (pred.Compare left op right)
@@ -37,15 +37,15 @@ part_at_pred (Pred-F.IsNull without value) = lone (pred.IsNull without value)
 part_at_pred (Pred-F.Area kind span args) = lone (pred.Area kind span args)
 part_at_pred (Pred-F.Chord left right strict n) = lone (pred.Chord left right strict n)
 
--- a predicate with NOT stays whole
+-- a predicate with NOT is one conjunct
 abbrev pub part_by_not : Neg → Bool → List Neg → Part Neg
 part_by_not whole without parts = record { whole = whole; conjuncts = if without then whole ∷ [] else parts }
 
--- a predicate with or without NOT
+-- the conjuncts of a predicate with or without NOT
 abbrev pub part_at_neg : Part-F Neg-F → Part Neg
 part_at_neg n = part_by_not (roll-Neg (record { not = n.not; pred = n.pred.whole })) n.not n.pred.conjuncts
 
--- AND is taken apart
+-- the conjuncts of a conjunction: AND is split
 abbrev pub part_at_conj : Part-F Conj-F → Part Conj
 part_at_conj c = record {
   whole = roll-Conj (record { first = c.first.whole; rest = map (λ p. p.whole) c.rest });
@@ -57,31 +57,31 @@ abbrev pub or_conjuncts : {A : Type 0} → Cond → List Neg → List A → List
 or_conjuncts whole parts [] = parts
 or_conjuncts whole parts (x ∷ xs) = conjunct (pred.Bracket whole) ∷ []
 
--- an OR of several parts stays whole
+-- an OR of several parts is not split
 abbrev pub part_by_or : {A : Type 0} → Cond → List Neg → List A → Part Cond
 part_by_or whole parts rest = record { whole = whole; conjuncts = or_conjuncts whole parts rest }
 
--- a condition of one part or of several
+-- the conjuncts of a condition of one part or of several
 abbrev pub part_at_cond : Part-F Cond-F → Part Cond
 part_at_cond c =
     part_by_or (roll-Cond (record { first = c.first.whole; rest = map (λ p. p.whole) c.rest })) c.first.conjuncts c.rest
 
--- a predicate taken apart
+-- a predicate, split
 unfoldable pub part_of_pred : Pred → Part Pred
 part_of_pred =
     fold-Pred (Part Pred) (Part Cond) (Part Conj) (Part Neg) part_at_pred part_at_cond part_at_conj part_at_neg
 
--- a condition taken apart
+-- a condition, split
 unfoldable pub part_of_cond : Cond → Part Cond
 part_of_cond =
     fold-Cond (Part Pred) (Part Cond) (Part Conj) (Part Neg) part_at_pred part_at_cond part_at_conj part_at_neg
 
--- a conjunction taken apart
+-- a conjunction, split
 unfoldable pub part_of_conj : Conj → Part Conj
 part_of_conj =
     fold-Conj (Part Pred) (Part Cond) (Part Conj) (Part Neg) part_at_pred part_at_cond part_at_conj part_at_neg
 
--- a predicate with or without NOT taken apart
+-- a predicate with or without NOT, split
 unfoldable pub part_of_neg : Neg → Part Neg
 part_of_neg =
     fold-Neg (Part Pred) (Part Cond) (Part Conj) (Part Neg) part_at_pred part_at_cond part_at_conj part_at_neg

@@ -11,26 +11,26 @@ use Rattle.bind_rules.specs.Checks.{bind_fault}
 abbrev pub two_columns : List (List ℕ)
 two_columns = codes "flux" ∷ codes "g" ∷ []
 
--- the bytes between two places
+-- the bytes between two positions
 abbrev pub span : (from to : ℕ) → Span
 span from to = record { from = from; to = to }
 
--- What a text comes to over the schema.
+-- The result of the checks of a text over the schema.
 pub data Judged : Type 0 where
   NoQuery : Judged
   Refused : BindFault → Judged
   Binds : Judged
 
--- a fault, or none
+-- the result for a fault, or for none
 abbrev pub by_fault : Option BindFault → Judged
 by_fault None = Binds
 by_fault (Some f) = Refused f
 
--- a query, or none
+-- the result for a query, or for none
 abbrev pub by_tree : Result Query SqlFault → Judged
 by_tree (Ok q) = by_fault (bind_fault two_columns q)
 by_tree (Err f) = NoQuery
 
--- what the text comes to
+-- the result of the text
 abbrev pub judged : List ℕ → Judged
 judged text = by_tree (tree_of text)

@@ -11,33 +11,33 @@ use Rattle.bind_rules.specs.Bounds.{Scope, bound_col}
 use Rattle.bind_rules.specs.Forms.{values_of}
 use Rattle.bind_rules.specs.Tops.{Test, Area, Equals, Listed}
 
--- ---- an expression that is one column or one int alone
+-- ---- an expression that is a single column or integer
 
--- A column, or an int.
+-- A column or an integer.
 pub data Lone : Type 0 where
   LoneCol : Col → Lone
   LoneInt : ℤ → Lone
 
--- a column or an int, where an expression is one
+-- a column or an integer, if an expression is one
 abbrev pub Alone : Type 0
 Alone = Option Lone
 
--- the first, where nothing follows it
+-- the first part, if nothing follows it
 abbrev pub first_alone : {A : Type 0} → Alone → List A → Alone
 first_alone x [] = x
 first_alone x (y ∷ ys) = None
 
--- an atom that is no bracket
+-- the column or integer of an atom that is not a bracket
 abbrev pub lone_at_atom : Atom-F Alone Alone Alone Alone Alone → Alone
 lone_at_atom (Atom-F.Int n) = Some (LoneInt n)
 lone_at_atom (Atom-F.Col c) = Some (LoneCol c)
 lone_at_atom (Atom-F.Bracket e) = None
 
--- a factor without a minus
+-- the column or integer of a factor without a minus
 abbrev pub lone_at_factor : Factor-F Alone Alone Alone Alone Alone → Alone
 lone_at_factor f = if f.minus then None else f.atom
 
--- the column or the int that an expression is, without brackets and minus
+-- the column or the integer that an expression is, without brackets and minus
 unfoldable pub lone_of : Expr → Alone
 lone_of =
     fold-Expr Alone Alone Alone Alone Alone lone_at_atom (λ e. first_alone e.first e.rest) lone_at_factor
@@ -45,17 +45,17 @@ lone_of =
 
 -- ---- id tests and area tests
 
--- it is the id of the first table
+-- the expression is the id of the first table
 abbrev pub is_first_id : Scope → Alone → Bool
 is_first_id s (Some (LoneCol c)) = not (bound_col s c).second && nat_eq (bound_col s c).col 0
 is_first_id s _ = false
 
--- the int that it is
+-- the integer, if the expression is one
 abbrev pub int_of : Alone → List ℤ
 int_of (Some (LoneInt n)) = n ∷ []
 int_of _ = []
 
--- the ids, where the left side is the id of the first table
+-- the ids, if the left side is the id of the first table
 abbrev pub ids_if : Bool → List ℤ → List (List ℤ)
 ids_if true (n ∷ ns) = (n ∷ ns) ∷ []
 ids_if _ _ = []

@@ -28,42 +28,42 @@ use Rattle.bind_rules.specs.Tops.{Test, Chord, tests_in}
 use Rattle.bind_rules.specs.Truths.{conjunct_truth, where_holds}
 use Rattle.bind_rules.specs.Wholes.{bound_cond}
 
--- the n of a chord test is no number below 0
+-- the n of a chord test is not below 0
 abbrev pub is_count : Test → Bool
 is_count (Chord left right strict n) = int_le (pos 0) n
 is_count _ = true
 
--- The limit of a query and the n of its chord tests are no numbers below 0: the grammar has no others there.
+-- The limit of a query and the n of its chord tests are not below 0: the grammar has no such numbers there.
 pub record HasCounts (q : Query) : Type 0 where
   pub limit : IsTrue (is_sound_limit q.limit)
   pub chords : IsTrue (list_all (λ f. is_count f.test) (tests_in q.cond))
 
--- so it is in the tree of a text
+-- the tree of a text has a limit and chord tests that are not below 0
 abbrev pub WhatIsReadHasCounts : Type 0
 WhatIsReadHasCounts = (text : List ℕ) (q : Query) → tree_of text ≡ Ok q → HasCounts q
 
--- what a query is bound to can be run over the schema: its columns are there, and no number is too large
+-- a bound query can be run over the schema: its columns exist, and no number is too large
 abbrev pub BoundIsSound : Type 0
 BoundIsSound =
     (names : List (List ℕ)) (q : Query) (b : Bound) → HasCounts q → bound_of names q ≡ Ok b
     → IsSound (length (column_names names)) b
 
--- the area tests and id tests of what a query is bound to are among its conditions
+-- the area tests and id tests of a bound query are among its conditions
 abbrev pub BoundIsTested : Type 0
 BoundIsTested = (names : List (List ℕ)) (q : Query) (b : Bound) → bound_of names q ≡ Ok b → IsTested b
 
--- the area that a formula tests, where it is an area test
+-- the area that a formula tests, if it is an area test
 abbrev pub area_in : Formula → List AreaTest
 area_in (LiesIn area) = area ∷ []
 area_in f = []
 
--- the area tests of what a query is bound to are all those among its conditions, in their order
+-- the area tests of a bound query are exactly those among its conditions, in order
 abbrev pub AreasAreConjuncts : Type 0
 AreasAreConjuncts =
     (names : List (List ℕ)) (q : Query) (b : Bound) → bound_of names q ≡ Ok b
     → b.areas ≡ flat_map (λ c. area_in (formula_of c)) b.conds
 
--- the id tests of what a query is bound to are all those among its conditions, in their order
+-- the id tests of a bound query are exactly those among its conditions, in order
 abbrev pub IdsAreConjuncts : Type 0
 IdsAreConjuncts =
     (names : List (List ℕ)) (q : Query) (b : Bound) → bound_of names q ≡ Ok b → b.ids ≡ flat_map id_lists b.conds
@@ -78,40 +78,40 @@ ValuesAreInRange =
 
 -- ---- the conjuncts of a condition
 
--- brackets are looked through
+-- the conjuncts of a bracket are those of its condition
 abbrev pub BracketsAreLookedThrough : Type 0
 BracketsAreLookedThrough = (c : Cond) → conjuncts_of_pred (pred.Bracket c) ≡ conjuncts c
 
--- a predicate with NOT stays whole, and another is what it is
+-- a predicate with NOT is one conjunct, and one without NOT has the conjuncts of its predicate
 abbrev pub NotStaysWhole : Type 0
 NotStaysWhole =
     (n : Neg) → conjuncts_of_neg n ≡ (if (out-Neg n).not then n ∷ [] else conjuncts_of_pred (out-Neg n).pred)
 
--- AND is taken apart
+-- the conjuncts of a conjunction are those of its parts
 abbrev pub AndIsTakenApart : Type 0
 AndIsTakenApart =
     (c : Conj) → conjuncts_of_conj c
     ≡ conjuncts_of_neg (out-Conj c).first ++ flat_map conjuncts_of_neg (out-Conj c).rest
 
--- a condition of one part is taken apart
+-- the conjuncts of a condition of one part are those of the part
 abbrev pub OnePartIsTakenApart : Type 0
 OnePartIsTakenApart = (c : Cond) → (out-Cond c).rest ≡ [] → conjuncts c ≡ conjuncts_of_conj (out-Cond c).first
 
--- an OR of several parts stays whole: it is one conjunct, in brackets
+-- an OR of several parts is not split: it is one conjunct, in brackets
 abbrev pub OrStaysWhole : Type 0
 OrStaysWhole =
     (c : Cond) (second : Conj) (others : List Conj) → (out-Cond c).rest ≡ second ∷ others
     → conjuncts c ≡ conjunct (pred.Bracket c) ∷ []
 
--- ---- what the conjuncts say
+-- ---- the truth of the conjuncts
 
--- WHERE is true of a row or a pair exactly where each of its conjuncts is
+-- WHERE is true of a row or a pair exactly if each of its conjuncts is
 abbrev pub WhereIsItsConjuncts : Type 0
 WhereIsItsConjuncts =
     (s : Scope) (p : Pick) (w : Option Cond)
     → where_holds s p w ≡ list_all (λ n. is_true (conjunct_truth s p n)) (where_conjuncts w)
 
--- a conjunct says what the condition says that it is bound to
+-- a conjunct and the condition that it is bound to have the same truth
 abbrev pub BoundConjunctsSayTheSame : Type 0
 BoundConjunctsSayTheSame =
     (s : Scope) (p : Pick) (n : Neg) (c : BoundCond) → bound_cond s n ≡ Some c → truth_of c p ≡ conjunct_truth s p n

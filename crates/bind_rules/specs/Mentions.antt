@@ -18,7 +18,7 @@ use Rattle.sql_tree.specs.declared.query.Selection.{Selection}
 use Rattle.sql_tree.specs.declared.query.Selection.TheVariants as selection
 use Rattle.bind_rules.specs.Columns.{tables}
 
--- A name that a query mentions: a column, a table's name, a name in a chord test.
+-- A name that a query mentions: a column, a table's name, or a name in a chord test.
 pub data Mention : Type 0 where
   Column : Col → Mention
   Table : Name → Mention
@@ -46,7 +46,7 @@ cols_at_factor f = f.atom
 abbrev pub cols_at_prod : Prod-F Cols Cols Cols Cols Cols → Cols
 cols_at_prod p = p.first ++ joined p.rest
 
--- the columns of a further product
+-- the columns of a later product of a sum
 abbrev pub cols_at_signed : Signed-F Cols Cols Cols Cols Cols → Cols
 cols_at_signed s = s.prod
 
@@ -73,7 +73,7 @@ mentions_at_pred (Pred-F.IsNull without value) = mentioned value
 mentions_at_pred (Pred-F.Area kind span args) = []
 mentions_at_pred (Pred-F.Chord left right strict n) = Side left ∷ Side right ∷ []
 
--- the mentions of a condition, of its parts
+-- the mentions of a condition, given those of its parts
 abbrev pub mentions_at_cond : Cond-F Mentions Mentions Mentions Mentions → Mentions
 mentions_at_cond c = c.first ++ joined c.rest
 

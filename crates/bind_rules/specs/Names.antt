@@ -1,4 +1,4 @@
--- Names that are not known, and columns of a grouped query that are no keys.
+-- Unknown names, and columns of a grouped query that are not keys.
 use Rattle.std.specs.Prelude.{ℕ, Bool, true, false, ◌&&◌, ◌||◌, not, if◌then◌else◌}
 use Rattle.std.specs.Prelude.{List, [], ◌∷◌, Option, None, Some, codes}
 use Rattle.std.specs.List.{list_any, find, flat_map}
@@ -18,26 +18,26 @@ use Rattle.bind_rules.specs.declared.fault.BindFault.TheVariants as fault
 use Rattle.bind_rules.specs.Columns.{tables, is_join, is_qualifier, is_known, is_same_column}
 use Rattle.bind_rules.specs.Mentions.{Mention, Column, Table, Side, mentions_of, columns_of, items_of}
 
--- ---- a name that is not known
+-- ---- unknown names
 
--- the mention is of nothing that is there
+-- nothing has the name of the mention
 abbrev pub is_unknown : List (List ℕ) → List TableRef → Mention → Bool
 is_unknown names ts (Column c) = not (is_known names ts c)
 is_unknown names ts (Table n) = not (bytes_eq n.text (codes "Object"))
 is_unknown names ts (Side n) = not (is_qualifier ts n.text)
 
--- where a mention stands
+-- the span of a mention
 abbrev pub span_of : Mention → Span
 span_of (Column c) = col_span c
 span_of (Table n) = n.span
 span_of (Side n) = n.span
 
--- the first name that is not known
+-- the fault of the first unknown name
 unfoldable pub unknown_name : List (List ℕ) → Query → Option BindFault
 unknown_name names q =
     option_map (λ m. fault.UnknownName (span_of m)) (find (is_unknown names (tables q)) (mentions_of q))
 
--- ---- a grouping
+-- ---- grouped queries
 
 -- the item is an aggregate
 abbrev pub is_aggregate : ItemKind → Bool
@@ -53,7 +53,7 @@ has_keys (c ∷ cs) = true
 abbrev pub is_grouped : Query → Bool
 is_grouped q = list_any (λ i. is_aggregate i.what) (items_of q.items) || has_keys q.group
 
--- the columns of an item that stand outside of an aggregate
+-- the columns of an item outside of aggregates
 abbrev pub plain_columns : ItemKind → List Col
 plain_columns (what.Plain e) = columns_of e
 plain_columns _ = []
@@ -62,14 +62,14 @@ plain_columns _ = []
 abbrev pub is_key : Query → Col → Bool
 is_key q c = list_any (is_same_column c) q.group
 
--- where the star stands, or the first column outside an aggregate that is no GROUP BY column
+-- the span of the star, or of the first column outside an aggregate that is not a GROUP BY column
 abbrev pub ungrouped : Query → Selection → Option Span
 ungrouped q (selection.Star span) = Some span
 ungrouped q (selection.List l) =
     option_map col_span
     (find (λ c. not (is_key q c)) (flat_map (λ i. plain_columns i.what) (items_of (selection.List l))))
 
--- the first place of a grouped query that has no one value for a group
+-- the fault of the first position in a grouped query that has no single value for a group
 unfoldable pub not_grouped : Query → Option BindFault
 not_grouped q =
     if not (is_join q) && is_grouped q then option_map fault.NotGrouped (ungrouped q q.items) else None

@@ -1,4 +1,4 @@
--- What further texts of worked examples are bound to: what stands at the top, aliases, and a star in a join.
+-- The bound queries of more texts of worked examples: top-level tests, aliases, and a star in a join.
 use Rattle.std.specs.Prelude.{ℕ, pos, true, false, List, [], ◌∷◌, None, Some, codes}
 use Rattle.sql_bound.specs.declared.cond.BoundCond.{roll-BoundCond}
 use Rattle.sql_bound.specs.declared.cond.BoundPred.{BoundPred}
@@ -23,11 +23,11 @@ chord_twice = codes "SELECT a.x FROM Object a,Object b WHERE chord2(a,b)<4 AND c
 abbrev pub chord_or_other : List ℕ
 chord_or_other = codes "SELECT a.x FROM Object a,Object b WHERE chord2(a,b)<4 OR a.x<0"
 
--- all rows but one
+-- a query of all rows but one
 abbrev pub not_four_text : List ℕ
 not_four_text = codes "SELECT x FROM Object WHERE NOT objectId=4"
 
--- what it is bound to
+-- the bound query of that text
 abbrev pub not_four : Bound
 not_four = record {
   shape = shape.Rows;
@@ -61,27 +61,27 @@ x_where p = record {
   limit = None;
 }
 
--- the id in brackets
+-- a query with the id in brackets
 abbrev pub bracketed_id_text : List ℕ
 bracketed_id_text = codes "SELECT x FROM Object WHERE (objectId)=4"
 
--- what it is bound to
+-- the bound query of that text
 abbrev pub four_by_filter : Bound
 four_by_filter = x_where (bound.Compare (bracketed (just_column false 0)) op.Equal (just_int 4))
 
--- the id on the right
+-- a query with the id on the right
 abbrev pub turned_id_text : List ℕ
 turned_id_text = codes "SELECT x FROM Object WHERE 4=objectId"
 
--- what it is bound to
+-- the bound query of that text
 abbrev pub four_turned : Bound
 four_turned = x_where (bound.Compare (just_int 4) op.Equal (just_column false 0))
 
--- two items of one alias, which is also a column's name
+-- a query of two items with one alias, which is also a column's name
 abbrev pub aliases_text : List ℕ
 aliases_text = codes "SELECT x AS z,y AS z FROM Object ORDER BY z"
 
--- what it is bound to
+-- the bound query of that text
 abbrev pub first_alias : Bound
 first_alias = record {
   shape = shape.Rows;
@@ -93,11 +93,11 @@ first_alias = record {
   limit = None;
 }
 
--- all columns of both tables
+-- a query of all columns of both tables
 abbrev pub star_text : List ℕ
 star_text = codes "SELECT * FROM Object a,Object b WHERE chord2(a,b)<=9"
 
--- what it is bound to
+-- the bound query of that text
 abbrev pub star_of_both : Bound
 star_of_both = record {
   shape = shape.Pairs (pos 9);

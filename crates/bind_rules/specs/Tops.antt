@@ -1,5 +1,5 @@
--- Tests of WHERE that more is asked of than whether they hold: those among its conjuncts, which stand at the top, and
--- those within its other conjuncts.
+-- Tests of WHERE that binding treats specially: those among its conjuncts, at the top level, and those inside its other
+-- conjuncts.
 use Rattle.std.specs.Prelude.{ℤ, Bool, true, false, List, [], ◌∷◌, ◌++◌, map, Option}
 use Rattle.std.specs.List.{flat_map}
 use Rattle.sql_token.specs.declared.token.Span.{Span}
@@ -40,7 +40,7 @@ test_at_pred (Pred-F.IsNull without value) = []
 test_at_pred (Pred-F.Area kind span args) = Area kind span args ∷ []
 test_at_pred (Pred-F.Chord left right strict n) = Chord left right strict n ∷ []
 
--- ---- tests at the top
+-- ---- tests at the top level
 
 -- the test of a predicate without NOT
 abbrev pub test_without : {A B C D : Type 0} → Bool → Pred-F A B C D → Tests
@@ -57,7 +57,7 @@ top_tests w = flat_map test_of (where_conjuncts w)
 
 -- ---- all tests
 
--- the tests of a predicate, of those of the condition that it holds
+-- the tests of a predicate, given those of the condition inside it
 abbrev pub within_pred : Pred-F Tests Tests Tests Tests → Tests
 within_pred (Pred-F.Bracket c) = c
 within_pred p = test_at_pred p
@@ -68,16 +68,16 @@ within =
     fold-Neg Tests Tests Tests Tests within_pred (λ c. c.first ++ joined c.rest) (λ c. c.first ++ joined c.rest)
     (λ n. n.pred)
 
--- A test, and whether it is a conjunct, at the top.
+-- A test, and whether it is a top-level conjunct.
 pub record Found : Type 0 where
   pub test : Test
   pub top : Bool
 
--- a test at the top, or not
+-- a test, marked as at the top level or not
 abbrev pub found_at : Bool → Test → Found
 found_at top t = record { test = t; top = top }
 
--- a conjunct that is a test, or the tests within another
+-- the tests of a conjunct: itself if it is a test, and else the tests inside it
 abbrev pub found_by : Tests → Tests → List Found
 found_by [] inner = map (found_at false) inner
 found_by (t ∷ ts) inner = map (found_at true) (t ∷ ts)

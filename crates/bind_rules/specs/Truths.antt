@@ -1,4 +1,5 @@
--- What a written WHERE says of a row or of a pair of rows, its chord test included: true, false, or None for unknown.
+-- The truth of a written WHERE on a row or on a pair of rows, its chord test included: true, false, or None for
+-- unknown.
 use Rattle.std.specs.Prelude.{ℤ, int_le, int_lt, is_none, Bool, true, false, if◌then◌else◌, List, [], ◌∷◌, Option, None, Some}
 use Rattle.std.specs.Option.{option_map}
 use Rattle.sky_vector.specs.Points.{chord_squared}
@@ -14,23 +15,23 @@ use Rattle.bind_rules.specs.Areas.{area_test}
 use Rattle.bind_rules.specs.Bounds.{Scope, bound_expr}
 use Rattle.bind_rules.specs.Forms.{values_of}
 
--- a truth, or with NOT its negation
+-- a truth, negated if there is a NOT
 abbrev pub not_if : Bool → Option Bool → Option Bool
 not_if without t = if without then truth_not t else t
 
--- the squared chord is at most n, or below it where the test is strict
+-- the squared chord is at most n, or below it if the test is strict
 abbrev pub is_within : Bool → ℤ → ℤ → Bool
 is_within strict n d = if strict then int_lt d n else int_le d n
 
--- a chord test of a pair; of a row alone it is unknown
+-- the truth of a chord test on a pair; on a single row it is unknown
 abbrev pub chord_truth : Pick → Bool → ℤ → Option Bool
 chord_truth p strict n = option_map (λ o. is_within strict n (chord_squared p.first.at o.at)) p.second
 
--- the truth of a layer of a condition, of the truths of its parts
+-- a layer of a condition, given the truths of its parts
 abbrev pub Truth-F : (Type 0 → Type 0 → Type 0 → Type 0 → Type 0) → Type 0
 Truth-F F = F (Option Bool) (Option Bool) (Option Bool) (Option Bool)
 
--- a predicate
+-- the truth of a predicate
 abbrev pub truth_at_pred : Scope → Pick → Truth-F Pred-F → Option Bool
 truth_at_pred s p (Pred-F.Bracket c) = c
 truth_at_pred s p (Pred-F.Compare left op right) =
@@ -46,7 +47,7 @@ truth_at_pred s p (Pred-F.Area kind span args) =
     option_map (λ a. area_holds a p.first.at) (area_test kind (values_of args))
 truth_at_pred s p (Pred-F.Chord left right strict n) = chord_truth p strict n
 
--- a predicate with or without NOT
+-- the truth of a predicate with or without NOT
 abbrev pub truth_at_neg : Truth-F Neg-F → Option Bool
 truth_at_neg n = not_if n.not n.pred
 
@@ -60,11 +61,11 @@ abbrev pub or_from : Option Bool → List (Option Bool) → Option Bool
 or_from t [] = t
 or_from t (u ∷ us) = or_from (truth_or t u) us
 
--- a conjunction
+-- the truth of a conjunction
 abbrev pub truth_at_conj : Truth-F Conj-F → Option Bool
 truth_at_conj c = and_from c.first c.rest
 
--- a condition
+-- the truth of a condition
 abbrev pub truth_at_cond : Truth-F Cond-F → Option Bool
 truth_at_cond c = or_from c.first c.rest
 
@@ -80,7 +81,7 @@ conjunct_truth s p =
     fold-Neg (Option Bool) (Option Bool) (Option Bool) (Option Bool) (truth_at_pred s p) truth_at_cond truth_at_conj
     truth_at_neg
 
--- WHERE is true, and not unknown; without a WHERE all is taken
+-- WHERE is true, and not unknown; without a WHERE every row is accepted
 abbrev pub where_holds : Scope → Pick → Option Cond → Bool
 where_holds s p None = true
 where_holds s p (Some c) = is_true (written_truth s p c)

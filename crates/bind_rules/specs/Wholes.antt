@@ -1,5 +1,5 @@
--- Conditions with columns in place of names, as they stand. A chord test has no place in a bound condition, nor has what
--- holds one; nor an area test whose arguments do not fit.
+-- Written conditions with columns in place of names. A chord test cannot be part of a bound condition, nor can a
+-- condition that contains one, nor an area test whose arguments do not fit.
 use Rattle.std.specs.Prelude.{Bool, List, [], ◌∷◌, Option, None, Some, option_to_list}
 use Rattle.std.specs.List.{flat_map}
 use Rattle.sql_bound.specs.declared.area.AreaTest.{AreaTest}
@@ -33,7 +33,7 @@ bracket (Some c) = Some (bound.Bracket c)
 abbrev pub Bound-F : (Type 0 → Type 0 → Type 0 → Type 0 → Type 0) → Type 0
 Bound-F F = F (Option BoundPred) (Option BoundAny) (Option BoundAll) (Option BoundCond)
 
--- the bound predicate, of the condition that it holds
+-- the bound predicate, given the bound condition inside it
 abbrev pub bound_at_pred : Scope → Bound-F Pred-F → Option BoundPred
 bound_at_pred s (Pred-F.Bracket c) = bracket c
 bound_at_pred s (Pred-F.Compare left op right) = Some (bound.Compare (bound_expr s left) op (bound_expr s right))
@@ -45,22 +45,22 @@ bound_at_pred s (Pred-F.IsNull without value) = Some (bound.IsNull without (boun
 bound_at_pred s (Pred-F.Area kind span args) = area_pred (area_test kind (values_of args))
 bound_at_pred s (Pred-F.Chord left right strict n) = None
 
--- one before the others, where all are there
+-- the first and the others as one list, if all are there
 abbrev pub before : {A : Type 0} → Option A → Option (List A) → Option (List A)
 before (Some x) (Some xs) = Some (x ∷ xs)
 before _ _ = None
 
--- all of them, where each is there
+-- all elements, if each is there
 abbrev pub all_there : {A : Type 0} → List (Option A) → Option (List A)
 all_there [] = Some []
 all_there (x ∷ xs) = before x (all_there xs)
 
--- a conjunction of its parts, where all are there
+-- the conjunction of the parts, if all are there
 abbrev pub conj_by : Option BoundCond → Option (List BoundCond) → Option BoundAll
 conj_by (Some c) (Some cs) = Some (roll-BoundAll (record { first = c; rest = cs }))
 conj_by _ _ = None
 
--- a condition of its parts, where all are there
+-- the condition of the parts, if all are there
 abbrev pub any_by : Option BoundAll → Option (List BoundAll) → Option BoundAny
 any_by (Some c) (Some cs) = Some (roll-BoundAny (record { first = c; rest = cs }))
 any_by _ _ = None
@@ -70,15 +70,15 @@ abbrev pub neg_by : Bool → Option BoundPred → Option BoundCond
 neg_by without None = None
 neg_by without (Some p) = Some (roll-BoundCond (record { not = without; pred = p }))
 
--- a predicate with or without NOT
+-- the bound predicate with or without NOT, given the bound predicate
 abbrev pub bound_at_neg : Bound-F Neg-F → Option BoundCond
 bound_at_neg n = neg_by n.not n.pred
 
--- a conjunction
+-- the bound conjunction, given its bound parts
 abbrev pub bound_at_conj : Bound-F Conj-F → Option BoundAll
 bound_at_conj c = conj_by c.first (all_there c.rest)
 
--- a condition
+-- the bound condition, given its bound parts
 abbrev pub bound_at_cond : Bound-F Cond-F → Option BoundAny
 bound_at_cond c = any_by c.first (all_there c.rest)
 
@@ -106,10 +106,10 @@ bound_cond s =
     fold-Neg (Option BoundPred) (Option BoundAny) (Option BoundAll) (Option BoundCond) (bound_at_pred s) bound_at_cond
     bound_at_conj bound_at_neg
 
--- the bound conjunct, where it has a place in a bound condition
+-- the bound conjunct, if it can be part of a bound condition
 abbrev pub bound_conjunct : Scope → Neg → List BoundCond
 bound_conjunct s n = option_to_list (bound_cond s n)
 
--- the bound conjuncts of WHERE; the chord test is left out
+-- the bound conjuncts of WHERE, without the chord test
 abbrev pub conds_in : Scope → Option Cond → List BoundCond
 conds_in s w = flat_map (bound_conjunct s) (where_conjuncts w)

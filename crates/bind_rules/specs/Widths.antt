@@ -1,4 +1,4 @@
--- How large the numbers of a written expression can be.
+-- Bounds on the numbers of a written expression.
 use Rattle.std.specs.Prelude.{ℕ, ◌+◌, ◌*◌, max, nat_abs, nat_lt, Bool, List, [], ◌∷◌, ◌++◌, Option, None, Some}
 use Rattle.sky_vector.specs.declared.limits.TheConstants.{NUMBER_MOST}
 use Rattle.table_rules.specs.Objects.{column_bound}
@@ -13,28 +13,29 @@ use Rattle.table_rules.specs.Names.{column_of}
 use Rattle.text_rules.specs.Readings.{joined}
 use Rattle.bind_rules.specs.Mentions.{item_exprs}
 
--- The largest size of a value, and the largest of all numbers that are computed on the way to it.
+-- The largest size of an expression's value, and the largest size of all numbers computed, intermediate results
+-- included.
 pub record Width : Type 0 where
   pub size : ℕ
   pub widest : ℕ
 
--- what is of that size, and takes nothing on the way
+-- the width of a value of this size without intermediate results
 abbrev pub just : ℕ → Width
 just n = record { size = n; widest = n }
 
--- the bound of a column, and 0 where the schema has none of that name
+-- the bound of a column, and 0 if the schema has no column of that name
 abbrev pub bound_by : Option ℕ → ℕ
 bound_by None = 0
 bound_by (Some col) = nat_abs (column_bound col)
 
--- one part behind what stands to its left
+-- the width of an operation on what is to the left and one more part
 abbrev pub and_then : (ℕ → ℕ → ℕ) → Width → Width → Width
 and_then op left right = record {
   size = op left.size right.size;
   widest = max (op left.size right.size) (max left.widest right.widest);
 }
 
--- parts taken from the left: each front of them counts
+-- the width of parts combined from the left: each prefix of them counts
 abbrev pub taken_from_left : (ℕ → ℕ → ℕ) → Width → List Width → Width
 taken_from_left op w [] = w
 taken_from_left op w (x ∷ xs) = taken_from_left op (and_then op w x) xs
@@ -57,7 +58,7 @@ width_at_factor f = f.atom
 abbrev pub width_at_prod : Prod-F Width Width Width Width Width → Width
 width_at_prod p = taken_from_left (λ a b. a * b) p.first p.rest
 
--- the width of a further product
+-- the width of a later product of a sum
 abbrev pub width_at_signed : Signed-F Width Width Width Width Width → Width
 width_at_signed s = s.prod
 
@@ -67,7 +68,7 @@ width_of names =
     fold-Expr Width Width Width Width Width (width_at_atom names) width_at_expr width_at_factor width_at_prod
     width_at_signed
 
--- some number of the expression may be above 2^100
+-- some number of the expression may be above 2^100 in size
 abbrev pub is_too_wide : List (List ℕ) → Expr → Bool
 is_too_wide names e = nat_lt NUMBER_MOST (width_of names e).widest
 

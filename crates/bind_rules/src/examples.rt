@@ -1,4 +1,4 @@
-//! Worked examples of the checks, as functions that do nothing: each ensures what the checker computes.
+//! Worked examples of the checks, stated as functions that do nothing: each ensures what the checker computes.
 
 ghost use Rattle.std.specs.Prelude.{◌≡◌, codes, Some};
 ghost use Rattle.bind_rules.specs.BoundExamples.{all_in_a_cap, bound_text, cap_text, groups_of_two};
@@ -10,8 +10,8 @@ ghost use Rattle.bind_rules.specs.TopExamples.{not_four_text, star_of_both, star
 ghost use Rattle.bind_rules.specs.declared.fault.BindFault.TheVariants.{AreaForm, JoinForm, NotGrouped, OrderName};
 ghost use Rattle.bind_rules.specs.declared.fault.BindFault.TheVariants.{TooWide, UnknownName};
 
-/// Of two unknown names the one that stands first in the text is named, be it a column or a table; a qualifier, though
-/// the column is known, and a GROUP BY column count as well.
+/// Of two unknown names the first in the text is reported, whether it is a column or a table. An unknown qualifier
+/// before a known column and an unknown GROUP BY column count as well.
 pub fn unknown_names()
     ensures column { judged (codes "SELECT mag FROM Foo") ≡ Refused (UnknownName (span 7 10)) }
     ensures table { judged (codes "SELECT x FROM Foo") ≡ Refused (UnknownName (span 14 17)) }
@@ -21,7 +21,7 @@ pub fn unknown_names()
         ≡ Refused (UnknownName (span 32 35)) }
 {}
 
-/// A column that is no key, and a star, where there is an aggregate or a GROUP BY.
+/// A column that is not a key, and a star, in a query with an aggregate or a GROUP BY.
 pub fn not_grouped()
     ensures column { judged (codes "SELECT flux,COUNT(*) FROM Object")
         ≡ Refused (NotGrouped (span 7 11)) }
@@ -30,7 +30,7 @@ pub fn not_grouped()
     ensures qualified { judged (codes "SELECT Object.g,MAX(flux) FROM Object GROUP BY g") ≡ Binds }
 {}
 
-/// A join has two aliases and one chord test of both at the top, where brackets may stand around it.
+/// A join has two aliases and one top-level chord test of both. Brackets round the test are allowed.
 pub fn join_forms()
     ensures brackets { judged (codes "SELECT a.x FROM Object a,Object b WHERE (chord2(b,a)<4)")
         ≡ Binds }
@@ -46,13 +46,13 @@ pub fn join_forms()
         ≡ Refused JoinForm }
 {}
 
-/// A second chord test is one too many, and under OR it is not at the top.
+/// A second chord test is one too many, and a chord test under OR is not at the top level.
 pub fn chords_of_a_join()
     ensures twice { judged chord_twice ≡ Refused JoinForm }
     ensures under_or { judged chord_or_other ≡ Refused JoinForm }
 {}
 
-/// A cap's centre goes to 2^29 and its n to 2^62, and neither past them; n is not below 0.
+/// A cap's centre is within 2^29 and its n within 2^62, both included. Its n is not below 0.
 pub fn limits_of_a_cap()
     ensures centre { judged (codes "SELECT x FROM Object WHERE area_cap(536870912,-536870912,0,0)")
         ≡ Binds }
@@ -68,7 +68,7 @@ pub fn limits_of_a_cap()
         ≡ Refused (AreaForm (span 27 35)) }
 {}
 
-/// An area test stands at the top, with as many arguments as it takes, and a box turns to the left.
+/// An area test is at the top level and has the number of arguments of its function. A box turns to the left.
 pub fn area_forms()
     ensures negated { judged (codes "SELECT x FROM Object WHERE NOT area_band(1,2)")
         ≡ Refused (AreaForm (span 31 40)) }
@@ -79,14 +79,14 @@ pub fn area_forms()
     ensures left_turn { judged (codes "SELECT x FROM Object WHERE area_box(0,1,1,0,0,1)") ≡ Binds }
 {}
 
-/// Each front of a product counts.
+/// Each prefix of a product counts.
 pub fn too_wide()
     ensures product { judged (codes "SELECT objectId*flux FROM Object") ≡ Refused TooWide }
     ensures front { judged (codes "SELECT flux*flux*flux*0 FROM Object") ≡ Refused TooWide }
     ensures zero_first { judged (codes "SELECT 0*flux*flux*flux FROM Object") ≡ Binds }
 {}
 
-/// The order key is an alias or a column, of a grouped query one of its keys.
+/// The order key is an alias or a column. In a grouped query such a column is one of the keys.
 pub fn order_keys()
     ensures unknown { judged (codes "SELECT x FROM Object ORDER BY mag")
         ≡ Refused (OrderName (span 30 33)) }
@@ -95,7 +95,7 @@ pub fn order_keys()
         ≡ Refused (OrderName (span 50 51)) }
 {}
 
-/// An equation with the id is a filter and an id test; an order key is an alias before it is a column.
+/// An equation with the id is a filter and an id test. An order key is an alias if there is one, and else a column.
 pub fn bound_to_rows()
     ensures { bound_text one_id_text ≡ Some one_id }
 {}
@@ -106,12 +106,12 @@ pub fn bound_without_id_tests()
     ensures turned { bound_text turned_id_text ≡ Some four_turned }
 {}
 
-/// A strict chord test is a limit one smaller; an id of the second table is no id test.
+/// A strict chord test becomes a limit one smaller. A test of the second table's id is not an id test.
 pub fn bound_to_pairs()
     ensures { bound_text strict_pairs_text ≡ Some strict_pairs }
 {}
 
-/// A grouping with an id list and a band.
+/// A grouped query with an id list and a band.
 pub fn bound_to_groups()
     ensures { bound_text groups_text ≡ Some groups_of_two }
 {}
@@ -126,7 +126,7 @@ pub fn bound_to_all_but_one()
     ensures { bound_text not_four_text ≡ Some not_four }
 {}
 
-/// An order key is an alias before it is a column, and the first of equal aliases.
+/// An order key is an alias rather than a column, and the first of equal aliases.
 pub fn bound_to_the_first_alias()
     ensures { bound_text aliases_text ≡ Some first_alias }
 {}

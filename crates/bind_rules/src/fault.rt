@@ -1,4 +1,4 @@
-//! What may be wrong with a query over a schema.
+//! The faults of a query over a schema.
 
 use sql_token::Span;
 use thiserror::Error;
@@ -6,16 +6,16 @@ use thiserror::Error;
 /// The first fault of a query over a schema. A span is a part of the query's text.
 #[derive(Clone, Copy, Debug, PartialEq, Eq, Error)]
 pub enum BindFault {
-    /// A table that is not there, a column that the schema does not have, or a qualifier that no table has.
+    /// A table that does not exist, a column that the schema does not have, or a qualifier that no table has.
     #[error("unknown name")]
     UnknownName { span: Span },
-    /// A column, or a star, that a grouping does not tell.
+    /// A column or a star of a grouped query that the keys do not determine.
     #[error("not grouped")]
     NotGrouped { span: Span },
-    /// Two tables and not exactly the form of a join, or one table and a chord test.
+    /// Two tables that do not satisfy the rules of a join, or one table and a chord test.
     #[error("join form")]
     JoinForm,
-    /// An area test at a place, or with arguments, that it cannot have.
+    /// An area test at a position, or with arguments, that it cannot have.
     #[error("area form")]
     AreaForm { span: Span },
     /// An expression whose values could be above 2^100.

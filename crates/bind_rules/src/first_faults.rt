@@ -1,12 +1,12 @@
-//! Worked examples of which fault comes first, where a text has more than one, as functions that do nothing.
+//! Worked examples of the first fault of a text that has more than one, stated as functions that do nothing.
 
 ghost use Rattle.std.specs.Prelude.{◌≡◌, codes};
 ghost use Rattle.bind_rules.specs.Examples.{Refused, judged, span};
 ghost use Rattle.bind_rules.specs.declared.fault.BindFault.TheVariants.{AreaForm, JoinForm, NotGrouped, OrderName};
 ghost use Rattle.bind_rules.specs.declared.fault.BindFault.TheVariants.{TooWide, UnknownName};
 
-/// A name that is not known, a grouping, the form of a join, an area test, the width and the order key are judged in
-/// this order: each text has the fault that is told and a later one.
+/// The checks are, in this order: unknown names, grouping, the rules of a join, area tests, widths and the order key.
+/// Each text has the fault that is reported and a later one.
 pub fn checks_in_their_order()
     ensures name { judged (codes "SELECT mag,COUNT(*) FROM Object")
         ≡ Refused (UnknownName (span 7 10)) }
@@ -20,7 +20,7 @@ pub fn checks_in_their_order()
         ≡ Refused TooWide }
 {}
 
-/// A name in a chord test is looked up before the form of the join, and a table's name before WHERE.
+/// A name in a chord test is checked before the rules of the join, and a table's name before WHERE.
 pub fn names_in_their_order()
     ensures side { judged (codes "SELECT a.x FROM Object a,Object b WHERE chord2(a,c)<4")
         ≡ Refused (UnknownName (span 49 50)) }
@@ -28,7 +28,7 @@ pub fn names_in_their_order()
         ≡ Refused (UnknownName (span 14 18)) }
 {}
 
-/// Of two columns the first that is no key is named, and of two bad area tests the first.
+/// Of two columns that are not keys the first is reported, and of two bad area tests the first.
 pub fn first_of_its_kind()
     ensures column { judged (codes "SELECT flux,x,COUNT(*) FROM Object GROUP BY x")
         ≡ Refused (NotGrouped (span 7 11)) }
@@ -36,7 +36,7 @@ pub fn first_of_its_kind()
         ≡ Refused (AreaForm (span 27 36)) }
 {}
 
-/// The aliases of a join are two, and not equal.
+/// A join has two aliases, and they differ.
 pub fn aliases_of_a_join()
     ensures equal { judged (codes "SELECT a.x FROM Object a,Object a WHERE chord2(a,a)<4")
         ≡ Refused JoinForm }
@@ -44,7 +44,7 @@ pub fn aliases_of_a_join()
         ≡ Refused JoinForm }
 {}
 
-/// The order key of a join is qualified, and a key with a qualifier is no alias.
+/// The order key of a join is qualified, and a key with a qualifier is not an alias.
 pub fn keys_with_a_qualifier()
     ensures bare { judged (codes "SELECT a.x FROM Object a,Object b WHERE chord2(a,b)<4 ORDER BY x")
         ≡ Refused (OrderName (span 63 64)) }

@@ -1,4 +1,4 @@
--- What a single block says, by how its query ends, and what explains a query.
+-- The content of a single block by the end of its query, and of an explain block.
 use Rattle.std.specs.Prelude.{◌≡◌, ◌↔◌, ℕ, ◌+◌, ◌<◌, false, List, [], ◌++◌, length, None, Some, Ok, codes}
 use Rattle.table_rules.specs.Objects.{Catalogue}
 use Rattle.sky_rules.specs.Partition.{Partition}
@@ -24,8 +24,8 @@ use Rattle.transcript_rules.specs.ChunkLines.{chunk_line, chunk_order_names, chu
 use Rattle.transcript_rules.specs.MergeLines.{merge_line, merge_order_texts}
 use Rattle.transcript_rules.specs.Explained.{chunks_line, explain_block}
 
--- the block of a query that is understood and has an answer, where it ends answered: the table of the answer under the
--- headings of its tree, with the size of its plan
+-- the block of a query that binds, has an answer and ends answered is the table of the answer under the headings of its
+-- tree, with the size of its plan
 abbrev pub AnsweredIsItsTable : Type 0
 AnsweredIsItsTable =
     (g : Partition) (c : Catalogue) (k : ℕ) (text : Bytes) (u : Understood) (rows : List (List Value))
@@ -33,25 +33,25 @@ AnsweredIsItsTable =
     → block g c k text Answered
     ≡ number_line k ++ table_lines (headings c.names u.tree) rows (length (plan_of g c.objects u.bound))
 
--- the block of a query that is refused, where it ends refused: the line of its refusal
+-- the block of a query that is refused and ends refused is the line of its refusal
 abbrev pub RefusedIsItsLine : Type 0
 RefusedIsItsLine =
     (g : Partition) (c : Catalogue) (k : ℕ) (text : Bytes) (why : Refusal) → refusal_of g c text ≡ Some why
     → block g c k text Refused ≡ number_line k ++ refusal_line text why
 
--- the block of a query that ends cancelled: this word, whatever the query is
+-- the block of a query that ends cancelled is this line, whatever the query is
 abbrev pub CancelledIsItsLine : Type 0
 CancelledIsItsLine =
     (g : Partition) (c : Catalogue) (k : ℕ) (text : Bytes)
     → block g c k text Cancelled ≡ number_line k ++ line (codes "cancelled")
 
--- the block of a query that ends out of memory: these words, whatever the query is
+-- the block of a query that ends out of memory is this line, whatever the query is
 abbrev pub SpentIsItsLine : Type 0
 SpentIsItsLine =
     (g : Partition) (c : Catalogue) (k : ℕ) (text : Bytes)
     → block g c k text Spent ≡ number_line k ++ line (codes "out of memory")
 
--- the block that explains a query which is understood and not refused before it is run: its three lines
+-- the explain block of a query that binds and is not refused before it is run is its three lines
 abbrev pub ExplainedIsItsPlan : Type 0
 ExplainedIsItsPlan =
     (g : Partition) (c : Catalogue) (k : ℕ) (text : Bytes) (u : Understood) → understood c.names text ≡ Ok u
@@ -60,13 +60,13 @@ ExplainedIsItsPlan =
     ≡ number_line k ++ (chunk_line c.names u.tree (chunk_query_of u.bound)
     ++ (merge_line (merge_plan_of u.bound) ++ chunks_line (plan_of g c.objects u.bound)))
 
--- the block that explains a query which is refused before it is run: the line of its refusal
+-- the explain block of a query that is refused before it is run is the line of its refusal
 abbrev pub ExplainedIsItsRefusal : Type 0
 ExplainedIsItsRefusal =
     (g : Partition) (c : Catalogue) (k : ℕ) (text : Bytes) (why : Refusal) → early_refusal g c text ≡ Some why
     → explain_block g c k text ≡ number_line k ++ refusal_line text why
 
--- a query has work exactly where it is not refused before it is run and its plan has chunks
+-- a query has work exactly if it is not refused before it is run and its plan has chunks
 abbrev pub WorkIsAPlan : Type 0
 WorkIsAPlan =
     (g : Partition) (c : Catalogue) (text : Bytes) (u : Understood) → understood c.names text ≡ Ok u

@@ -22,24 +22,24 @@ abbrev pub answer_lines : List Bytes → Answer → ℕ → Bytes
 answer_lines headings (Ok rows) chunks = table_lines headings rows chunks
 answer_lines headings (Err total) chunks = []
 
--- the lines of what is understood: its answer over the flat table, and the size of its plan
+-- the lines of a query that binds: its answer over the flat table, and the size of its plan
 abbrev pub answered_lines : Partition → Catalogue → Result Understood Refusal → Bytes
 answered_lines g c (Ok u) =
     answer_lines (headings c.names u.tree) (flat_answer c.objects u.bound) (length (plan_of g c.objects u.bound))
 answered_lines g c (Err why) = []
 
--- the line of a refusal, where there is one
+-- the line of a refusal, if there is one
 abbrev pub refused_lines : Bytes → Option Refusal → Bytes
 refused_lines text None = []
 refused_lines text (Some why) = refusal_line text why
 
--- the lines of a query that ends so
+-- the lines of a query with the given end
 abbrev pub end_lines : Partition → Catalogue → Bytes → EndKind → Bytes
 end_lines g c text Answered = answered_lines g c (understood c.names text)
 end_lines g c text Refused = refused_lines text (refusal_of g c text)
 end_lines g c text Cancelled = line (codes "cancelled")
 end_lines g c text Spent = line (codes "out of memory")
 
--- the block of query k, which has this line and ends so
+-- the block of query k, which has this line and this end
 unfoldable pub block : Partition → Catalogue → ℕ → Bytes → EndKind → Bytes
 block g c k text end = number_line k ++ end_lines g c text end

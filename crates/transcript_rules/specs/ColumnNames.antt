@@ -7,25 +7,25 @@ use Rattle.sql_bound.specs.declared.query.Shape.TheVariants.{Rows, Pairs, Groups
 use Rattle.sql_rules.specs.PrintedExprs.{Bytes}
 use Rattle.transcript_rules.specs.Tables.{by_commas}
 
--- the name of the column at a place, from 0
+-- the name of the column at a position, from 0
 abbrev pub column_name : ℕ → Bytes
 column_name place = codes "c" ++ decimal (place + 1)
 
--- the names of so many columns from a place on
+-- the names of the given number of columns from a position on
 abbrev pub place_names : ℕ → ℕ → List Bytes
 place_names place count = map column_name (range_with_len place count)
 
--- words and what follows them parted by commas, where anything does
+-- words followed by texts with commas between them, or nothing if there are no texts
 abbrev pub clause : Bytes → List Bytes → Bytes
 clause word [] = []
 clause word (text ∷ texts) = word ++ by_commas (text ∷ texts)
 
--- how many ids stand behind the items of a chunk query
+-- the number of ids after the items of a chunk query
 abbrev pub id_count : Shape → ℕ
 id_count Rows = 1
 id_count (Pairs limit) = 2
 id_count (Groups keys) = 0
 
--- the names of the ids that stand behind so many items
+-- the names of the ids that follow the given number of items
 abbrev pub id_names : ℕ → Shape → List Bytes
 id_names items shape = place_names items (id_count shape)

@@ -23,7 +23,7 @@ use Rattle.answer_rules.specs.declared.value.Value.{Value}
 use Rattle.answer_rules.specs.declared.value.Value.TheVariants.{Null, Whole, Fixed4}
 use Rattle.transcript_rules.specs.Written.{own, item, named, items, called, says, each, some_of, by, query}
 
--- a name, wherever it stands
+-- a name without a span
 abbrev pub word : Bytes → Name
 word text = named_at text 0 0
 
@@ -56,7 +56,7 @@ pairs_limited limit = record {
   limit = limit;
 }
 
--- two items of rows, in descending order of a third column, the first two
+-- two items of rows, in descending order of a third column, the first two rows
 abbrev pub rows_merged : MergePlan
 rows_merged = record {
   shape = Rows;

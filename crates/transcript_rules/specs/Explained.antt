@@ -1,4 +1,4 @@
--- What explains the queries of a script: of each the chunk query, the merge and the chunks, with nothing run.
+-- The explain text of a script: for each query the chunk query, the merge and the chunks, with nothing run.
 use Rattle.std.specs.Prelude.{ℕ, ◌+◌, List, [], ◌∷◌, ◌++◌, Option, None, Some, Result, Ok, Err, codes}
 use Rattle.std.specs.Fmt.{decimal}
 use Rattle.std.specs.List.{flat_map}
@@ -16,11 +16,11 @@ use Rattle.text_rules.specs.Readings.{joined}
 use Rattle.transcript_rules.specs.ChunkLines.{chunk_line}
 use Rattle.transcript_rules.specs.MergeLines.{merge_line}
 
--- the chunks of a plan, each behind a space
+-- the chunks of a plan, each after a space
 abbrev pub chunks_line : List ℕ → Bytes
 chunks_line chunks = line (codes "chunks:" ++ flat_map (λ c. codes " " ++ decimal c) chunks)
 
--- the three lines of a query that is understood
+-- the three lines of a query that binds
 abbrev pub plan_lines : Partition → Catalogue → Result Understood Refusal → Bytes
 plan_lines g c (Ok u) =
     chunk_line c.names u.tree (chunk_query_of u.bound)
@@ -32,19 +32,19 @@ abbrev pub explain_lines : Partition → Catalogue → Bytes → Option Refusal 
 explain_lines g c text (Some why) = refusal_line text why
 explain_lines g c text None = plan_lines g c (understood c.names text)
 
--- the block that explains query k, which has this line
+-- the explain block of query k, which has this line
 unfoldable pub explain_block : Partition → Catalogue → ℕ → Bytes → Bytes
 explain_block g c k text = number_line k ++ explain_lines g c text (early_refusal g c text)
 
--- the blocks that explain these queries, of which the first has this number
+-- the explain blocks of these queries, the first of which has this number
 abbrev pub explain_blocks_from : Partition → Catalogue → ℕ → List Bytes → List Bytes
 explain_blocks_from g c k [] = []
 explain_blocks_from g c k (text ∷ texts) = explain_block g c k text ∷ explain_blocks_from g c (k + 1) texts
 
--- the blocks that explain the queries of a script, numbered from 1
+-- the explain blocks of the queries of a script, numbered from 1
 abbrev pub explain_blocks_of : Partition → Catalogue → ScriptView → List Bytes
 explain_blocks_of g c s = explain_blocks_from g c 1 (query_lines s)
 
--- the text that explains a script, over a sky plan and a catalogue
+-- the explain text of a script, over a sky plan and a catalogue
 unfoldable pub explained : Partition → Catalogue → ScriptView → Bytes
 explained g c s = joined (explain_blocks_of g c s)

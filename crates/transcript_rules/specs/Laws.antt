@@ -1,4 +1,4 @@
--- What holds of every transcript, and of every text that explains a script.
+-- Facts about every transcript, and about every explain text.
 use Rattle.std.specs.Prelude.{◌≡◌, ◌⊎◌, ℕ, ◌+◌, true, false, List, ◌++◌, length, None, Some, Ok, slice_get, codes}
 use Rattle.table_rules.specs.Objects.{Catalogue}
 use Rattle.sky_rules.specs.Partition.{Partition}
@@ -20,7 +20,7 @@ use Rattle.transcript_rules.specs.Blocks.{number_line, block}
 use Rattle.transcript_rules.specs.Transcripts.{blocks_of, judged_of, FitEnds}
 use Rattle.transcript_rules.specs.Explained.{explain_block, explain_blocks_of}
 
--- Query i, counted from 0, has this line, ends so, and has this block in a transcript whose ends fit.
+-- Query i, counted from 0, has this line, this end, and this block in a transcript whose ends fit.
 pub record IsBlock (workers : ℕ) (g : Partition) (c : Catalogue) (s : ScriptView) (ends : List EndKind) (i : ℕ)
     (text : Bytes) (end : EndKind) (block_text : Bytes) : Type 0 where
   pub fits : FitEnds workers g c s ends
@@ -28,7 +28,7 @@ pub record IsBlock (workers : ℕ) (g : Partition) (c : Catalogue) (s : ScriptVi
   pub ended : slice_get ends i ≡ Some end
   pub stands : slice_get (blocks_of g c s ends) i ≡ Some block_text
 
--- The text is the line `query K` and what follows it.
+-- The text is the line `query K` followed by the rest.
 pub record Numbered (k : ℕ) (text : Bytes) : Type 0 where
   pub rest : Bytes
   pub begins : text ≡ number_line k ++ rest
@@ -42,7 +42,7 @@ pub record IsTable (g : Partition) (c : Catalogue) (k : ℕ) (text block_text : 
   pub shows : block_text
       ≡ number_line k ++ table_lines (headings c.names query.tree) rows (length (plan_of g c.objects query.bound))
 
--- The text is the block of a query that is refused: it has this reason, and the text tells it.
+-- The text is the block of a query that is refused: the query has this reason, and the text reports it.
 pub record IsRefusal (g : Partition) (c : Catalogue) (k : ℕ) (text block_text : Bytes) : Type 0 where
   pub why : Refusal
   pub refused : refusal_of g c text ≡ Some why
@@ -54,20 +54,20 @@ pub record AreAlike (k n : ℕ) (first second : Bytes) : Type 0 where
   pub one : first ≡ number_line k ++ rest
   pub other : second ≡ number_line n ++ rest
 
--- the text is the block of a query that shows no rows: it is refused for this, cancelled, or out of memory
+-- the text is the block of a query that shows no rows: it is refused for this reason, cancelled, or out of memory
 abbrev pub HasNoRows : ℕ → Bytes → Refusal → Bytes → Type 0
 HasNoRows k text why block_text =
     (block_text ≡ number_line k ++ refusal_line text why)
     ⊎ (block_text ≡ number_line k ++ line (codes "cancelled"))
     ⊎ (block_text ≡ number_line k ++ line (codes "out of memory"))
 
--- where the ends fit there is one block for each query
+-- if the ends fit, there is one block for each query
 abbrev pub OneBlockEach : Type 0
 OneBlockEach =
     (workers : ℕ) (g : Partition) (c : Catalogue) (s : ScriptView) (ends : List EndKind) → FitEnds workers g c s ends
     → length (blocks_of g c s ends) ≡ query_count s.steps
 
--- the blocks stand in the order of the script, each that of its query's line and end
+-- the blocks are in the order of the script, each that of its query's line and end
 abbrev pub BlocksInOrder : Type 0
 BlocksInOrder =
     (g : Partition) (c : Catalogue) (s : ScriptView) (ends : List EndKind) (i : ℕ) (text : Bytes) (end : EndKind)
@@ -99,7 +99,7 @@ AnsweredShowsItsTable =
     (workers : ℕ) (g : Partition) (c : Catalogue) (s : ScriptView) (ends : List EndKind) (i : ℕ) (text : Bytes)
     (block_text : Bytes) → IsBlock workers g c s ends i text Answered block_text → IsTable g c (i + 1) text block_text
 
--- a query that ends refused has a reason, which its block tells
+-- a query that ends refused has a reason, which its block reports
 abbrev pub RefusedHasItsReason : Type 0
 RefusedHasItsReason =
     (workers : ℕ) (g : Partition) (c : Catalogue) (s : ScriptView) (ends : List EndKind) (i : ℕ) (text : Bytes)
@@ -113,7 +113,7 @@ CancelledIsAskedFor =
     (block_text : Bytes) → IsBlock workers g c s ends i text Cancelled block_text
     → (has_cancel s.steps (i + 1) ≡ true) × (has_work (judged_of g c text) ≡ true)
 
--- a query without a refusal, and without a cancel before any wait for it, ends answered, unless it wants for memory
+-- a query without a refusal, and without a cancel before any wait for it, ends answered, unless it runs out of memory
 abbrev pub AnsweredUnlessCancelledOrSpent : Type 0
 AnsweredUnlessCancelledOrSpent =
     (workers : ℕ) (g : Partition) (c : Catalogue) (s : ScriptView) (ends : List EndKind) (i : ℕ) (text : Bytes)
@@ -127,12 +127,12 @@ EqualQueriesAreAlike =
     (end : EndKind) (first second : Bytes) → IsBlock workers g c s ends i text end first
     → IsBlock workers g c s ends j text end second → AreAlike (i + 1) (j + 1) first second
 
--- a script is explained by one block for each query
+-- an explain text has one block for each query
 abbrev pub OneExplainedEach : Type 0
 OneExplainedEach =
     (g : Partition) (c : Catalogue) (s : ScriptView) → length (explain_blocks_of g c s) ≡ query_count s.steps
 
--- the blocks that explain a script stand in its order, each that of its query's line
+-- the blocks of an explain text are in the order of the script, each that of its query's line
 abbrev pub ExplainedInOrder : Type 0
 ExplainedInOrder =
     (g : Partition) (c : Catalogue) (s : ScriptView) (i : ℕ) (text : Bytes) → slice_get (query_lines s) i ≡ Some text

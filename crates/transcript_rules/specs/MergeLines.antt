@@ -1,5 +1,5 @@
--- The line that explains how the pieces of a query become its answer: the merge over the chunk query's columns, which
--- are named c1, c2 and so on.
+-- The line that explains how the partial results of a query become its answer: the merge over the chunk query's
+-- columns, which are named c1, c2 and so on.
 use Rattle.std.specs.Prelude.{ℕ, ◌+◌, List, [], ◌∷◌, ◌++◌, map, length, Option, None, Some, unwrap_or, slice_get}
 use Rattle.std.specs.Prelude.{if◌then◌else◌, codes}
 use Rattle.std.specs.Fmt.{signed_decimal}
@@ -26,25 +26,25 @@ use Rattle.transcript_rules.specs.Tables.{by_commas}
 
 -- ---- a plain item of a grouped query
 
--- an atom, of the text that it holds; a column is written as that of the first key that is the same
+-- an atom, given the text of its expression; a column is written as that of the first equal key
 abbrev pub key_atom : List BoundCol → BoundAtom-F Bytes Bytes Bytes Bytes Bytes → Bytes
 key_atom keys (BoundAtom-F.Int n) = signed_decimal n
 key_atom keys (BoundAtom-F.Col c) = column_name (key_place keys c)
 key_atom keys (BoundAtom-F.Bracket e) = in_brackets e
 
--- a sum, of the texts of its parts
+-- a sum, given the texts of its parts
 abbrev pub sum_text : BoundExpr-F Bytes Bytes Bytes Bytes Bytes → Bytes
 sum_text e = e.first ++ behind_each [] e.rest
 
--- a factor, of the text of its atom
+-- a factor, given the text of its atom
 abbrev pub factor_text : BoundFactor-F Bytes Bytes Bytes Bytes Bytes → Bytes
 factor_text f = text_if f.minus (codes "-") ++ f.atom
 
--- a product, of the texts of its factors
+-- a product, given the texts of its factors
 abbrev pub product_text : BoundProd-F Bytes Bytes Bytes Bytes Bytes → Bytes
 product_text p = p.first ++ behind_each (codes "*") p.rest
 
--- a further product of a sum, of its text
+-- a later product of a sum, given its text
 abbrev pub signed_text : BoundSigned-F Bytes Bytes Bytes Bytes Bytes → Bytes
 signed_text s = (if s.minus then codes "-" else codes "+") ++ s.prod
 
@@ -55,11 +55,11 @@ key_expr_text keys =
 
 -- ---- merged items
 
--- a word and a column in brackets
+-- a function's name and a column in brackets
 abbrev pub call : Bytes → ℕ → Bytes
 call word place = word ++ in_brackets (column_name place)
 
--- the merged item of a grouped query by these keys, whose columns stand before those of the aggregates
+-- the merged item of a grouped query by these keys, whose columns precede those of the aggregates
 abbrev pub merged_over : List BoundCol → MergeItem → Bytes
 merged_over keys (merged.Column n) = column_name n
 merged_over keys (merged.OfKeys e) = key_expr_text keys e
@@ -76,24 +76,24 @@ merged_texts m = map (merged_over (keys_by m.shape)) m.items
 
 -- ---- GROUP BY and ORDER BY
 
--- what ties are ordered by: the ids behind the items of rows and pairs, and all keys of a grouped query
+-- the columns that order ties: the ids after the items of rows and pairs, and all keys of a grouped query
 abbrev pub tie_names : MergePlan → Shape → List Bytes
 tie_names m Rows = id_names (length m.items) Rows
 tie_names m (Pairs limit) = id_names (length m.items) (Pairs limit)
 tie_names m (Groups keys) = place_names 0 (length keys)
 
--- the order key: the column behind the ids, a merged item, or a key's column
+-- the order key: the column after the ids, a merged item, or a key's column
 abbrev pub order_key_text : MergePlan → MergeKey → Bytes
 order_key_text m ChunkKey = column_name (length m.items + id_count m.shape)
 order_key_text m (Item place) = unwrap_or (slice_get (merged_texts m) place) []
 order_key_text m (Key place) = column_name place
 
--- the order key and its way, where there is one
+-- the order key, and DESC if it is descending, or nothing without an order
 abbrev pub order_key_texts : MergePlan → Option MergeOrder → List Bytes
 order_key_texts m None = []
 order_key_texts m (Some o) = (order_key_text m o.key ++ text_if o.down (codes " DESC")) ∷ []
 
--- the order of the merge: the key where there is one, and then what ties are ordered by
+-- the order of the merge: the key if there is one, and then the columns that order ties
 abbrev pub merge_order_texts : MergePlan → List Bytes
 merge_order_texts m = order_key_texts m m.order ++ tie_names m m.shape
 

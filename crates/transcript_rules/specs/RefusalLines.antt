@@ -1,4 +1,4 @@
--- The line that tells why a query is refused.
+-- The line that reports why a query is refused.
 use Rattle.std.specs.Prelude.{◌++◌, codes, slice_range}
 use Rattle.std.specs.Fmt.{decimal, signed_decimal}
 use Rattle.sql_token.specs.declared.token.Span.{Span}
@@ -12,15 +12,15 @@ use Rattle.answer_rules.specs.declared.refusal.TotalOut.{TotalOut}
 use Rattle.transcript_rules.specs.declared.refusal.Refusal.{Refusal}
 use Rattle.transcript_rules.specs.declared.refusal.Refusal.TheVariants as refusal
 
--- a text as a line
+-- a text followed by a line feed
 abbrev pub line : Bytes → Bytes
 line text = text ++ codes "\n"
 
--- the part of a query's line that a span is, as it is written there
+-- the part of a query's line in a span, as it is written there
 abbrev pub quoted : Bytes → Span → Bytes
 quoted text span = slice_range text span.from span.to
 
--- what is wrong with a text that is no query; places are counted in bytes from 0
+-- the fault of a text that is no query; positions are offsets in bytes from 0
 abbrev pub sql_words : SqlFault → Bytes
 sql_words (sql.BadByte place) = codes "bad byte at " ++ decimal place
 sql_words (sql.Literal place) = codes "number too large at " ++ decimal place
@@ -28,7 +28,7 @@ sql_words sql.TooMany = codes "more than 2048 tokens"
 sql_words (sql.Depth place) = codes "brackets too deep at " ++ decimal place
 sql_words sql.Syntax = codes "not a query"
 
--- what does not fit the schema
+-- the fault of a query over the schema
 abbrev pub bind_words : Bytes → BindFault → Bytes
 bind_words text (bind.UnknownName span) = codes "unknown name " ++ quoted text span
 bind_words text (bind.NotGrouped span) = quoted text span ++ codes " is not grouped"
@@ -45,13 +45,13 @@ radius_words r = codes "radius " ++ (signed_decimal r.asked ++ (codes " above " 
 abbrev pub total_words : TotalOut → Bytes
 total_words t = codes "total " ++ (signed_decimal t.total ++ codes " out of range")
 
--- why a query is refused
+-- the reason of a refusal
 abbrev pub refusal_words : Bytes → Refusal → Bytes
 refusal_words text (refusal.Sql fault) = sql_words fault
 refusal_words text (refusal.Bind fault) = bind_words text fault
 refusal_words text (refusal.Radius r) = radius_words r
 refusal_words text (refusal.Total t) = total_words t
 
--- the line of a refused query, of its own line and the refusal
+-- the line of a refused query, given its own line and the refusal
 unfoldable pub refusal_line : Bytes → Refusal → Bytes
 refusal_line text why = line (codes "refused: " ++ refusal_words text why)

@@ -14,26 +14,26 @@ use Rattle.answer_rules.specs.Plans.{radius_refusal}
 use Rattle.transcript_rules.specs.declared.refusal.Refusal.{Refusal}
 use Rattle.transcript_rules.specs.declared.refusal.Refusal.TheVariants as refusal
 
--- A query as it is understood: its tree, and what the tree is bound to over the schema.
+-- A query that binds: its tree, and its bound query over the schema.
 pub record Understood : Type 0 where
   pub tree : Query
   pub bound : Bound
 
--- a tree with what it is bound to, or its first fault over the schema
+-- a tree with its bound query, or its first fault over the schema
 abbrev pub with_bound : Query → Result Bound BindFault → Result Understood Refusal
 with_bound q (Ok b) = Ok (record { tree = q; bound = b })
 with_bound q (Err fault) = Err (refusal.Bind fault)
 
--- what is understood of a tree over the schema of these extra columns, or the fault of a text that has no tree
+-- a tree with its bound query over the schema of these extra columns, or the fault of a text that has no tree
 abbrev pub with_tree : List (List ℕ) → Result Query SqlFault → Result Understood Refusal
 with_tree names (Ok q) = with_bound q (bound_of names q)
 with_tree names (Err fault) = Err (refusal.Sql fault)
 
--- what is understood of a query's line over the schema of these extra columns, or why nothing is
+-- the tree and the bound query of a query's line over the schema of these extra columns, or why there are none
 unfoldable pub understood : List (List ℕ) → List ℕ → Result Understood Refusal
 understood names text = with_tree names (tree_of text)
 
--- the refusal of what is understood before it is run: a join whose limit is above the radius of its chunks
+-- the refusal before a query is run: that of its binding, or of a join whose limit is above the radius of its chunks
 abbrev pub early_by : Partition → List Obj → Result Understood Refusal → Option Refusal
 early_by g table (Ok u) = option_map refusal.Radius (radius_refusal g table u.bound)
 early_by g table (Err why) = Some why
@@ -47,7 +47,7 @@ abbrev pub total_by : Answer → Option Refusal
 total_by (Ok rows) = None
 total_by (Err total) = Some (refusal.Total (record { total = total }))
 
--- the refusal of what is understood for a total: the first one out of range over the whole table
+-- the refusal of a query that binds for a total: the first one out of range over the whole table
 abbrev pub total_refusal_by : List Obj → Result Understood Refusal → Option Refusal
 total_refusal_by table (Ok u) = total_by (flat_answer table u.bound)
 total_refusal_by table (Err why) = None
@@ -56,6 +56,6 @@ total_refusal_by table (Err why) = None
 unfoldable pub total_refusal : Catalogue → List ℕ → Option Refusal
 total_refusal c text = total_refusal_by c.objects (understood c.names text)
 
--- the refusal of a query over a sky plan and a catalogue: the first that applies, and none where it has an answer
+-- the refusal of a query over a sky plan and a catalogue: the first that applies, and none if it has an answer
 unfoldable pub refusal_of : Partition → Catalogue → List ℕ → Option Refusal
 refusal_of g c text = option_or (early_refusal g c text) (total_refusal c text)

@@ -1,4 +1,4 @@
--- The lines of an answer: its headings, its rows, and how many rows and chunks there are.
+-- The lines of an answer: its headings, its rows, and the numbers of rows and chunks.
 use Rattle.std.specs.Prelude.{ℕ, List, [], ◌∷◌, ◌++◌, map, length, Option, None, Some, codes}
 use Rattle.std.specs.Fmt.{decimal, signed_decimal}
 use Rattle.std.specs.List.{flat_map}
@@ -15,7 +15,7 @@ use Rattle.answer_rules.specs.declared.value.Value.{Value}
 use Rattle.answer_rules.specs.declared.value.Value.TheVariants.{Null, Whole, Fixed4}
 use Rattle.transcript_rules.specs.RefusalLines.{line}
 
--- texts parted by commas
+-- texts with commas between them
 abbrev pub by_commas : List Bytes → Bytes
 by_commas [] = []
 by_commas (text ∷ texts) = text ++ behind_each (codes ",") texts
@@ -24,14 +24,14 @@ by_commas (text ∷ texts) = text ++ behind_each (codes ",") texts
 abbrev pub qualified : Bytes → List Bytes → List Bytes
 qualified side names = map (λ name. side ++ (codes "." ++ name)) names
 
--- the columns of a star by name, where these are the tables: in a join qualified, first all of the first table, then
--- all of the second
+-- the names of the columns of a star over these tables: in a join qualified, first all of the first table, then all of
+-- the second
 abbrev pub star_columns : List Bytes → TableRef → Option TableRef → List Bytes
 star_columns names first None = column_names names
 star_columns names first (Some second) =
     qualified (qualifier first) (column_names names) ++ qualified (qualifier second) (column_names names)
 
--- the headings of what a query selects over the schema of these extra columns
+-- the headings of a select list over the schema of these extra columns
 abbrev pub headings_of : List Bytes → Query → Selection → List Bytes
 headings_of names q (selection.Star span) = star_columns names q.first q.second
 headings_of names q (selection.List l) = map heading (l.first ∷ l.rest)
@@ -54,7 +54,7 @@ row_line row = line (by_commas (map value_text row))
 abbrev pub count_line : ℕ → ℕ → Bytes
 count_line rows chunks = line (decimal rows ++ (codes " rows, " ++ (decimal chunks ++ codes " chunks")))
 
--- the lines of an answer under these headings, for which a plan has so many chunks
+-- the lines of an answer under these headings, whose plan has the given number of chunks
 unfoldable pub table_lines : List Bytes → List (List Value) → ℕ → Bytes
 table_lines headings rows chunks =
     line (by_commas headings) ++ (flat_map row_line rows ++ count_line (length rows) chunks)

@@ -13,31 +13,31 @@ use Rattle.transcript_rules.specs.declared.refusal.Refusal.{Refusal}
 use Rattle.transcript_rules.specs.Refusals.{Understood, understood, early_refusal, total_refusal}
 use Rattle.transcript_rules.specs.Blocks.{block}
 
--- the blocks of queries that end so, of which the first has this number
+-- the blocks of queries with these ends, the first of which has this number
 abbrev pub blocks_from : Partition → Catalogue → ℕ → List Bytes → List EndKind → List Bytes
 blocks_from g c k [] ends = []
 blocks_from g c k (text ∷ texts) [] = []
 blocks_from g c k (text ∷ texts) (end ∷ ends) = block g c k text end ∷ blocks_from g c (k + 1) texts ends
 
--- the blocks of a script whose queries end so, numbered from 1
+-- the blocks of a script whose queries have these ends, numbered from 1
 abbrev pub blocks_of : Partition → Catalogue → ScriptView → List EndKind → List Bytes
 blocks_of g c s ends = blocks_from g c 1 (query_lines s) ends
 
--- the transcript of a script whose queries end so, over a sky plan and a catalogue
+-- the transcript of a script whose queries have these ends, over a sky plan and a catalogue
 unfoldable pub transcript : Partition → Catalogue → ScriptView → List EndKind → Bytes
 transcript g c s ends = joined (blocks_of g c s ends)
 
--- there are no such chunks
+-- the list of chunks is empty
 abbrev pub is_none_of : List ℕ → Bool
 is_none_of [] = true
 is_none_of (c ∷ chunks) = false
 
--- what is understood has a plan without chunks; what is not understood has no plan
+-- a query that binds is idle if its plan has no chunks; a query that does not bind has no plan and is idle
 abbrev pub is_idle : Partition → List Obj → Result Understood Refusal → Bool
 is_idle g table (Ok u) = is_none_of (plan_of g table u.bound)
 is_idle g table (Err why) = true
 
--- what holds of a query, however its session goes
+-- the facts about a query that hold in every session
 unfoldable pub judged_of : Partition → Catalogue → Bytes → Judged
 judged_of g c text = record {
   early = is_some (early_refusal g c text);
@@ -45,6 +45,6 @@ judged_of g c text = record {
   idle = is_idle g c.objects (understood c.names text);
 }
 
--- the ends fit the script with so many workers, over a sky plan and a catalogue
+-- the ends fit the script with the given number of workers, over a sky plan and a catalogue
 abbrev pub FitEnds : ℕ → Partition → Catalogue → ScriptView → List EndKind → Type 0
 FitEnds workers g c s ends = fit workers s.steps (map (judged_of g c) (query_lines s)) ends ≡ true

@@ -33,7 +33,7 @@ own t n = record { table = Some t; name = n }
 abbrev pub one : Atom → Factor
 one a = roll-Factor (record { minus = false; atom = a })
 
--- a factor behind a minus
+-- a factor after a minus
 abbrev pub minus_of : Atom → Factor
 minus_of a = roll-Factor (record { minus = true; atom = a })
 
@@ -41,11 +41,11 @@ minus_of a = roll-Factor (record { minus = true; atom = a })
 abbrev pub times : Factor → List Factor → Prod
 times f fs = roll-Prod (record { first = f; rest = fs })
 
--- a further product that is added
+-- a later product that is added
 abbrev pub plus : Prod → Signed
 plus p = roll-Signed (record { minus = false; prod = p })
 
--- a further product that is taken away
+-- a later product that is subtracted
 abbrev pub less : Prod → Signed
 less p = roll-Signed (record { minus = true; prod = p })
 
@@ -61,7 +61,7 @@ item k = record { what = k; alias = None }
 abbrev pub named : ItemKind → Name → Item
 named k a = record { what = k; alias = Some a }
 
--- items
+-- a select list
 abbrev pub items : Item → List Item → Selection
 items i is = selection.List (record { first = i; rest = is })
 
@@ -77,7 +77,7 @@ called n a = record { name = n; alias = Some a }
 abbrev pub says : Pred → Neg
 says p = roll-Neg (record { not = false; pred = p })
 
--- a predicate behind NOT
+-- a predicate after NOT
 abbrev pub denies : Pred → Neg
 denies p = roll-Neg (record { not = true; pred = p })
 
@@ -89,11 +89,11 @@ each n ns = roll-Conj (record { first = n; rest = ns })
 abbrev pub some_of : Conj → List Conj → Cond
 some_of c cs = roll-Cond (record { first = c; rest = cs })
 
--- an int as it is written
+-- an integer as it is written
 abbrev pub int : Bool → ℤ → SignedInt
 int minus size = record { minus = minus; size = size }
 
--- ints
+-- a list of integers
 abbrev pub ints : SignedInt → List SignedInt → IntList
 ints i is = record { first = i; rest = is }
 

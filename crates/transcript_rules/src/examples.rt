@@ -1,4 +1,4 @@
-//! Short examples of single lines, of inputs made by hand, computed by the checker. Whole queries are worked out in
+//! Short examples of single lines, of inputs made by hand, evaluated by the checker. Whole queries are worked out in
 //! `transcript_examples`.
 
 ghost use Rattle.std.specs.Prelude.{◌≡◌, ◌++◌, [], ◌∷◌, None, Some, codes, pos};
@@ -11,7 +11,7 @@ ghost use Rattle.transcript_rules.specs.RefusalLines.{refusal_line};
 ghost use Rattle.transcript_rules.specs.Tables.{headings, table_lines};
 ghost use Rattle.transcript_rules.specs.declared.refusal.Refusal.TheVariants.{Bind, Radius};
 
-/// The chunk query of a join: the ids and the order key stand behind the items, and a LIMIT has the order before it.
+/// The chunk query of a join. The ids and the order key follow the items, and a LIMIT comes after an ORDER BY.
 pub fn chunk_lines()
     ensures limited { chunk_line [] near_by_height (pairs_limited (Some (pos 2)))
         ≡ codes "chunk: SELECT a.objectId,b.z,a.objectId,b.objectId,b.z FROM Object_c_s a,"
@@ -32,7 +32,7 @@ pub fn merge_lines()
         ≡ codes "merge: SELECT SUM(c3) FROM pieces GROUP BY c1,c2 ORDER BY c2,c1,c2\n" }
 {}
 
-/// The lines of an answer: NULL, a whole number, averages with four decimals, and how many rows and chunks there are.
+/// The lines of an answer: NULL, a whole number, averages with four decimals, and the numbers of rows and chunks.
 pub fn answer_lines()
     ensures table { table_lines (codes "a" ∷ codes "b" ∷ []) two_rows 3
         ≡ codes "a,b\nNULL,-0.3333\n5,23.7500\n2 rows, 3 chunks\n" }
@@ -41,7 +41,7 @@ pub fn answer_lines()
         ∷ codes "b.x" ∷ codes "b.y" ∷ codes "b.z" ∷ [] }
 {}
 
-/// The lines of refusals: what is quoted stands as it is written, blanks included.
+/// The lines of refusals: a quoted part is as it is written, blanks included.
 pub fn refusal_lines()
     ensures quoted { refusal_line (codes "SELECT o . mag FROM Object o")
         (Bind (UnknownName (record { from = 7; to = 14 })))

@@ -1,11 +1,10 @@
-//! What is written for a script: the refusal of a query, the block of each query in a transcript, and its block in an
-//! explain text.
+//! The texts written for a script: refusals, the transcript with a block for each query, and the explain text.
 //!
 //! Callers see a refusal as the first that applies (`specs/Refusals.antt`), and a transcript as a text over the flat
 //! table (`specs/Transcripts.antt`). Below: `sql_rules`, `bind_rules` and `answer_rules` for a query's tree, meaning
-//! and answer, `session_rules` for how queries may end. Above: the printers of blocks, the czar and the top call. No
-//! algorithm: a type that more than one crate names, definitions, lemmas, and short examples of single lines. Whole
-//! queries are worked out in `transcript_examples`.
+//! and answer, `session_rules` for how queries may end. Above: the printers of blocks, the czar and the top call. This
+//! crate has no algorithms: a type that more than one crate names, definitions, lemmas, and short examples of single
+//! lines. Whole queries are worked out in `transcript_examples`.
 #![tactic(auto)]
 
 pub mod examples;

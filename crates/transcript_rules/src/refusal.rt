@@ -4,7 +4,7 @@ use answer_rules::{Radius, TotalOut};
 use bind_rules::BindFault;
 use sql_rules::SqlFault;
 
-/// Why a query is refused, in the order in which it is judged.
+/// Why a query is refused, in the order in which the reasons are checked.
 #[derive(Clone, Copy, Debug, PartialEq, Eq)]
 pub enum Refusal {
     /// Its text is no query.
