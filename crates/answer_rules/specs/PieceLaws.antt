@@ -111,8 +111,8 @@ PieceFinishes =
     → PieceFor g table (limited limit (chunk_query_of q)) B view
     → finished (merge_plan_of q) view ≡ answer_in g table q B
 
--- a partial result of the chunk query as the query is cut, with the LIMIT of rows or pairs, finishes as the query's
--- answer over its chunks
+-- a partial result of a query's chunk query as rewritten, with the LIMIT that rows or pairs have, finishes as the
+-- query's answer over its chunks
 abbrev pub CutPieceFinishes : Type 0
 CutPieceFinishes =
     (columns : ℕ) (g : Partition) (table : List Obj) (q : Bound) (B : List ℕ) (view : PieceView)

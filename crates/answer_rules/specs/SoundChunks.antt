@@ -41,6 +41,6 @@ ChunkIsSound =
     (columns : ℕ) (q : Bound) (limit : Option ℤ) → IsSound columns q → IsPushed q limit
     → IsSoundChunk columns (limited limit (chunk_query_of q))
 
--- the chunk query of a well-formed query is well-formed as the query is cut
+-- the chunk query of a well-formed query, as rewritten, is well-formed
 abbrev pub CutIsSound : Type 0
 CutIsSound = (columns : ℕ) (q : Bound) → IsSound columns q → IsSoundChunk columns (chunk_query_of q)

@@ -84,7 +84,7 @@ pub fn pieces_of_sets()
     ensures empty { EmptyPiece }
 {}
 
-/// The chunk query of a well-formed query is well-formed: with the query's LIMIT or without, and as the query is cut.
+/// The chunk query of a well-formed query is well-formed: with the query's LIMIT or without, and as rewritten.
 pub fn chunk_is_sound()
     ensures any { ChunkIsSound }
     ensures cut { CutIsSound }
@@ -98,7 +98,7 @@ pub fn pieces_are_small()
 {}
 
 /// A partial result of a query's chunk query, with the query's LIMIT or without, finishes as the query's answer over
-/// its chunks, its first total out of range included. So does one of the chunk query as the query is cut.
+/// its chunks. That includes its first total out of range. So does one of the chunk query as rewritten.
 pub fn piece_finishes()
     ensures any { PieceFinishes }
     ensures cut { CutPieceFinishes }
@@ -141,8 +141,8 @@ pub fn plan_is_filled()
     ensures ascend { PlanAscends }
 {}
 
-/// The limit of a query that is not refused for its radius is within the overlap at every chunk of its plan, and
-/// likewise for any chunks.
+/// The limit of a query that is not refused for its radius is within the overlap at every chunk of its plan. So it is
+/// at any chunks over whose overlap the query is not refused.
 pub fn radius_reaches()
     ensures plan { RadiusReaches }
     ensures over { RadiusReachesOver }

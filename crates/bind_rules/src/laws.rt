@@ -49,7 +49,7 @@ pub fn conjuncts_hold_where_the_condition_does()
     ensures bound { BoundConjunctsSayTheSame }
 {}
 
-/// The written WHERE of a query that binds is true of a row or a pair exactly if all conditions of the bound query hold
+/// If a query binds, its written WHERE is true of a row or a pair exactly if all conditions of the bound query hold
 /// and, in a join, the chord is within its limit. Each conjunct but the chord test has one condition.
 pub fn where_holds_as_bound()
     ensures whole { WhereHoldsAsBound }

@@ -4,10 +4,10 @@
 //! (`specs/Checks.antt`), each of which searches positions in the order of the text. The bound query
 //! (`specs/Binding.antt`) has on a row or a pair the truth of the written WHERE (`specs/BoundWhere.antt`).
 //!
-//! Below: `sql_token` for spans, `sql_tree` for the written query, `sql_rules` for the text of a query, `sql_bound` for
-//! the bound query, `table_rules` for the columns and their bounds, `sky_vector` for positions and directions,
-//! `value_rules` for well-formed bound queries. Above: the binder. This crate has no algorithms: the faults,
-//! definitions, worked examples and lemmas.
+//! Below: `sql_token` for spans, `sql_tree` for the written query, `sql_rules` for its text, `sql_bound` for the bound
+//! query and `value_rules` for well-formed ones; `table_rules` for the columns and their bounds, and `sky_vector` for
+//! positions and directions. Above: the binder. This crate has no algorithms: the faults, definitions, worked examples
+//! and lemmas.
 #![tactic(auto)]
 
 pub mod examples;

@@ -5,8 +5,8 @@ use Rattle.sql_tree.specs.declared.query.Query.{Query}
 use Rattle.sql_rules.specs.Printed.{printed}
 use Rattle.sql_rules.specs.Trees.{tree_of}
 
--- if a query is read from a text, its printed text is read as the same query, up to spans and the sign of a zero in a
--- list of integers
+-- the printed text of a query that is read from a text is read as the same query, up to spans and the sign of a zero in
+-- a list of integers
 abbrev pub APrintedQueryReadsBack : Type 0
 APrintedQueryReadsBack =
     (text : List ℕ) (q : Query) → tree_of text ≡ Ok q

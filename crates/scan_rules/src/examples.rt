@@ -87,8 +87,8 @@ pub fn some_lines_may_not_follow()
     ensures late { MayFollow 8 (take 6 late_query) (Cancel 0 1) → ⊥ }
 {}
 
-/// Takes that may not follow. One serves only the first of two queries that need the chunk, one serves a query that was
-/// served the chunk before the scan went round, and one is of a chunk that is not the next one.
+/// Takes that may not follow. One serves only the first of two queries that need the chunk. One serves a query that was
+/// served the chunk before the scan went round. One is of a chunk that is not the next one.
 #[tactic(auto, unfolding(crate::specs::Numbers::below))]
 pub fn some_takes_may_not_follow()
     ensures first { MayFollow 8 (take 3 late_query) (Take 2 1 4 (1 ∷ [])) → ⊥ }

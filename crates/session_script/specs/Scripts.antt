@@ -46,7 +46,7 @@ abbrev pub naming : ℕ → Line → ℕ → Step → Result (Option Step) Scrip
 naming queries line n s =
     if is_query queries n then Ok (Some s) else Err (fault.UnknownQuery line.number n)
 
--- the span of a line that begins at a place
+-- the span of a line that begins at a position
 abbrev pub span_at : ℕ → Line → Span
 span_at place line = record { from = place; to = place + length line.text }
 

@@ -5,8 +5,8 @@ use Rattle.sky_io.specs.Shelves.{ShelfState, Fetched, has_name}
 use Rattle.sky_io.specs.declared.shelf.Fetch.{Fetch}
 use Rattle.sky_io.specs.declared.shelf.Fetch.TheVariants.{Done, Failed, Memory}
 
--- The state of a shelf in memory: its texts by their names, the names whose fetch has failed, the number of fetches so
--- far, and the numbers, from 1, of those that are to fail.
+-- The state of a shelf in memory: its texts by their names, the names whose fetch has failed, and the number of fetches
+-- so far. It also has the numbers, from 1, of the fetches that are to fail.
 pub record MemShelfState : Type 0 where
   pub texts : List (List ℕ × List ℕ)
   pub failed : List (List ℕ)

@@ -3,9 +3,9 @@ use Rattle.std.specs.Prelude.{ℕ, ◌+◌, ◌<◌, List, [], ◌++◌, length,
 use Rattle.sky_io.specs.Counts.{counted, is_listed}
 use Rattle.sky_io.specs.Sinks.{SinkState}
 
--- The state of a sink in memory: the bytes written and the most that it accepts, the number of calls so far and the
--- numbers, from 1, of those that are to fail, how often it has failed, and whether bytes were written since it was last
--- flushed.
+-- The state of a sink in memory: the bytes written and the most that it accepts, the number of calls so far, and the
+-- numbers, from 1, of those that are to fail. It also has how often it has failed, and whether bytes were written since
+-- it was last flushed.
 pub record MemSinkState : Type 0 where
   pub written : List ℕ
   pub room : ℕ

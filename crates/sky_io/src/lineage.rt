@@ -3,13 +3,13 @@ ghost use Rattle.std.specs.Prelude.{◌≡◌, ℕ, ◌<◌, ◌^◌, List, leng
 
 /// A value with a history: a list of entries that grows only at its end.
 pub trait Lineage {
-    /// The type of the root, the fixed state from which the value started.
+    /// The type of the root, the constant that the value depends on.
     type Root;
 
     /// The type of an entry.
     type Entry;
 
-    /// The fixed state from which the value started.
+    /// The constant that the value depends on from its start.
     ghost root: { Self → Self.Root };
 
     /// The history: the entries so far, oldest first.

@@ -63,7 +63,8 @@ sub_bounds_of g c s = sub_bounds (site_of g c) s
 abbrev pub is_on_axis : Point → Bool
 is_on_axis p = int_eq p.x (pos 0) && int_eq p.y (pos 0)
 
--- the point is at or past the first side and short of the second; for a point on the axis the given Boolean decides
+-- the point is at or past the first side and short of the second; for a point on the axis the given Boolean decides;
+-- without sides every point is in
 abbrev pub in_sides : Option Sides → Bool → Point → Bool
 in_sides None axis p = true
 in_sides (Some sides) axis p =

@@ -11,8 +11,8 @@ pub enum SkyFault {
     /// An overlap is outside 0 to 2^24.
     #[error("overlap out of range")]
     Overlap { line: u32 },
-    /// A stripe begins at a wrong height. The first is not at the bottom of the sky, a later one is less than 64 above
-    /// the one before it, or any is less than 64 below the top of the sky.
+    /// A stripe begins at a wrong height. The first is not at the bottom of the sky, or a later one is less than 64
+    /// above the one before it. Or any is less than 64 below the top of the sky.
     #[error("stripe out of order")]
     Order { line: u32 },
     /// A number of chunks, of columns or of rows is not among those that a stripe can have.

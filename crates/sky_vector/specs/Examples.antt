@@ -6,7 +6,7 @@ use Rattle.sky_vector.specs.Points.{Point}
 abbrev pub left : Point
 left = record { x = pos 268435456; y = pos 3; z = pos 0 }
 
--- the one three units right of it
+-- a position three units right of the meridian
 abbrev pub right : Point
 right = record { x = pos 268435456; y = negsuc 2; z = pos 0 }
 

@@ -31,8 +31,8 @@ impl Dir {
     }
 }
 
-/// The plane product of a direction and a position. It is above 0 if the position is left of the direction by less than
-/// half a turn, and 0 if it is on the direction's line. Its size is at most 2^59. Does not allocate.
+/// The plane product of a direction and a position: above 0 if the position is left of the direction by less than half
+/// a turn, and 0 on the direction's line. Its size is at most 2^59. Does not allocate.
 pub fn cross(d: &Dir, p: &Pos) -> i64
     ensures value { result ≡ plane_product d.now.dx d.now.dy p.now.x p.now.y }
     ensures size { unsigned_abs result ≤ 2 ^ 59 }
@@ -40,8 +40,8 @@ pub fn cross(d: &Dir, p: &Pos) -> i64
     difference(product(d.dx, p.y), product(d.dy, p.x))
 }
 
-/// The plane product of two directions. It is above 0 if the second is left of the first by less than half a turn, and
-/// 0 if it is on the first one's line. Its size is at most 2^59. Does not allocate.
+/// The plane product of two directions: above 0 if the second is left of the first by less than half a turn, and 0 on
+/// the first one's line. Its size is at most 2^59. Does not allocate.
 pub fn turn(a: &Dir, b: &Dir) -> i64
     ensures value { result ≡ plane_product a.now.dx a.now.dy b.now.dx b.now.dy }
     ensures size { unsigned_abs result ≤ 2 ^ 59 }

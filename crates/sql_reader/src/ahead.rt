@@ -43,7 +43,7 @@ fn is_same_sign(a: Sign, b: Sign) -> bool
 }
 
 /// Pairs what was read before with what is read now, and drops it if nothing is read. Without this call a tree that
-/// goes out of scope at a `?` is dropped part by part there, and the function's proof is several times as long.
+/// goes out of scope at a `?` is dropped part by part there. The function's proof is then several times as long.
 pub(crate) fn beside<T: Drop, U>(held: T, answer: Result<U, ReadStop>) -> Result<(T, U), ReadStop>
     ensures { result ≡ beside held answer }
 {

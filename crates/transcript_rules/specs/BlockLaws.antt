@@ -24,8 +24,8 @@ use Rattle.transcript_rules.specs.ChunkLines.{chunk_line, chunk_order_names, chu
 use Rattle.transcript_rules.specs.MergeLines.{merge_line, merge_order_texts}
 use Rattle.transcript_rules.specs.Explained.{chunks_line, explain_block}
 
--- the block of a query that binds, has an answer and ends answered is the table of the answer under the headings of its
--- tree, with the size of its plan
+-- the block of a query that binds, has an answer and ends answered is its answer's table, under the headings of its
+-- tree and with the size of its plan
 abbrev pub AnsweredIsItsTable : Type 0
 AnsweredIsItsTable =
     (g : Partition) (c : Catalogue) (k : ℕ) (text : Bytes) (u : Understood) (rows : List (List Value))

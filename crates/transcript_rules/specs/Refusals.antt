@@ -33,7 +33,8 @@ with_tree names (Err fault) = Err (refusal.Sql fault)
 unfoldable pub understood : List (List ℕ) → List ℕ → Result Understood Refusal
 understood names text = with_tree names (tree_of text)
 
--- the refusal before a query is run: that of its binding, or of a join whose limit is above the radius of its chunks
+-- the refusal before a query is run: why it has no bound query, or the radius of a join whose limit is above that of
+-- its chunks
 abbrev pub early_by : Partition → List Obj → Result Understood Refusal → Option Refusal
 early_by g table (Ok u) = option_map refusal.Radius (radius_refusal g table u.bound)
 early_by g table (Err why) = Some why

@@ -6,8 +6,8 @@ use Rattle.wedge_rules.specs.Heading.{LiesBetween}
 unfoldable pub from_middle : ℕ → ℕ → ℕ
 from_middle n steps = if nat_lt steps n then steps + 7 * n else steps - n
 
--- the wedge of a point, given the steps by which it is rotated back to the right side, and there how far ahead and how
--- far to the side it is
+-- the wedge of a point, given how far ahead and to the side it is after a rotation to the right side, and the steps of
+-- that rotation
 unfoldable pub wedge_at : ℕ → ℤ → ℤ → ℕ → ℕ
 wedge_at n ahead side turned = from_middle n (n * nat_abs (side +ℤ ahead) / nat_abs ahead + turned) / 8
 

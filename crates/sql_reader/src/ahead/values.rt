@@ -14,7 +14,7 @@ use sqlite_items::Items;
 use std::alloc::Global;
 use std::cmp::min;
 
-// The bytes of a span. A span that ends after the text is cut there, so that nothing depends on where it ends.
+// The bytes of a span. A span that ends after the text is cut there, so that nothing depends on its end.
 fn bytes_of(text: &[u8], span: Span) -> &[u8]
     ensures { result.now ≡ slice_range text.now span.from span.to }
 {
