@@ -1,9 +1,9 @@
-//! A board that seats share.
+//! A board that participants share.
 //!
-//! Between two calls of a seat others may call too, so a seat knows a beginning of the journal alone: what it had seen
-//! when it left last. A call enters the turn and finds the whole journal, which goes on from what was seen and has just
-//! those lines of the seat's own number that the seat made. The board answers on that journal, and the seat has seen all
-//! of it, and the call's own line, when it leaves.
+//! Between two calls of a participant others may call too, so a participant knows only a prefix of the journal: what it
+//! had seen when it left last. A call takes the lock and finds the whole journal. It extends what was seen, and its
+//! lines with the participant's own number are exactly those that the participant made. The board is called on that
+//! journal. When the participant leaves, it has seen all of the journal, and the call's own line.
 ghost use Rattle.std.specs.Prelude.{◌≡◌, ◌≢◌, ◌-◌, ◌<◌, ◌≤◌, ◌^◌, [], All, IfOk};
 ghost use mathlib.Core.List.{IsPrefix};
 ghost use Rattle.scan_rules.specs.declared.limits.TheConstants.{QUERY_MOST};
@@ -22,7 +22,7 @@ use std::marker::Model;
 use std::sync::Wait;
 use turn_lock::{Seat, Turn};
 
-/// A board behind a turn. Contracts see which turn it is.
+/// A board under a lock. The identity of the lock is visible to contracts.
 #[derive(Drop)]
 pub struct SharedBoard<P: Work> {
     turn: Turn<Board<P>>,
@@ -37,20 +37,20 @@ impl<P: Work> Model for SharedBoard<P> {
 }
 
 impl<P: Work> SharedBoard<P> {
-    /// A shared board without lines, and its seat 0. Allocates memory; on Memory the board is dropped.
+    /// Creates a shared board without lines, and its participant 0. Allocates memory. On Memory the board is dropped.
     pub fn new(alloc: Global, board: Board<P>) -> Result<(SharedBoard<P>, Seat<Board<P>>), Memory>
         requires { board.past ≡ [] }
         ensures first { IfOk result (λ r.
             r.1 ≡ first_seat r.0 (record { root = board.root; ring = board.ring })) }
         ensures lawful { IsLawful P.asks board }
     {
-        // the ring tells that the board is lawful
+        // the contract of `ring` gives that the board is lawful
         let _ring = board.ring();
         let (turn, seat) = Turn::new(alloc, board)?;
         Ok((SharedBoard { turn }, seat))
     }
 
-    /// A query is attached, as the board does. Waits for the turn. Allocates memory.
+    /// Attaches a query, as the board does. Waits for the lock. Allocates memory.
     pub fn attach<R: Wait>(
         &self,
         rt: &R,
@@ -75,7 +75,7 @@ impl<P: Work> SharedBoard<P> {
         (attached, pass.leave())
     }
 
-    /// Hands out the next chunk of the lap, as the board does. Waits for the turn. Does not allocate.
+    /// Hands out the next chunk of the lap, as the board does. Waits for the lock. Does not allocate.
     pub fn take<R: Wait>(&self, rt: &R, seat: Seat<Board<P>>) -> (Take, Seat<Board<P>>)
         requires own { seat.turn ≡ self.now }
         ensures called { Called P.asks
@@ -89,7 +89,7 @@ impl<P: Work> SharedBoard<P> {
         (taken, pass.leave())
     }
 
-    /// Takes a task's pieces in, as the board does. Waits for the turn. Only absorbing allocates memory.
+    /// Absorbs the pieces of a task, as the board does. Waits for the lock. Only absorbing allocates memory.
     pub fn deliver<R: Wait>(
         &self,
         rt: &R,
@@ -110,7 +110,7 @@ impl<P: Work> SharedBoard<P> {
         pass.leave()
     }
 
-    /// A running query is cancelled. True exactly where it ran. Waits for the turn. Does not allocate.
+    /// Cancels a running query. Returns true exactly if it ran. Waits for the lock. Does not allocate.
     pub fn cancel<R: Wait>(&self, rt: &R, seat: Seat<Board<P>>, q: u32) -> (bool, Seat<Board<P>>)
         requires own { seat.turn ≡ self.now }
         ensures called { Called P.asks
@@ -122,7 +122,7 @@ impl<P: Work> SharedBoard<P> {
         (ran, pass.leave())
     }
 
-    /// Hands out the end of a query, once, as the board does. Waits for the turn. Does not allocate.
+    /// Hands out the end of a query, once, as the board does. Waits for the lock. Does not allocate.
     pub fn collect<R: Wait>(
         &self,
         rt: &R,
@@ -140,7 +140,7 @@ impl<P: Work> SharedBoard<P> {
         (end, pass.leave())
     }
 
-    /// No query is attached from then on. Waits for the turn. Does not allocate.
+    /// Closes the board: no query can be attached from then on. Waits for the lock. Does not allocate.
     pub fn close<R: Wait>(&self, rt: &R, seat: Seat<Board<P>>) -> Seat<Board<P>>
         requires own { seat.turn ≡ self.now }
         ensures called { Called P.asks (AnswersClose seat.number) seat result }
@@ -151,7 +151,7 @@ impl<P: Work> SharedBoard<P> {
         pass.leave()
     }
 
-    /// Makes one more seat, with the next number, out of seat 0. Does not allocate.
+    /// Makes one more participant, with the next number, out of participant 0. Does not allocate.
     pub fn split(&self, seat: &mut Seat<Board<P>>) -> Seat<Board<P>>
         requires own { seat.old.turn ≡ self.now }
         requires first { seat.old.number ≡ 0 }
@@ -163,7 +163,7 @@ impl<P: Work> SharedBoard<P> {
         self.turn.split(seat)
     }
 
-    /// Ends another seat in this one, which has seen the longer of both journals then. Does not allocate.
+    /// Ends another participant in this one, which has then seen the longer of both journals. Does not allocate.
     pub fn join(&self, seat: &mut Seat<Board<P>>, other: Seat<Board<P>>)
         requires own { (seat.old.turn ≡ self.now) × (other.turn ≡ self.now) }
         requires not_first { other.number ≢ 0 }
@@ -176,14 +176,14 @@ impl<P: Work> SharedBoard<P> {
     }
 }
 
-/// Delivers a task that is not delivered by the seat's own lines.
+/// Delivers a task that the participant's own lines do not deliver.
 fn deliver_owed<P: Work>(board: &mut Board<P>, seat: u32, task: Task, pieces: Vec<Option<P>>)
     requires owed { IsOwed board.old.past seat task }
     requires stand { PiecesFit (P.stands board.old.root) task.chunk task.queries pieces.items }
     ensures delivered { DeliversTask seat task pieces.items board.old board.new }
     ensures lawful { IsLawful P.asks board.new }
 {
-    // the ring tells that the journal is a run: so no other seat can have delivered the task
+    // the contract of `ring` gives that the journal is a run: so no other participant can have delivered the task
     let _ring = board.ring();
     board.deliver(seat, task, pieces)
 }

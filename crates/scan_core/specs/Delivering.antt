@@ -1,4 +1,4 @@
--- What a deliver is given, and what it changes in the pieces and in the slots.
+-- What a deliver is given, and how it changes the pieces and the slots.
 use Rattle.std.specs.Prelude.{◌≡◌, ℕ, ◌+◌, ◌<◌, ◌≤◌, List, [], ◌∷◌, AllPairs, Contains, length, get_or}
 use Rattle.std.specs.Prelude.{Bool, true, false, ◌||◌, Option, Some, None, IfSome}
 use Rattle.scan_rules.specs.declared.journal_line.JournalLine.TheVariants.{Take, Deliver}
@@ -13,12 +13,12 @@ use Rattle.scan_core.specs.Changes.{Beside}
 use Rattle.scan_core.specs.Pieces.{MayAbsorb}
 use Rattle.scan_core.specs.Slots.{runs}
 
--- the task was taken from this seat, and is not delivered
+-- the task was taken by this participant, and is not delivered
 pub record InFlight (past : Journal) (seat : ℕ) (task : TaskState) : Type 0 where
   pub taken : Contains past (Take seat task.ticket task.chunk task.queries)
   pub undelivered : is_delivered past task.ticket ≡ false
 
--- there are at most as many entries as queries, and each piece stands for the chunk and the query of its turn
+-- there are at most as many entries as queries, and each piece stands for the chunk and the query at its position
 pub record PiecesFit {P : Type 0} (stands : ℕ → List ℕ → P → Type 0) (chunk : ℕ) (queries : List ℕ)
     (entries : List (Option P)) : Type 0 where
   pub few : length entries ≤ length queries
@@ -33,7 +33,7 @@ pub record DeliversTask {R P : Type 0} (seat : ℕ) (task : TaskState) (entries 
   pub line : new ≡ gains old (Deliver seat task.ticket lost)
   pub loses : LosesWithoutPiece old.past task.queries entries lost
 
--- a piece has taken in the one that came
+-- a piece has absorbed an entry
 pub record Absorbed {P : Type 0} (absorbs : P → P → P → Type 0) (entry old new : Option P) : Type 0 where
   pub mine : P
   pub other : P
@@ -43,7 +43,7 @@ pub record Absorbed {P : Type 0} (absorbs : P → P → P → Type 0) (entry old
   pub now : new ≡ Some it
   pub joined : absorbs mine other it
 
--- each query of the first n that runs has absorbed its entry, or is lost; the pieces of all others stay
+-- each of the first n queries that runs has absorbed its entry, or is lost; the pieces of all others are unchanged
 pub record HandedIn {P : Type 0} (absorbs : P → P → P → Type 0) (slots : List Slot) (queries : List ℕ)
     (entries old new : List (Option P)) (lost : List ℕ) (n : ℕ) : Type 0 where
   pub len : length new ≡ length old
@@ -55,7 +55,7 @@ pub record HandedIn {P : Type 0} (absorbs : P → P → P → Type 0) (slots : L
   pub losable : (j : ℕ) → has lost j ≡ true
       → (turn : ℕ) × (turn < n) × (query_of queries turn ≡ j) × ((d : Slot) → runs (get_or slots j d) ≡ true)
 
--- a slot is owed one chunk less, and needs nothing more where its query is lost
+-- a slot is owed one chunk less, and needs nothing more if its query is lost
 pub record Paid (lost : Bool) (old new : Slot) : Type 0 where
   pub attached : new.attached ≡ old.attached
   pub cancelled : new.cancelled ≡ old.cancelled
@@ -65,12 +65,12 @@ pub record Paid (lost : Bool) (old new : Slot) : Type 0 where
   pub cleared : lost ≡ true → new.ahead.items ≡ []
   pub kept : lost ≡ false → new.ahead.items ≡ old.ahead.items
 
--- that slot alone
+-- only the slot at position q changed, which is owed one chunk less
 pub record PaidAt (lost : Bool) (old new : List Slot) (q : ℕ) : Type 0 where
   pub beside : Beside old new q
   pub here : (d : Slot) → Paid lost (get_or old q d) (get_or new q d)
 
--- so the slots of the first n queries, and no other
+-- the slots of the first n queries are owed one chunk less each, and no other slot changed
 pub record PaidAll (queries lost : List ℕ) (old new : List Slot) (n : ℕ) : Type 0 where
   pub len : length new ≡ length old
   pub other : (j : ℕ) (d : Slot) → ((turn : ℕ) → turn < n → query_of queries turn ≡ j → ⊥)
@@ -78,12 +78,12 @@ pub record PaidAll (queries lost : List ℕ) (old new : List Slot) (n : ℕ) : T
   pub each : (turn : ℕ) (d : Slot) → turn < n
       → Paid (has lost (query_of queries turn)) (get_or old (query_of queries turn) d) (get_or new (query_of queries turn) d)
 
--- where both pieces are there, the one may take in the other
+-- if both pieces are present, the one may absorb the other
 abbrev pub Fitting : {R P : Type 0} → (R → ℕ → List ℕ → P → Type 0) → Option P → Option P → Type 0
 Fitting stands (Some mine) (Some other) = MayAbsorb stands mine other
 Fitting stands _ _ = Unit {0}
 
--- so for each query that runs, and its entry
+-- the piece of each query that runs may absorb its entry
 pub record FitAll {R P : Type 0} (stands : R → ℕ → List ℕ → P → Type 0) (slots : List Slot) (queries : List ℕ)
     (entries pieces : List (Option P)) : Type 0 where
   pub each : (turn : ℕ) (d : Slot) → turn < length queries → runs (get_or slots (query_of queries turn) d) ≡ true
@@ -95,6 +95,6 @@ pub record AreTasked (queries : List ℕ) : Type 0 where
   pub from_1 : (turn : ℕ) → turn < length queries → 1 ≤ query_of queries turn
   pub to_255 : (turn : ℕ) → turn < length queries → query_of queries turn < SLOTS
 
--- each of them is owed a chunk
+-- each of the queries is owed a chunk
 pub record AllOwed (slots : List Slot) (queries : List ℕ) : Type 0 where
   pub each : (turn : ℕ) (d : Slot) → turn < length queries → 1 ≤ (get_or slots (query_of queries turn) d).owed

@@ -1,4 +1,4 @@
--- What the slots say of the next chunk, and what a take changes in them.
+-- What the slots say about the next chunk, and how a take changes them.
 use Rattle.std.specs.Prelude.{◌≡◌, ℕ, ◌<◌, ◌≤◌, ◌==◌, List, [], ◌∷◌, ◌++◌}
 use Rattle.std.specs.Prelude.{length, get_or, Bool, true, false, Option, Some, None, min, filter}
 use Rattle.std.specs.List.{last_or}
@@ -12,21 +12,21 @@ use Rattle.scan_rules.specs.Scan.{offset}
 abbrev pub next_of : Slot → Option ℕ
 next_of s = last_or None s.ahead.items
 
--- how far it is to a chunk; the ring's length where there is none
+-- the number of steps to a chunk, or the ring's length if there is none
 abbrev pub step_from : ℕ → ℕ → Option ℕ → ℕ
 step_from ring p None = ring
 step_from ring p (Some c) = offset ring p c
 
--- how far it is to the chunk that a slot needs next
+-- the number of steps to the chunk that a slot needs next
 abbrev pub first_step : ℕ → ℕ → Slot → ℕ
 first_step ring p s = step_from ring p (next_of s)
 
--- the least of these
+-- the least of these numbers over all slots
 abbrev pub least_from : ℕ → ℕ → ℕ → List Slot → ℕ
 least_from ring p best [] = best
 least_from ring p best (s ∷ ss) = least_from ring p (min best (first_step ring p s)) ss
 
--- it is this chunk
+-- the option is this chunk
 abbrev pub is_at : ℕ → Option ℕ → Bool
 is_at c None = false
 is_at c (Some x) = x == c
@@ -35,11 +35,11 @@ is_at c (Some x) = x == c
 abbrev pub is_next : ℕ → Slot → Bool
 is_next c s = is_at c (next_of s)
 
--- the slots that need this chunk next, of the first n
+-- those of the first n slots that need this chunk next
 abbrev pub served : List Slot → Slot → ℕ → ℕ → List ℕ
 served slots d c n = filter (λ q. is_next c (get_or slots q d)) (below n)
 
--- a slot whose query was served its next chunk, where that is c
+-- a slot whose query was served its next chunk, if that is c
 pub record Popped (c : ℕ) (old new : Slot) : Type 0 where
   pub attached : new.attached ≡ old.attached
   pub cancelled : new.cancelled ≡ old.cancelled
@@ -49,18 +49,18 @@ pub record Popped (c : ℕ) (old new : Slot) : Type 0 where
   pub next : is_next c old ≡ true → old.ahead.items ≡ new.ahead.items ++ c ∷ []
   pub kept : is_next c old ≡ false → new.ahead.items ≡ old.ahead.items
 
--- that slot alone
+-- only the slot at position q changed, which was served its next chunk if that is c
 pub record PoppedAt (c : ℕ) (old new : List Slot) (q : ℕ) : Type 0 where
   pub beside : Beside old new q
   pub here : (d : Slot) → Popped c (get_or old q d) (get_or new q d)
 
--- so the first n slots
+-- the first n slots were served their next chunk, if that is c
 pub record PoppedAll (c : ℕ) (old new : List Slot) (n : ℕ) : Type 0 where
   pub len : length new ≡ length old
   pub each : (j : ℕ) (d : Slot) → j < n → Popped c (get_or old j d) (get_or new j d)
   pub other : (j : ℕ) (d : Slot) → (j < n → ⊥) → get_or new j d ≡ get_or old j d
 
--- the queries that need a chunk next have numbers from 1, and fit into a task
+-- the queries that need a chunk next have numbers from 1, and fit into one task
 pub record CanServe (slots : List Slot) (chunk : ℕ) : Type 0 where
   pub few : (d : Slot) → length (served slots d chunk SLOTS) ≤ TAKERS_MOST
   pub from_1 : (q : ℕ) (d : Slot) → q < SLOTS → is_next chunk (get_or slots q d) ≡ true → 1 ≤ q

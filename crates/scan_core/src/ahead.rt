@@ -1,11 +1,11 @@
-//! The chunks of a query in the order in which the scan comes to them.
+//! The chunks of a query, in the order in which the scan reaches them.
 ghost use Rattle.std.specs.Prelude.{◌≡◌, List, [], ◌∷◌, ◌++◌, cond, nat_lt, not, filter, IfOk};
 ghost use Rattle.scan_core.specs.Attaching.{is_behind, is_onward, ahead_in};
 
 use sky_io::Memory;
 use std::alloc::Global;
 
-/// Appends the chunks from the place on, ascending.
+/// Appends the chunks from the given position on, ascending.
 fn push_onward(ahead: &mut Vec<u32>, place: u32, chunks: &[u32]) -> Result<(), Memory>
     ensures { IfOk result (λ _.
         ahead.new.items ≡ ahead.old.items ++ filter (is_onward place) chunks.now) }
@@ -16,7 +16,7 @@ fn push_onward(ahead: &mut Vec<u32>, place: u32, chunks: &[u32]) -> Result<(), M
     Ok(())
 }
 
-/// Appends the chunks before the place, ascending.
+/// Appends the chunks before the given position, ascending.
 fn push_behind(ahead: &mut Vec<u32>, place: u32, chunks: &[u32]) -> Result<(), Memory>
     ensures { IfOk result (λ _.
         ahead.new.items ≡ ahead.old.items ++ filter (is_behind place) chunks.now) }
@@ -27,7 +27,7 @@ fn push_behind(ahead: &mut Vec<u32>, place: u32, chunks: &[u32]) -> Result<(), M
     Ok(())
 }
 
-/// Appends the chunk where that is asked for.
+/// Appends the chunk if it is wanted.
 fn push_where(ahead: &mut Vec<u32>, chunk: u32, wanted: bool) -> Result<(), Memory>
     ensures { IfOk result (λ _. ahead.new.items ≡ ahead.old.items ++ cond wanted (chunk ∷ []) []) }
 {
@@ -37,7 +37,7 @@ fn push_where(ahead: &mut Vec<u32>, chunk: u32, wanted: bool) -> Result<(), Memo
     Ok(())
 }
 
-/// The chunks in the order of the scan from a place on, the next one last. Allocates memory.
+/// Returns the chunks in the order of the scan from the given position, the next one last. Allocates memory.
 pub fn ahead_of(alloc: Global, place: u32, chunks: &[u32]) -> Result<Vec<u32>, Memory>
     ensures { IfOk result (λ ahead. ahead.items ≡ ahead_in place chunks.now) }
 {

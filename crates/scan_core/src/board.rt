@@ -1,10 +1,10 @@
 //! The board of the shared scan.
 //!
-//! A query is attached with the chunks that it wants. The scan goes round the ring of chunks; each take hands out the
-//! next chunk that some running query still needs, for all such queries at once, and a query that comes in
-//! mid-lap is served what it missed on the next lap. A task is delivered with a piece for each of its queries, and
-//! a query that has all its chunks is done. The journal has a line for each call that changed something, and every
-//! field is a word on it (`specs/Kept.antt`).
+//! A query is attached with the chunks that it wants. The scan goes round the ring of chunks. Each take hands out the
+//! next chunk that some running query still needs, for all such queries at once. A query that is attached in mid-lap is
+//! served the chunks that it missed on the next lap. A task is delivered with a piece for each of its queries, and a
+//! query that has all its chunks is done. The journal has a line for each call that changed something, and each field
+//! is defined as a function of it (`specs/Kept.antt`).
 ghost use Rattle.std.specs.Prelude.{◌≡◌, ◌<◌, ◌≤◌, ◌+◌, ◌*◌, [], All, IfOk, IsTrue, true, false, vec_capacity};
 ghost use Rattle.scan_rules.specs.declared.journal_line.JournalLine.TheVariants.{Cancel as CancelLine};
 ghost use Rattle.scan_rules.specs.declared.journal_line.JournalLine.TheVariants.{Close as CloseLine};
@@ -34,19 +34,19 @@ use sky_io::{Lineage, Memory};
 use std::alloc::Global;
 use std::marker::Model;
 
-/// A board over a ring of chunks, from 0. The root is kept and never looked into.
+/// A board over a ring of chunks, numbered from 0. The root is stored and never inspected.
 #[derive(Drop)]
 pub struct Board<P: Work> {
     root: P::Root,
     ring: u32,
-    /// The chunk that the scan looks at next.
+    /// The chunk at which the scan continues.
     place: u32,
-    /// How many takes there were: the next one's ticket.
+    /// The number of takes so far, which is the next ticket.
     tickets: u32,
-    /// How many tasks are taken and not delivered.
+    /// The number of tasks that are taken and not delivered.
     flights: u32,
     closed: bool,
-    /// One for each query number, and one for 0, which is no query's.
+    /// The slots, one for each query number, and one for 0, which is no query's.
     slots: Vec<Slot>,
     /// The piece of each query, by its number.
     pieces: Vec<Option<P>>,
@@ -69,7 +69,8 @@ impl<P: Work> Model for Board<P> {
 }
 
 impl<P: Work> Board<P> {
-    /// A board without queries over a ring of so many chunks. Allocates memory; on `Err` the root is dropped.
+    /// Creates a board without queries over a ring of the given number of chunks. Allocates memory. On `Err` the root
+    /// is dropped.
     pub fn new(alloc: Global, ring: u32, root: P::Root) -> Result<Board<P>, Memory>
         requires { ring ≤ RING_MOST }
         ensures board { IfOk result (λ board.
@@ -92,7 +93,8 @@ impl<P: Work> Board<P> {
         })
     }
 
-    /// The number of chunks. Tells that the journal is a run over them and the root. Does not allocate.
+    /// Returns the number of chunks. Its contract also states that the journal is a run over them and the root. Does
+    /// not allocate.
     pub fn ring(&self) -> u32
         ensures ring { result ≡ self.now.ring }
         ensures lawful { IsLawful P.asks self.now }
@@ -100,8 +102,8 @@ impl<P: Work> Board<P> {
         self.ring
     }
 
-    /// A query is attached with the chunks that it wants and an empty piece. Allocates memory, also for all that
-    /// follows.
+    /// Attaches a query with the chunks that it wants and an empty piece. Allocates memory, also for all calls that
+    /// follow.
     pub fn attach(&mut self, seat: u32, q: u32, chunks: ChunkSet, empty: P) -> Attach<P>
         requires from_1 { 1 ≤ q }
         requires to_255 { q ≤ QUERY_MOST }
@@ -136,7 +138,7 @@ impl<P: Work> Board<P> {
         Attach::Attached
     }
 
-    /// No query is attached from then on. A second close changes nothing. Does not allocate.
+    /// Closes the board: no query can be attached from then on. A second close changes nothing. Does not allocate.
     pub fn close(&mut self, seat: u32)
         ensures first { is_closed self.old.past ≡ false
             → self.new ≡ gains self.old (CloseLine seat) }
@@ -150,7 +152,7 @@ impl<P: Work> Board<P> {
         self.closed = true;
     }
 
-    /// A running query is cancelled. True exactly where it ran. Does not allocate.
+    /// Cancels a running query. Returns true exactly if it ran. Does not allocate.
     pub fn cancel(&mut self, seat: u32, q: u32) -> bool
         ensures ran { result ≡ is_running self.old.past q }
         ensures cancelled { IsTrue result → self.new ≡ gains self.old (CancelLine seat q) }
@@ -196,7 +198,7 @@ impl<P: Work> Board<P> {
         Take::Task(Task::new(ticket, chunk, queries))
     }
 
-    /// Hands out the end of a query, once: its piece where it is done. Does not allocate.
+    /// Hands out the end of a query, once. The end of a query that is done is its piece. Does not allocate.
     pub fn collect(&mut self, seat: u32, q: u32) -> Collect<P>
         ensures answer { AnswersCollect P.stands seat self.old q result self.new }
         ensures lawful { IsLawful P.asks self.new }
@@ -215,8 +217,9 @@ impl<P: Work> Board<P> {
         end_of(cancelled, lost, piece)
     }
 
-    /// Takes a task's pieces in, the query of each by its turn; a running query without a piece, or without memory for
-    /// it, is lost. The pieces of other queries are dropped. Only absorbing allocates memory.
+    /// Absorbs the pieces of a task; the piece at a position belongs to the query at the same position. A running query
+    /// is lost if it has no piece, or if its piece cannot be absorbed for lack of memory. The pieces of other queries
+    /// are dropped. Only absorbing allocates memory.
     pub fn deliver(&mut self, seat: u32, task: Task, pieces: Vec<Option<P>>)
         requires in_flight { InFlight self.old.past seat task }
         requires stand { PiecesFit (P.stands self.old.root) task.chunk task.queries pieces.items }
@@ -250,7 +253,7 @@ impl<P: Work> Lineage for Board<P> {
     }
 }
 
-/// An empty journal with room for a Close. Allocates memory.
+/// Creates an empty journal with room for a Close. Allocates memory.
 fn room_for_close(alloc: Global) -> Result<Vec<JournalLine>, Memory>
     ensures { IfOk result (λ journal. (journal.items ≡ []) × (1 ≤ vec_capacity journal)) }
 {
@@ -259,9 +262,9 @@ fn room_for_close(alloc: Global) -> Result<Vec<JournalLine>, Memory>
     Ok(journal)
 }
 
-/// How many lines may come with an Attach and after it, until the next one: the Attach; a Take and a Deliver for each
-/// chunk of the ring; a Deliver for each task in flight; a Cancel for each running query; a Collect for each slot; and
-/// a Close.
+/// Returns how many lines may be written by an Attach and after it, until the next one. They are the Attach; a Take and
+/// a Deliver for each chunk of the ring; a Deliver for each task in flight; a Cancel for each running query; a Collect
+/// for each slot; and a Close.
 fn room_after_attach(ring: u32, flights: u32) -> usize
     requires small { ring ≤ RING_MOST }
     requires few { flights < LINES_BOUND }

@@ -1,4 +1,4 @@
-//! What a deliver does with the pieces of a task, and with the slots of its queries.
+//! What a deliver does to the pieces of a task, and to the slots of its queries.
 ghost use Rattle.std.specs.Prelude.{◌≡◌, ℕ, ◌<◌, ◌≤◌, List, [], ◌∷◌, ◌++◌, cond, length, get_or, true, false};
 ghost use Rattle.std.specs.Prelude.{Option, Some, None, IfSome};
 ghost use Rattle.std.specs.List.{last_or};
@@ -18,7 +18,7 @@ use crate::slots::runs_at;
 use crate::work::Work;
 use scan_rules::QuerySet;
 
-/// Takes out the entry of a turn, and None where there is none.
+/// Takes out the entry at a position, or returns None if there is none.
 fn entry_at<P: Work>(entries: &mut Vec<Option<P>>, turn: usize) -> Option<P>
     ensures entry { result ≡ entry_of entries.old.items turn }
     ensures beside { Beside entries.old.items entries.new.items turn }
@@ -30,7 +30,7 @@ fn entry_at<P: Work>(entries: &mut Vec<Option<P>>, turn: usize) -> Option<P>
     entry.take()
 }
 
-/// The piece takes in the one that came. False where one of the two is missing, or there is no memory.
+/// Absorbs an entry into a piece. Returns false if one of the two is missing, or if an allocation fails.
 fn absorb<P: Work>(piece: &mut Option<P>, entry: Option<P>) -> bool
     requires { Fitting P.stands piece.old entry }
     ensures { result ≡ true → Absorbed (Absorbs P.stands) entry piece.old piece.new }
@@ -44,7 +44,7 @@ fn absorb<P: Work>(piece: &mut Option<P>, entry: Option<P>) -> bool
     }
 }
 
-/// So for the piece of one query.
+/// Absorbs an entry into the piece of one query. The result is that of `absorb`.
 fn absorb_at<P: Work>(pieces: &mut Vec<Option<P>>, q: usize, entry: Option<P>) -> bool
     requires low { q < length pieces.old.items }
     requires fit { Fitting P.stands (entry_of pieces.old.items q) entry }
@@ -56,7 +56,8 @@ fn absorb_at<P: Work>(pieces: &mut Vec<Option<P>>, q: usize, entry: Option<P>) -
     absorb(piece, entry)
 }
 
-/// Hands an entry in. True where its query runs and is lost, for it took no piece in; then its own piece goes too.
+/// Hands an entry in to its query. Returns true if the query runs and is lost because its piece absorbed nothing; then
+/// its own piece is dropped too.
 fn hand_in<P: Work>(
     slots: &Vec<Slot>,
     pieces: &mut Vec<Option<P>>,
@@ -83,7 +84,7 @@ fn hand_in<P: Work>(
     true
 }
 
-/// Puts the query into the set where it is lost.
+/// Adds the query to the set if it is lost.
 fn note_lost(lost: &mut QuerySet, q: u32, is_lost: bool)
     requires from_1 { 1 ≤ q }
     requires to_255 { q < SLOTS }
@@ -95,7 +96,7 @@ fn note_lost(lost: &mut QuerySet, q: u32, is_lost: bool)
     }
 }
 
-/// Hands the entries in, each to the piece of the query of its turn. The queries that are lost by it.
+/// Hands all entries in, each to the piece of the query at its position. Returns the queries that are lost by it.
 pub fn hand_all<P: Work>(
     slots: &Vec<Slot>,
     pieces: &mut Vec<Option<P>>,
@@ -120,7 +121,7 @@ pub fn hand_all<P: Work>(
     lost
 }
 
-/// The query has one chunk more, and needs nothing more where it is lost.
+/// Counts one more chunk as delivered to the query; a lost query needs nothing more.
 fn pay(slot: &mut Slot, is_lost: bool)
     requires { 1 ≤ slot.old.owed }
     ensures { Paid is_lost slot.old slot.new }
@@ -132,7 +133,7 @@ fn pay(slot: &mut Slot, is_lost: bool)
     }
 }
 
-/// So for the query of one slot.
+/// Counts one more chunk as delivered to the query of one slot.
 fn pay_at(slots: &mut Vec<Slot>, q: usize, is_lost: bool)
     requires low { q < length slots.old.items }
     requires owed { (d : Slot) → 1 ≤ (get_or slots.old.items q d).owed }
@@ -142,7 +143,7 @@ fn pay_at(slots: &mut Vec<Slot>, q: usize, is_lost: bool)
     pay(slot, is_lost);
 }
 
-/// And for all queries of a task.
+/// Counts one more chunk as delivered to each query of a task.
 pub fn pay_all(slots: &mut Vec<Slot>, queries: &[u32], lost: &QuerySet)
     requires full { length slots.old.items ≡ SLOTS }
     requires tasked { AreTasked queries.now }

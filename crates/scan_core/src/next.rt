@@ -1,4 +1,4 @@
-//! Which chunk the scan takes next, and for which queries: read off the slots, whatever the ring's length.
+//! Which chunk the scan takes next, and for which queries. Both are read off the slots, whatever the ring's length.
 ghost use Rattle.std.specs.Prelude.{◌≡◌, ℕ, ◌<◌, ◌≤◌, List, [], ◌∷◌, ◌++◌, length, get_or, true, cond, IfSome, None};
 ghost use Rattle.std.specs.List.{last_or};
 ghost use Rattle.scan_rules.specs.declared.limits.TheConstants.{RING_MOST};
@@ -13,7 +13,7 @@ use crate::slot::Slot;
 use arrayvec::ArrayVec;
 use scan_rules::QuerySet;
 
-/// How many steps the scan makes from a place to a chunk, around the ring.
+/// Returns how many steps the scan makes from a position to a chunk, around the ring.
 fn offset(ring: u32, place: u32, chunk: u32) -> u32
     requires low { place ≤ ring }
     ensures { result ≡ offset ring place chunk }
@@ -25,7 +25,7 @@ fn offset(ring: u32, place: u32, chunk: u32) -> u32
     }
 }
 
-/// The chunk so many steps on from a place, around the ring.
+/// Returns the chunk that is the given number of steps after a position, around the ring.
 pub fn chunk_at(ring: u32, place: u32, steps: u32) -> u32
     requires small { ring ≤ RING_MOST }
     requires low { place < ring }
@@ -39,7 +39,7 @@ pub fn chunk_at(ring: u32, place: u32, steps: u32) -> u32
     }
 }
 
-/// The chunk that a query needs next.
+/// Returns the chunk that a query needs next.
 fn next_of(slot: &Slot) -> Option<u32>
     ensures { result ≡ next_of slot.now }
 {
@@ -49,7 +49,7 @@ fn next_of(slot: &Slot) -> Option<u32>
     }
 }
 
-/// How many steps on it lies, and the ring's length where there is none.
+/// Returns how many steps away the chunk is that a query needs next, or the ring's length if it needs none.
 fn first_step(ring: u32, place: u32, slot: &Slot) -> u32
     requires { place ≤ ring }
     ensures { result ≡ first_step ring place slot.now }
@@ -60,7 +60,7 @@ fn first_step(ring: u32, place: u32, slot: &Slot) -> u32
     }
 }
 
-/// How many steps on the next needed chunk lies, and the ring's length where none is needed.
+/// Returns how many steps away the next needed chunk is, or the ring's length if none is needed.
 pub fn least_step(ring: u32, place: u32, slots: &[Slot]) -> u32
     requires { place ≤ ring }
     ensures { result ≡ least_from ring place ring slots.now }
@@ -72,7 +72,7 @@ pub fn least_step(ring: u32, place: u32, slots: &[Slot]) -> u32
     best
 }
 
-/// Whether this chunk is the one that the query needs next.
+/// Returns whether this chunk is the one that the query needs next.
 fn is_next(slot: &Slot, chunk: u32) -> bool
     ensures { result ≡ is_next chunk slot.now }
 {
@@ -82,7 +82,7 @@ fn is_next(slot: &Slot, chunk: u32) -> bool
     }
 }
 
-/// Appends the query where it needs this chunk next.
+/// Appends the query if it needs this chunk next.
 fn add_next(queries: &mut ArrayVec<u32, TAKERS_MOST>, slot: &Slot, q: u32, chunk: u32)
     requires room { is_next chunk slot.now ≡ true → length queries.old.items < TAKERS_MOST }
     ensures { queries.new.items ≡ queries.old.items ++ cond (is_next chunk slot.now) (q ∷ []) [] }
@@ -92,7 +92,7 @@ fn add_next(queries: &mut ArrayVec<u32, TAKERS_MOST>, slot: &Slot, q: u32, chunk
     }
 }
 
-/// The queries that need this chunk next, ascending.
+/// Returns the queries that need this chunk next, ascending.
 pub fn takers_at(slots: &Vec<Slot>, chunk: u32) -> ArrayVec<u32, TAKERS_MOST>
     requires full { length slots.now.items ≡ SLOTS }
     requires few { CanServe slots.now.items chunk }
@@ -105,7 +105,7 @@ pub fn takers_at(slots: &Vec<Slot>, chunk: u32) -> ArrayVec<u32, TAKERS_MOST>
     queries
 }
 
-/// Puts the query into the set where it needs this chunk next.
+/// Adds the query to the set if it needs this chunk next.
 fn note_next(queries: &mut QuerySet, slot: &Slot, q: u32, chunk: u32)
     requires from_1 { is_next chunk slot.now ≡ true → 1 ≤ q }
     requires to_255 { q < SLOTS }
@@ -117,7 +117,7 @@ fn note_next(queries: &mut QuerySet, slot: &Slot, q: u32, chunk: u32)
     }
 }
 
-/// The same queries as a set.
+/// Returns the queries that need this chunk next, as a set.
 pub fn takers_set(slots: &Vec<Slot>, chunk: u32) -> QuerySet
     requires full { length slots.now.items ≡ SLOTS }
     requires few { CanServe slots.now.items chunk }
@@ -130,7 +130,7 @@ pub fn takers_set(slots: &Vec<Slot>, chunk: u32) -> QuerySet
     queries
 }
 
-/// A query that needs this chunk next has been served it.
+/// Removes the chunk from those that the query needs, if the query needs it next.
 fn pop_next(slot: &mut Slot, chunk: u32)
     ensures { Popped chunk slot.old slot.new }
 {
@@ -139,7 +139,7 @@ fn pop_next(slot: &mut Slot, chunk: u32)
     }
 }
 
-/// So for the query of one slot.
+/// Does so for the query of one slot.
 fn pop_at(slots: &mut Vec<Slot>, q: usize, chunk: u32)
     requires { q < length slots.old.items }
     ensures { PoppedAt chunk slots.old.items slots.new.items q }
@@ -148,7 +148,7 @@ fn pop_at(slots: &mut Vec<Slot>, q: usize, chunk: u32)
     pop_next(slot, chunk);
 }
 
-/// And for each query that needs the chunk next.
+/// Does so for each query that needs the chunk next.
 pub fn pop_all(slots: &mut Vec<Slot>, chunk: u32)
     requires { length slots.old.items ≡ SLOTS }
     ensures { PoppedAll chunk slots.old.items slots.new.items SLOTS }

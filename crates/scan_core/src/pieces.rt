@@ -1,4 +1,4 @@
-//! The pieces of a board, one a query, by its number.
+//! The pieces of a board, one for each query, by its number.
 ghost use Rattle.std.specs.Prelude.{◌≡◌, ◌<◌, ◌+◌, length, get_or, false, Option, Some, IsSome, IfOk};
 ghost use Rattle.scan_core.specs.declared.limits.TheConstants.{SLOTS};
 ghost use Rattle.scan_core.specs.Changes.{Beside};
@@ -20,7 +20,7 @@ pub fn take_at<P: Work>(pieces: &mut Vec<Option<P>>, q: usize) -> Option<P>
     piece.take()
 }
 
-/// The end of a query that is attached and does not run. A piece is there where it is done.
+/// Returns the end of a query that is attached and does not run. If the query is done, a piece is there.
 pub fn end_of<P: Work>(cancelled: bool, lost: bool, piece: Option<P>) -> Collect<P>
     requires { cancelled ≡ false → lost ≡ false → IsSome piece }
     ensures { EndsAs cancelled lost piece result }
@@ -34,7 +34,7 @@ pub fn end_of<P: Work>(cancelled: bool, lost: bool, piece: Option<P>) -> Collect
     Collect::Piece(piece.unwrap())
 }
 
-/// The piece of a query that is attached.
+/// Stores the piece of a query that is attached.
 pub fn put_at<P: Work>(pieces: &mut Vec<Option<P>>, q: usize, piece: P)
     requires { q < length pieces.old.items }
     ensures beside { Beside pieces.old.items pieces.new.items q }
@@ -43,14 +43,14 @@ pub fn put_at<P: Work>(pieces: &mut Vec<Option<P>>, q: usize, piece: P)
     pieces[q] = Some(piece);
 }
 
-/// Appends no piece. Allocates memory.
+/// Appends an absent piece. Allocates memory.
 fn push_none<P: Work>(pieces: &mut Vec<Option<P>>) -> Result<(), Memory>
     ensures { IfOk result (λ _. length pieces.new.items ≡ length pieces.old.items + 1) }
 {
     Ok(pieces.push(None)?)
 }
 
-/// The pieces of a new board, none. Allocates memory.
+/// Creates the pieces of a new board, all absent. Allocates memory.
 pub fn no_pieces<P: Work>(alloc: Global) -> Result<Vec<Option<P>>, Memory>
     ensures { IfOk result (λ pieces. length pieces.items ≡ SLOTS) }
 {

@@ -1,4 +1,4 @@
-//! The slots of a board: what they say of a query, and what each call changes in them.
+//! The slots of a board: what they say of a query, and how each call changes them.
 ghost use Rattle.std.specs.Prelude.{◌≡◌, ◌<◌, ◌≤◌, [], ◌∷◌, ◌++◌, length, get_or, false, cond, IfOk};
 ghost use Rattle.scan_core.specs.declared.limits.TheConstants.{SLOTS};
 ghost use Rattle.scan_core.specs.declared.slot.Slot.{Slot};
@@ -10,7 +10,7 @@ use crate::slot::Slot;
 use sky_io::Memory;
 use std::alloc::Global;
 
-/// Whether the query runs. One that has no slot does not.
+/// Returns whether the query runs. A query without a slot does not.
 pub fn runs_at(slots: &Vec<Slot>, q: u32) -> bool
     requires full { length slots.now.items ≡ SLOTS }
     ensures known { q < SLOTS → (d : Slot) → result ≡ runs (get_or slots.now.items q d) }
@@ -23,7 +23,7 @@ pub fn runs_at(slots: &Vec<Slot>, q: u32) -> bool
     slot.attached && !slot.cancelled && !slot.lost && slot.owed > 0
 }
 
-/// Whether the query was attached and not collected. One that has no slot was not.
+/// Returns whether the query was attached and not collected. A query without a slot was not.
 pub fn waits_at(slots: &Vec<Slot>, q: u32) -> bool
     requires full { length slots.now.items ≡ SLOTS }
     ensures known { q < SLOTS → (d : Slot) → result ≡ waits (get_or slots.now.items q d) }
@@ -36,7 +36,7 @@ pub fn waits_at(slots: &Vec<Slot>, q: u32) -> bool
     slot.attached && !slot.collected
 }
 
-/// Whether the query was cancelled.
+/// Returns whether the query was cancelled.
 pub fn cancelled_at(slots: &Vec<Slot>, q: usize) -> bool
     requires { q < length slots.now.items }
     ensures { (d : Slot) → result ≡ (get_or slots.now.items q d).cancelled }
@@ -45,7 +45,7 @@ pub fn cancelled_at(slots: &Vec<Slot>, q: usize) -> bool
     slot.cancelled
 }
 
-/// Whether the query was lost.
+/// Returns whether the query was lost.
 pub fn lost_at(slots: &Vec<Slot>, q: usize) -> bool
     requires { q < length slots.now.items }
     ensures { (d : Slot) → result ≡ (get_or slots.now.items q d).lost }
@@ -54,7 +54,7 @@ pub fn lost_at(slots: &Vec<Slot>, q: usize) -> bool
     slot.lost
 }
 
-/// The query needs nothing more, for it is cancelled.
+/// Cancels the query, which then needs nothing more.
 pub fn stop_at(slots: &mut Vec<Slot>, q: usize)
     requires { q < length slots.old.items }
     ensures { StoppedAt slots.old.items slots.new.items q }
@@ -64,7 +64,7 @@ pub fn stop_at(slots: &mut Vec<Slot>, q: usize)
     slot.ahead.clear();
 }
 
-/// The query is collected.
+/// Marks the query as collected.
 pub fn collect_at(slots: &mut Vec<Slot>, q: usize)
     requires { q < length slots.old.items }
     ensures { CollectedAt slots.old.items slots.new.items q }
@@ -73,7 +73,7 @@ pub fn collect_at(slots: &mut Vec<Slot>, q: usize)
     slot.collected = true;
 }
 
-/// Whether the query was attached.
+/// Returns whether the query was attached.
 pub fn attached_at(slots: &Vec<Slot>, q: usize) -> bool
     requires { q < length slots.now.items }
     ensures { (d : Slot) → result ≡ (get_or slots.now.items q d).attached }
@@ -82,7 +82,7 @@ pub fn attached_at(slots: &Vec<Slot>, q: usize) -> bool
     slot.attached
 }
 
-/// 1 where the query runs, else 0.
+/// Returns 1 if the query runs, else 0.
 fn count_at(slots: &Vec<Slot>, q: u32) -> u32
     requires full { length slots.now.items ≡ SLOTS }
     requires low { q < SLOTS }
@@ -92,7 +92,7 @@ fn count_at(slots: &Vec<Slot>, q: u32) -> u32
     if runs_at(slots, q) { 1 } else { 0 }
 }
 
-/// How many queries run.
+/// Returns how many queries run.
 pub fn running_in(slots: &Vec<Slot>) -> u32
     requires full { length slots.now.items ≡ SLOTS }
     ensures { (d : Slot) → result ≡ running_below slots.now.items d SLOTS }
@@ -104,7 +104,7 @@ pub fn running_in(slots: &Vec<Slot>) -> u32
     count
 }
 
-/// The query is attached: it is owed so many chunks, and needs those ahead.
+/// Attaches the query: it is owed the given number of chunks, and needs those in `ahead`.
 pub fn enter_at(slots: &mut Vec<Slot>, q: usize, owed: u32, ahead: Vec<u32>)
     requires { q < length slots.old.items }
     ensures { EnteredAt owed ahead.items slots.old.items slots.new.items q }
@@ -131,7 +131,7 @@ fn push_blank(alloc: Global, slots: &mut Vec<Slot>) -> Result<(), Memory>
     Ok(slots.push(blank)?)
 }
 
-/// The slots of a new board. Allocates memory.
+/// Creates the slots of a new board. Allocates memory.
 pub fn blank_slots(alloc: Global) -> Result<Vec<Slot>, Memory>
     ensures { IfOk result (λ slots. AreBlank slots.items SLOTS) }
 {

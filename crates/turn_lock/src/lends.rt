@@ -1,4 +1,4 @@
-//! The value that a pass lends. It has a file of its own, since its clause names the row of `Pass`.
+//! The value that a guard lends. It has a file of its own, since its clause names the row of `Pass`.
 ghost use Rattle.std.specs.Prelude.{◌≡◌, []};
 ghost use mir.Syntax.{named};
 ghost use Rattle.std.specs.Borrow.{Lends, sem};
@@ -9,7 +9,7 @@ use crate::pass::Pass;
 use sky_io::Lineage;
 
 impl<'a, T: Lineage> Pass<'a, T> {
-    /// The value. What is written to it stands when the loan ends. Does not allocate.
+    /// Borrows the value. What is written to it is kept when the loan ends. Does not allocate.
     pub fn value(&mut self) -> &mut T
         ensures* lends { sem 𝓛 (Lends
             (the_row (record { mir = named 0; lft = [] }) T.row T.Root.row T.Entry.row T.Lineage)

@@ -1,17 +1,19 @@
-//! A lock whose holders each see the whole history of the value behind it.
+//! A lock whose holders each see the whole history of the protected value.
 //!
-//! Callers see a `Turn` as which turn it is, a `Seat` as what it has seen of that history (`specs/Seats.antt`), and a
-//! `Pass` as the value and the seat that has the turn. Below: `sky_io` for `Lineage`, a value that only grows, and
-//! `atomic_table` for the atomic steps. Above: whatever shares such a value among threads, as the board of the shared
-//! scan. Not in it: what the value is, who goes next, or that the turn is ever free.
+//! Callers see a `Turn` (the lock) as its identity, a `Seat` (a participant) as what it has seen of that history
+//! (`specs/Seats.antt`), and a `Pass` (a guard) as the value and the participant that holds the lock. Below: `sky_io`
+//! for `Lineage`, a value that only grows, and `atomic_table` for the atomic steps. Above: whatever shares such a value
+//! among threads, as the board of the shared scan. Not in it: what the value is, which participant enters next, or that
+//! the lock is ever free.
 //!
-//! A plain lock tells its holder nothing of what others did meanwhile. This one does, by a word, a slot and a view for
-//! each seat. The word is 2c while the turn is free and 2c + 1 while it is held, where c is how many entries the past
-//! has. The slot has the value while the turn is free. A view is plain data of the contracts, and does not allocate:
-//! the entries that its seat has seen, and those that it made. The rule ties the three (`specs/Rule.antt`): what any
-//! seat has seen begins the one past, and of each seat's entries the past has exactly those that the seat knows. So who
-//! enters finds a value whose past goes on from what it saw last, with none of its own entries lost or made up; and who
-//! leaves makes its entry a part of what all others will find.
+//! An ordinary lock does not show its holder what others did meanwhile. This one does, by an atomic word, a slot and a
+//! view for each participant. The word is 2c while the lock is free and 2c + 1 while it is held, where c is the number
+//! of entries of the history. The slot has the value while the lock is free. A view is ghost data of the contracts, and
+//! does not allocate: the entries that its participant has seen, and those that it made. The rule relates the three
+//! (`specs/Rule.antt`): what any participant has seen is a prefix of the one history, and the history has exactly those
+//! entries of each participant that the participant knows. So a participant that enters finds a value whose history
+//! extends what it saw last, with none of its own entries lost or made up. A participant that leaves makes its entry a
+//! part of what all others will find.
 #![tactic(auto)]
 
 pub mod laws;

@@ -1,4 +1,4 @@
-//! The turn, held by a seat.
+//! The guard: the lock, held by a participant.
 ghost use Rattle.std.specs.Prelude.{◌≡◌, ◌+◌, ◌*◌, ◌<◌, ◌^◌, [], ◌∷◌, ◌++◌, length, All, true};
 ghost use Rattle.std.specs.Prelude.{IsSome, Some, None};
 ghost use Rattle.turn_lock.specs.Pasts.{GrewByAtMostOne};
@@ -12,7 +12,7 @@ use crate::view::{Said, View};
 use sky_io::Lineage;
 use std::marker::{Brand, Model};
 
-/// The turn, with the value. It has no `Drop`: whoever enters leaves.
+/// The lock, held, with the value. It has no `Drop`: a participant that has entered must leave.
 pub struct Pass<'a, T: Lineage> {
     pub(crate) turn: &'a Turn<T>,
     pub(crate) inner: atomic_table::Seat<Option<T>, View<T::Root, T::Entry>>,
@@ -39,7 +39,7 @@ impl<'a, T: Lineage> Model for Pass<'a, T> {
 }
 
 impl<'a, T: Lineage> Pass<'a, T> {
-    /// Puts the value back and gives the seat, which has seen the whole past then. Does not allocate.
+    /// Puts the value back and returns the participant, which has then seen the whole history. Does not allocate.
     pub fn leave(self) -> Seat<T>
         requires root { T.root self.value ≡ self.seat.root }
         requires past { GrewByAtMostOne T.seat_of
@@ -66,7 +66,7 @@ impl<'a, T: Lineage> Pass<'a, T> {
     }
 }
 
-// The store that makes the entries that W says part of the past.
+// The store that makes the entries of W part of the history.
 fn publish_said<T: Lineage, W: Said<T::Entry>>(
     turn: &Turn<T>,
     inner: &mut Inner<T>,
@@ -85,7 +85,7 @@ fn publish_said<T: Lineage, W: Said<T::Entry>>(
     turn.table.shared.store::<Adds<W>>(inner, 0, word);
 }
 
-// The same, of the entries by which the value's past is longer than what was seen.
+// The store that makes part of the history the entries of the value that the participant had not seen.
 fn publish<T: Lineage>(turn: &Turn<T>, inner: &mut Inner<T>, value: &T, word: u64)
     requires own { inner.old.table_id ≡ turn.now }
     requires holder { (inner.old.me.0.live ≡ true) × (inner.old.me.0.holds_turn ≡ true) }
@@ -99,7 +99,7 @@ fn publish<T: Lineage>(turn: &Turn<T>, inner: &mut Inner<T>, value: &T, word: u6
     publish_said::<T, Brand>(turn, inner, value, word)
 }
 
-// Puts the value into the slot, and gives both back.
+// Puts the value into the slot, and frees the lock.
 fn put_back<T: Lineage>(turn: &Turn<T>, inner: &mut Inner<T>, value: T, word: u64)
     requires own { inner.old.table_id ≡ turn.now }
     requires holder { (inner.old.me.0.live ≡ true) × (inner.old.me.0.holds_turn ≡ true) }

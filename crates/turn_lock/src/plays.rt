@@ -1,4 +1,4 @@
-//! The kinds of step, each with what it tells the seat that makes it. They are for the proofs alone.
+//! The kinds of step, each with what the participant that makes it learns. They are for the proofs alone.
 ghost use Rattle.turn_lock.specs.Steps.{added, gave, heard, tried};
 ghost use Rattle.turn_lock.specs.Views.{joining, spent_view, split_off, splitting};
 
@@ -7,7 +7,7 @@ use atomic_table::{Join, Play, Split};
 use sky_io::Lineage;
 use std::marker::PhantomData;
 
-/// Takes the turn where it is free.
+/// Takes the lock if it is free.
 pub(crate) struct Tries<T> {
     of: PhantomData<T>,
 }
@@ -16,7 +16,7 @@ impl<T: Lineage> Play<Option<T>, View<T::Root, T::Entry>> for Tries<T> {
     ghost then = { tried T.root T.past T.seat_of };
 }
 
-/// Makes entries part of the past.
+/// Makes entries part of the history.
 pub(crate) struct Adds<W> {
     of: PhantomData<W>,
 }
@@ -25,7 +25,7 @@ impl<T, R, E, W: Said<E>> Play<Option<T>, View<R, E>> for Adds<W> {
     ghost then = { added W.said };
 }
 
-/// Gives the turn back.
+/// Frees the lock.
 pub(crate) struct Gives<T> {
     of: PhantomData<T>,
 }
@@ -34,7 +34,7 @@ impl<T: Lineage> Play<Option<T>, View<T::Root, T::Entry>> for Gives<T> {
     ghost then = { gave T.seat_of };
 }
 
-/// Learns that what two joined seats had seen begins what the joined one has seen.
+/// Learns that what two joined participants had seen is each a prefix of what the joined one has seen.
 pub(crate) struct Hears<T> {
     of: PhantomData<T>,
 }
@@ -43,7 +43,7 @@ impl<T: Lineage> Play<Option<T>, View<T::Root, T::Entry>> for Hears<T> {
     ghost then = { heard T.seat_of };
 }
 
-/// Makes one more seat.
+/// Makes one more participant.
 pub(crate) struct Splits;
 
 impl<R, E> Split<View<R, E>> for Splits {
@@ -52,7 +52,7 @@ impl<R, E> Split<View<R, E>> for Splits {
     ghost right = { split_off };
 }
 
-/// Ends one seat in another.
+/// Ends one participant in another.
 pub(crate) struct Joins;
 
 impl<R, E> Join<View<R, E>> for Joins {

@@ -1,17 +1,17 @@
-//! A seat at the turn.
+//! A participant of the lock.
 ghost use Rattle.std.specs.Prelude.{◌≡◌, IsSome};
 
 use crate::view::View;
 use sky_io::Lineage;
 use std::marker::Model;
 
-/// A seat on the table of a turn. It has no bytes.
+/// A seat on the table of a lock. It has no bytes.
 pub(crate) type Inner<T> = atomic_table::Seat<
     Option<T>,
     View<<T as Lineage>::Root, <T as Lineage>::Entry>,
 >;
 
-/// A participant of a turn, which enters with it and gets it back as it leaves.
+/// A participant of a lock. It is used up by entering, and returned by leaving.
 #[derive(Drop)]
 pub struct Seat<T: Lineage> {
     pub(crate) inner: atomic_table::Seat<Option<T>, View<T::Root, T::Entry>>,
@@ -34,7 +34,7 @@ impl<T: Lineage> Model for Seat<T> {
 impl<T: Lineage> Seat<T> {
     ghost use Rattle.turn_lock.specs.Seats.{Knows};
 
-    /// The seat's number, from 0. Does not allocate.
+    /// Returns the participant's number, from 0. Does not allocate.
     pub fn number(&self) -> u32
         ensures number { result ≡ self.now.number }
         ensures known { Knows T.seat_of self.now }

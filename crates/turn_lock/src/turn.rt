@@ -1,4 +1,4 @@
-//! The turn: who enters takes the value out, and who leaves puts it back.
+//! The lock: entering takes the value out, and leaving puts it back.
 ghost use Rattle.std.specs.Prelude.{◌≡◌, ◌≢◌, ◌-◌, ◌%◌, ◌<◌, ◌^◌, [], true, IfSome, IfNone, IfOk};
 ghost use mathlib.Core.List.{IsPrefix};
 ghost use Rattle.turn_lock.specs.Seats.{Knows, first_seat, having_seen, joined_with, next_seat};
@@ -17,7 +17,7 @@ use std::snapshot::Snapshot;
 use std::sync::Wait;
 use std::thread;
 
-/// A lock over a value that only grows. Contracts see which one it is.
+/// A lock over a value that only grows. Its identity is visible to contracts.
 #[derive(Drop)]
 pub struct Turn<T: Lineage> {
     pub(crate) table: Table<Option<T>, View<T::Root, T::Entry>, Snapshot<T>, Rule<T>, Global>,
@@ -36,7 +36,7 @@ impl<T: Lineage> Model for Turn<T> {
 }
 
 impl<T: Lineage + Drop> Turn<T> {
-    /// A turn over a value with no past, and its seat 0. On Memory the value is dropped.
+    /// Creates a lock over a value with an empty history, and its participant 0. On Memory the value is dropped.
     pub fn new(alloc: Global, value: T) -> Result<(Turn<T>, Seat<T>), Memory>
         requires { T.past value ≡ [] }
         ensures { IfOk result (λ r. r.1 ≡ first_seat r.0 (T.root value)) }
@@ -61,7 +61,7 @@ impl<T: Lineage + Drop> Turn<T> {
 }
 
 impl<T: Lineage> Turn<T> {
-    /// Waits for the turn, and takes the value out. Does not allocate.
+    /// Waits for the lock, and takes the value out. Does not allocate.
     pub fn enter<R: Wait>(&self, rt: &R, seat: Seat<T>) -> Pass<'_, T>
         requires own { seat.turn ≡ self.now }
         ensures seat { result.seat ≡ having_seen (T.past result.value) seat }
@@ -84,7 +84,7 @@ impl<T: Lineage> Turn<T> {
         }
     }
 
-    // Tries until the turn is free, and takes the value out.
+    // Tries until the lock is free, and takes the value out.
     fn take_turn<R: Wait>(&self, rt: &R, inner: &mut Inner<T>) -> T
         requires own { inner.old.table_id ≡ self.now }
         requires live { (inner.old.me.1 ≡ []) × (inner.old.me.0.live ≡ true) }
@@ -103,7 +103,7 @@ impl<T: Lineage> Turn<T> {
         unreachable!()
     }
 
-    // Takes the value out where the word is still this, the word of a free turn.
+    // Takes the value out if the word is still this one, the word of a free lock.
     fn try_enter(&self, inner: &mut Inner<T>, word: u64) -> Option<T>
         requires own { inner.old.table_id ≡ self.now }
         requires live { (inner.old.me.1 ≡ []) × (inner.old.me.0.live ≡ true) }
@@ -121,7 +121,7 @@ impl<T: Lineage> Turn<T> {
         shared.exchange(inner, 0, None)
     }
 
-    /// Makes one more seat, with the next number, out of seat 0. Does not allocate.
+    /// Makes one more participant, with the next number, out of participant 0. Does not allocate.
     pub fn split(&self, seat: &mut Seat<T>) -> Seat<T>
         requires own { seat.old.turn ≡ self.now }
         requires first { seat.old.number ≡ 0 }
@@ -140,7 +140,7 @@ impl<T: Lineage> Turn<T> {
         }
     }
 
-    /// Ends another seat in this one, which has seen the longer of both lists then. Does not allocate.
+    /// Ends another participant in this one, which has then seen the longer of both lists. Does not allocate.
     pub fn join(&self, seat: &mut Seat<T>, other: Seat<T>)
         requires own { (seat.old.turn ≡ self.now) × (other.turn ≡ self.now) }
         requires not_first { other.number ≢ 0 }

@@ -1,4 +1,5 @@
-//! What the table keeps of each seat, and the rule that every step keeps. No value of these types is made.
+//! What the table stores for each participant, and the rule that every step preserves. No value of these types is
+//! created.
 ghost use Rattle.std.specs.Prelude.{List, []};
 
 use atomic_table::TableRule;
@@ -7,31 +8,31 @@ use std::collections::LinkedList;
 use std::marker::{Brand, PhantomData};
 use std::snapshot::Snapshot;
 
-/// What a seat knows.
+/// What a participant knows.
 pub struct View<R, E> {
-    /// The seat's number, from 0.
+    /// The participant's number, from 0.
     pub number: u32,
-    /// The value's root; None in a view that is spent.
+    /// The value's root; None in the view of a participant that has ended.
     pub root: Option<R>,
-    /// The beginning of the past that the seat has seen.
+    /// The prefix of the history that the participant has seen.
     pub seen: LinkedList<E>,
-    /// The entries that the seat made.
+    /// The entries that the participant made.
     pub mine: LinkedList<E>,
-    /// The numbers of the seats that ended in this one, each with its entries.
+    /// The numbers of the participants that ended in this one, each with its entries.
     pub ended: LinkedList<(u32, LinkedList<E>)>,
-    /// What this seat had seen when another ended in it.
+    /// What this participant had seen when another ended in it.
     pub before: LinkedList<E>,
-    /// What that other seat had seen.
+    /// What that other participant had seen.
     pub heard: LinkedList<E>,
-    /// At seat 0 how many seats were made, itself counted; at the others 0.
+    /// At participant 0 the number of participants made, itself counted; at the others 0.
     pub made: u32,
-    /// Whether the seat has the turn.
+    /// Whether the participant holds the lock.
     pub holds_turn: bool,
-    /// Whether the rule says anything of the view.
+    /// Whether the rule constrains the view.
     pub live: bool,
 }
 
-/// The rule of the turn, which knows the value as it was when the turn was made.
+/// The rule of the lock. It knows the value as it was when the lock was made.
 pub struct Rule<T> {
     of: PhantomData<T>,
 }
