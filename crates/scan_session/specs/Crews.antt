@@ -1,4 +1,4 @@
--- What the czar leaves when he has closed the board, and what is known once the workers' seats are joined.
+-- What the czar leaves when it has closed the board, and what is known once the workers' participants are joined.
 use Rattle.std.specs.Prelude.{◌≡◌, ℕ, ◌<◌, ◌≤◌, List, [], ◌∷◌, ◌++◌, true, Contains, Option, Some, ◌⊎◌}
 use Rattle.std.specs.List.{list_all}
 use mathlib.Core.List.{IsPrefix}
@@ -17,7 +17,7 @@ use Rattle.scan_session.specs.Seats.{of_seat}
 use Rattle.scan_session.specs.declared.end.Outcome.{Outcome}
 use Rattle.scan_session.specs.declared.end.Outcome.TheVariants.{Went, Memory, Odd}
 
--- the czar went through these steps and closed the board; what came then is not his
+-- the czar ran these steps and closed the board; the lines after that are not its own
 pub record Closed (plan : Plans) (steps : List Step) (seen : Journal) (ends : ℕ → Option QueryState) : Type 0 where
   pub before : Journal
   pub rest : Journal
@@ -31,14 +31,14 @@ Leaves plan steps seen ends Went = Closed plan steps seen ends ⊎ (has_foreign 
 Leaves plan steps seen ends Memory = Unit {0}
 Leaves plan steps seen ends Odd = has_foreign seen ≡ true
 
--- a seat that was joined: its number, and its lines, which are work, all delivered
+-- a participant that was joined: its number, and its lines, which are work, all delivered
 pub record KeepsWork (ended : List (ℕ × Journal)) (number : ℕ) : Type 0 where
   pub lines : Journal
   pub kept : Contains ended (number, lines)
   pub work : list_all is_work lines ≡ true
   pub delivered : AllDelivered lines
 
--- The czar's seat, once the board is closed and the seats that were split off are joined again.
+-- The czar's participant, once the board is closed and the participants that were split off are joined again.
 pub record Manned {R : Type 0} (asks : R → ℕ → ℕ → Type 0) (old new : BoardSeat R) : Type 0 where
   pub first : new.number ≡ 0
   pub turn : new.turn ≡ old.turn
@@ -51,7 +51,7 @@ pub record Manned {R : Type 0} (asks : R → ℕ → ℕ → Type 0) (old new : 
   pub closed : is_closed new.seen ≡ true
   pub crew : (n : ℕ) → old.made ≤ n → n < new.made → KeepsWork new.ended n
 
--- each attached query's end is known, as its state in the end
+-- the end of each attached query is known, and is its final state
 abbrev pub TellsStates : Journal → (ℕ → Option QueryState) → Type 0
 TellsStates seen ends = (q : ℕ) → is_attached seen q ≡ true → ends q ≡ Some (state_of seen q)
 

@@ -12,11 +12,11 @@ use Rattle.scan_worker.specs.Working.{is_work}
 use Rattle.scan_session.specs.Plans.{Plans, AllRunAtOnce, settles, planned, MayCancel}
 use Rattle.scan_session.specs.Quiet.{is_alone, Pinned, Untouched}
 
--- an Attach, Cancel, Collect or Close that is not the czar's
+-- the line is an Attach, Cancel, Collect or Close that is not the czar's
 abbrev pub is_foreign : JournalLine → Bool
 is_foreign l = not (is_work l) && not (seat_of l == 0)
 
--- what the czar cannot rule out before all workers are joined
+-- the lines have one that is foreign, which the czar cannot rule out before all workers are joined
 abbrev pub has_foreign : Journal → Bool
 has_foreign S = list_any is_foreign S
 
@@ -29,7 +29,7 @@ attached_by (Cancel seat q) = []
 attached_by (Collect seat q) = []
 attached_by (Close seat) = []
 
--- the queries attached, with their chunks, in order
+-- the queries attached by these lines, with their chunks, in order
 abbrev pub attached_in : Journal → List (ℕ × List ℕ)
 attached_in S = flat_map attached_by S
 
@@ -39,7 +39,7 @@ RestsBefore S q later =
     (H : Journal) (seat r : ℕ) (chunks : List ℕ) (rest : Journal)
     → S ≡ H ++ Attach seat r chunks ∷ rest → list_any (asks r) later ≡ true → is_running H q ≡ false
 
--- a query that does not run, and did not before the Attach of any query that stands later in the script
+-- a query does not run, and did not before the Attach of any query that is later in the script
 pub record Settled (S : Journal) (q : ℕ) (later : List Step) : Type 0 where
   pub attached : is_attached S q ≡ true
   pub stopped : is_running S q ≡ false
@@ -56,11 +56,11 @@ pub record Driven (plan : Plans) (done : List Step) (S : Journal) (ends : ℕ �
       → done ≡ a ++ step ∷ b → settles q step ≡ true → is_some (plan q) ≡ true → Settled S q b
   pub pinned : is_alone S ≡ true → AllRunAtOnce plan → Pinned plan done S
 
--- the same, so far as nobody but the czar attaches, cancels, collects or closes
+-- the lines are driven by these steps, if no other participant than the czar attaches, cancels, collects or closes
 abbrev pub Driving : Plans → List Step → Journal → (ℕ → Option QueryState) → Type 0
 Driving plan done S ends = has_foreign S ≡ false → Driven plan done S ends
 
--- the same between two steps: a czar who works alone has not worked but for a wait line
+-- the lines are driven between two steps: a czar that works alone has worked only for a wait line
 pub record Going (plan : Plans) (done : List Step) (S : Journal) (ends : ℕ → Option QueryState) : Type 0 where
   pub drives : Driving plan done S ends
   pub calm : is_alone S ≡ true → AllRunAtOnce plan → Untouched plan done S

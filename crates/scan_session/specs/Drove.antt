@@ -1,4 +1,4 @@
--- What a session promises: of the lines that were seen in the end, and of the end of each query.
+-- What a session promises, of the final lines that were seen, and of the end of each query.
 use Rattle.std.specs.Prelude.{◌≡◌, ℕ, ◌+◌, ◌≤◌, List, ◌∷◌, ◌++◌, true, Option, Some, None, is_some, count_by, slice_get}
 use Rattle.scan_rules.specs.declared.limits.TheConstants.{RUNNING_MOST}
 use Rattle.scan_rules.specs.Lines.{collects}
@@ -13,7 +13,7 @@ use Rattle.scan_session.specs.Driven.{attached_in, RestsBefore}
 use Rattle.scan_session.specs.declared.end.End.{End}
 use Rattle.scan_session.specs.declared.end.End.TheVariants.{Answered, Refused, Cancelled, Spent}
 
--- What the lines of a session bear out, with so many workers.
+-- What the lines of a session show, with the given number of workers.
 pub record Drove (workers : ℕ) (plan : Plans) (steps : List Step) (S : Journal) : Type 0 where
   -- the planned queries are attached with their chunks, in script order, and nothing else is
   pub attached : attached_in S ≡ planned plan steps
@@ -21,15 +21,15 @@ pub record Drove (workers : ℕ) (plan : Plans) (steps : List Step) (S : Journal
   pub delivered : AllDelivered S
   pub closed : is_closed S ≡ true
   pub cancelled : (q : ℕ) → is_cancelled S q ≡ true → has_cancel steps q ≡ true
-  -- a wait line and a cancel line let no later query start before theirs has ended
+  -- a wait line and a cancel line let no later query start before their own query has ended
   pub settled : (a : List Step) (step : Step) (b : List Step) (q : ℕ)
       → steps ≡ a ++ step ∷ b → settles q step ≡ true → is_some (plan q) ≡ true → RestsBefore S q b
   -- with no workers, and room for all queries at once, a prompt cancel takes effect
   pub pinned : workers ≡ 0 → query_count steps ≤ RUNNING_MOST → (q chunk : ℕ) (chunks : List ℕ)
       → plan q ≡ Some (chunk ∷ chunks) → has_prompt_cancel steps q ≡ true → is_cancelled S q ≡ true
 
--- what the end of a query shows: that it was not planned, else its state in the end, and a piece of all its chunks where
--- it is done
+-- what the end of a query shows: that it was not planned; else its final state, and a piece of all its chunks if it is
+-- done
 abbrev pub IsEnd : {P : Type 0} → (ℕ → List ℕ → P → Type 0) → Journal → ℕ → Option (List ℕ) → End P → Type 0
 IsEnd stands S q None end = end ≡ Refused
 IsEnd stands S q (Some chunks) (Answered piece) = (state_of S q ≡ Done) × stands q chunks piece

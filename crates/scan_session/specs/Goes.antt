@@ -16,13 +16,13 @@ use Rattle.scan_session.specs.declared.end.Tried.TheVariants as tried
 use Rattle.scan_session.specs.declared.end.Told.{Told}
 use Rattle.scan_session.specs.declared.end.Told.TheVariants as told
 
--- this holds where the part went to its end; Odd comes only where another seat did what the czar alone does
+-- this holds if the part ran to its end; Odd occurs only if another participant did what only the czar does
 abbrev pub Goes : Type 0 → Journal → Outcome → Type 0
 Goes holds seen Went = holds
 Goes holds seen Memory = Unit {0}
 Goes holds seen Odd = has_foreign seen ≡ true
 
--- what an attempt to attach leaves: all is as before where the board is full
+-- what an attempt to attach leaves: all is as before if the board is full
 abbrev pub GoesTried : {P : Type 0}
     → Plans → List Step → Step → Journal → (ℕ → Option QueryState) → Tried P → Type 0
 GoesTried plan done step seen ends tried.Attached = Going plan (done ++ step ∷ []) seen ends
@@ -30,14 +30,14 @@ GoesTried plan done step seen ends (tried.Full planned) = Going plan done seen e
 GoesTried plan done step seen ends tried.Memory = Unit {0}
 GoesTried plan done step seen ends tried.Odd = has_foreign seen ≡ true
 
--- what is told of a query's end leaves it known, or all as before
+-- asking for a query's end makes it known, or leaves all as before
 abbrev pub GoesTold : {P : Type 0}
     → Plans → List Step → Journal → (ℕ → Option QueryState) → ℕ → Told P → Type 0
 GoesTold plan done seen ends q (told.Ended end) = Driving plan done seen (with_end ends q (state_by (Some end)))
 GoesTold plan done seen ends q told.NotYet = Driving plan done seen ends
 GoesTold plan done seen ends q told.Odd = has_foreign seen ≡ true
 
--- the same of an end, or of an answer that cannot come
+-- what is left by an end that is learned, or by a result that cannot occur
 abbrev pub GoesEnded : {P : Type 0}
     → Plans → List Step → Journal → (ℕ → Option QueryState) → ℕ → Option (End P) → Type 0
 GoesEnded plan done seen ends q (Some end) = Driving plan done seen (with_end ends q (state_by (Some end)))
@@ -49,13 +49,14 @@ number_of (Query q span) = q
 number_of (Wait q) = q
 number_of (CancelStep q) = q
 
--- a step about a query that none of these asks, or that one of them asks
+-- a step that asks a query that none of these steps asks, or is about one that one of them asks
 abbrev pub IsNext : List Step → Step → Type 0
 IsNext done (Query q span) = list_any (asks q) done ≡ false
 IsNext done (Wait q) = list_any (asks q) done ≡ true
 IsNext done (CancelStep q) = list_any (asks q) done ≡ true
 
--- a script of so many queries: each step is about a query that is asked before it, or is the next one's
+-- a script of `count` queries, with numbers from 1: each step asks a query that no step before it asks, or is about one
+-- that is asked before it
 pub record IsScript (count : ℕ) (steps : List Step) : Type 0 where
   pub next : (a : List Step) (step : Step) (b : List Step) → steps ≡ a ++ step ∷ b → IsNext a step
   pub from_1 : (a : List Step) (step : Step) (b : List Step) → steps ≡ a ++ step ∷ b → 1 ≤ number_of step

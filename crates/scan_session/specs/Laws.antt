@@ -17,12 +17,12 @@ abbrev pub is_empty : List ℕ → Bool
 is_empty [] = true
 is_empty (chunk ∷ chunks) = false
 
--- a query is planned where it is not refused early, and is idle where its plan is empty
+-- a query is refused early exactly if it is not planned, and a planned one is idle exactly if its plan is empty
 abbrev pub IsJudgedBy : Option (List ℕ) → Judged → Type 0
 IsJudgedBy None j = j.early ≡ true
 IsJudgedBy (Some chunks) j = (j.early ≡ false) × (j.idle ≡ is_empty chunks)
 
--- how a query ends by what its end shows: the last piece of a done one is answered, or refused
+-- how a query ends, by what its end shows: the final piece of a query that is done is answered, or refused
 abbrev pub ShowsKind : Journal → ℕ → Option (List ℕ) → Judged → EndKind → Type 0
 ShowsKind S q None j kind = kind ≡ Refused
 ShowsKind S q (Some chunks) j Answered = (state_of S q ≡ Done) × (is_refused j ≡ false)
@@ -41,7 +41,7 @@ DroveFits =
     → ShowsKind S (i + 1) (plan (i + 1)) j kind)
     → fit workers steps judged kinds ≡ true
 
--- a query of the script whose plan has no chunks is done in the end: it is neither cancelled nor spent
+-- a query of the script whose plan has no chunks is done in the end: it is neither cancelled nor lost
 abbrev pub EmptyIsDone : Type 0
 EmptyIsDone =
     (workers : ℕ) (plan : Plans) (steps : List Step) (ring : ℕ) (S : Journal) (q : ℕ)

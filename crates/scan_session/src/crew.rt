@@ -1,9 +1,9 @@
 //! Workers on threads beside the czar.
 //!
-//! Each call splits one seat off, and runs a worker with it beside the rest; the innermost call is the czar himself.
-//! He closes the board on every path, so a worker whose thread could not be started, which is run after him in his
-//! thread, ends too; and each seat that was split off is joined again. Where there are workers they and the czar are a team:
-//! who finds nothing to take makes pieces of another's task.
+//! Each call splits one participant off, and runs a worker with it beside the rest; the innermost call is the czar
+//! itself. It closes the board on every path. So a worker whose thread cannot be started, which runs after the czar in
+//! the czar's thread, ends too; and each participant that was split off is joined again. If there are workers, they and
+//! the czar are a team: one that finds nothing to take makes pieces of another's task.
 ghost use Rattle.std.specs.Prelude.{◌≡◌, ℕ, ◌+◌, ◌-◌, ◌<◌, ◌≤◌, ◌^◌, [], List, true, length, vec_len};
 ghost use Rattle.std.specs.Thread.{IsSync};
 ghost use Rattle.session_script.specs.declared.step.Step.{Step};
@@ -35,7 +35,7 @@ use std::sync::Wait;
 use std::thread::{Threads, join};
 use turn_lock::Seat;
 
-/// The czar's part alone, with his lists by value and a desk of his own.
+/// Runs the czar's part alone, with its lists by value and a worker context of its own.
 fn alone<R: Wait, P: Work, E: Engine<P>, G: Gate>(
     alloc: Global,
     rt: &R,
@@ -81,7 +81,7 @@ fn alone<R: Wait, P: Work, E: Engine<P>, G: Gate>(
     (outcome, ends, seat)
 }
 
-/// The czar with so many workers beside him.
+/// Runs the czar with the given number of workers beside it.
 fn manned<R: Threads + Wait + Sync, P: Work + Send, E: Engine<P> + Sync, G: Gate + Sync>(
     alloc: Global,
     rt: &R,
@@ -173,7 +173,8 @@ where
     (outcome, ends, seat)
 }
 
-/// The czar with so many workers beside him, each of whom makes pieces of the tasks of the others where nothing is to take.
+/// Runs the czar with the given number of workers beside it, each of which makes pieces of the tasks of the others when
+/// there is nothing to take.
 pub fn teamed<
     R: Threads + Wait + Sync,
     P: Work + Send,
@@ -215,7 +216,7 @@ where
     ensures made { result.2.made ≡ seat.made + workers }
     ensures manned { Manned P.asks seat result.2 }
 {
-    // a czar without workers has nobody who would help him
+    // a czar without workers has no one to help it
     let seats = if workers == 0 {
         0
     } else {

@@ -21,7 +21,7 @@ use sky_io::Gate;
 use std::sync::Wait;
 use turn_lock::Seat;
 
-/// The script, and then the ends of all queries.
+/// Runs the script, and then learns the ends of all queries.
 fn whole<R: Wait, P: Work, E: Engine<P>, G: Gate>(
     desk: &mut Desk<E::Scratch>,
     rt: &R,
@@ -75,7 +75,8 @@ pub fn close<R: Wait, P: Work>(
     board.close(rt, seat)
 }
 
-/// The czar's part of a session: the script, the ends of all queries, and the close, also where memory is wanting.
+/// Runs the czar's part of a session: the script, the ends of all queries, and the close, also after an allocation
+/// failure.
 pub fn czar<R: Wait, P: Work, E: Engine<P>, G: Gate>(
     desk: &mut Desk<E::Scratch>,
     rt: &R,

@@ -1,8 +1,9 @@
-//! The czar's session: a script over a shared board, with workers on threads beside him.
+//! The czar's session: a script over a shared board, with workers on threads beside the czar.
 //!
-//! Callers give the plan of each query of a script, and get the end of each; the lines that the seat has seen show what
-//! was done (`specs/Drove.antt`). Below: `scan_board` for the calls, `scan_worker` for the work, `session_script` for the
-//! steps. Above: `czar`, which knows what a plan and a piece are. No rows and no SQL: a piece of work is any `P: Work`.
+//! Callers give the plan of each query of a script, and get the end of each. The lines that the participant has seen
+//! show what was done (`specs/Drove.antt`). Below: `scan_board` for the calls, `scan_worker` for the work,
+//! `session_script` for the steps. Above: `czar`, which knows what a plan and a piece are. No rows and no SQL: a piece
+//! of work is any `P: Work`.
 #![tactic(auto)]
 
 mod crew;

@@ -1,4 +1,4 @@
-//! The czar goes through a script, and then waits for the ends of all queries.
+//! The czar runs a script, and then waits for the ends of all queries.
 ghost use Rattle.std.specs.Prelude.{◌≡◌, ℕ, ◌≤◌, ◌<◌, ◌++◌, [], ◌∷◌, List, Option, true, None, is_some, Some, false, length};
 ghost use Rattle.std.specs.List.{list_any};
 ghost use Rattle.session_script.specs.declared.step.Step.{Step};
@@ -23,7 +23,7 @@ use sky_io::Gate;
 use std::sync::Wait;
 use turn_lock::Seat;
 
-/// Learns the end of a query, and waits for it where it is not known yet.
+/// Learns the end of a query, and waits for it if it is not known yet.
 pub fn await_end<R: Wait, P: Work, E: Engine<P>, G: Gate>(
     desk: &mut Desk<E::Scratch>,
     rt: &R,
@@ -62,7 +62,7 @@ pub fn await_end<R: Wait, P: Work, E: Engine<P>, G: Gate>(
     }
 }
 
-/// A cancel line: cancels the query, where its end is not known yet.
+/// Runs a cancel line: cancels the query, if its end is not known yet.
 fn cancel_line<R: Wait, P: Work>(
     rt: &R,
     board: &SharedBoard<P>,
@@ -86,7 +86,7 @@ fn cancel_line<R: Wait, P: Work>(
     cancel(rt, board, seat, q)
 }
 
-/// A query line: attaches the query, where it is planned.
+/// Runs a query line: attaches the query, if it is planned.
 fn query_line<R: Wait, P: Work, E: Engine<P>, G: Gate>(
     desk: &mut Desk<E::Scratch>,
     rt: &R,
@@ -120,7 +120,7 @@ fn query_line<R: Wait, P: Work, E: Engine<P>, G: Gate>(
     }
 }
 
-/// One line of the script.
+/// Runs one line of the script.
 fn line<R: Wait, P: Work, E: Engine<P>, G: Gate>(
     desk: &mut Desk<E::Scratch>,
     rt: &R,
@@ -162,7 +162,7 @@ fn line<R: Wait, P: Work, E: Engine<P>, G: Gate>(
     }
 }
 
-/// All lines of the script.
+/// Runs all lines of the script.
 pub fn all_lines<R: Wait, P: Work, E: Engine<P>, G: Gate>(
     desk: &mut Desk<E::Scratch>,
     rt: &R,
@@ -202,7 +202,7 @@ pub fn all_lines<R: Wait, P: Work, E: Engine<P>, G: Gate>(
     (Outcome::Went, seat)
 }
 
-/// The ends of all queries.
+/// Learns the ends of all queries.
 pub fn all_ends<R: Wait, P: Work, E: Engine<P>, G: Gate>(
     desk: &mut Desk<E::Scratch>,
     rt: &R,

@@ -22,7 +22,8 @@ use std::sync::Wait;
 use std::thread::Threads;
 use turn_lock::Seat;
 
-/// What is known of the ends before the session: the queries that are not planned are refused. Allocates memory.
+/// Returns what is known of the ends before the session: the queries that are not planned are refused. Allocates
+/// memory.
 fn first_ends<P: Work>(
     alloc: Global,
     plans: &[Option<Planned<P>>],
@@ -38,7 +39,7 @@ fn first_ends<P: Work>(
     Ok(ends)
 }
 
-/// What is known of a query's end before the session.
+/// Returns what is known of a query's end before the session.
 fn first_end<P: Work>(plan: &Option<Planned<P>>) -> Option<End<P>>
     ensures { IsFirstEnd plan.now result }
 {
@@ -48,7 +49,7 @@ fn first_end<P: Work>(plan: &Option<Planned<P>>) -> Option<End<P>>
     }
 }
 
-/// Room for so many ends. Allocates memory.
+/// Creates an empty list with room for the given number of ends. Allocates memory.
 fn room_for<P: Work>(alloc: Global, count: usize) -> Result<Vec<End<P>>, Memory>
     ensures room { IfOk result (λ ends. count ≤ vec_capacity ends) }
     ensures none { IfOk result (λ ends. ends.items ≡ []) }
@@ -58,7 +59,7 @@ fn room_for<P: Work>(alloc: Global, count: usize) -> Result<Vec<End<P>>, Memory>
     Ok(ends)
 }
 
-/// The ends, once all are known. Does not allocate.
+/// Moves the ends into a list, once all are known. Does not allocate.
 fn all_known<P: Work>(known: &mut [Option<End<P>>], ends: Vec<End<P>>) -> Vec<End<P>>
     requires known { AllKnown known.old }
     requires room { length known.old ≤ vec_capacity ends }
@@ -75,7 +76,7 @@ fn all_known<P: Work>(known: &mut [Option<End<P>>], ends: Vec<End<P>>) -> Vec<En
     ends
 }
 
-/// The same of a list by value.
+/// Moves the ends into a list, out of a list by value.
 fn known_ends<P: Work>(known: Vec<Option<End<P>>>, ends: Vec<End<P>>) -> Vec<End<P>>
     requires known { AllKnown known.items }
     requires room { vec_len known ≤ vec_capacity ends }
@@ -86,8 +87,9 @@ fn known_ends<P: Work>(known: Vec<Option<End<P>>>, ends: Vec<End<P>>) -> Vec<End
     all_known(known.as_mut_slice(), ends)
 }
 
-/// Goes through a script with so many workers beside the czar, and gives the end of each query, in their order. Takes
-/// memory, and waits. On Memory, too, the board is closed and each seat that was split off is joined again.
+/// Runs a script with the given number of workers beside the czar, and returns the end of each query, in their order.
+/// Allocates memory, and waits. On Memory, too, the board is closed and each participant that was split off is joined
+/// again.
 pub fn drive<R: Threads + Wait + Sync, P: Work + Send, E: Engine<P> + Sync, G: Gate + Sync>(
     alloc: Global,
     rt: &R,
@@ -119,7 +121,7 @@ where
     ensures made { IfOk result.0 (λ ends. result.1.made ≡ 1 + workers) }
     ensures manned { Manned P.asks seat result.1 }
 {
-    // the seat tells that it knows its own lines
+    // the contract of `number` gives that the participant knows its own lines
     let _number = seat.number();
     let Ok(told) = room_for(alloc, plans.len()) else {
         return (Err(Memory), close(rt, board, seat));

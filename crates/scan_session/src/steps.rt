@@ -1,4 +1,4 @@
-//! What the czar does at the board for one query: attach it, cancel it, and wait for its end.
+//! What the czar does at the board for one query: it attaches the query, cancels it, and waits for its end.
 ghost use Rattle.std.specs.Prelude.{◌≡◌, ℕ, ◌≤◌, ◌++◌, [], ◌∷◌, List, Option, true, None, is_some, IfSome, Some, false};
 ghost use Rattle.std.specs.List.{list_any};
 ghost use Rattle.session_script.specs.declared.step.Step.{Step};
@@ -27,7 +27,7 @@ use std::sync::Wait;
 use std::thread;
 use turn_lock::Seat;
 
-/// Works for once; where nothing is to do, gives the processor away. Allocates memory, and waits.
+/// Runs one round of work; if there is nothing to do, yields the processor. Allocates memory, and waits.
 fn work<R: Wait, P: Work, E: Engine<P>, G: Gate>(
     desk: &mut Desk<E::Scratch>,
     rt: &R,
@@ -50,7 +50,7 @@ fn work<R: Wait, P: Work, E: Engine<P>, G: Gate>(
     seat
 }
 
-/// Attaches a query once; where the board is full, works for once instead. Allocates memory, and waits.
+/// Tries once to attach a query; if the board is full, runs one round of work instead. Allocates memory, and waits.
 pub fn try_start<R: Wait, P: Work, E: Engine<P>, G: Gate>(
     desk: &mut Desk<E::Scratch>,
     rt: &R,
@@ -126,7 +126,7 @@ pub fn start<R: Wait, P: Work, E: Engine<P>, G: Gate>(
     unreachable!()
 }
 
-/// Cancels a query, where it runs. Waits, and does not allocate.
+/// Cancels a query, if it runs. Waits. Does not allocate.
 pub fn cancel<R: Wait, P: Work>(
     rt: &R,
     board: &SharedBoard<P>,
@@ -143,7 +143,7 @@ pub fn cancel<R: Wait, P: Work>(
     board.cancel(rt, seat, q).1
 }
 
-/// Asks for a query's end once; while the query runs, works for once instead. Waits.
+/// Asks for a query's end once; while the query runs, runs one round of work instead. Waits.
 pub fn ask_end<R: Wait, P: Work, E: Engine<P>, G: Gate>(
     desk: &mut Desk<E::Scratch>,
     rt: &R,
@@ -173,7 +173,8 @@ pub fn ask_end<R: Wait, P: Work, E: Engine<P>, G: Gate>(
     }
 }
 
-/// The end of a query, once it has ended; the czar works meanwhile. None where another seat collected it. Waits.
+/// Returns the end of a query, once it has ended; the czar works meanwhile. None if another participant collected it.
+/// Waits.
 pub fn end_of<R: Wait, P: Work, E: Engine<P>, G: Gate>(
     desk: &mut Desk<E::Scratch>,
     rt: &R,

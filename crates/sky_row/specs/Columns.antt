@@ -1,4 +1,4 @@
--- Rows as columns: a list of values for each column, of which the same place is the same row.
+-- Rows as columns: a list of values for each column, in which equal indexes belong to the same row.
 use Rattle.std.specs.Prelude.{◌≡◌, ℕ, ◌+◌, ◌<◌, ◌≤◌, ◌≤ℤ◌, ◌<ℤ◌, AllPairs, Bool, true, false, ◌⊎◌, List, [], ◌∷◌, ◌++◌, length, map, take, replicate, get_or, All, Option, None, Some, unwrap_or, if◌then◌else◌, ℤ, pos, FitsSigned}
 use Rattle.std.specs.List.{range_with_len}
 use Rattle.std.specs.List.Sorted.{IsPermutation}
@@ -6,7 +6,7 @@ use Rattle.sky_vector.specs.Points.{IsWithin}
 use Rattle.table_rules.specs.Objects.{Obj, Catalogue, IsRow, cell}
 use Rattle.table_rules.specs.declared.limits.TheConstants.{FURTHER_COLUMNS_MOST, ROWS_MOST}
 
--- the value at a place of a column: where no presence is kept each row has one, else those that it is true of
+-- the value at an index of a column: if there is no validity list each row has one, else the valid rows have one
 abbrev pub cell_at : List ℤ → List Bool → ℕ → Option ℤ
 cell_at values present i = if get_or present i true then Some (get_or values i (pos 0)) else None
 
@@ -14,30 +14,30 @@ cell_at values present i = if get_or present i true then Some (get_or values i (
 abbrev pub cells_of : List ℤ → List Bool → List (Option ℤ)
 cells_of values present = map (cell_at values present) (range_with_len 0 (length values))
 
--- the number that is kept for a value, and 0 for NULL
+-- the number that is stored for a value, and 0 for NULL
 abbrev pub or_zero : Option ℤ → ℤ
 or_zero cell = unwrap_or cell (pos 0)
 
--- A column as it is kept: a presence for each row or none at all, and 0 for NULL.
+-- A column as it is stored: a validity flag for each row or none at all, and 0 for NULL.
 pub record IsKept (values : List ℤ) (present : List Bool) : Type 0 where
   pub presence : (present ≡ []) ⊎ (length present ≡ length values)
   pub zero : (i : ℕ) → get_or present i true ≡ false → get_or values i (pos 0) ≡ pos 0
 
--- the first values found, so many, are those at the first places
+-- the first n values found are those at the first n indexes
 abbrev pub GathersUpTo : {X : Type 0} → ℕ → List X → List ℕ → List X → Type 0
 GathersUpTo {X} n values places found = (k : ℕ) (d : X) → k < n → get_or found k d ≡ get_or values (get_or places k 0) d
 
--- Values at places of a list, in the order of the places.
+-- Values of a list at given indexes, in the order of the indexes.
 pub record IsGathered {X : Type 0} (values : List X) (places : List ℕ) (found : List X) : Type 0 where
   pub count : length found ≡ length places
   pub each : GathersUpTo (length places) values places found
 
--- The presence at places: none where none was kept, else that of each place.
+-- The validity at given indexes: none at all if each is valid, else that of each index.
 pub record IsPresenceAt (present : List Bool) (places : List ℕ) (found : List Bool) : Type 0 where
   pub presence : (found ≡ []) ⊎ (length found ≡ length places)
   pub each : (k : ℕ) → k < length places → get_or found k true ≡ get_or present (get_or places k 0) true
 
--- The columns of rows: their ids, the parts of their positions, and a list for each extra column.
+-- The columns of rows: their ids, the components of their positions, and a list for each extra column.
 pub record Parts : Type 0 where
   pub ids : List ℤ
   pub xs : List ℤ
@@ -49,7 +49,7 @@ pub record Parts : Type 0 where
 abbrev pub cells_in : List (List (Option ℤ)) → ℕ → List (Option ℤ)
 cells_in columns i = map (λ column. get_or column i None) columns
 
--- the row at a place
+-- the row with number i
 abbrev pub row_at : Parts → ℕ → Obj
 row_at p i = record {
   id = get_or p.ids i (pos 0);
@@ -57,21 +57,21 @@ row_at p i = record {
   further = cells_in p.further i;
 }
 
--- all rows, by their places
+-- all rows, in the order of their numbers
 abbrev pub objects_of : Parts → List Obj
 objects_of p = map (row_at p) (range_with_len 0 (length p.ids))
 
--- so many extra columns over no row
+-- the given number of extra columns without rows
 abbrev pub no_rows : ℕ → Parts
 no_rows width = record { ids = []; xs = []; ys = []; zs = []; further = replicate width [] }
 
--- each extra column with a value more, of which there is one a column
+-- each extra column with one more value, one for each column
 unfoldable pub cells_behind : List (List (Option ℤ)) → List (Option ℤ) → List (List (Option ℤ))
 cells_behind [] cells = []
 cells_behind (column ∷ columns) [] = column ∷ columns
 cells_behind (column ∷ columns) (value ∷ values) = (column ++ value ∷ []) ∷ cells_behind columns values
 
--- the columns with a row more
+-- the columns with one more row
 abbrev pub row_behind : Parts → Obj → Parts
 row_behind p o = record {
   ids = p.ids ++ o.id ∷ [];
@@ -81,7 +81,7 @@ row_behind p o = record {
   further = cells_behind p.further o.further;
 }
 
--- the first rows, so many
+-- the first n rows
 abbrev pub first_rows : ℕ → Parts → Parts
 first_rows n p = record {
   ids = take n p.ids;
@@ -98,15 +98,15 @@ pub record AreAligned (p : Parts) : Type 0 where
   pub zs : length p.zs ≡ length p.ids
   pub further : All (λ column. length column ≡ length p.ids) p.further
 
--- a list that begins with another
+-- the list `whole` begins with `front`
 abbrev pub IsFront : {X : Type 0} → List X → List X → Type 0
 IsFront {X} front whole = take (length front) whole ≡ front
 
--- Columns that begin as others do: whose first rows, so many as there were, are theirs.
+-- The new columns begin as the old ones do: their first rows, as many as the old ones have, are the same.
 abbrev pub Begins : Parts → Parts → Type 0
 Begins old new = first_rows (length old.ids) new ≡ old
 
--- the rows at these places
+-- the rows with these numbers
 abbrev pub rows_at : Parts → List ℕ → Parts
 rows_at p places = record {
   ids = map (λ place. get_or p.ids place (pos 0)) places;
@@ -116,7 +116,7 @@ rows_at p places = record {
   further = map (λ column. map (λ place. get_or column place None) places) p.further;
 }
 
--- Columns of one length, whose rows are rows.
+-- Columns of one length, whose rows are rows of an object table.
 pub record AreRows (p : Parts) : Type 0 where
   pub aligned : AreAligned p
   pub rows : (i : ℕ) → i < length p.ids → IsRow (row_at p i)
@@ -125,22 +125,23 @@ pub record AreRows (p : Parts) : Type 0 where
 abbrev pub column_in : List Obj → ℕ → List (Option ℤ)
 column_in objects col = map (λ o. cell o col) objects
 
--- any row
+-- some row
 abbrev pub no_row : Obj
 no_row = record { id = pos 0; at = record { x = pos 0; y = pos 0; z = pos 0 }; further = [] }
 
--- the objects at these places
+-- the objects with these numbers
 abbrev pub objects_at : List Obj → List ℕ → List Obj
 objects_at objects places = map (λ place. get_or objects place no_row) places
 
--- Columns under their names.
+-- Columns under these names.
 pub record AreColumns (names : List (List ℕ)) (p : Parts) : Type 0 where
   pub few_names : length names ≤ FURTHER_COLUMNS_MOST
   pub few : length p.ids ≤ ROWS_MOST
   pub wide : length p.further ≡ length names
   pub rows : AreRows p
 
--- Rows in any order: not too many, each within the limits of its columns and with a value for each extra column.
+-- Rows in any order: not too many, each within the limits of its columns and with a value or NULL for each extra
+-- column.
 pub record AreListed (c : Catalogue) : Type 0 where
   pub few_names : length c.names ≤ FURTHER_COLUMNS_MOST
   pub few : length c.objects ≤ ROWS_MOST
@@ -151,7 +152,7 @@ pub record AreListed (c : Catalogue) : Type 0 where
 abbrev pub AreAscending : List ℤ → Type 0
 AreAscending ids = AllPairs (λ a b. a <ℤ b) ids
 
--- Places of ids in the order of the ids: each place once, and no id above the one behind it.
+-- Row numbers in the order of their ids: each row number once, and no id above the next one.
 pub record ArePlacesById (ids : List ℤ) (places : List ℕ) : Type 0 where
   pub each : IsPermutation (range_with_len 0 (length ids)) places
   pub order : (k : ℕ) → k + 1 < length places → get_or ids (get_or places k 0) (pos 0) ≤ℤ get_or ids (get_or places (k + 1) 0) (pos 0)

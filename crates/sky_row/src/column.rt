@@ -1,6 +1,6 @@
-//! A extra column: a number for each row, and which rows have a value.
+//! An extra column: a number for each row, and which rows have a value.
 //!
-//! Where each row has one, no presence is kept, so a scan of such a column reads nothing beside its numbers.
+//! If each row has one, no validity list is stored, so a scan of such a column reads only its numbers.
 ghost use Rattle.std.specs.Prelude.{ℕ, true, ◌≡◌, ◌≤◌, ◌<◌, ◌^◌, [], ◌∷◌, ◌++◌, All, IfOk, IfSome, IfNone, OnOk, OnErr, IsTrue, Some, None, ◌⊎◌};
 ghost use Rattle.std.specs.Prelude.{length, map, take, get_or, slice_get};
 ghost use Rattle.std.specs.Option.{is_some};
@@ -13,12 +13,12 @@ use sky_io::Memory;
 use std::alloc::Global;
 use std::marker::Model;
 
-/// The values that rows have in a extra column, of which `None` is NULL.
+/// The values of rows in an extra column, each a value or `None` for NULL.
 #[derive(Drop)]
 pub struct Column {
     /// A number for each row, and 0 for NULL.
     values: Vec<i64>,
-    /// Which rows have a value, or nothing where all have.
+    /// Which rows have a value, or empty if all have.
     present: Vec<bool>,
 }
 
@@ -34,7 +34,7 @@ impl Model for Column {
 }
 
 impl Column {
-    /// A column over no row. Does not allocate.
+    /// Creates a column without rows. Does not allocate.
     pub fn new(alloc: Global) -> Column
         ensures { result ≡ [] }
     {
@@ -44,14 +44,14 @@ impl Column {
         }
     }
 
-    /// How many rows there are. Does not allocate.
+    /// Returns the number of rows. Does not allocate.
     pub fn len(&self) -> usize
         ensures { result ≡ length self.now }
     {
         self.values.len()
     }
 
-    /// The value at this place, from 0. Does not allocate.
+    /// Returns the value of the row with this number, from 0. Does not allocate.
     pub fn get(&self, i: usize) -> Option<i64>
         requires { i < length self.now }
         ensures { result ≡ get_or self.now i None }
@@ -59,14 +59,14 @@ impl Column {
         value_at(self.values.as_slice(), self.present.as_slice(), i)
     }
 
-    /// A number for each row: its value, and 0 for NULL. Does not allocate.
+    /// Returns a number for each row: its value, and 0 for NULL. Does not allocate.
     pub fn values(&self) -> &[i64]
         ensures { result.now ≡ map or_zero self.now }
     {
         self.values.as_slice()
     }
 
-    /// Which rows have a value; `None` only where all have. Does not allocate.
+    /// Returns which rows have a value; `None` only if all have. Does not allocate.
     pub fn present(&self) -> Option<&[bool]>
         ensures some { IfSome result (λ present. present.now ≡ map is_some self.now) }
         ensures none { IfNone result (All (λ cell. IsTrue (is_some cell)) self.now) }
@@ -79,7 +79,7 @@ impl Column {
         }
     }
 
-    /// Puts a value behind the others. Allocates memory; where there is none, nothing changes.
+    /// Appends a value. Allocates memory. If an allocation fails, nothing changes.
     pub fn push(&mut self, value: Option<i64>) -> Result<(), Memory>
         ensures ok { OnOk result (self.new ≡ self.old ++ value ∷ []) }
         ensures err { OnErr result (self.new ≡ self.old) }
@@ -91,8 +91,8 @@ impl Column {
         }
     }
 
-    /// The column of the rows at these places, counted from 0, in the order of the places. Allocates memory for it
-    /// once.
+    /// Returns the column of the rows with these numbers, counted from 0, in the order of the list. Allocates its
+    /// memory once.
     pub fn at(&self, alloc: Global, places: &[u32]) -> Result<Column, Memory>
         requires { All (λ place. place < length self.now) places.now }
         ensures { IfOk result (λ column.
@@ -103,7 +103,7 @@ impl Column {
         Ok(of_parts(values, present))
     }
 
-    /// A column over no row, with room for so many. Allocates memory for their numbers once.
+    /// Creates a column without rows, with room for the given number of them. Allocates memory for their numbers once.
     pub(crate) fn with_room(alloc: Global, count: usize) -> Result<Column, Memory>
         ensures { IfOk result (λ column. column ≡ []) }
     {
@@ -113,8 +113,8 @@ impl Column {
         })
     }
 
-    /// Puts the values of the rows at the next places behind those of the first ones, up to so many in all. Allocates
-    /// memory where the room is not there, or a NULL is the first; where there is none, nothing changes.
+    /// Appends the values of the next rows of the list to those of the first ones, up to `count` in all. Allocates
+    /// memory if the room is missing, or if a NULL is the first. If an allocation fails, nothing changes.
     pub(crate) fn fill(
         &mut self,
         table: &Column,
@@ -140,7 +140,7 @@ impl Column {
         )
     }
 
-    /// Cuts the column behind so many rows. Does not allocate.
+    /// Truncates the column to the first `count` rows. Does not allocate.
     pub fn truncate(&mut self, count: usize)
         ensures { self.new ≡ take count self.old }
     {
@@ -149,7 +149,7 @@ impl Column {
     }
 }
 
-/// The column of these numbers and this presence.
+/// Creates the column of these numbers and this validity list.
 fn of_parts(values: Vec<i64>, present: Vec<bool>) -> Column
     requires { IsKept values.items present.items }
     ensures { result ≡ cells_of values.items present.items }
@@ -157,7 +157,7 @@ fn of_parts(values: Vec<i64>, present: Vec<bool>) -> Column
     Column { values, present }
 }
 
-/// Puts the numbers and the presence of the rows at the next places behind those of the first ones, or neither.
+/// Appends the numbers and the validity of the next rows of the list to those of the first ones, or neither.
 #[tactic(auto, using(crate::proofs::Filling::still_whole))]
 fn fill_lists(
     found: &mut Vec<i64>,
@@ -191,7 +191,7 @@ fn fill_lists(
     Ok(())
 }
 
-/// The value at a place.
+/// Returns the value of the row with number `i`.
 fn value_at(values: &[i64], present: &[bool], i: usize) -> Option<i64>
     requires there { i < length values.now }
     requires kept { IsKept values.now present.now }
@@ -204,7 +204,7 @@ fn value_at(values: &[i64], present: &[bool], i: usize) -> Option<i64>
     }
 }
 
-/// Puts the value of one row more behind those of a column in which each row has one.
+/// Appends the value of one more row to a column in which each row has one.
 fn push_to_whole(
     values: &mut Vec<i64>,
     present: &mut Vec<bool>,
@@ -224,7 +224,7 @@ fn push_to_whole(
     }
 }
 
-/// Puts a number behind those of a column in which each row has a value.
+/// Appends a number to a column in which each row has a value.
 #[tactic(auto, using(crate::proofs::Presence::whole_more, crate::proofs::Presence::whole_kept))]
 fn push_number(values: &mut Vec<i64>, present: &Vec<bool>, number: i64) -> Result<(), Memory>
     requires { present.now.items ≡ [] }
@@ -237,7 +237,7 @@ fn push_number(values: &mut Vec<i64>, present: &Vec<bool>, number: i64) -> Resul
     Ok(())
 }
 
-/// Puts the first NULL of a column behind its values, which makes its presence.
+/// Appends the first NULL of a column, which creates its validity list.
 fn push_first_null(values: &mut Vec<i64>, present: &mut Vec<bool>) -> Result<(), Memory>
     requires whole { present.old.items ≡ [] }
     ensures kept { IsKept values.new.items present.new.items }
@@ -250,7 +250,7 @@ fn push_first_null(values: &mut Vec<i64>, present: &mut Vec<bool>) -> Result<(),
     push_present(values, present, None)
 }
 
-/// Notes of each row of a column that it has a value.
+/// Creates the validity list of a column in which each row has a value.
 #[tactic(auto, using(crate::proofs::Presence::made_presence, crate::proofs::Presence::whole_kept, crate::proofs::Presence::made_kept))]
 fn make_presence(values: &Vec<i64>, present: &mut Vec<bool>) -> Result<(), Memory>
     requires whole { present.old.items ≡ [] }
@@ -263,7 +263,7 @@ fn make_presence(values: &Vec<i64>, present: &mut Vec<bool>) -> Result<(), Memor
     Ok(())
 }
 
-/// Puts a value and its presence behind the others, or neither.
+/// Appends a value and its validity, or neither.
 #[tactic(auto, using(crate::proofs::Presence::present_more, crate::proofs::Presence::present_kept))]
 fn push_present(
     values: &mut Vec<i64>,

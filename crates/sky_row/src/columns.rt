@@ -1,6 +1,7 @@
 //! The rows of a catalogue in any order, as columns.
 //!
-//! A scan reads a column as one slice; a row is made of them only where it is asked for. Contracts see the rows alone.
+//! A scan reads a column as one slice; a row is built from the columns only if it is asked for. Only the rows are
+//! visible to contracts.
 ghost use Rattle.std.specs.Prelude.{◌≡◌, ◌+◌, ◌<◌, ◌≤◌, ◌^◌, [], ◌∷◌, ◌++◌, length, map, All};
 ghost use Rattle.std.specs.Prelude.{IfOk, IsTrue, OnErr, OnOk, get_or, slice_get, Some};
 ghost use Rattle.sky_vector.specs.Points.{IsWithin, is_admissible};
@@ -38,7 +39,7 @@ impl Model for Columns {
 }
 
 impl Columns {
-    /// These columns over no row. Allocates memory for the list of them.
+    /// Creates these columns without rows. Allocates memory for the list of them.
     #[tactic(auto, using(crate::proofs::Rowed::no_columns))]
     pub fn new(alloc: Global, schema: Schema) -> Result<Columns, Memory>
         ensures { IfOk result (λ columns. columns ≡ record { names = schema; objects = [] }) }
@@ -47,7 +48,7 @@ impl Columns {
         Ok(Columns { schema, lists })
     }
 
-    /// Puts the row behind the others. Allocates memory; where there is none, nothing changes.
+    /// Appends the row. Allocates memory. If an allocation fails, nothing changes.
     pub fn push(&mut self, row: &Row) -> Result<(), Memory>
         requires room { length self.old.objects < ROWS_MOST }
         requires wide { length row.now.further ≡ length self.old.names }
@@ -58,7 +59,7 @@ impl Columns {
         push_row(&mut self.lists, row)
     }
 
-    /// How many rows there are. Does not allocate.
+    /// Returns the number of rows. Does not allocate.
     pub fn len(&self) -> u32
         ensures count { result ≡ length self.now.objects }
         ensures limits { AreListed self.now }
@@ -66,7 +67,7 @@ impl Columns {
         self.lists.ids().len() as u32
     }
 
-    /// The row with this number, from 0. Does not allocate.
+    /// Returns the row with this number, from 0. Does not allocate.
     pub fn get(&self, i: u32) -> Row
         requires { i < length self.now.objects }
         ensures value { slice_get self.now.objects i ≡ Some result }
@@ -76,7 +77,7 @@ impl Columns {
         self.lists.row(i as usize)
     }
 
-    /// The position of the row with this number, from 0, without its other values. Does not allocate.
+    /// Returns the position of the row with this number, from 0, without its other values. Does not allocate.
     pub fn position(&self, i: u32) -> Pos
         requires { i < length self.now.objects }
         ensures value { point result ≡ (get_or self.now.objects i no_row).at }
@@ -85,14 +86,14 @@ impl Columns {
         self.lists.position(i as usize)
     }
 
-    /// The names of the columns. Does not allocate.
+    /// Returns the names of the columns. Does not allocate.
     pub fn schema(&self) -> &Schema
         ensures { result.now ≡ self.now.names }
     {
         &self.schema
     }
 
-    /// The columns themselves, without their names. Does not allocate.
+    /// Returns the columns themselves, without their names. Does not allocate.
     pub fn lists(&self) -> &Lists
         ensures objects { objects_of result.now ≡ self.now.objects }
         ensures rows { AreRows result.now }
@@ -101,14 +102,14 @@ impl Columns {
         &self.lists
     }
 
-    /// The ids of the rows. Does not allocate.
+    /// Returns the ids of the rows. Does not allocate.
     pub fn ids(&self) -> &[i64]
         ensures { result.now ≡ map (λ o. o.id) self.now.objects }
     {
         self.lists.ids()
     }
 
-    /// The x of the rows. Does not allocate.
+    /// Returns the x of the rows. Does not allocate.
     pub fn xs(&self) -> &[i32]
         ensures value { result.now ≡ map (λ o. o.at.x) self.now.objects }
         ensures within { All IsWithin result.now }
@@ -116,7 +117,7 @@ impl Columns {
         self.lists.xs()
     }
 
-    /// The y of the rows. Does not allocate.
+    /// Returns the y of the rows. Does not allocate.
     pub fn ys(&self) -> &[i32]
         ensures value { result.now ≡ map (λ o. o.at.y) self.now.objects }
         ensures within { All IsWithin result.now }
@@ -124,7 +125,7 @@ impl Columns {
         self.lists.ys()
     }
 
-    /// The z of the rows. Does not allocate.
+    /// Returns the z of the rows. Does not allocate.
     pub fn zs(&self) -> &[i32]
         ensures value { result.now ≡ map (λ o. o.at.z) self.now.objects }
         ensures within { All IsWithin result.now }
@@ -132,7 +133,7 @@ impl Columns {
         self.lists.zs()
     }
 
-    /// A extra column by its number among all columns, so from `FIRST_COLUMNS`. Does not allocate.
+    /// Returns an extra column by its number among all columns, so from `FIRST_COLUMNS`. Does not allocate.
     pub fn further(&self, col: u32) -> &Column
         requires first { FIRST_COLUMNS ≤ col }
         requires last { col < FIRST_COLUMNS + length self.now.names }
@@ -141,7 +142,8 @@ impl Columns {
         self.lists.further(col as usize - FIRST_COLUMNS)
     }
 
-    /// The rows at these places, counted from 0, in the order of the places. Allocates memory for each column once.
+    /// Returns the rows with these numbers, counted from 0, in the order of the list. Allocates memory for each column
+    /// once.
     pub fn at(self, alloc: Global, places: &[u32]) -> Result<Columns, Memory>
         requires few { length places.now ≤ ROWS_MOST }
         requires there { All (λ place. place < length self.objects) places.now }
@@ -155,7 +157,7 @@ impl Columns {
     }
 }
 
-/// Puts the row behind the others.
+/// Appends the row.
 #[tactic(auto, using(crate::proofs::Rowed::one_more))]
 fn push_row(lists: &mut Lists, row: &Row) -> Result<(), Memory>
     requires are { AreRows lists.old }

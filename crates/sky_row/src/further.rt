@@ -1,4 +1,4 @@
-//! The extra columns of rows, side by side: the same is done to each of them.
+//! The extra columns of rows: each operation does the same to each of them.
 ghost use Rattle.std.specs.Prelude.{◌≡◌, ◌<◌, ◌≤◌, ℕ, [], ◌∷◌, ◌++◌, length, map, take, get_or, replicate, All};
 ghost use Rattle.std.specs.Prelude.{IfOk, IsTrue, OnOk, OnErr, None};
 ghost use Rattle.std.specs.List.{list_all};
@@ -14,7 +14,7 @@ use sky_io::Memory;
 use std::alloc::Global;
 use table_rules::limits::FIRST_COLUMNS;
 
-/// The values of one row in each of the columns.
+/// Returns the values of one row in each of the columns.
 pub(crate) fn cells_at(columns: &[Column], i: usize) -> Cells
     requires few { length columns.now ≤ FURTHER_COLUMNS_MOST }
     requires there { All (λ column. i < length column) columns.now }
@@ -28,7 +28,7 @@ pub(crate) fn cells_at(columns: &[Column], i: usize) -> Cells
     cells
 }
 
-/// The columns of the rows at these places.
+/// Returns the columns of the rows with these numbers.
 pub(crate) fn columns_at(
     alloc: Global,
     columns: &[Column],
@@ -45,7 +45,7 @@ pub(crate) fn columns_at(
     Ok(found)
 }
 
-/// The columns with the values at the next places in those of a table, up to so many in all.
+/// Appends the values of the next rows of the list to the columns, from those of a table, up to `count` in all.
 pub(crate) fn fill_columns(
     columns: &mut Vec<Column>,
     table: &[Column],
@@ -72,7 +72,7 @@ pub(crate) fn fill_columns(
     Ok(())
 }
 
-/// So many columns over no row, with room for so many.
+/// Creates `width` columns without rows, each with room for `room` rows.
 #[tactic(auto, using(crate::proofs::Gathering::replicate_more))]
 pub(crate) fn empty_columns(alloc: Global, width: u32, room: usize) -> Result<Vec<Column>, Memory>
     ensures { IfOk result (λ columns. columns.items ≡ replicate width []) }
@@ -84,7 +84,8 @@ pub(crate) fn empty_columns(alloc: Global, width: u32, room: usize) -> Result<Ve
     Ok(columns)
 }
 
-/// Puts the extra values of a row behind their columns. Where there is no memory, some columns have theirs.
+/// Appends the extra values of a row to their columns. If an allocation fails, some columns have the new value and some
+/// do not.
 pub(crate) fn push_cells(columns: &mut Vec<Column>, row: &Row) -> Result<(), Memory>
     requires few { length row.now.further ≤ FURTHER_COLUMNS_MOST }
     requires wide { length row.now.further ≡ length columns.old.items }
@@ -100,7 +101,7 @@ pub(crate) fn push_cells(columns: &mut Vec<Column>, row: &Row) -> Result<(), Mem
     Ok(())
 }
 
-/// Puts the extra value of a row with this number, from 0, behind its column.
+/// Appends the extra value of a row with index `k`, from 0, to its column.
 #[tactic(auto, using(crate::proofs::Gathering::further_cell, crate::proofs::Gathering::front_same, crate::proofs::Gathering::front_more))]
 fn push_cell(column: &mut Column, row: &Row, k: u32) -> Result<(), Memory>
     requires few { length row.now.further ≤ FURTHER_COLUMNS_MOST }
@@ -111,7 +112,7 @@ fn push_cell(column: &mut Column, row: &Row, k: u32) -> Result<(), Memory>
     column.push(row.value(FIRST_COLUMNS as u32 + k))
 }
 
-/// Cuts columns behind so many rows.
+/// Truncates the columns to the first `count` rows.
 #[tactic(auto, using(crate::proofs::Gathering::all_cut))]
 pub(crate) fn truncate_cells(columns: &mut Vec<Column>, count: usize)
     ensures { columns.new.items ≡ map (take count) columns.old.items }

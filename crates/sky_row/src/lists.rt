@@ -1,4 +1,4 @@
-//! The columns of rows: a list for each, of which the same place is the same row.
+//! The columns of rows: a list for each, in which equal indexes belong to the same row.
 ghost use Rattle.std.specs.Prelude.{◌≡◌, ◌+◌, ◌<◌, ◌≤◌, [], ◌∷◌, ◌++◌, length, get_or, All};
 ghost use Rattle.std.specs.Prelude.{IfOk, OnOk, OnErr, pos};
 ghost use Rattle.sky_vector.specs.Points.{IsWithin};
@@ -18,7 +18,7 @@ use sky_vector::Pos;
 use std::alloc::Global;
 use std::marker::Model;
 
-/// The ids of rows, the parts of their positions, and their extra columns.
+/// The ids of rows, the components of their positions, and their extra columns.
 #[derive(Drop)]
 pub struct Lists {
     ids: Vec<i64>,
@@ -37,8 +37,8 @@ impl Model for Lists {
 }
 
 impl Lists {
-    /// So many extra columns over no row, with room for so many rows. Allocates memory for the list of them, and for
-    /// each column once where there is to be room.
+    /// Creates `width` extra columns without rows, with room for `room` rows. Allocates memory for the list of them,
+    /// and for each column once if room is asked for.
     pub fn new(alloc: Global, width: u32, room: usize) -> Result<Lists, Memory>
         ensures { IfOk result (λ lists. lists ≡ no_rows width) }
     {
@@ -52,7 +52,7 @@ impl Lists {
         })
     }
 
-    /// Puts a row behind the others. Allocates memory; where there is none, nothing changes.
+    /// Appends a row. Allocates memory. If an allocation fails, nothing changes.
     pub(crate) fn push(&mut self, row: &Row) -> Result<(), Memory>
         requires aligned { AreAligned self.old }
         requires wide { length row.now.further ≡ length self.old.further }
@@ -69,7 +69,7 @@ impl Lists {
         }
     }
 
-    /// Puts a row behind the others. Where there is no memory, some of the columns have its value and some don't.
+    /// Appends a row. If an allocation fails, some of the columns have its value and some do not.
     fn push_parts(&mut self, row: &Row) -> Result<(), Memory>
         requires aligned { AreAligned self.old }
         requires wide { length row.now.further ≡ length self.old.further }
@@ -84,7 +84,7 @@ impl Lists {
         push_cells(&mut self.further, row)
     }
 
-    /// The row at this place, from 0. Does not allocate.
+    /// Returns the row with this number, from 0. Does not allocate.
     pub fn row(&self, i: usize) -> Row
         requires rows { AreRows self.now }
         requires there { i < length self.now.ids }
@@ -95,7 +95,7 @@ impl Lists {
         Row::of_cells(self.ids[i], at, cells_at(self.further.as_slice(), i))
     }
 
-    /// The position of the row at this place, from 0. Does not allocate.
+    /// Returns the position of the row with this number, from 0. Does not allocate.
     pub fn position(&self, i: usize) -> Pos
         requires rows { AreRows self.now }
         requires there { i < length self.now.ids }
@@ -108,7 +108,8 @@ impl Lists {
         )
     }
 
-    /// The rows at these places, counted from 0, in the order of the places. Allocates memory for each column once.
+    /// Returns the rows with these numbers, counted from 0, in the order of the list. Allocates memory for each column
+    /// once.
     pub fn at(&self, alloc: Global, places: &[u32]) -> Result<Lists, Memory>
         requires aligned { AreAligned self.now }
         requires there { All (λ place. place < length self.now.ids) places.now }
@@ -128,10 +129,10 @@ impl Lists {
         })
     }
 
-    /// Puts the rows at the next places in a table behind those at the first ones, up to so many in all: so rows are
-    /// gathered by turns, for one list of places after the other, while what they are taken from is near the processor.
-    /// Allocates memory where the room is not there, or a NULL is a column's first; where there is none, some columns
-    /// have the next values and some don't.
+    /// Appends the next rows of a list of row numbers to those of the first ones, from a table, up to `count` in all.
+    /// So rows can be gathered in turns, for one list after the other, while the rows that they are copied from are in
+    /// the processor's cache. Allocates memory if the room is missing, or if a NULL is a column's first. If an
+    /// allocation fails, some columns have the next values and some do not.
     pub fn fill(&mut self, table: &Lists, places: &[u32], count: usize) -> Result<(), Memory>
         requires aligned { AreAligned table.now }
         requires there { All (λ place. place < length table.now.ids) places.now }
@@ -148,35 +149,35 @@ impl Lists {
         fill_columns(&mut self.further, table.further.as_slice(), places, count)
     }
 
-    /// The ids. Does not allocate.
+    /// Returns the ids. Does not allocate.
     pub fn ids(&self) -> &[i64]
         ensures { result.now ≡ self.now.ids }
     {
         self.ids.as_slice()
     }
 
-    /// The first parts of the positions. Does not allocate.
+    /// Returns the first components of the positions. Does not allocate.
     pub fn xs(&self) -> &[i32]
         ensures { result.now ≡ self.now.xs }
     {
         self.xs.as_slice()
     }
 
-    /// The second parts of the positions. Does not allocate.
+    /// Returns the second components of the positions. Does not allocate.
     pub fn ys(&self) -> &[i32]
         ensures { result.now ≡ self.now.ys }
     {
         self.ys.as_slice()
     }
 
-    /// The third parts of the positions. Does not allocate.
+    /// Returns the third components of the positions. Does not allocate.
     pub fn zs(&self) -> &[i32]
         ensures { result.now ≡ self.now.zs }
     {
         self.zs.as_slice()
     }
 
-    /// The extra column with this number, from 0. Does not allocate.
+    /// Returns the extra column with this index, from 0. Does not allocate.
     pub fn further(&self, k: usize) -> &Column
         requires { k < length self.now.further }
         ensures { result.now ≡ get_or self.now.further k [] }
@@ -184,7 +185,7 @@ impl Lists {
         &self.further[k]
     }
 
-    /// Cuts the columns behind so many rows.
+    /// Truncates the columns to the first `count` rows.
     fn truncate(&mut self, count: usize)
         ensures { self.new ≡ first_rows count self.old }
     {
@@ -196,7 +197,7 @@ impl Lists {
     }
 }
 
-/// The part of a position at a place.
+/// Returns the component of a position with index `i`.
 fn part_at(parts: &[i32], i: usize) -> i32
     requires within { All IsWithin parts.now }
     requires there { i < length parts.now }
@@ -206,7 +207,7 @@ fn part_at(parts: &[i32], i: usize) -> i32
     parts[i]
 }
 
-/// The position with these parts.
+/// Creates the position with these components.
 fn point_of(x: i32, y: i32, z: i32) -> Pos
     requires x { IsWithin x }
     requires y { IsWithin y }
@@ -220,7 +221,7 @@ fn point_of(x: i32, y: i32, z: i32) -> Pos
     }
 }
 
-/// Puts an id behind the others.
+/// Appends an id.
 #[tactic(auto, using(crate::proofs::Gathering::front_same, crate::proofs::Gathering::front_more))]
 fn push_id(ids: &mut Vec<i64>, id: i64) -> Result<(), Memory>
     ensures ok { OnOk result (ids.new.items ≡ ids.old.items ++ id ∷ []) }
@@ -230,7 +231,7 @@ fn push_id(ids: &mut Vec<i64>, id: i64) -> Result<(), Memory>
     Ok(())
 }
 
-/// Puts a part of a position behind the others.
+/// Appends a component of a position.
 #[tactic(auto, using(crate::proofs::Gathering::front_same, crate::proofs::Gathering::front_more))]
 fn push_part(parts: &mut Vec<i32>, part: i64) -> Result<(), Memory>
     requires { IsWithin part }

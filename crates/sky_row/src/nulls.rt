@@ -1,4 +1,4 @@
-//! Which rows of a column have a value: a list of that, or none where each row has one.
+//! Which rows of a column have a value: a validity list, empty if each row has one.
 ghost use Rattle.std.specs.Prelude.{ℕ, true, ◌≡◌, ◌≤◌, ◌<◌, [], All, IfOk, IsTrue, ◌⊎◌, ◌↔◌, length, get_or, vec_capacity};
 ghost use Rattle.sky_row.specs.Columns.{IsPresenceAt};
 ghost use Rattle.sky_row.specs.Filling.{IsPresenceUpTo};
@@ -7,14 +7,14 @@ use crate::places::gather;
 use sky_io::Memory;
 use std::alloc::Global;
 
-/// Whether the row at a place has a value.
+/// Returns whether the row with this number has a value.
 fn is_present(present: &[bool], place: u32) -> bool
     ensures { result ≡ get_or present.now place true }
 {
     *present.get(place as usize).unwrap_or(&true)
 }
 
-/// The presence, or none where each row has a value.
+/// Returns the validity list, or an empty one if each row has a value.
 #[tactic(auto, using(crate::proofs::Presence::whole_is_true))]
 fn unless_whole(found: Vec<bool>) -> Vec<bool>
     ensures presence { (result.items ≡ []) ⊎ (length result.items ≡ length found.items) }
@@ -27,7 +27,7 @@ fn unless_whole(found: Vec<bool>) -> Vec<bool>
     kept
 }
 
-/// The presence of the rows at these places, and none where each row has a value.
+/// Returns the validity of the rows with these numbers; it is empty if each of these rows has a value.
 pub(crate) fn presence_at(
     alloc: Global,
     present: &[bool],
@@ -45,7 +45,7 @@ pub(crate) fn presence_at(
     Ok(unless_whole(found))
 }
 
-/// Whether each row at the places from one up to and without another has a value.
+/// Returns whether each row from index `from` up to but not including `count` of the list has a value.
 pub(crate) fn is_whole(present: &[bool], places: &[u32], from: usize, count: usize) -> bool
     requires few { count ≤ length places.now }
     ensures { IsTrue result ↔ ((k : ℕ) → from ≤ k → k < count
@@ -62,8 +62,8 @@ pub(crate) fn is_whole(present: &[bool], places: &[u32], from: usize, count: usi
     true
 }
 
-/// Puts the presence of the rows at the next places behind that of the first ones, up to so many in all: where none was
-/// kept, one is from now on. Does not allocate.
+/// Appends the validity of the next rows of the list to that of the first ones, up to `count` in all. If no validity
+/// list was stored, one is from now on. Does not allocate.
 #[tactic(auto, using(crate::proofs::Filling::push_true, crate::proofs::Filling::no_more))]
 pub(crate) fn fill_presence(
     found: &mut Vec<bool>,
