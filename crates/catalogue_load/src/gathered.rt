@@ -20,7 +20,7 @@ use std::marker::Model;
 use table_rules::LoadFault;
 use table_rules::limits::ROWS_MOST;
 
-/// The row of the record behind so many rows, whatever their ids are.
+/// Returns the row of the record after `count` rows. Whether its id repeats is not checked.
 #[tactic(auto, using(crate::proofs::RowFaults::row_full))]
 fn next_row(
     cells: &mut Vec<Option<i64>>,
@@ -48,7 +48,7 @@ fn next_row(
 #[derive(Drop)]
 pub(crate) struct Gathered {
     columns: Columns,
-    /// Where the extra values of a record are read, before they are copied into its row.
+    /// The buffer into which the extra values of a record are read, before they are copied into its row.
     cells: Vec<Option<i64>>,
 }
 
@@ -61,7 +61,7 @@ impl Model for Gathered {
 }
 
 impl Gathered {
-    /// These columns, and no row.
+    /// Creates these columns, without rows.
     pub(crate) fn new(alloc: Global, schema: Schema) -> Result<Gathered, Memory>
         ensures { IfOk result (λ gathered. gathered ≡ record { names = schema; objects = [] }) }
     {
@@ -72,8 +72,8 @@ impl Gathered {
         })
     }
 
-    /// Puts the row of the next record behind the others, where the record has no fault whatever their ids are. After an
-    /// error nothing has changed.
+    /// Appends the row of the next record, if the record has no fault other than a repeated id. After an error nothing
+    /// has changed.
     pub(crate) fn add(&mut self, fields: &ByteRecord) -> Result<(), Stop<LoadFault>>
         requires small { length (fields_of fields.now) ≤ TEXT_MOST + 1 }
         ensures names { self.new.names ≡ self.old.names }
@@ -95,7 +95,7 @@ impl Gathered {
         Ok(())
     }
 
-    /// The rows in ascending id, or the first fault of an id that an earlier row has.
+    /// Returns the rows in ascending id, or the first fault of an id that an earlier row has.
     pub(crate) fn into_rows(self, alloc: Global) -> Result<Rows, Stop<LoadFault>>
         ensures names { IfOk result (λ all. all.names ≡ self.names) }
         ensures table { IfOk result (λ all. IsTable self.objects all.objects) }
@@ -106,7 +106,8 @@ impl Gathered {
         in_order(alloc, columns)
     }
 
-    /// The first fault of the rows and of the record behind them, which has this one; or an allocation failure.
+    /// Returns the first fault of the rows and of the record after them, which has the fault `behind`; or an allocation
+    /// failure.
     pub(crate) fn first_fault(&self, alloc: Global, behind: LoadFault) -> Stop<LoadFault>
         ensures { IfBad result (λ fault. IsFirstFault self.now.objects behind fault) }
     {

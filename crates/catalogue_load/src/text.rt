@@ -18,8 +18,8 @@ use sky_row::{Rows, Schema};
 use std::alloc::Global;
 use table_rules::LoadFault;
 
-/// Reads the records that the reader has left, up to the first with a fault that it has whatever the ids of the rows are,
-/// and puts the rows of those before it behind none.
+/// Reads the records that the reader has left, up to the first with a fault other than a repeated id, and appends the
+/// rows of those before it. There are no rows at first.
 fn read_rest(
     mut reader: Reader<&[u8]>,
     mut fields: ByteRecord,
@@ -47,7 +47,7 @@ fn read_rest(
     Err(Stop::Memory)
 }
 
-/// The catalogue with these columns, whose rows are the records that the reader has left.
+/// Returns the catalogue with these columns, whose rows are the records that the reader has left.
 fn rows_under(
     alloc: Global,
     schema: Schema,
@@ -73,8 +73,8 @@ fn rows_under(
 }
 
 /// Reads a catalogue from a text of at most 2^29 bytes: its rows in ascending id, or its first fault. Allocates memory
-/// for the rows, for their ids where they don't ascend, and for the ids with their places to tell a fault of such rows;
-/// after an error nothing is kept.
+/// for the rows, for their ids if they do not ascend, and for the ids with their row numbers to find a fault of such
+/// rows. After an error no memory is kept.
 pub fn load(alloc: Global, text: &[u8]) -> Result<Rows, Stop<LoadFault>>
     requires { length text.now ≤ TEXT_MOST }
     ensures ok { IfOk result (λ rows. catalogue_of text.now ≡ Ok rows) }

@@ -12,7 +12,7 @@ use std::alloc::Global;
 use std::marker::Model;
 use table_rules::limits::FIRST_COLUMNS;
 
-/// The ids, the parts of the positions and the extra columns of some rows.
+/// The ids, the components of the positions and the extra columns of some rows.
 #[derive(Drop)]
 pub struct Block {
     lists: Lists,
@@ -31,8 +31,8 @@ impl Model for Block {
 }
 
 impl Block {
-    /// The block of the rows at these places in the table, counted from 0, in the order of the places. Allocates memory
-    /// for each column once.
+    /// Creates the block of the table's rows with these numbers, counted from 0, in the order of the list. Allocates
+    /// memory for each column once.
     pub fn build(alloc: Global, rows: &Rows, places: &[u32]) -> Result<Block, Memory>
         requires { All (λ place. place < length rows.now.objects) places.now }
         ensures { IfOk result (λ block. block ≡ record {
@@ -45,9 +45,9 @@ impl Block {
         Block::finish(rows.lists(), places, begun)
     }
 
-    /// The block of the rows at these places in a table, counted from 0, in the order of the places, of which the first
-    /// have been gathered: the others are put behind them. Allocates memory where the room for them is not there, or a
-    /// NULL is a column's first; where there is none, the first ones are dropped.
+    /// Creates the block of a table's rows with these numbers, counted from 0, in the order of the list. The first of
+    /// them have been gathered already; the others are appended. Allocates memory if the room for them is missing, or
+    /// if a NULL is a column's first. If an allocation fails, the first ones are dropped.
     pub fn finish(table: &Lists, places: &[u32], begun: Lists) -> Result<Block, Memory>
         requires rows { AreRows table.now }
         requires there { All (λ place. place < length table.now.ids) places.now }
@@ -62,7 +62,7 @@ impl Block {
         Ok(Block { lists })
     }
 
-    /// How many rows there are. Does not allocate.
+    /// Returns the number of rows. Does not allocate.
     pub fn len(&self) -> usize
         ensures count { result ≡ length self.now.objects }
         ensures rows { All IsRow self.now.objects }
@@ -71,14 +71,14 @@ impl Block {
         self.lists.ids().len()
     }
 
-    /// The ids of the rows. Does not allocate.
+    /// Returns the ids of the rows. Does not allocate.
     pub fn ids(&self) -> &[i64]
         ensures { result.now ≡ map (λ o. o.id) self.now.objects }
     {
         self.lists.ids()
     }
 
-    /// The x of the rows. Does not allocate.
+    /// Returns the x of the rows. Does not allocate.
     pub fn xs(&self) -> &[i32]
         ensures value { result.now ≡ map (λ o. o.at.x) self.now.objects }
         ensures within { All IsWithin result.now }
@@ -86,7 +86,7 @@ impl Block {
         self.lists.xs()
     }
 
-    /// The y of the rows. Does not allocate.
+    /// Returns the y of the rows. Does not allocate.
     pub fn ys(&self) -> &[i32]
         ensures value { result.now ≡ map (λ o. o.at.y) self.now.objects }
         ensures within { All IsWithin result.now }
@@ -94,7 +94,7 @@ impl Block {
         self.lists.ys()
     }
 
-    /// The z of the rows. Does not allocate.
+    /// Returns the z of the rows. Does not allocate.
     pub fn zs(&self) -> &[i32]
         ensures value { result.now ≡ map (λ o. o.at.z) self.now.objects }
         ensures within { All IsWithin result.now }
@@ -102,8 +102,8 @@ impl Block {
         self.lists.zs()
     }
 
-    /// A extra column by its number among all columns, so from `FIRST_COLUMNS`: its numbers, and which rows have a
-    /// value. Does not allocate.
+    /// Returns an extra column by its number among all columns, so from `FIRST_COLUMNS`: its numbers, and which rows
+    /// have a value. Does not allocate.
     pub fn further(&self, col: u32) -> &Column
         requires first { FIRST_COLUMNS ≤ col }
         requires last { col < FIRST_COLUMNS + self.now.width }

@@ -7,7 +7,7 @@ use crate::narrow::keep_by_narrow;
 use crate::wide::{Above, AtLeast, AtMost, Below, Differs, Equals, keep_by};
 use sql_tree::Cmp;
 
-/// Clears the mask where the comparison of the value with the number is false. Does not allocate.
+/// Clears the mask at each row whose comparison of the value with the number is false. Does not allocate.
 pub fn keep(values: &[i64], op: Cmp, n: i64, mask: &mut [bool])
     requires { length values.now ≡ length mask.old }
     ensures len { length mask.new ≡ length mask.old }
@@ -23,8 +23,8 @@ pub fn keep(values: &[i64], op: Cmp, n: i64, mask: &mut [bool])
     }
 }
 
-/// Clears the mask where the comparison of the value with the number is false. The values have 32 bits. Does not
-/// allocate.
+/// Clears the mask at each row whose comparison of the value with the number is false. The values have 32 bits. Does
+/// not allocate.
 pub fn keep_narrow(values: &[i32], op: Cmp, n: i32, mask: &mut [bool])
     requires { length values.now ≡ length mask.old }
     ensures len { length mask.new ≡ length mask.old }

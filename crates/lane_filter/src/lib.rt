@@ -1,11 +1,11 @@
-//! Tests of a column at once: each clears a mask, a truth for each row, where its plain test is false.
+//! Tests over a whole column: each clears a mask, a truth value for each row, at the rows whose scalar test is false.
 //!
-//! Callers see a mask as a list of truths; each call says which of them are left (`specs/Tests.antt`).
-//! A loop here goes over equal slices with no branch and no call that is not laid into it, since that is what the compiler
-//! turns into vector code: one row a turn, and for a comparison or a range sixteen (`wide`, and `narrow` for 32 bits). The
-//! places that are left are listed without a branch too.
-//! Below: `sky_vector` for positions and chords, `sql_tree` and `value_rules` for what a comparison is. Above: `chunk_scan`,
-//! and `column_eval` for comparisons with one number.
+//! Callers see a mask as a list of truth values; each contract states which of them are left (`specs/Tests.antt`). A
+//! loop here goes over equal slices with no branch and no call that is not inlined, since the compiler turns such loops
+//! into vector code. It handles one row an iteration, and for a comparison or a range sixteen (`wide`, and `narrow` for
+//! 32 bits). The selection vector of the rows that are left is built without a branch too. Below: `sky_vector` for
+//! positions and chords, `sql_tree` and `value_rules` for the meaning of a comparison. Above: `chunk_scan`, and
+//! `column_eval` for comparisons with one number.
 #![tactic(auto)]
 
 mod compare;

@@ -1,13 +1,13 @@
-//! Masks over columns of 32-bit numbers, sixteen rows a turn, by the tests of `wide`.
+//! Masks over columns of 32-bit numbers, sixteen rows an iteration, by the tests of `wide`.
 //!
-//! A plain loop tests eight rows a turn here and packs four at a time. The tests take 64 bits; where both sides come from
-//! 32, the compiler compares in 32 again, so each loop is laid into the call that has the number.
+//! A plain loop tests eight rows an iteration here and packs four at a time. The tests take 64 bits. If both sides come
+//! from 32 bits, the compiler compares in 32 again, so each loop is inlined into the call that has the number.
 ghost use Rattle.std.specs.Prelude.{◌≡◌, ◌+◌, ◌<◌, ◌≤◌, ℕ, ℤ, Bool, false, ◌&&◌, length, get_or, pos, cond};
 ghost use Rattle.lane_filter.specs.Tests.{IsKeptBy};
 
 use crate::wide::{BLOCK, WideTest, flag};
 
-/// Clears the mask where the value does not pass the test.
+/// Clears the mask at each row whose value does not pass the test.
 #[inline(always)]
 pub(crate) fn keep_by_narrow<T: WideTest>(test: &T, values: &[i32], mask: &mut [bool])
     requires { length values.now ≡ length mask.old }
@@ -24,7 +24,7 @@ pub(crate) fn keep_by_narrow<T: WideTest>(test: &T, values: &[i32], mask: &mut [
     }
 }
 
-/// The same for the sixteen rows from this one on.
+/// Clears the mask so for the sixteen rows from this one on.
 #[inline(always)]
 #[tactic(auto, using(crate::proofs::Picking::flag_told))]
 fn keep_block_narrow<T: WideTest>(test: &T, values: &[i32], from: usize, mask: &mut [bool])
@@ -43,7 +43,7 @@ fn keep_block_narrow<T: WideTest>(test: &T, values: &[i32], from: usize, mask: &
     }
 }
 
-/// For each of sixteen rows 1 where its value passes the test, else 0.
+/// Returns for each of sixteen rows 1 if its value passes the test, else 0.
 #[inline(always)]
 fn flags_of_narrow<T: WideTest>(test: &T, values: &[i32], from: usize) -> [i32; BLOCK]
     requires { from + 16 ≤ length values.now }

@@ -8,8 +8,8 @@ ghost use Rattle.lane_filter.specs.Tests.{IsGap, IsKeptBy, IsSquare, is_near};
 use sky_vector::Pos;
 use sky_vector::limits::CHORD_SQUARED_MOST;
 
-/// Clears the mask where the squared chord from the position to the centre is above n, in squared grid units. The
-/// differences are taken in 32 bits, which hold them, and squared in 64. Does not allocate.
+/// Clears the mask at each row whose squared chord from the position to the centre is above n, in squared grid units.
+/// The differences are computed in 32 bits, which hold them, and squared in 64. Does not allocate.
 pub fn keep_near(xs: &[i32], ys: &[i32], zs: &[i32], centre: &Pos, n: u64, mask: &mut [bool])
     requires of_x { length xs.now ≡ length mask.old }
     requires of_y { length ys.now ≡ length mask.old }
@@ -63,7 +63,7 @@ fn keep_in(
     }
 }
 
-/// A limit in 63 bits that no squared chord tells from n, since none is above the largest.
+/// Returns a limit in 63 bits that accepts the same squared chords as n, since none is above the largest.
 fn limit_of(n: u64) -> i64
     ensures { (chord : ℤ) → chord ≤ℤ pos CHORD_SQUARED_MOST
         → int_le chord result ≡ int_le chord (pos n) }
@@ -75,7 +75,7 @@ fn limit_of(n: u64) -> i64
     }
 }
 
-/// A part of a position in 32 bits.
+/// Returns a component of a position in 32 bits.
 fn narrow(part: i64) -> i32
     requires { IsWithin part }
     ensures value { result ≡ part }
@@ -84,7 +84,7 @@ fn narrow(part: i64) -> i32
     part as i32
 }
 
-/// Whether the squared chord from a position to the point (a, b, c) is at most the limit.
+/// Returns whether the squared chord from a position to the point (a, b, c) is at most the limit.
 #[inline(always)]
 #[tactic(auto, unfolding(crate::specs::Tests::is_near))]
 fn is_in(x: i32, y: i32, z: i32, a: i32, b: i32, c: i32, limit: i64) -> bool
@@ -99,7 +99,7 @@ fn is_in(x: i32, y: i32, z: i32, a: i32, b: i32, c: i32, limit: i64) -> bool
     chord(x, y, z, a, b, c) <= limit
 }
 
-/// The squared chord between two positions.
+/// Returns the squared chord between two positions.
 #[inline(always)]
 fn chord(x: i32, y: i32, z: i32, a: i32, b: i32, c: i32) -> i64
     requires x { IsWithin x }
@@ -113,7 +113,7 @@ fn chord(x: i32, y: i32, z: i32, a: i32, b: i32, c: i32) -> i64
     added(gap_squared(x, a), gap_squared(y, b), gap_squared(z, c))
 }
 
-/// The square of the difference of two parts, which is taken in 32 bits.
+/// Returns the square of the difference of two components. The difference is computed in 32 bits.
 #[inline(always)]
 fn gap_squared(a: i32, b: i32) -> i64
     requires a { IsWithin a }
@@ -124,7 +124,7 @@ fn gap_squared(a: i32, b: i32) -> i64
     squared(i64::from(a - b))
 }
 
-/// The square of a difference of two parts.
+/// Returns the square of a difference of two components.
 #[inline(always)]
 fn squared(gap: i64) -> i64
     requires { IsGap gap }
@@ -134,7 +134,7 @@ fn squared(gap: i64) -> i64
     gap * gap
 }
 
-/// The sum of three such squares, at most 3 * 2^60.
+/// Returns the sum of three such squares, at most 3 * 2^60.
 #[inline(always)]
 fn added(a: i64, b: i64, c: i64) -> i64
     requires a { IsSquare a }

@@ -1,8 +1,8 @@
-//! The rows that have a value, and the places of those that are left.
+//! The rows that have a value, and the selection vector of those that are left.
 ghost use Rattle.std.specs.Prelude.{◌≡◌, ◌≤◌, ◌<◌, ◌^◌, false, length, get_or, take};
 ghost use Rattle.lane_filter.specs.Tests.{IsKeptBy, places_of};
 
-/// Clears the mask where the row has no value. Does not allocate.
+/// Clears the mask at each row that has no value. Does not allocate.
 pub fn keep_present(present: &[bool], mask: &mut [bool])
     requires { length present.now ≡ length mask.old }
     ensures len { length mask.new ≡ length mask.old }
@@ -13,8 +13,8 @@ pub fn keep_present(present: &[bool], mask: &mut [bool])
     }
 }
 
-/// Writes the places at which the mask is true, ascending, to the front of `places`, and answers how many there are.
-/// What stands behind them has no meaning. Does not allocate.
+/// Writes the row numbers at which the mask is true, ascending, to the beginning of `places`, and returns how many
+/// there are. What follows them has no meaning. Does not allocate.
 pub fn picked(mask: &[bool], places: &mut [u32]) -> usize
     requires few { length mask.now < 2 ^ 32 }
     requires room { length mask.now ≤ length places.old }

@@ -1,27 +1,27 @@
-//! Masks over columns of 64-bit numbers, sixteen rows a turn.
+//! Masks over columns of 64-bit numbers, sixteen rows an iteration.
 //!
-//! A plain loop that makes a byte of two 64-bit numbers becomes three times slower than it need be: the compiler takes two
-//! or four rows a turn, as many as a register has numbers, and packs them one by one. So the truths of sixteen rows are
-//! written as 32-bit flags first and packed from there, and the test is a type of its own, so that one pair of loops
-//! serves all of them.
+//! A plain loop that makes a byte of two 64-bit numbers is three times slower than necessary. The compiler takes two or
+//! four rows an iteration, as many as a register has numbers, and packs them one by one. So the results of sixteen rows
+//! are written as 32-bit flags first and packed from there. The test is a type of its own, so that one pair of loops
+//! serves all tests.
 ghost use Rattle.std.specs.Prelude.{◌≡◌, ◌+◌, ◌<◌, ◌≤◌, ℕ, ℤ, Bool, false, ◌&&◌, length, get_or, pos, cond, int_le, int_lt, not};
 ghost use Rattle.std.specs.Ordering.{int_eq};
 ghost use Rattle.lane_filter.specs.Tests.{IsKeptBy, is_from_to};
 
-/// How many rows are tested before their truths are packed.
+/// The number of rows that are tested before their results are packed.
 pub(crate) const BLOCK: usize = 16;
 
 /// A test of a number.
 pub(crate) trait WideTest {
-    /// What passes.
+    /// The numbers that pass.
     ghost passes: { Self → ℤ → Bool };
 
-    /// Whether the number passes.
+    /// Returns whether the number passes.
     fn passes(&self, value: i64) -> bool
         ensures { result ≡ passes self.now value };
 }
 
-/// Clears the mask where the value does not pass the test.
+/// Clears the mask at each row whose value does not pass the test.
 pub(crate) fn keep_by<T: WideTest>(test: &T, values: &[i64], mask: &mut [bool])
     requires { length values.now ≡ length mask.old }
     ensures len { length mask.new ≡ length mask.old }
@@ -37,7 +37,7 @@ pub(crate) fn keep_by<T: WideTest>(test: &T, values: &[i64], mask: &mut [bool])
     }
 }
 
-/// The same for the sixteen rows from this one on.
+/// Clears the mask so for the sixteen rows from this one on.
 #[inline(always)]
 #[tactic(auto, using(crate::proofs::Picking::flag_told))]
 fn keep_block<T: WideTest>(test: &T, values: &[i64], from: usize, mask: &mut [bool])
@@ -56,7 +56,7 @@ fn keep_block<T: WideTest>(test: &T, values: &[i64], from: usize, mask: &mut [bo
     }
 }
 
-/// For each of sixteen rows 1 where its value passes the test, else 0.
+/// Returns for each of sixteen rows 1 if its value passes the test, else 0.
 #[inline(always)]
 fn flags_of<T: WideTest>(test: &T, values: &[i64], from: usize) -> [i32; BLOCK]
     requires { from + 16 ≤ length values.now }
@@ -70,7 +70,7 @@ fn flags_of<T: WideTest>(test: &T, values: &[i64], from: usize) -> [i32; BLOCK]
     flags
 }
 
-/// 1 for a truth, 0 else.
+/// Returns 1 for true, 0 for false.
 #[inline(always)]
 pub(crate) fn flag(truth: bool) -> i32
     ensures { result ≡ cond truth (pos 1) (pos 0) }
@@ -78,7 +78,7 @@ pub(crate) fn flag(truth: bool) -> i32
     i32::from(truth)
 }
 
-/// Whether a value is the number.
+/// The test whether a value equals the number.
 #[derive(Clone, Copy)]
 pub(crate) struct Equals {
     pub n: i64,
@@ -93,7 +93,7 @@ impl WideTest for Equals {
     }
 }
 
-/// Whether a value is another than the number.
+/// The test whether a value differs from the number.
 #[derive(Clone, Copy)]
 pub(crate) struct Differs {
     pub n: i64,
@@ -108,7 +108,7 @@ impl WideTest for Differs {
     }
 }
 
-/// Whether a value is below the number.
+/// The test whether a value is below the number.
 #[derive(Clone, Copy)]
 pub(crate) struct Below {
     pub n: i64,
@@ -123,7 +123,7 @@ impl WideTest for Below {
     }
 }
 
-/// Whether a value is at most the number.
+/// The test whether a value is at most the number.
 #[derive(Clone, Copy)]
 pub(crate) struct AtMost {
     pub n: i64,
@@ -138,7 +138,7 @@ impl WideTest for AtMost {
     }
 }
 
-/// Whether a value is above the number.
+/// The test whether a value is above the number.
 #[derive(Clone, Copy)]
 pub(crate) struct Above {
     pub n: i64,
@@ -153,7 +153,7 @@ impl WideTest for Above {
     }
 }
 
-/// Whether a value is at least the number.
+/// The test whether a value is at least the number.
 #[derive(Clone, Copy)]
 pub(crate) struct AtLeast {
     pub n: i64,
@@ -168,7 +168,7 @@ impl WideTest for AtLeast {
     }
 }
 
-/// Whether a value is from the first number to the last.
+/// The test whether a value is from the first number to the last.
 #[derive(Clone, Copy)]
 pub(crate) struct Between {
     pub first: i64,

@@ -1,13 +1,13 @@
--- The draws of an object as they are made, each from the one before it.
+-- The draws of an object, each made from the one before it.
 use Rattle.std.specs.Prelude.{◌≡◌, ℕ, ◌*◌, ◌%◌, ◌<◌}
 use Rattle.demo_rules.specs.declared.limits.TheConstants.{MODULUS, MULTIPLIER}
 use Rattle.sky_generate.specs.declared.draws.Draws.{Draws}
 
--- the draw behind another one
+-- the draw after another one
 abbrev pub next_draw : ℕ → ℕ
 next_draw before = before * MULTIPLIER % MODULUS
 
--- Five draws, the first behind this one, and each below the modulus.
+-- Five draws, the first after this one. The draws that make it lean and its kind are below the modulus.
 pub record AreDrawnFrom (before : ℕ) (d : Draws) : Type 0 where
   pub height : d.height ≡ next_draw before
   pub lean_x : d.lean_x ≡ next_draw d.height

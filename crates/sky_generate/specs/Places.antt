@@ -1,4 +1,4 @@
--- Where an object stands, and what it is, by its draws.
+-- The position of an object, and its extra values, by its draws.
 use Rattle.std.specs.Prelude.{◌≡◌, ℕ, ◌*◌, ◌%◌, ℤ, pos, nat_abs, ◌-ℤ◌, ◌+ℤ◌, Some, [], ◌∷◌}
 use Rattle.sky_vector.specs.Points.{Point, square}
 use Rattle.sky_vector.specs.Roots.{IsRoot}
@@ -16,7 +16,7 @@ height_by d = pos (d % HEIGHTS) -ℤ pos RADIUS
 abbrev pub lean_by : ℕ → ℤ
 lean_by d = pos d -ℤ pos LEAN_MIDDLE
 
--- Where an object with these three draws stands.
+-- The position of an object with these three draws.
 pub record StandsBy (z u v : ℕ) (at : Point) : Type 0 where
   pub t : ℕ
   pub h : ℕ

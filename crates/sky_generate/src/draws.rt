@@ -6,7 +6,7 @@ ghost use Rattle.sky_generate.specs.Draws.{AreDrawnFrom, next_draw};
 
 use demo_rules::limits::{MODULUS, MULTIPLIER};
 
-/// The five draws of an object, each below 2^31 - 1: its height, how far it leans to x and to y, its flux and its kind.
+/// The five draws of an object, each below 2^31 - 1: its height, its leaning to x and to y, its flux and its kind.
 #[derive(Clone, Copy)]
 pub(crate) struct Draws {
     pub height: u64,
@@ -17,7 +17,7 @@ pub(crate) struct Draws {
 }
 
 impl Draws {
-    /// The five draws behind the one before them, or behind the seed.
+    /// Returns the five draws after the given one, which is an earlier draw or the seed.
     pub fn behind(before: u64) -> Draws
         requires { before < MODULUS }
         ensures { AreDrawnFrom before result }
@@ -37,7 +37,7 @@ impl Draws {
     }
 }
 
-/// The draw behind another one.
+/// Returns the draw after another one.
 fn next(before: u64) -> u64
     requires { before < MODULUS }
     ensures value { result ≡ next_draw before }

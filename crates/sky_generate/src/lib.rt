@@ -1,9 +1,9 @@
 //! The demo's input, made from a count and a seed: its catalogue, its sky text and its script.
 //!
-//! Callers see the rows and the texts as those of `demo_rules`. An object takes five draws of the generator `minstd_rand` of
-//! the C++ standard; its place on the sphere comes of three of them by whole square roots.
-//! Below: `sky_vector` for positions and roots, `sky_row` for rows, `demo_rules` for what is made. Above: the program.
-//! Nothing is read, and no number is drawn from outside.
+//! Callers see the rows and the texts as those of `demo_rules`. An object takes five draws of the generator
+//! `minstd_rand` of the C++ standard; its position on the sphere is computed from three of them with integer square
+//! roots. Below: `sky_vector` for positions and roots, `sky_row` for rows, `demo_rules` for the definition of the demo.
+//! Above: the program. Nothing is read, and no number is drawn from outside.
 #![tactic(auto)]
 
 mod draws;

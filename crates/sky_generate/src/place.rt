@@ -1,4 +1,4 @@
-//! Where an object stands: at the height of its first draw, in the direction to which the next two make it lean.
+//! The position of an object: at the height of its first draw, in the direction to which the next two make it lean.
 
 ghost use Rattle.std.specs.Prelude.{◌≡◌, ◌+ℤ◌, ◌-ℤ◌, ◌*ℤ◌, ◌*◌, ◌<◌, ◌≤◌, ◌^◌, IsTrue, ◌&&◌};
 ghost use Rattle.std.specs.Prelude.{nat_abs, pos, unsigned_abs};
@@ -14,7 +14,7 @@ use demo_rules::limits::{HEIGHTS, LEAN_MIDDLE};
 use sky_vector::limits::{COORDINATE_MOST, RADIUS};
 use sky_vector::{Pos, isqrt, length_ok};
 
-/// Where the object with these draws stands.
+/// Returns the position of the object with these draws.
 pub(crate) fn place(height: u64, lean_x: u64, lean_y: u64) -> Pos
     requires x { lean_x < MODULUS }
     requires y { lean_y < MODULUS }
@@ -27,7 +27,7 @@ pub(crate) fn place(height: u64, lean_x: u64, lean_y: u64) -> Pos
     leaning(z, u, v, from_axis(z), length_of(u, v))
 }
 
-/// The height that a draw gives, at most the radius up or down.
+/// Returns the height that a draw gives, at most the radius up or down.
 fn height_by(draw: u64) -> i64
     ensures value { result ≡ height_by draw }
     ensures size { unsigned_abs result ≤ RADIUS }
@@ -35,7 +35,7 @@ fn height_by(draw: u64) -> i64
     (draw % HEIGHTS) as i64 - RADIUS as i64
 }
 
-/// How far a draw makes an object lean, at most 2^30.
+/// Returns how far a draw makes an object lean, at most 2^30.
 fn lean_by(draw: u64) -> i64
     requires { draw < MODULUS }
     ensures value { result ≡ lean_by draw }
@@ -44,7 +44,7 @@ fn lean_by(draw: u64) -> i64
     draw as i64 - LEAN_MIDDLE as i64
 }
 
-/// How far from the axis the sphere is at this height, at most the radius.
+/// Returns how far from the axis the sphere is at this height, at most the radius.
 #[tactic(auto, using(crate::proofs::Roots::below_the_sphere, crate::proofs::Roots::root_is_short))]
 fn from_axis(z: i64) -> u64
     requires { unsigned_abs z ≤ RADIUS }
@@ -54,7 +54,7 @@ fn from_axis(z: i64) -> u64
     isqrt(RADIUS * RADIUS - height_squared(z))
 }
 
-/// How long the direction (u, v) is.
+/// Returns the length of the direction (u, v), rounded down.
 #[tactic(auto, using(crate::proofs::Roots::both_squares))]
 fn length_of(u: i64, v: i64) -> u64
     requires u_size { unsigned_abs u ≤ 2 ^ 30 }
@@ -64,7 +64,7 @@ fn length_of(u: i64, v: i64) -> u64
     isqrt(lean_squared(u) + lean_squared(v))
 }
 
-/// The square of a height, at most that of the radius.
+/// Returns the square of a height, at most that of the radius.
 fn height_squared(z: i64) -> u64
     requires { unsigned_abs z ≤ RADIUS }
     ensures value { pos result ≡ square z }
@@ -74,7 +74,7 @@ fn height_squared(z: i64) -> u64
     size * size
 }
 
-/// The square of how far an object leans, at most 2^60.
+/// Returns the square of how far an object leans, at most 2^60.
 fn lean_squared(lean: i64) -> u64
     requires { unsigned_abs lean ≤ 2 ^ 30 }
     ensures value { pos result ≡ square lean }
@@ -84,7 +84,8 @@ fn lean_squared(lean: i64) -> u64
     size * size
 }
 
-/// The point at a height that leans to (u, v): so far from the axis, where (u, v) is so long.
+/// Returns the point at a height that leans to (u, v), at the distance `from_axis` from the axis, where `long` is the
+/// length of (u, v).
 fn leaning(z: i64, u: i64, v: i64, from_axis: u64, long: u64) -> Pos
     requires u_size { unsigned_abs u ≤ 2 ^ 30 }
     requires v_size { unsigned_abs v ≤ 2 ^ 30 }
@@ -101,7 +102,7 @@ fn leaning(z: i64, u: i64, v: i64, from_axis: u64, long: u64) -> Pos
     )
 }
 
-/// The product of how far an object leans and how far from the axis it stands.
+/// Returns the product of how far an object leans and its distance from the axis.
 fn stretched(lean: i64, by: u64) -> i64
     requires lean_size { unsigned_abs lean ≤ 2 ^ 30 }
     requires by_size { by ≤ RADIUS }
@@ -111,7 +112,7 @@ fn stretched(lean: i64, by: u64) -> i64
     lean * by as i64
 }
 
-/// The number divided by a natural one, cut towards zero.
+/// Returns the number divided by a natural one, rounded towards zero.
 fn cut(a: i64, by: u64) -> i64
     requires size { unsigned_abs a ≤ 2 ^ 58 }
     requires by { 0 < by }
@@ -121,7 +122,7 @@ fn cut(a: i64, by: u64) -> i64
     if a < 0 { -size } else { size }
 }
 
-/// The point of these parts where it is a position of the sky, and else that on the first meridian.
+/// Returns the point of these components if it is a position of the sky, and else that on the first meridian.
 fn kept(x: i64, y: i64, z: i64) -> Pos
     ensures { point result ≡ kept_point (record { x = x; y = y; z = z }) }
 {
@@ -131,14 +132,14 @@ fn kept(x: i64, y: i64, z: i64) -> Pos
     }
 }
 
-/// The position where its parts are coordinates and it is admissible, and else that on the first meridian.
+/// Returns the position if its components are coordinates and it is admissible, and else that on the first meridian.
 fn kept_position(at: Pos) -> Pos
     ensures { point result ≡ kept_point (point at) }
 {
     if is_kept(&at) { at } else { meridian() }
 }
 
-/// Whether the position's parts are coordinates, and it is admissible.
+/// Returns whether the position's components are coordinates, and it is admissible.
 fn is_kept(at: &Pos) -> bool
     ensures { result ≡ (is_coordinate at.now.x && is_coordinate at.now.y
         && is_coordinate at.now.z && is_admissible (point at.now)) }
@@ -146,7 +147,7 @@ fn is_kept(at: &Pos) -> bool
     are_coordinates(at) && length_ok(at)
 }
 
-/// Whether the position's parts are coordinates.
+/// Returns whether the position's components are coordinates.
 fn are_coordinates(at: &Pos) -> bool
     ensures { result
         ≡ (is_coordinate at.now.x && is_coordinate at.now.y && is_coordinate at.now.z) }
@@ -154,14 +155,14 @@ fn are_coordinates(at: &Pos) -> bool
     is_coordinate(at.x) && is_coordinate(at.y) && is_coordinate(at.z)
 }
 
-/// Whether the coordinate is within those of an admissible point.
+/// Returns whether the coordinate is within those of an admissible point.
 fn is_coordinate(a: i64) -> bool
     ensures { result ≡ is_coordinate a }
 {
     -(COORDINATE_MOST as i64) <= a && a <= COORDINATE_MOST as i64
 }
 
-/// The position of the equator on the first meridian.
+/// Returns the position of the equator on the first meridian.
 fn meridian() -> Pos
     ensures { point result ≡ on_meridian }
 {

@@ -1,4 +1,4 @@
-//! The demo's catalogue of a count and a seed.
+//! The demo's catalogue for a count and a seed.
 
 ghost use Rattle.std.specs.Prelude.{◌≡◌, ◌+◌, ◌<◌, ◌≤◌, [], ◌∷◌, ◌++◌, IfOk, OnOk, codes, true};
 ghost use Rattle.demo_rules.specs.DemoRows.{IsDemoCatalogue};
@@ -14,7 +14,8 @@ use sky_io::Memory;
 use sky_row::{Row, Rows, Schema};
 use std::alloc::Global;
 
-/// The demo's catalogue of so many rows, at most 2^22, from this seed. Allocates memory for its columns.
+/// Creates the demo's catalogue with the given number of rows, at most 2^22, from this seed. Allocates memory for its
+/// columns.
 #[tactic(auto, using(crate::proofs::Growth::none_made, crate::proofs::Growth::before_is_below, crate::proofs::Growth::has_room, crate::proofs::Growth::is_wide))]
 pub fn rows_of(alloc: Global, count: u32, seed: u32) -> Result<Rows, Memory>
     requires few { count ≤ ROWS_MOST }
@@ -32,7 +33,7 @@ pub fn rows_of(alloc: Global, count: u32, seed: u32) -> Result<Rows, Memory>
     Ok(rows)
 }
 
-/// The catalogue without an object yet.
+/// Creates the catalogue without an object yet.
 fn empty(alloc: Global) -> Result<Rows, Memory>
     ensures { IfOk result (λ rows. rows
         ≡ record { names = codes "flux" ∷ codes "kind" ∷ []; objects = [] }) }
@@ -41,7 +42,7 @@ fn empty(alloc: Global) -> Result<Rows, Memory>
     Rows::new(alloc, schema)
 }
 
-/// The object with this id and these draws.
+/// Creates the object with this id and these draws.
 fn object(id: u32, draws: &Draws) -> Row
     requires x { draws.now.lean_x < MODULUS }
     requires y { draws.now.lean_y < MODULUS }
@@ -53,7 +54,7 @@ fn object(id: u32, draws: &Draws) -> Row
     Row::new(i64::from(id), at, &[Some(flux), Some(kind)])
 }
 
-/// The extra columns: flux and kind.
+/// Creates the extra columns: flux and kind.
 fn schema(alloc: Global) -> Result<Schema, Memory>
     ensures { IfOk result (λ schema. schema ≡ codes "flux" ∷ codes "kind" ∷ []) }
 {
@@ -63,7 +64,7 @@ fn schema(alloc: Global) -> Result<Schema, Memory>
     Ok(schema)
 }
 
-/// Puts a extra column behind the others.
+/// Appends an extra column.
 fn put_name(schema: &mut Schema, name: &[u8]) -> Result<(), Memory>
     requires { can_follow (column_names schema.old) name.now ≡ true }
     ensures { OnOk result (schema.new ≡ schema.old ++ name.now ∷ []) }

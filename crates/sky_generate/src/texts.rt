@@ -3,14 +3,14 @@
 ghost use Rattle.std.specs.Prelude.{◌≡◌};
 ghost use Rattle.demo_rules.specs.DemoTexts.{demo_script, demo_sky};
 
-/// The demo's sky text. Does not allocate.
+/// Returns the demo's sky text. Does not allocate.
 pub fn demo_sky() -> &'static [u8]
     ensures { result.now ≡ demo_sky }
 {
     b"overlap 65536\nstripe -268435472 1 8 4\nstripe -134217728 16 4 4\nstripe 0 16 4 4\nstripe 134217728 1 8 4\n"
 }
 
-/// The demo's script. Does not allocate.
+/// Returns the demo's script. Does not allocate.
 pub fn demo_script() -> &'static [u8]
     ensures { result.now ≡ demo_script }
 {
