@@ -7,18 +7,18 @@ use Rattle.bind_rules.specs.Checks.{order_name, too_wide}
 use Rattle.bind_rules.specs.Forms.{area_form, join_form}
 use Rattle.bind_rules.specs.Names.{not_grouped}
 
--- from the widths on
+-- the first fault from the widths on
 unfoldable pub from_widths : List (List ℕ) → Query → Option BindFault
 from_widths names q = option_or (too_wide names q) (order_name names q)
 
--- from the area tests on
+-- the first fault from the area tests on
 unfoldable pub from_areas : List (List ℕ) → Query → Option BindFault
 from_areas names q = option_or (area_form q) (from_widths names q)
 
--- from the form of a join on
+-- the first fault from the join form on
 unfoldable pub from_join : List (List ℕ) → Query → Option BindFault
 from_join names q = option_or (join_form q) (from_areas names q)
 
--- from the grouping on
+-- the first fault from the grouping on
 unfoldable pub from_grouping : List (List ℕ) → Query → Option BindFault
 from_grouping names q = option_or (not_grouped q) (from_join names q)

@@ -1,4 +1,4 @@
--- The first place of what is sought in a part of a query.
+-- The span of the first part of a query that passes a test.
 use Rattle.std.specs.Prelude.{Bool, List, Option}
 use Rattle.std.specs.List.{find}
 use Rattle.std.specs.Option.{option_map}
@@ -10,7 +10,7 @@ use Rattle.sql_tree.specs.declared.expr.Prod.{Prod}
 use Rattle.sql_tree.specs.declared.expr.Signed.{Signed}
 use Rattle.bind_rules.specs.Mentions.{Cols, cols_at_atom, cols_at_expr, cols_at_factor, cols_at_prod, cols_at_signed}
 
--- where the first of them stands that passes the test
+-- the span of the first of them that passes the test
 unfoldable pub first_place : {A : Type 0} → (A → Span) → (A → Bool) → List A → Option Span
 first_place span test xs = option_map span (find test xs)
 
@@ -27,7 +27,7 @@ factor_columns =
 unfoldable pub prod_columns : Prod → Cols
 prod_columns = fold-Prod Cols Cols Cols Cols Cols cols_at_atom cols_at_expr cols_at_factor cols_at_prod cols_at_signed
 
--- the columns of a further product
+-- the columns of a product with its sign
 unfoldable pub signed_columns : Signed → Cols
 signed_columns =
     fold-Signed Cols Cols Cols Cols Cols cols_at_atom cols_at_expr cols_at_factor cols_at_prod cols_at_signed

@@ -9,20 +9,20 @@ use Rattle.sql_tree.specs.declared.expr.Signed.{Signed}
 use Rattle.bind_rules.specs.Widths.{Width, width_at_atom, width_at_expr, width_at_factor, width_at_prod}
 use Rattle.bind_rules.specs.Widths.{width_at_signed}
 
--- the number, where it is at most 2^100
+-- the number, if it is at most 2^100
 unfoldable pub capped : ℕ → Option ℕ
 capped n = if nat_lt NUMBER_MOST n then None else Some n
 
--- the size, where no number on the way to it is above 2^100
+-- the size, if no intermediate number is above 2^100
 unfoldable pub narrow : Width → Option ℕ
 narrow w = if nat_lt NUMBER_MOST w.widest then None else Some w.size
 
--- two such sizes taken together
+-- two such sizes combined
 unfoldable pub narrow_both : (ℕ → ℕ → ℕ) → Option ℕ → Option ℕ → Option ℕ
 narrow_both op (Some a) (Some b) = capped (op a b)
 narrow_both op _ _ = None
 
--- several such sizes taken together from the left
+-- several such sizes combined from the left
 unfoldable pub narrow_from_left : (ℕ → ℕ → ℕ) → Option ℕ → List (Option ℕ) → Option ℕ
 narrow_from_left op n [] = n
 narrow_from_left op n (m ∷ ms) = narrow_from_left op (narrow_both op n m) ms
@@ -45,7 +45,7 @@ prod_width names =
     fold-Prod Width Width Width Width Width (width_at_atom names) width_at_expr width_at_factor width_at_prod
     width_at_signed
 
--- the width of a further product
+-- the width of a product with its sign
 unfoldable pub signed_width : List (List ℕ) → Signed → Width
 signed_width names =
     fold-Signed Width Width Width Width Width (width_at_atom names) width_at_expr width_at_factor width_at_prod
@@ -55,6 +55,6 @@ signed_width names =
 abbrev pub narrow_factor : List (List ℕ) → Factor → Option ℕ
 narrow_factor names f = narrow (factor_width names f)
 
--- the width of a further product within the bound
+-- the width of a product with its sign, within the bound
 abbrev pub narrow_signed : List (List ℕ) → Signed → Option ℕ
 narrow_signed names s = narrow (signed_width names s)

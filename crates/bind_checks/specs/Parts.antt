@@ -1,4 +1,4 @@
--- What the parts of a query mention, and their expressions.
+-- The mentions of the parts of a query, and their expressions.
 use Rattle.std.specs.Prelude.{◌++◌, map}
 use Rattle.std.specs.List.{flat_map}
 use Rattle.sql_tree.specs.declared.cond.Conj.{Conj}

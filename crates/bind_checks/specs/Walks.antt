@@ -1,5 +1,5 @@
--- Tests as a walk over a condition meets them, each with whether it is a conjunct: brackets and AND leave it one, NOT and
--- OR do not.
+-- The tests in the order in which a walk over a condition visits them, each with whether it is a conjunct: brackets and
+-- AND leave it one, NOT and OR do not.
 use Rattle.std.specs.Prelude.{Bool, true, false, ◌&&◌, not, List, [], ◌∷◌, ◌++◌, map}
 use Rattle.sql_tree.specs.declared.cond.Cond.{Cond}
 use Rattle.sql_tree.specs.declared.cond.Pred.TheFolds.{fold-Cond}
@@ -11,11 +11,11 @@ use Rattle.bind_rules.specs.Tops.{Test, Found, found_at, test_at_pred}
 abbrev pub Founds : Type 0
 Founds = List Found
 
--- conjuncts where they were and this holds
+-- the conjuncts stay conjuncts only if this holds
 abbrev pub kept_if : Bool → Founds → Founds
 kept_if holds = map (λ f. record { test = f.test; top = holds && f.top })
 
--- there is but one part
+-- there is only one part
 abbrev pub is_alone : {A : Type 0} → List A → Bool
 is_alone [] = true
 is_alone (x ∷ xs) = false
@@ -37,7 +37,7 @@ tests_at_neg n = kept_if (not n.not) n.pred
 abbrev pub tests_at_conj : Conj-F Founds Founds Founds Founds → Founds
 tests_at_conj c = c.first ++ joined c.rest
 
--- the tests of a condition, of its parts
+-- the tests of a condition, from those of its parts
 abbrev pub tests_at_cond : Cond-F Founds Founds Founds Founds → Founds
 tests_at_cond c = kept_if (is_alone c.rest) (c.first ++ joined c.rest)
 

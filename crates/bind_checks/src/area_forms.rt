@@ -1,4 +1,4 @@
-//! The form that an area test must have: a conjunct at the top, with arguments that fit its function.
+//! The area form: an area test must be a conjunct at the top, with arguments that fit its function.
 ghost use Rattle.std.specs.Prelude.{◌≡◌, option_to_list};
 ghost use Rattle.std.specs.Option.{option_map};
 ghost use Rattle.bind_rules.specs.declared.fault.BindFault.TheVariants as fault;
@@ -10,7 +10,7 @@ use crate::tests_in::{Gather, TestRef, walk};
 use sql_token::Span;
 use sql_tree::Query;
 
-// Where an area test stands that has not its form.
+// Returns the span of an area test that does not have the area form.
 fn bad_area(test: &TestRef<'_>, top: bool) -> Option<Span>
     ensures { option_to_list result ≡ bad_area (test_of test.now) top }
 {
@@ -26,7 +26,7 @@ fn bad_area(test: &TestRef<'_>, top: bool) -> Option<Span>
     }
 }
 
-// Where the first area test stands that has not its form.
+// The span of the first area test that does not have the area form.
 #[derive(Drop)]
 struct FirstBad {
     span: Option<Span>,
@@ -48,7 +48,7 @@ impl Gather for FirstBad {
     }
 }
 
-/// Where the word of the first area test stands that has not its form. Does not allocate.
+/// Returns the span of the function's name in the first area test that does not have the area form. Does not allocate.
 pub(crate) fn first_bad_area(query: &Query) -> Option<Span>
     ensures { option_map fault.AreaForm result ≡ area_form query.now }
 {

@@ -9,7 +9,7 @@ use sky_vector::{Dir, Pos, turn};
 use sql_bound::{AreaTest, SquaredRadius};
 use sql_tree::{AreaKind, IntList, SignedInt};
 
-/// The int as a number. Does not allocate.
+/// Returns the int as a number. Does not allocate.
 pub fn int_value(int: &SignedInt) -> i64
     ensures { result ≡ int_value int.now }
 {
@@ -17,35 +17,35 @@ pub fn int_value(int: &SignedInt) -> i64
     if int.minus { 0 - size } else { size }
 }
 
-// The direction with these parts.
+// Returns the direction with these components.
 fn dir_at(dx: i64, dy: i64) -> Option<Dir>
     ensures { result ≡ dir_of dx dy }
 {
     Dir::new(dx, dy)
 }
 
-// The position with these parts.
+// Returns the position with these components.
 fn pos_at(x: i64, y: i64, z: i64) -> Option<Pos>
     ensures { result ≡ pos_of x y z }
 {
     Pos::new(x, y, z)
 }
 
-// The direction with these parts, or `None` where one is outside its limits.
+// Returns the direction with these components, or `None` if one is outside its limits.
 fn dir_of(dx: &SignedInt, dy: &SignedInt) -> Option<Dir>
     ensures { result ≡ dir_of (int_value dx.now) (int_value dy.now) }
 {
     dir_at(int_value(dx), int_value(dy))
 }
 
-// The position with these parts, or `None` where one is outside its limits.
+// Returns the position with these components, or `None` if one is outside its limits.
 fn pos_of(x: &SignedInt, y: &SignedInt, z: &SignedInt) -> Option<Pos>
     ensures { result ≡ pos_of (int_value x.now) (int_value y.now) (int_value z.now) }
 {
     pos_at(int_value(x), int_value(y), int_value(z))
 }
 
-/// The test of an area function with these arguments, or `None` where they are not as many as it takes or outside their
+/// Returns the test of an area function with these arguments, or `None` if their number is wrong or one is outside its
 /// limits. Does not allocate.
 pub fn area_test(kind: AreaKind, args: &IntList) -> Option<AreaTest>
     ensures { result ≡ area_test kind (values_of args.now) }
@@ -58,7 +58,7 @@ pub fn area_test(kind: AreaKind, args: &IntList) -> Option<AreaTest>
     }
 }
 
-// A band, of its arguments.
+// Returns a band, from its arguments.
 fn band_test(lo: &SignedInt, rest: &[SignedInt]) -> Option<AreaTest>
     ensures { result ≡ area_test area.Band (int_value lo.now ∷ map int_value rest.now) }
 {
@@ -71,7 +71,7 @@ fn band_test(lo: &SignedInt, rest: &[SignedInt]) -> Option<AreaTest>
     }
 }
 
-// A cap, of its arguments.
+// Returns a cap, from its arguments.
 fn cap_test(x: &SignedInt, rest: &[SignedInt]) -> Option<AreaTest>
     ensures { result ≡ area_test area.Cap (int_value x.now ∷ map int_value rest.now) }
 {
@@ -81,7 +81,7 @@ fn cap_test(x: &SignedInt, rest: &[SignedInt]) -> Option<AreaTest>
     }
 }
 
-// The cap around a centre, where there is one, if n is a squared radius.
+// Returns the cap around a centre, if there is a centre and n is a squared radius.
 fn cap_around(centre: Option<Pos>, n: i64) -> Option<AreaTest>
     ensures { result ≡ where_some centre (λ c. if_sound (test.Cap c n)) }
 {
@@ -91,7 +91,7 @@ fn cap_around(centre: Option<Pos>, n: i64) -> Option<AreaTest>
     }
 }
 
-// A box, of its arguments.
+// Returns a box, from its arguments.
 fn boxed_test(lo: &SignedInt, rest: &[SignedInt]) -> Option<AreaTest>
     ensures { result ≡ area_test area.Boxed (int_value lo.now ∷ map int_value rest.now) }
 {
@@ -101,7 +101,7 @@ fn boxed_test(lo: &SignedInt, rest: &[SignedInt]) -> Option<AreaTest>
     }
 }
 
-// The box between two heights and two directions, where these are there.
+// Returns the box between two heights and two directions, if both directions are present.
 fn boxed_between(lo: &SignedInt, hi: &SignedInt, a: Option<Dir>, b: Option<Dir>) -> Option<AreaTest>
     ensures { result ≡ where_some a (λ a. where_some b (λ b.
         if_sound (test.Boxed (int_value lo.now) (int_value hi.now) a b))) }
@@ -112,7 +112,7 @@ fn boxed_between(lo: &SignedInt, hi: &SignedInt, a: Option<Dir>, b: Option<Dir>)
     }
 }
 
-// The box, if its second direction lies less than half a turn to the left of the first.
+// Returns the box, if its second direction is less than half a turn to the left of the first.
 fn boxed_left(lo: i64, hi: i64, a: Dir, b: Dir) -> Option<AreaTest>
     ensures { result ≡ if_sound (test.Boxed lo hi a b) }
 {

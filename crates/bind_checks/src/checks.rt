@@ -1,4 +1,4 @@
-//! The six checks of a query in their order. One function makes one check, and those behind it.
+//! The six checks of a query in their order. Each function makes one check, and those after it.
 ghost use Rattle.std.specs.Prelude.{◌≡◌};
 ghost use Rattle.bind_rules.specs.Checks.{bind_fault, order_name};
 ghost use Rattle.bind_checks.specs.Faults.{from_areas, from_grouping, from_join, from_widths};
@@ -13,7 +13,7 @@ use bind_rules::BindFault;
 use sky_row::Schema;
 use sql_tree::Query;
 
-// The order key.
+// Checks the order key.
 fn from_order(query: &Query, schema: &Schema) -> Option<BindFault>
     ensures { result ≡ order_name schema.now query.now }
 {
@@ -23,7 +23,7 @@ fn from_order(query: &Query, schema: &Schema) -> Option<BindFault>
     }
 }
 
-// The widths, then the order key.
+// Checks the widths, then the order key.
 #[tactic(auto, unfolding(crate::specs::Faults::from_widths))]
 fn from_widths(query: &Query, schema: &Schema) -> Option<BindFault>
     ensures { result ≡ from_widths schema.now query.now }
@@ -35,7 +35,7 @@ fn from_widths(query: &Query, schema: &Schema) -> Option<BindFault>
     }
 }
 
-// The area tests, then the widths.
+// Checks the area tests, then the widths.
 #[tactic(auto, unfolding(crate::specs::Faults::from_areas))]
 fn from_areas(query: &Query, schema: &Schema) -> Option<BindFault>
     ensures { result ≡ from_areas schema.now query.now }
@@ -46,7 +46,7 @@ fn from_areas(query: &Query, schema: &Schema) -> Option<BindFault>
     }
 }
 
-// The form of a join, then the area tests.
+// Checks the join form, then the area tests.
 #[tactic(auto, unfolding(crate::specs::Faults::from_join))]
 fn from_join(query: &Query, schema: &Schema) -> Option<BindFault>
     ensures { result ≡ from_join schema.now query.now }
@@ -58,7 +58,7 @@ fn from_join(query: &Query, schema: &Schema) -> Option<BindFault>
     }
 }
 
-// The grouping, then the form of a join.
+// Checks the grouping, then the join form.
 #[tactic(auto, unfolding(crate::specs::Faults::from_grouping))]
 fn from_grouping(query: &Query, schema: &Schema) -> Option<BindFault>
     ensures { result ≡ from_grouping schema.now query.now }
@@ -69,7 +69,7 @@ fn from_grouping(query: &Query, schema: &Schema) -> Option<BindFault>
     }
 }
 
-/// The first fault of a query over a schema. Does not allocate.
+/// Returns the first fault of a query over a schema. Does not allocate.
 #[tactic(auto, unfolding(bind_rules::specs::Checks::bind_fault, crate::specs::Faults::from_grouping, crate::specs::Faults::from_join, crate::specs::Faults::from_areas, crate::specs::Faults::from_widths))]
 pub fn first_fault(query: &Query, schema: &Schema) -> Option<BindFault>
     ensures { result ≡ bind_fault schema.now query.now }

@@ -1,4 +1,4 @@
-//! The first column of an expression that passes a test.
+//! Search for the first column of an expression that passes a test.
 ghost use Rattle.std.specs.Prelude.{◌≡◌, Bool, [], ◌∷◌, map};
 ghost use Rattle.sql_tree.specs.Spans.{col_span};
 ghost use Rattle.sql_tree.specs.declared.name.Col.{Col};
@@ -11,15 +11,15 @@ use sql_tree::{Atom, Col, Expr, Factor, Prod, Signed};
 
 /// A test of columns.
 pub(crate) trait ColumnTest {
-    /// What passes.
+    /// The columns that pass.
     ghost passes: { Self → Col → Bool };
 
-    /// Whether the column passes.
+    /// Returns whether the column passes.
     fn passes(&self, col: &Col) -> bool
         ensures { result ≡ passes self.now col.now };
 }
 
-/// Where the first column of an expression stands that passes the test.
+/// Returns the span of the first column of an expression that passes the test.
 #[cycle(first)]
 pub(crate) fn first_column<T: ColumnTest>(test: &T, e: &Expr) -> Option<Span>
     ensures { result ≡ first_place col_span (T.passes test.now) (columns_of e.now) }
@@ -30,7 +30,7 @@ pub(crate) fn first_column<T: ColumnTest>(test: &T, e: &Expr) -> Option<Span>
     }
 }
 
-// Of the further products of a sum.
+// Searches the products of a sum after the first.
 #[cycle(first)]
 fn first_in_signeds<T: ColumnTest>(test: &T, rest: &[Signed]) -> Option<Span>
     ensures { result ≡
@@ -45,7 +45,7 @@ fn first_in_signeds<T: ColumnTest>(test: &T, rest: &[Signed]) -> Option<Span>
     None
 }
 
-// Of one further product.
+// Searches one such product.
 #[cycle(first)]
 fn first_in_signed<T: ColumnTest>(test: &T, signed: &Signed) -> Option<Span>
     ensures { result ≡ first_place col_span (T.passes test.now) (signed_columns signed.now) }
@@ -53,7 +53,7 @@ fn first_in_signed<T: ColumnTest>(test: &T, signed: &Signed) -> Option<Span>
     first_in_prod(test, &signed.prod)
 }
 
-// Of a product.
+// Searches a product.
 #[cycle(first)]
 fn first_in_prod<T: ColumnTest>(test: &T, prod: &Prod) -> Option<Span>
     ensures { result ≡ first_place col_span (T.passes test.now) (prod_columns prod.now) }
@@ -64,7 +64,7 @@ fn first_in_prod<T: ColumnTest>(test: &T, prod: &Prod) -> Option<Span>
     }
 }
 
-// Of the further factors of a product.
+// Searches the factors of a product after the first.
 #[cycle(first)]
 fn first_in_factors<T: ColumnTest>(test: &T, rest: &[Factor]) -> Option<Span>
     ensures { result ≡
@@ -79,7 +79,7 @@ fn first_in_factors<T: ColumnTest>(test: &T, rest: &[Factor]) -> Option<Span>
     None
 }
 
-// Of a factor, whatever its sign.
+// Searches a factor, whatever its sign.
 #[cycle(first)]
 fn first_in_factor<T: ColumnTest>(test: &T, factor: &Factor) -> Option<Span>
     ensures { result ≡ first_place col_span (T.passes test.now) (factor_columns factor.now) }
@@ -87,7 +87,7 @@ fn first_in_factor<T: ColumnTest>(test: &T, factor: &Factor) -> Option<Span>
     first_in_atom(test, &factor.atom)
 }
 
-// Of an int, a column, or what stands in brackets.
+// Searches an int, a column, or an expression in brackets.
 #[cycle(first)]
 fn first_in_atom<T: ColumnTest>(test: &T, atom: &Atom) -> Option<Span>
     ensures { result ≡ first_place col_span (T.passes test.now) (atom_columns atom.now) }
@@ -99,7 +99,7 @@ fn first_in_atom<T: ColumnTest>(test: &T, atom: &Atom) -> Option<Span>
     }
 }
 
-// Where the column stands, if it passes the test.
+// Returns the span of the column, if it passes the test.
 #[tactic(auto, unfolding(crate::specs::Firsts::first_place))]
 fn place_if<T: ColumnTest>(test: &T, col: &Col) -> Option<Span>
     ensures { result ≡ first_place col_span (T.passes test.now) (col.now ∷ []) }
@@ -111,7 +111,7 @@ fn place_if<T: ColumnTest>(test: &T, col: &Col) -> Option<Span>
     }
 }
 
-/// Where the first of these columns stands that passes the test.
+/// Returns the span of the first of these columns that passes the test.
 pub(crate) fn first_of_columns<T: ColumnTest>(test: &T, cols: &[Col]) -> Option<Span>
     ensures { result ≡ first_place col_span (T.passes test.now) cols.now }
 {

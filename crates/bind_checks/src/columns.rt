@@ -7,7 +7,7 @@ ghost use Rattle.bind_rules.specs.Columns.{qualifier, tables};
 use sky_row::Schema;
 use sql_tree::{Col, Name, Query, TableRef};
 
-/// What the columns of a table are qualified by: its alias, or else its name.
+/// Returns the qualifier of a table's columns: its alias, or else its name.
 pub fn qualifier(table: &TableRef) -> &[u8]
     ensures { result.now ≡ qualifier table.now }
 {
@@ -17,21 +17,21 @@ pub fn qualifier(table: &TableRef) -> &[u8]
     }
 }
 
-/// Whether the query has a second table.
+/// Returns whether the query has a second table.
 pub fn is_join(query: &Query) -> bool
     ensures { result ≡ is_join query.now }
 {
     query.second.is_some()
 }
 
-// Whether the table has the qualifier.
+// Returns whether the table has the qualifier.
 fn has_qualifier(table: &TableRef, text: &[u8]) -> bool
     ensures { result ≡ bytes_eq text.now (qualifier table.now) }
 {
     text == qualifier(table)
 }
 
-/// Whether one of the query's tables has the qualifier.
+/// Returns whether one of the query's tables has the qualifier.
 pub(crate) fn is_qualifier(query: &Query, text: &[u8]) -> bool
     ensures { result ≡ is_qualifier (tables query.now) text.now }
 {
@@ -44,7 +44,7 @@ pub(crate) fn is_qualifier(query: &Query, text: &[u8]) -> bool
     }
 }
 
-// Whether a qualifier that is written is that of one of the query's tables.
+// Returns whether a qualifier, if one is written, is that of one of the query's tables.
 fn is_qualified_well(query: &Query, table: &Option<Name>) -> bool
     ensures { result ≡ is_qualified_well (tables query.now) table.now }
 {
@@ -54,14 +54,14 @@ fn is_qualified_well(query: &Query, table: &Option<Name>) -> bool
     }
 }
 
-/// Whether the column is one of the query's tables' and of the schema's.
+/// Returns whether the column is one of the query's tables' and of the schema's.
 pub(crate) fn is_known(query: &Query, schema: &Schema, col: &Col) -> bool
     ensures { result ≡ is_known schema.now (tables query.now) col.now }
 {
     is_qualified_well(query, &col.table) && schema.column(col.name.text.as_slice()).is_some()
 }
 
-/// Whether both are one column of a query's one table.
+/// Returns whether both are the same column of a query over one table.
 pub(crate) fn is_same_column(a: &Col, b: &Col) -> bool
     ensures { result ≡ is_same_column a.now b.now }
 {

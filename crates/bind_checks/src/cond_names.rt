@@ -1,4 +1,4 @@
-//! The first name in WHERE that is not known.
+//! The first unknown name in WHERE.
 ghost use Rattle.std.specs.Prelude.{◌≡◌, ◌++◌, [], ◌∷◌, ℕ, List, map};
 ghost use Rattle.text_rules.specs.Readings.{joined};
 ghost use Rattle.bind_rules.specs.Mentions.{Side, mentioned, mentions_of_cond, mentions_of_where};
@@ -11,7 +11,7 @@ use sky_row::Schema;
 use sql_token::Span;
 use sql_tree::{Cond, Conj, Expr, Name, Neg, Pred, Query};
 
-/// Where the first name in WHERE stands that is not known.
+/// Returns the span of the first unknown name in WHERE.
 pub(crate) fn unknown_in_where(query: &Query, schema: &Schema, cond: &Option<Cond>) -> Option<Span>
     ensures { result ≡ unknown_at schema.now query.now (mentions_of_where cond.now) }
 {
@@ -21,7 +21,7 @@ pub(crate) fn unknown_in_where(query: &Query, schema: &Schema, cond: &Option<Con
     }
 }
 
-// In a condition.
+// Searches a condition.
 #[cycle(unknown)]
 fn unknown_in_cond(query: &Query, schema: &Schema, cond: &Cond) -> Option<Span>
     ensures { result ≡ unknown_at schema.now query.now (mentions_of_cond cond.now) }
@@ -32,7 +32,7 @@ fn unknown_in_cond(query: &Query, schema: &Schema, cond: &Cond) -> Option<Span>
     }
 }
 
-// In the further conjunctions of a condition.
+// Searches the conjunctions of a condition after the first.
 #[cycle(unknown)]
 fn unknown_in_conjs(query: &Query, schema: &Schema, rest: &[Conj]) -> Option<Span>
     ensures { result ≡ unknown_at schema.now query.now (joined (map conj_mentions rest.now)) }
@@ -46,7 +46,7 @@ fn unknown_in_conjs(query: &Query, schema: &Schema, rest: &[Conj]) -> Option<Spa
     None
 }
 
-// In a conjunction.
+// Searches a conjunction.
 #[cycle(unknown)]
 fn unknown_in_conj(query: &Query, schema: &Schema, conj: &Conj) -> Option<Span>
     ensures { result ≡ unknown_at schema.now query.now (conj_mentions conj.now) }
@@ -57,7 +57,7 @@ fn unknown_in_conj(query: &Query, schema: &Schema, conj: &Conj) -> Option<Span>
     }
 }
 
-// In the further predicates of a conjunction.
+// Searches the predicates of a conjunction after the first.
 #[cycle(unknown)]
 fn unknown_in_negs(query: &Query, schema: &Schema, rest: &[Neg]) -> Option<Span>
     ensures { result ≡ unknown_at schema.now query.now (joined (map neg_mentions rest.now)) }
@@ -71,7 +71,7 @@ fn unknown_in_negs(query: &Query, schema: &Schema, rest: &[Neg]) -> Option<Span>
     None
 }
 
-// In a predicate, with or without NOT.
+// Searches a predicate, with or without NOT.
 #[cycle(unknown)]
 fn unknown_in_neg(query: &Query, schema: &Schema, neg: &Neg) -> Option<Span>
     ensures { result ≡ unknown_at schema.now query.now (neg_mentions neg.now) }
@@ -79,7 +79,7 @@ fn unknown_in_neg(query: &Query, schema: &Schema, neg: &Neg) -> Option<Span>
     unknown_in_pred(query, schema, &neg.pred)
 }
 
-// In a predicate: in its expressions from the left, and in the condition that stands in brackets.
+// Searches a predicate: its expressions from the left, or the condition in brackets.
 #[cycle(unknown)]
 fn unknown_in_pred(query: &Query, schema: &Schema, pred: &Pred) -> Option<Span>
     ensures { result ≡ unknown_at schema.now query.now (pred_mentions pred.now) }
@@ -100,7 +100,7 @@ fn unknown_in_pred(query: &Query, schema: &Schema, pred: &Pred) -> Option<Span>
     }
 }
 
-// In two expressions, one behind the other.
+// Searches two expressions, one after the other.
 fn unknown_in_two(query: &Query, schema: &Schema, first: &Expr, second: &Expr) -> Option<Span>
     ensures { result ≡
         unknown_at schema.now query.now (mentioned first.now ++ mentioned second.now) }
@@ -111,7 +111,7 @@ fn unknown_in_two(query: &Query, schema: &Schema, first: &Expr, second: &Expr) -
     }
 }
 
-// In three expressions, one behind another.
+// Searches three expressions, one after another.
 fn unknown_in_three(
     query: &Query,
     schema: &Schema,
@@ -128,7 +128,7 @@ fn unknown_in_three(
     }
 }
 
-// A name in a chord test, which is to be the qualifier of a table.
+// Checks a name in a chord test, which must be the qualifier of a table.
 #[tactic(auto, unfolding(crate::specs::Firsts::first_place))]
 fn unknown_side(query: &Query, name: &Name) -> Option<Span>
     ensures { (names : List (List ℕ)) → result ≡ unknown_at names query.now (Side name.now ∷ []) }
@@ -140,7 +140,7 @@ fn unknown_side(query: &Query, name: &Name) -> Option<Span>
     }
 }
 
-// Both names of a chord test.
+// Checks both names of a chord test.
 fn unknown_side_of_two(query: &Query, left: &Name, right: &Name) -> Option<Span>
     ensures { (names : List (List ℕ)) →
         result ≡ unknown_at names query.now (Side left.now ∷ Side right.now ∷ []) }

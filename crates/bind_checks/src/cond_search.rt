@@ -1,4 +1,4 @@
-//! Whether an expression in WHERE passes a test.
+//! Search for an expression in WHERE that passes a test.
 ghost use Rattle.std.specs.Prelude.{◌≡◌, [], ◌∷◌, map};
 ghost use Rattle.std.specs.List.{list_any};
 ghost use Rattle.text_rules.specs.Readings.{joined};
@@ -8,7 +8,7 @@ ghost use Rattle.bind_checks.specs.Parts.{conj_exprs, neg_exprs, pred_exprs};
 use crate::expr_search::ExprTest;
 use sql_tree::{Cond, Conj, Expr, Neg, Pred};
 
-/// Whether an expression in WHERE passes the test.
+/// Returns whether an expression in WHERE passes the test.
 pub(crate) fn is_in_where<T: ExprTest>(test: &T, cond: &Option<Cond>) -> bool
     ensures { result ≡ list_any (T.passes test.now) (exprs_in cond.now) }
 {
@@ -18,7 +18,7 @@ pub(crate) fn is_in_where<T: ExprTest>(test: &T, cond: &Option<Cond>) -> bool
     }
 }
 
-// Of a condition.
+// Searches a condition.
 #[cycle(search)]
 fn is_in_cond<T: ExprTest>(test: &T, cond: &Cond) -> bool
     ensures { result ≡ list_any (T.passes test.now) (exprs_of cond.now) }
@@ -30,7 +30,7 @@ fn is_in_cond<T: ExprTest>(test: &T, cond: &Cond) -> bool
     }
 }
 
-// Of the further conjunctions of a condition.
+// Searches the conjunctions of a condition after the first.
 #[cycle(search)]
 fn is_in_conjs<T: ExprTest>(test: &T, rest: &[Conj]) -> bool
     ensures { result ≡ list_any (T.passes test.now) (joined (map conj_exprs rest.now)) }
@@ -43,7 +43,7 @@ fn is_in_conjs<T: ExprTest>(test: &T, rest: &[Conj]) -> bool
     false
 }
 
-// Of a conjunction.
+// Searches a conjunction.
 #[cycle(search)]
 fn is_in_conj<T: ExprTest>(test: &T, conj: &Conj) -> bool
     ensures { result ≡ list_any (T.passes test.now) (conj_exprs conj.now) }
@@ -55,7 +55,7 @@ fn is_in_conj<T: ExprTest>(test: &T, conj: &Conj) -> bool
     }
 }
 
-// Of the further predicates of a conjunction.
+// Searches the predicates of a conjunction after the first.
 #[cycle(search)]
 fn is_in_negs<T: ExprTest>(test: &T, rest: &[Neg]) -> bool
     ensures { result ≡ list_any (T.passes test.now) (joined (map neg_exprs rest.now)) }
@@ -68,7 +68,7 @@ fn is_in_negs<T: ExprTest>(test: &T, rest: &[Neg]) -> bool
     false
 }
 
-// Of a predicate, with or without NOT.
+// Searches a predicate, with or without NOT.
 #[cycle(search)]
 fn is_in_neg<T: ExprTest>(test: &T, neg: &Neg) -> bool
     ensures { result ≡ list_any (T.passes test.now) (neg_exprs neg.now) }
@@ -76,7 +76,7 @@ fn is_in_neg<T: ExprTest>(test: &T, neg: &Neg) -> bool
     is_in_pred(test, &neg.pred)
 }
 
-// Of a predicate: of its own expressions, and of the condition that stands in brackets.
+// Searches a predicate: its own expressions, or the condition in brackets.
 #[cycle(search)]
 fn is_in_pred<T: ExprTest>(test: &T, pred: &Pred) -> bool
     ensures { result ≡ list_any (T.passes test.now) (pred_exprs pred.now) }
@@ -97,21 +97,21 @@ fn is_in_pred<T: ExprTest>(test: &T, pred: &Pred) -> bool
     }
 }
 
-// Whether this expression passes the test.
+// Returns whether this expression passes the test.
 fn is_one<T: ExprTest>(test: &T, e: &Expr) -> bool
     ensures { result ≡ list_any (T.passes test.now) (e.now ∷ []) }
 {
     test.passes(e)
 }
 
-// Whether one of two expressions passes the test.
+// Returns whether one of two expressions passes the test.
 fn is_one_of_two<T: ExprTest>(test: &T, first: &Expr, second: &Expr) -> bool
     ensures { result ≡ list_any (T.passes test.now) (first.now ∷ second.now ∷ []) }
 {
     test.passes(first) || test.passes(second)
 }
 
-// Whether one of three expressions passes the test.
+// Returns whether one of three expressions passes the test.
 fn is_one_of_three<T: ExprTest>(test: &T, first: &Expr, second: &Expr, third: &Expr) -> bool
     ensures { result ≡
         list_any (T.passes test.now) (first.now ∷ second.now ∷ third.now ∷ []) }

@@ -1,4 +1,4 @@
-//! Whether an expression of a query passes a test.
+//! Search for an expression of a query that passes a test.
 ghost use Rattle.std.specs.Prelude.{◌≡◌, Bool};
 ghost use Rattle.std.specs.List.{flat_map, list_any};
 ghost use Rattle.sql_tree.specs.declared.expr.Expr.{Expr};
@@ -12,15 +12,15 @@ use sql_tree::{Expr, Item, Query, Selection};
 
 /// A test of expressions.
 pub(crate) trait ExprTest {
-    /// What passes.
+    /// The expressions that pass.
     ghost passes: { Self → Expr → Bool };
 
-    /// Whether the expression passes.
+    /// Returns whether the expression passes.
     fn passes(&self, e: &Expr) -> bool
         ensures { result ≡ passes self.now e.now };
 }
 
-// Whether the expression of the item passes.
+// Returns whether the expression of the item passes.
 fn is_in_item<T: ExprTest>(test: &T, item: &Item) -> bool
     ensures { result ≡ list_any (T.passes test.now) (exprs_of_item item.now) }
 {
@@ -30,7 +30,7 @@ fn is_in_item<T: ExprTest>(test: &T, item: &Item) -> bool
     }
 }
 
-// Whether that of one of these does.
+// Returns whether the expression of one of these items passes.
 fn is_in_items<T: ExprTest>(test: &T, items: &[Item]) -> bool
     ensures { result ≡ list_any (T.passes test.now) (flat_map exprs_of_item items.now) }
 {
@@ -42,7 +42,7 @@ fn is_in_items<T: ExprTest>(test: &T, items: &[Item]) -> bool
     false
 }
 
-// Whether that of one of a query's items does.
+// Returns whether the expression of one of a query's items passes.
 fn is_in_selection<T: ExprTest>(test: &T, items: &Selection) -> bool
     ensures { result ≡
         list_any (T.passes test.now) (flat_map exprs_of_item (items_of items.now)) }
@@ -55,7 +55,7 @@ fn is_in_selection<T: ExprTest>(test: &T, items: &Selection) -> bool
     }
 }
 
-/// Whether an expression of the query, in an item or in WHERE, passes the test.
+/// Returns whether an expression of the query, in an item or in WHERE, passes the test.
 #[tactic(auto, using(crate::proofs::Anys::any_append))]
 pub(crate) fn is_in_query<T: ExprTest>(test: &T, query: &Query) -> bool
     ensures { result ≡ list_any (T.passes test.now) (all_exprs query.now) }

@@ -1,4 +1,4 @@
-//! How large the numbers of an expression can be, where none can be above 2^100.
+//! The largest size of the numbers of an expression, if none can be above 2^100.
 ghost use Rattle.std.specs.Prelude.{◌≡◌, ◌+◌, ◌*◌, Some, map, nat_abs};
 ghost use Rattle.bind_rules.specs.Widths.{bound_by, is_too_wide, width_of};
 ghost use Rattle.table_rules.specs.Names.{column_of};
@@ -9,7 +9,7 @@ use sky_row::Schema;
 use sky_vector::limits::NUMBER_MOST;
 use sql_tree::{Atom, Expr, Factor, Int, Prod, Signed};
 
-/// Whether some number of the expression may be above 2^100 in size.
+/// Returns whether some number of the expression may be above 2^100 in size.
 pub(crate) fn is_too_wide(schema: &Schema, e: &Expr) -> bool
     ensures { result ≡ is_too_wide schema.now e.now }
 {
@@ -19,7 +19,7 @@ pub(crate) fn is_too_wide(schema: &Schema, e: &Expr) -> bool
     }
 }
 
-// The largest size of a number of the expression, where none can be above 2^100.
+// Returns the largest size of a number of the expression, if none can be above 2^100.
 #[cycle(narrow)]
 fn narrow_expr(schema: &Schema, e: &Expr) -> Option<u128>
     ensures { result ≡ narrow (width_of schema.now e.now) }
@@ -30,7 +30,7 @@ fn narrow_expr(schema: &Schema, e: &Expr) -> Option<u128>
     }
 }
 
-// With the further products of a sum.
+// Adds the products of a sum after the first.
 #[cycle(narrow)]
 fn narrow_sum(schema: &Schema, first: u128, rest: &[Signed]) -> Option<u128>
     ensures { result ≡
@@ -46,7 +46,7 @@ fn narrow_sum(schema: &Schema, first: u128, rest: &[Signed]) -> Option<u128>
     Some(sum)
 }
 
-// With one further product.
+// Adds one such product.
 #[cycle(narrow)]
 fn with_signed(schema: &Schema, sum: u128, signed: &Signed) -> Option<u128>
     ensures { result ≡
@@ -58,7 +58,7 @@ fn with_signed(schema: &Schema, sum: u128, signed: &Signed) -> Option<u128>
     }
 }
 
-// The same of a product.
+// Returns the largest size of a product.
 #[cycle(narrow)]
 fn narrow_prod(schema: &Schema, prod: &Prod) -> Option<u128>
     ensures { result ≡ narrow (prod_width schema.now prod.now) }
@@ -69,7 +69,7 @@ fn narrow_prod(schema: &Schema, prod: &Prod) -> Option<u128>
     }
 }
 
-// With the further factors of a product.
+// Multiplies by the factors of a product after the first.
 #[cycle(narrow)]
 fn narrow_product(schema: &Schema, first: u128, rest: &[Factor]) -> Option<u128>
     ensures { result ≡
@@ -85,7 +85,7 @@ fn narrow_product(schema: &Schema, first: u128, rest: &[Factor]) -> Option<u128>
     Some(product)
 }
 
-// With one further factor.
+// Multiplies by one such factor.
 #[cycle(narrow)]
 fn with_factor(schema: &Schema, product: u128, factor: &Factor) -> Option<u128>
     ensures { result ≡
@@ -97,7 +97,7 @@ fn with_factor(schema: &Schema, product: u128, factor: &Factor) -> Option<u128>
     }
 }
 
-// Of a factor, whatever its sign.
+// Returns the largest size of a factor, whatever its sign.
 #[cycle(narrow)]
 fn narrow_factor(schema: &Schema, factor: &Factor) -> Option<u128>
     ensures { result ≡ narrow_factor schema.now factor.now }
@@ -105,7 +105,7 @@ fn narrow_factor(schema: &Schema, factor: &Factor) -> Option<u128>
     narrow_atom(schema, &factor.atom)
 }
 
-// Of an int, a column, or what stands in brackets.
+// Returns the largest size of an int, a column, or an expression in brackets.
 #[cycle(narrow)]
 fn narrow_atom(schema: &Schema, atom: &Atom) -> Option<u128>
     ensures { result ≡ narrow (atom_width schema.now atom.now) }
@@ -117,14 +117,14 @@ fn narrow_atom(schema: &Schema, atom: &Atom) -> Option<u128>
     }
 }
 
-// The size of an int.
+// Returns the size of an int.
 fn size_of(n: &Int) -> u128
     ensures { result ≡ nat_abs n.now }
 {
     u128::from(n.get().unsigned_abs())
 }
 
-// The largest size of a value in the column, and 0 where there is none of that name.
+// Returns the largest size of a value in the column, and 0 if there is no column of that name.
 fn bound_of(schema: &Schema, name: &[u8]) -> u128
     ensures { result ≡ bound_by (column_of schema.now name.now) }
 {
@@ -134,7 +134,7 @@ fn bound_of(schema: &Schema, name: &[u8]) -> u128
     }
 }
 
-// The number, where it is at most 2^100.
+// Returns the number, if it is at most 2^100.
 #[tactic(auto, unfolding(crate::specs::Narrow::capped))]
 fn capped(n: u128) -> Option<u128>
     ensures { result ≡ capped n }
@@ -142,7 +142,7 @@ fn capped(n: u128) -> Option<u128>
     if n > NUMBER_MOST { None } else { Some(n) }
 }
 
-// The sum, where it is at most 2^100.
+// Returns the sum, if it is at most 2^100.
 #[tactic(auto, unfolding(crate::specs::Narrow::capped))]
 fn capped_sum(a: u128, b: u128) -> Option<u128>
     ensures { result ≡ capped (a + b) }
@@ -153,7 +153,7 @@ fn capped_sum(a: u128, b: u128) -> Option<u128>
     }
 }
 
-// The product, where it is at most 2^100.
+// Returns the product, if it is at most 2^100.
 #[tactic(auto, unfolding(crate::specs::Narrow::capped))]
 fn capped_product(a: u128, b: u128) -> Option<u128>
     ensures { result ≡ capped (a * b) }

@@ -1,5 +1,5 @@
-//! The form of a join: two aliases, one chord test at the top that names both, a qualifier at each column but the order
-//! key, and no grouping. A query of one table has no chord test.
+//! The join form: two aliases, one chord test at the top that names both, a qualifier at each column but the order key,
+//! and neither an aggregate nor GROUP BY. A query of one table has no chord test.
 ghost use Rattle.std.specs.Prelude.{◌≡◌, ◌&&◌, Bool, false, None, Some, if◌then◌else◌, not};
 ghost use Rattle.std.specs.List.{list_all};
 ghost use Rattle.std.specs.Str.{bytes_eq};
@@ -13,21 +13,21 @@ use crate::qualified::is_query_qualified;
 use crate::tests_in::{Gather, TestRef, walk};
 use sql_tree::{Name, Query, TableRef};
 
-// Whether the text of both names is the same.
+// Returns whether both names have the same text.
 fn is_same_name(a: &Name, b: &Name) -> bool
     ensures { result ≡ bytes_eq a.now.text b.now.text }
 {
     a.text.as_slice() == b.text.as_slice()
 }
 
-// Whether the names are these two, one each.
+// Returns whether the names are these two, one each.
 fn is_pair(left: &Name, right: &Name, a: &Name, b: &Name) -> bool
     ensures { result ≡ (bytes_eq left.now.text a.now.text && bytes_eq right.now.text b.now.text) }
 {
     is_same_name(left, a) && is_same_name(right, b)
 }
 
-// Whether the names are these two, in either order.
+// Returns whether the names are these two, in either order.
 fn names_both(left: &Name, right: &Name, a: &Name, b: &Name) -> bool
     ensures { (top : Bool) → result ≡
         names_both a.now b.now (record { left = left.now; right = right.now; top = top }) }
@@ -35,7 +35,7 @@ fn names_both(left: &Name, right: &Name, a: &Name, b: &Name) -> bool
     is_pair(left, right, a, b) || is_pair(left, right, b, a)
 }
 
-// Whether a chord test stands at the top and names both.
+// Returns whether a chord test is at the top and names both aliases.
 fn fits(left: &Name, right: &Name, top: bool, a: &Name, b: &Name) -> bool
     ensures { result ≡
         (top && names_both a.now b.now (record { left = left.now; right = right.now; top = top })) }
@@ -43,18 +43,18 @@ fn fits(left: &Name, right: &Name, top: bool, a: &Name, b: &Name) -> bool
     top && names_both(left, right, a, b)
 }
 
-// What is known of the chord tests so far.
+// The chord tests seen so far.
 #[derive(Clone, Copy)]
 enum Chords {
     /// There is none.
     Nowhere,
-    /// There is one; it stands at the top and names both aliases, or it does not.
+    /// There is one. The flag is true if it is at the top and names both aliases.
     Once(bool),
-    /// There are more.
+    /// There is more than one.
     Again,
 }
 
-// The chord tests met with one more.
+// Returns the chord tests seen, with one more.
 fn with_one(chords: Chords, fits: bool) -> Chords
     ensures { result ≡ with_one chords fits }
 {
@@ -65,7 +65,7 @@ fn with_one(chords: Chords, fits: bool) -> Chords
     }
 }
 
-// The chord tests of a query, of which one may be that of a join with these aliases.
+// The chord tests of a query; one of them may be that of a join with these aliases.
 #[derive(Drop)]
 struct ChordsMet<'a> {
     a: &'a Name,
@@ -115,7 +115,7 @@ impl Gather for AnyChord {
     }
 }
 
-// Whether the one chord test of a query stands at the top and names both.
+// Returns whether the query has one chord test, which is at the top and names both aliases.
 fn has_lone_chord(query: &Query, a: &Name, b: &Name) -> bool
     ensures { result ≡ is_lone (chords_met a.now b.now Chords.Nowhere (chords_of query.now)) }
 {
@@ -133,7 +133,7 @@ fn has_lone_chord(query: &Query, a: &Name, b: &Name) -> bool
     }
 }
 
-// Whether the aliases are two, and the one chord test stands at the top and names both.
+// Returns whether the aliases are two, and there is one chord test, which is at the top and names both.
 #[tactic(auto, using(crate::proofs::ChordLaws::pairs_lone))]
 fn pairs_both(query: &Query, a: &Option<Name>, b: &Option<Name>) -> bool
     ensures { result ≡ pairs_both a.now b.now (chords_of query.now) }
@@ -144,7 +144,7 @@ fn pairs_both(query: &Query, a: &Option<Name>, b: &Option<Name>) -> bool
     }
 }
 
-// Whether there is no chord test.
+// Returns whether there is no chord test.
 fn has_no_chord(query: &Query) -> bool
     ensures { result ≡ list_all (λ c. false) (chords_of query.now) }
 {
@@ -153,7 +153,7 @@ fn has_no_chord(query: &Query) -> bool
     !any.is_there
 }
 
-// Whether a query with this second table has the form of a join.
+// Returns whether a query with this second table has the join form.
 fn is_join_of(query: &Query, second: &TableRef) -> bool
     ensures { result ≡ is_join_form query.now (Some second.now) }
 {
@@ -162,7 +162,7 @@ fn is_join_of(query: &Query, second: &TableRef) -> bool
         && !is_grouped(query)
 }
 
-/// Whether the query has the form of a join, or is none and has no chord test. Does not allocate.
+/// Returns whether the query has the join form, or is no join and has no chord test. Does not allocate.
 #[tactic(auto, unfolding(bind_rules::specs::Forms::join_form))]
 pub(crate) fn has_join_form(query: &Query) -> bool
     ensures { join_form query.now ≡ (if result then None else Some fault.JoinForm) }

@@ -1,4 +1,4 @@
-//! The first place of a grouped query that has no one value for a group.
+//! The first place of a grouped query that has no single value for a group.
 ghost use Rattle.std.specs.Prelude.{◌≡◌, not};
 ghost use Rattle.std.specs.List.{flat_map, list_any};
 ghost use Rattle.std.specs.Option.{option_map};
@@ -16,7 +16,7 @@ use crate::columns::{is_join, is_same_column};
 use sql_token::Span;
 use sql_tree::{Col, Item, ItemKind, Query, Selection};
 
-// Whether the item is an aggregate.
+// Returns whether the item is an aggregate.
 fn is_aggregate(what: &ItemKind) -> bool
     ensures { result ≡ is_aggregate what.now }
 {
@@ -31,14 +31,14 @@ fn is_aggregate(what: &ItemKind) -> bool
     }
 }
 
-// Whether one of these items is an aggregate.
+// Returns whether one of these items is an aggregate.
 fn is_some_aggregate(items: &[Item]) -> bool
     ensures { result ≡ list_any (λ i. is_aggregate i.what) items.now }
 {
     items.iter().any(|item| is_aggregate(&item.what))
 }
 
-// Whether one of a query's items is an aggregate.
+// Returns whether one of a query's items is an aggregate.
 fn has_aggregate(items: &Selection) -> bool
     ensures { result ≡ list_any (λ i. is_aggregate i.what) (items_of items.now) }
 {
@@ -50,7 +50,7 @@ fn has_aggregate(items: &Selection) -> bool
     }
 }
 
-// Whether there is a GROUP BY.
+// Returns whether there is a GROUP BY.
 fn has_keys(query: &Query) -> bool
     ensures { result ≡ has_keys query.now.group }
 {
@@ -60,14 +60,14 @@ fn has_keys(query: &Query) -> bool
     }
 }
 
-/// Whether the query has an aggregate or a GROUP BY.
+/// Returns whether the query has an aggregate or a GROUP BY.
 pub fn is_grouped(query: &Query) -> bool
     ensures { result ≡ is_grouped query.now }
 {
     has_aggregate(&query.items) || has_keys(query)
 }
 
-/// Whether the column is among the GROUP BY columns.
+/// Returns whether the column is among the GROUP BY columns.
 pub(crate) fn is_key(query: &Query, col: &Col) -> bool
     ensures { result ≡ is_key query.now col.now }
 {
@@ -78,7 +78,7 @@ pub(crate) fn is_key(query: &Query, col: &Col) -> bool
         .any(|key| is_same_column(col, key))
 }
 
-// What is no GROUP BY column.
+// The test of a column that it is not among the GROUP BY columns.
 #[derive(Drop)]
 struct NoKey<'a> {
     query: &'a Query,
@@ -92,7 +92,7 @@ impl ColumnTest for NoKey<'_> {
     }
 }
 
-// In an item: outside of an aggregate.
+// Searches an item, outside of an aggregate.
 #[tactic(auto, unfolding(crate::specs::Firsts::first_place))]
 fn ungrouped_in_item(query: &Query, item: &Item) -> Option<Span>
     ensures { result ≡
@@ -109,7 +109,7 @@ fn ungrouped_in_item(query: &Query, item: &Item) -> Option<Span>
     }
 }
 
-// In the items behind the first.
+// Searches the items after the first.
 fn ungrouped_in_items(query: &Query, items: &[Item]) -> Option<Span>
     ensures { result ≡
         first_place col_span (λ c. not (is_key query.now c)) (flat_map plain_columns_of items.now) }
@@ -123,7 +123,7 @@ fn ungrouped_in_items(query: &Query, items: &[Item]) -> Option<Span>
     None
 }
 
-// In what stands between SELECT and FROM.
+// Searches the items between SELECT and FROM.
 fn ungrouped_in_selection(query: &Query, items: &Selection) -> Option<Span>
     ensures { result ≡ ungrouped query.now items.now }
 {
@@ -136,7 +136,8 @@ fn ungrouped_in_selection(query: &Query, items: &Selection) -> Option<Span>
     }
 }
 
-/// Where the star, or the first column, of a grouped query stands that has no one value for a group. Does not allocate.
+/// Returns the span of the star, or of the first column, of a grouped query that has no single value for a group. Does
+/// not allocate.
 #[tactic(auto, unfolding(bind_rules::specs::Names::not_grouped))]
 pub(crate) fn first_ungrouped(query: &Query) -> Option<Span>
     ensures { option_map NotGrouped result ≡ not_grouped query.now }

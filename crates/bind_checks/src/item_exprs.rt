@@ -5,7 +5,7 @@ ghost use Rattle.bind_rules.specs.Mentions.{expr_of};
 
 use sql_tree::{Expr, ItemKind};
 
-/// The expression of an item; `COUNT(*)` has none.
+/// Returns the expression of an item; `COUNT(*)` has none.
 pub(crate) fn expr_of(what: &ItemKind) -> Option<&Expr>
     ensures { option_to_list (option_copied result) ≡ expr_of what.now }
 {

@@ -1,11 +1,11 @@
 //! The six checks of a written query over a schema: its first fault, or none. Does not allocate.
 //!
-//! Callers see one call, `first_fault`, which answers what `bind_rules` defines as the first fault (`bind_fault`). What
-//! the checks look at and the building of a bound query looks at again stands here too: the tests of WHERE, shown one
-//! after another (`walk`); the qualifier of a table; whether a query is a join, or a grouping; the alias that an order
-//! key is; an int as a number, and the test of an area function with its arguments. Below: `sql_tree` for the written
-//! query, `sky_row` for the schema, `bind_rules` for the faults and the checks. Above: `sql_bind`, which builds the
-//! bound query where no check fails. No bound query: nothing is built here.
+//! The main call is `first_fault`, which returns what `bind_rules` defines as the first fault (`bind_fault`). The crate
+//! also contains what both the checks and the building of a bound query need: a walk over the tests of WHERE (`walk`);
+//! the qualifier of a table; whether a query is a join, or is grouped; the alias that an order key refers to; an int as
+//! a number, and the test of an area function with its arguments. Below: `sql_tree` for the written query, `sky_row`
+//! for the schema, `bind_rules` for the faults and the checks. Above: `sql_bind`, which builds the bound query if no
+//! check fails. No bound query: nothing is built here.
 #![tactic(auto)]
 
 mod area_forms;

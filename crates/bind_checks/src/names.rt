@@ -1,4 +1,4 @@
-//! The first name of a query that is not known.
+//! The first unknown name of a query.
 ghost use Rattle.std.specs.Prelude.{◌≡◌, [], ◌∷◌, ℕ, List, map};
 ghost use Rattle.std.specs.List.{flat_map};
 ghost use Rattle.std.specs.Option.{option_map};
@@ -17,7 +17,7 @@ use sky_row::Schema;
 use sql_token::Span;
 use sql_tree::{Item, Query, Selection, TableRef};
 
-// In an item.
+// Searches an item.
 fn unknown_in_item(query: &Query, schema: &Schema, item: &Item) -> Option<Span>
     ensures { result ≡ unknown_at schema.now query.now (item_mentions item.now) }
 {
@@ -27,7 +27,7 @@ fn unknown_in_item(query: &Query, schema: &Schema, item: &Item) -> Option<Span>
     }
 }
 
-// In the items behind the first.
+// Searches the items after the first.
 fn unknown_in_items(query: &Query, schema: &Schema, items: &[Item]) -> Option<Span>
     ensures { result ≡ unknown_at schema.now query.now (flat_map item_mentions items.now) }
 {
@@ -40,7 +40,7 @@ fn unknown_in_items(query: &Query, schema: &Schema, items: &[Item]) -> Option<Sp
     None
 }
 
-// In what stands between SELECT and FROM.
+// Searches the items between SELECT and FROM.
 fn unknown_in_selection(query: &Query, schema: &Schema, items: &Selection) -> Option<Span>
     ensures { result ≡ unknown_at schema.now query.now
         (flat_map item_mentions (items_of items.now)) }
@@ -54,7 +54,7 @@ fn unknown_in_selection(query: &Query, schema: &Schema, items: &Selection) -> Op
     }
 }
 
-// The table's name, where it is not that of the one table there is.
+// Checks the table's name, which must be that of the only table.
 #[tactic(auto, unfolding(crate::specs::Firsts::first_place))]
 fn unknown_table(table: &TableRef) -> Option<Span>
     ensures { (names : List (List ℕ)) (q : Query) →
@@ -67,7 +67,7 @@ fn unknown_table(table: &TableRef) -> Option<Span>
     }
 }
 
-// The name of one of the query's tables.
+// Searches the names of the query's tables.
 fn unknown_in_tables(query: &Query) -> Option<Span>
     ensures { (names : List (List ℕ)) (q : Query) →
         result ≡ unknown_at names q (map (λ t. Table t.name) (tables query.now)) }
@@ -81,7 +81,7 @@ fn unknown_in_tables(query: &Query) -> Option<Span>
     }
 }
 
-// In the items and the tables.
+// Searches the items and the tables.
 fn unknown_before_where(query: &Query, schema: &Schema) -> Option<Span>
     ensures { result ≡ unknown_at schema.now query.now (mentions_before_where query.now) }
 {
@@ -91,7 +91,7 @@ fn unknown_before_where(query: &Query, schema: &Schema) -> Option<Span>
     }
 }
 
-// In the items, the tables and WHERE.
+// Searches the items, the tables and WHERE.
 fn unknown_before_group(query: &Query, schema: &Schema) -> Option<Span>
     ensures { result ≡ unknown_at schema.now query.now (mentions_before_group query.now) }
 {
@@ -101,7 +101,7 @@ fn unknown_before_group(query: &Query, schema: &Schema) -> Option<Span>
     }
 }
 
-// In all that the check looks at.
+// Searches every name of the query except the order key.
 fn unknown_mention(query: &Query, schema: &Schema) -> Option<Span>
     ensures { result ≡ unknown_at schema.now query.now (mentions_of query.now) }
 {
@@ -111,7 +111,7 @@ fn unknown_mention(query: &Query, schema: &Schema) -> Option<Span>
     }
 }
 
-/// Where the first name of a query stands that is not known; the order key is not looked at. Does not allocate.
+/// Returns the span of the first unknown name of a query; the order key is not inspected. Does not allocate.
 pub(crate) fn first_unknown(query: &Query, schema: &Schema) -> Option<Span>
     ensures { option_map UnknownName result ≡ unknown_name schema.now query.now }
 {

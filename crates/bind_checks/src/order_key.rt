@@ -1,4 +1,4 @@
-//! What the order key of a query is.
+//! The meaning of the order key of a query.
 ghost use Rattle.std.specs.Prelude.{◌≡◌, ◌∷◌, None, Some, ◌||◌, not};
 ghost use Rattle.std.specs.List.{position};
 ghost use Rattle.std.specs.Option.{is_some, option_map};
@@ -15,7 +15,7 @@ use sky_row::Schema;
 use sql_token::Span;
 use sql_tree::{Col, Item, ItemList, Name, OrderBy, Query, Selection};
 
-// Whether the alias is this name.
+// Returns whether the alias is this name.
 fn is_named(name: &Name, alias: &Option<Name>) -> bool
     ensures { result ≡ is_named name.now alias.now }
 {
@@ -25,14 +25,14 @@ fn is_named(name: &Name, alias: &Option<Name>) -> bool
     }
 }
 
-// The place of the first of these items whose alias is the name, from 0.
+// Returns the index of the first of these items whose alias is the name, from 0.
 fn place_among(name: &Name, items: &[Item]) -> Option<usize>
     ensures { result ≡ position (λ i. is_named name.now i.alias) items.now }
 {
     items.iter().position(|item| is_named(name, &item.alias))
 }
 
-// The same, of a list of one item or more.
+// Returns it for a list of one item or more.
 fn place_in_list(name: &Name, list: &ItemList) -> Option<usize>
     ensures { result ≡ position (λ i. is_named name.now i.alias) (list.now.first ∷ list.now.rest) }
 {
@@ -45,7 +45,7 @@ fn place_in_list(name: &Name, list: &ItemList) -> Option<usize>
     }
 }
 
-// The place of the first of a query's items whose alias is the name, from 0.
+// Returns the index of the first of a query's items whose alias is the name, from 0.
 fn place_in(name: &Name, items: &Selection) -> Option<usize>
     ensures { result ≡ position (λ i. is_named name.now i.alias) (items_of items.now) }
 {
@@ -55,7 +55,7 @@ fn place_in(name: &Name, items: &Selection) -> Option<usize>
     }
 }
 
-/// The place, from 0, of the first item whose alias the key is. Does not allocate.
+/// Returns the index, from 0, of the first item whose alias is the key. Does not allocate.
 pub fn alias_place(query: &Query, col: &Col) -> Option<usize>
     ensures { result ≡ alias_place query.now col.now }
 {
@@ -65,28 +65,28 @@ pub fn alias_place(query: &Query, col: &Col) -> Option<usize>
     }
 }
 
-// A key of a join has a qualifier.
+// Returns whether the key has a qualifier, if the query is a join.
 fn is_told(query: &Query, col: &Col) -> bool
     ensures { result ≡ (not (is_join query.now) || is_some col.now.table) }
 {
     !is_join(query) || col.table.is_some()
 }
 
-// A column that a grouping is ordered by is a key.
+// Returns whether the column is a GROUP BY column, if the query is grouped.
 fn is_settled(query: &Query, col: &Col) -> bool
     ensures { result ≡ (not (is_grouped query.now) || is_key query.now col.now) }
 {
     !is_grouped(query) || is_key(query, col)
 }
 
-// Whether the key is a column to order by.
+// Returns whether the key is a column to order by.
 fn is_sortable(query: &Query, schema: &Schema, col: &Col) -> bool
     ensures { result ≡ is_sortable schema.now query.now col.now }
 {
     is_known(query, schema, col) && is_told(query, col) && is_settled(query, col)
 }
 
-// Where the key stands, if it is neither an alias nor a column to order by.
+// Returns the span of the key, if it is neither an alias nor a column to order by.
 fn bad_key(query: &Query, schema: &Schema, order: &OrderBy) -> Option<Span>
     ensures { option_map OrderName result ≡ order_fault schema.now query.now (Some order.now) }
 {
@@ -97,7 +97,7 @@ fn bad_key(query: &Query, schema: &Schema, order: &OrderBy) -> Option<Span>
     }
 }
 
-/// Where the order key stands, if it is neither an alias nor a column to order by. Does not allocate.
+/// Returns the span of the order key, if it is neither an alias nor a column to order by. Does not allocate.
 #[tactic(auto, unfolding(bind_rules::specs::Checks::order_name))]
 pub(crate) fn bad_order_key(query: &Query, schema: &Schema) -> Option<Span>
     ensures { option_map OrderName result ≡ order_name schema.now query.now }

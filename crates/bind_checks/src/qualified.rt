@@ -1,4 +1,4 @@
-//! Whether each column of a query, but for the order key, has a qualifier.
+//! Whether each column of a query, except the order key, has a qualifier.
 ghost use Rattle.std.specs.Prelude.{◌≡◌, is_some, not};
 ghost use Rattle.std.specs.List.{list_all};
 ghost use Rattle.bind_rules.specs.Mentions.{columns_in, columns_of};
@@ -8,7 +8,7 @@ use crate::column_search::{ColumnTest, first_column, first_of_columns};
 use crate::expr_search::{ExprTest, is_in_query};
 use sql_tree::{Col, Expr, Query};
 
-// What has no qualifier.
+// The test of a column that it has no qualifier.
 #[derive(Drop)]
 struct Bare;
 
@@ -28,21 +28,21 @@ impl ExprTest for Bare {
     }
 }
 
-// Whether a column of an expression has no qualifier.
+// Returns whether a column of an expression has no qualifier.
 fn has_bare(e: &Expr) -> bool
     ensures { result ≡ is_bare e.now }
 {
     first_column(&Bare, e).is_some()
 }
 
-// Each column of a list has a qualifier.
+// Returns whether each column of a list has a qualifier.
 fn are_cols_qualified(cols: &[Col]) -> bool
     ensures { result ≡ are_qualified cols.now }
 {
     first_of_columns(&Bare, cols).is_none()
 }
 
-/// Whether each column of a query, but for the order key, has a qualifier. Does not allocate.
+/// Returns whether each column of a query, except the order key, has a qualifier. Does not allocate.
 #[tactic(auto, using(crate::proofs::QualifiedLaws::query_qualified))]
 pub(crate) fn is_query_qualified(query: &Query) -> bool
     ensures { result ≡ list_all (λ c. is_some c.table) (columns_in query.now) }

@@ -1,5 +1,5 @@
-//! The tests of WHERE in the order of the text, each with whether it is a conjunct at the top. Whoever asks for them is
-//! shown one test after another.
+//! The tests of WHERE in the order of the text, each with whether it is a conjunct at the top. A visitor is called with
+//! one test after another.
 ghost use Rattle.std.specs.Prelude.{◌≡◌, ◌&&◌, Bool, [], ◌∷◌, map};
 ghost use Rattle.std.specs.List.{flat_map};
 ghost use Rattle.text_rules.specs.Readings.{joined};
@@ -12,7 +12,7 @@ ghost use Rattle.bind_checks.specs.Walks.{kept_if, tests_at_pred, tests_of};
 use sql_token::Span;
 use sql_tree::{AreaKind, Cmp, Cond, Conj, Expr, Int, IntList, Name, Neg, Pred};
 
-/// A test that more is asked of than whether it holds.
+/// A test that matters beyond its truth value, to the checks or to the bound query.
 #[derive(Drop)]
 pub enum TestRef<'a> {
     Area {
@@ -38,20 +38,20 @@ pub enum TestRef<'a> {
     },
 }
 
-/// What gathers something from tests, one after another.
+/// A visitor that gathers something from tests, one after another.
 pub trait Gather {
     /// Whether nothing was lost because an allocation failed.
     ghost kept: { Self → Bool };
 
-    /// What it is after one more test.
+    /// The state after one more test.
     ghost after: { Self → Found → Self };
 
-    /// Looks at one more test, and at whether it is a conjunct at the top.
+    /// Visits one more test. `top` is whether it is a conjunct at the top.
     fn look(&mut self, test: &TestRef<'_>, top: bool)
         ensures { Gathers kept after self.old (found_of test.now top ∷ []) self.new };
 }
 
-/// Shows the tests of WHERE.
+/// Visits the tests of WHERE.
 pub fn walk<G: Gather>(gather: &mut G, cond: &Option<Cond>)
     ensures { Gathers G.kept G.after gather.old (tests_in cond.now) gather.new }
 {
@@ -60,7 +60,7 @@ pub fn walk<G: Gather>(gather: &mut G, cond: &Option<Cond>)
     }
 }
 
-// Shows the tests of a condition that stands at the top.
+// Visits the tests of a condition that is at the top.
 fn walk_top<G: Gather>(gather: &mut G, cond: &Cond)
     ensures { Gathers G.kept G.after gather.old
         (flat_map found_in (conjuncts cond.now)) gather.new }
@@ -68,14 +68,14 @@ fn walk_top<G: Gather>(gather: &mut G, cond: &Cond)
     walk_cond(gather, cond, true);
 }
 
-// Both hold.
+// Returns whether both hold.
 fn is_both(a: bool, b: bool) -> bool
     ensures { result ≡ (a && b) }
 {
     a && b
 }
 
-// Shows the tests of a condition, which stands at the top or not.
+// Visits the tests of a condition, which is at the top or not.
 #[cycle(walk)]
 fn walk_cond<G: Gather>(gather: &mut G, cond: &Cond, top: bool)
     ensures { Gathers G.kept G.after gather.old (kept_if top (tests_of cond.now)) gather.new }
@@ -86,7 +86,7 @@ fn walk_cond<G: Gather>(gather: &mut G, cond: &Cond, top: bool)
     walk_conjs(gather, rest, top);
 }
 
-// The further conjunctions of a condition.
+// Visits the conjunctions of a condition after the first.
 #[cycle(walk)]
 fn walk_conjs<G: Gather>(gather: &mut G, rest: &[Conj], top: bool)
     ensures { Gathers G.kept G.after gather.old
@@ -97,7 +97,7 @@ fn walk_conjs<G: Gather>(gather: &mut G, rest: &[Conj], top: bool)
     }
 }
 
-// A conjunction.
+// Visits a conjunction.
 #[cycle(walk)]
 fn walk_conj<G: Gather>(gather: &mut G, conj: &Conj, top: bool)
     ensures { Gathers G.kept G.after gather.old (kept_if top (tests_of_conj conj.now)) gather.new }
@@ -106,7 +106,7 @@ fn walk_conj<G: Gather>(gather: &mut G, conj: &Conj, top: bool)
     walk_negs(gather, conj.rest.as_slice(), top);
 }
 
-// The further predicates of a conjunction.
+// Visits the predicates of a conjunction after the first.
 #[cycle(walk)]
 fn walk_negs<G: Gather>(gather: &mut G, rest: &[Neg], top: bool)
     ensures { Gathers G.kept G.after gather.old
@@ -117,7 +117,7 @@ fn walk_negs<G: Gather>(gather: &mut G, rest: &[Neg], top: bool)
     }
 }
 
-// A predicate with or without NOT.
+// Visits a predicate with or without NOT.
 #[cycle(walk)]
 fn walk_neg<G: Gather>(gather: &mut G, neg: &Neg, top: bool)
     ensures { Gathers G.kept G.after gather.old (kept_if top (tests_of_neg neg.now)) gather.new }
@@ -125,7 +125,7 @@ fn walk_neg<G: Gather>(gather: &mut G, neg: &Neg, top: bool)
     walk_pred(gather, &neg.pred, is_both(top, !neg.not));
 }
 
-// A predicate.
+// Visits a predicate.
 #[cycle(walk)]
 fn walk_pred<G: Gather>(gather: &mut G, pred: &Pred, top: bool)
     ensures { Gathers G.kept G.after gather.old (kept_if top (tests_of_pred pred.now)) gather.new }
@@ -161,7 +161,7 @@ fn walk_pred<G: Gather>(gather: &mut G, pred: &Pred, top: bool)
     }
 }
 
-// A comparison, which is a test where it is an equation.
+// Visits a comparison, which is a test if it is an equation.
 fn show_equation<G: Gather>(gather: &mut G, left: &Expr, op: Cmp, right: &Expr, top: bool)
     ensures { Gathers G.kept G.after gather.old
         (kept_if top (tests_at_pred (Pred-F.Compare left.now op right.now))) gather.new }
@@ -172,7 +172,7 @@ fn show_equation<G: Gather>(gather: &mut G, left: &Expr, op: Cmp, right: &Expr, 
     }
 }
 
-// IN, which is a test where no NOT stands before it.
+// Visits IN, which is a test if there is no NOT before it.
 fn show_list<G: Gather>(gather: &mut G, not: bool, value: &Expr, list: &IntList, top: bool)
     ensures { Gathers G.kept G.after gather.old
         (kept_if top (tests_at_pred (Pred-F.Among not value.now list.now))) gather.new }

@@ -1,4 +1,4 @@
-//! The columns of an expression that are not known.
+//! The unknown columns of an expression.
 ghost use Rattle.std.specs.Prelude.{◌≡◌, map, not};
 ghost use Rattle.bind_rules.specs.Columns.{is_known, tables};
 ghost use Rattle.bind_rules.specs.Mentions.{Column, mentioned};
@@ -10,7 +10,7 @@ use sky_row::Schema;
 use sql_token::Span;
 use sql_tree::{Col, Expr, Query};
 
-// What is no column of the query's tables, or none of the schema's.
+// The test of a column that it is none of the query's tables', or none of the schema's.
 #[derive(Drop)]
 struct Unknown<'a> {
     query: &'a Query,
@@ -25,14 +25,14 @@ impl ColumnTest for Unknown<'_> {
     }
 }
 
-/// Where the first column of an expression stands that is not known.
+/// Returns the span of the first unknown column of an expression.
 pub(crate) fn unknown_in_expr(query: &Query, schema: &Schema, e: &Expr) -> Option<Span>
     ensures { result ≡ unknown_at schema.now query.now (mentioned e.now) }
 {
     first_column(&Unknown { query, schema }, e)
 }
 
-/// Where the first of these columns stands that is not known.
+/// Returns the span of the first unknown one of these columns.
 pub(crate) fn unknown_in_columns(query: &Query, schema: &Schema, cols: &[Col]) -> Option<Span>
     ensures { result ≡ unknown_at schema.now query.now (map Column cols.now) }
 {

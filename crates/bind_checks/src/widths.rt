@@ -9,7 +9,7 @@ use crate::expr_widths::is_too_wide;
 use sky_row::Schema;
 use sql_tree::{Expr, Query};
 
-// What may have a number above 2^100.
+// The test of an expression that it may have a number above 2^100.
 #[derive(Drop)]
 struct Wide<'a> {
     schema: &'a Schema,
@@ -23,7 +23,7 @@ impl ExprTest for Wide<'_> {
     }
 }
 
-/// Whether some number that the query computes may be above 2^100 in size. Does not allocate.
+/// Returns whether some number that the query computes may be above 2^100 in size. Does not allocate.
 #[tactic(auto, unfolding(bind_rules::specs::Checks::too_wide))]
 pub(crate) fn is_some_too_wide(query: &Query, schema: &Schema) -> bool
     ensures { (if result then Some TooWide else None) ≡ too_wide schema.now query.now }

@@ -1,4 +1,5 @@
-//! Copies of conditions. One function copies one layer, and its list first: where memory then ends, a list is let go as one.
+//! Copies of conditions. Each function copies one level of the tree, and its list first: if an allocation then fails,
+//! the list is dropped as one.
 
 ghost use Rattle.std.specs.Prelude.{◌≡◌, IfOk};
 ghost use Rattle.sql_bound.specs.declared.cond.BoundPred.TheVariants.{Among, Between, Bracket, Compare, IsNull};
@@ -8,7 +9,7 @@ use sql_bound::{BoundAll, BoundAny, BoundCond, BoundConds, BoundExpr, BoundPred,
 use sqlite_items::{Boxed, Items};
 use std::alloc::{AllocError, Global};
 
-// A disjunction.
+// Copies a disjunction.
 #[cycle(again)]
 #[tactic(auto, using(crate::proofs::Layers::any_again))]
 fn copied_any(alloc: Global, any: &BoundAny) -> Result<BoundAny, AllocError>
@@ -19,7 +20,7 @@ fn copied_any(alloc: Global, any: &BoundAny) -> Result<BoundAny, AllocError>
     Ok(BoundAny { first, rest })
 }
 
-// The further conjunctions of a disjunction.
+// Copies the conjunctions of a disjunction after the first.
 #[cycle(again)]
 #[tactic(auto, using(crate::proofs::Loops::one_more))]
 fn copied_alls(alloc: Global, rest: &[BoundAll]) -> Result<Items<BoundAll>, AllocError>
@@ -32,7 +33,7 @@ fn copied_alls(alloc: Global, rest: &[BoundAll]) -> Result<Items<BoundAll>, Allo
     Ok(found)
 }
 
-// A conjunction.
+// Copies a conjunction.
 #[cycle(again)]
 #[tactic(auto, using(crate::proofs::Layers::all_again))]
 fn copied_all(alloc: Global, all: &BoundAll) -> Result<BoundAll, AllocError>
@@ -43,7 +44,7 @@ fn copied_all(alloc: Global, all: &BoundAll) -> Result<BoundAll, AllocError>
     Ok(BoundAll { first, rest })
 }
 
-/// The same conditions once more. Allocates memory for them.
+/// Copies conditions. Allocates memory for the copies.
 #[cycle(again)]
 #[tactic(auto, using(crate::proofs::Loops::one_more))]
 pub(crate) fn copied_conds(alloc: Global, conds: &[BoundCond]) -> Result<BoundConds, AllocError>
@@ -56,7 +57,7 @@ pub(crate) fn copied_conds(alloc: Global, conds: &[BoundCond]) -> Result<BoundCo
     Ok(found)
 }
 
-// A condition.
+// Copies a condition.
 #[cycle(again)]
 #[tactic(auto, using(crate::proofs::Layers::cond_again))]
 fn copied_cond(alloc: Global, cond: &BoundCond) -> Result<BoundCond, AllocError>
@@ -69,7 +70,7 @@ fn copied_cond(alloc: Global, cond: &BoundCond) -> Result<BoundCond, AllocError>
     })
 }
 
-// A test.
+// Copies a test.
 #[cycle(again)]
 fn copied_pred(alloc: Global, pred: &BoundPred) -> Result<BoundPred, AllocError>
     ensures { IfOk result (λ copy. copy ≡ pred.now) }
@@ -89,7 +90,7 @@ fn copied_pred(alloc: Global, pred: &BoundPred) -> Result<BoundPred, AllocError>
     }
 }
 
-// A condition in brackets.
+// Copies a condition in brackets.
 #[cycle(again)]
 fn copied_bracket(alloc: Global, any: &BoundAny) -> Result<BoundPred, AllocError>
     ensures { IfOk result (λ copy. copy ≡ Bracket any.now) }
@@ -98,7 +99,7 @@ fn copied_bracket(alloc: Global, any: &BoundAny) -> Result<BoundPred, AllocError
     Ok(BoundPred::Bracket(Boxed::new(alloc, inner)?))
 }
 
-/// A comparison of copies.
+/// Copies a comparison.
 fn compare(
     alloc: Global,
     left: &BoundExpr,
@@ -112,7 +113,7 @@ fn compare(
     Ok(BoundPred::Compare { left, op, right })
 }
 
-/// A test between two bounds of copies.
+/// Copies a test between two bounds.
 fn between(
     alloc: Global,
     not: bool,
@@ -133,7 +134,7 @@ fn between(
     })
 }
 
-/// A test among a list, of copies.
+/// Copies a test among a list.
 fn among(alloc: Global, not: bool, value: &BoundExpr, list: &[i64]) -> Result<BoundPred, AllocError>
     ensures { IfOk result (λ copy. copy ≡ Among not value.now list.now) }
 {
@@ -142,7 +143,7 @@ fn among(alloc: Global, not: bool, value: &BoundExpr, list: &[i64]) -> Result<Bo
     Ok(BoundPred::Among { not, value, list })
 }
 
-/// A test for NULL of a copy.
+/// Copies a test for NULL.
 fn is_null(alloc: Global, not: bool, value: &BoundExpr) -> Result<BoundPred, AllocError>
     ensures { IfOk result (λ copy. copy ≡ IsNull not value.now) }
 {

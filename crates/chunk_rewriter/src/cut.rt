@@ -1,4 +1,4 @@
-//! A query cut in two.
+//! The rewriting of a query into two parts.
 
 ghost use Rattle.std.specs.Prelude.{◌≡◌, IfOk};
 ghost use Rattle.std.specs.List.{flat_map};
@@ -14,14 +14,15 @@ use sql_bound::Bound;
 use sqlite_items::Items;
 use std::alloc::{AllocError, Global};
 
-/// What each chunk is asked, and how what the chunks give becomes the answer. Allocates memory for both.
+/// Returns the query of each chunk, and the merge that turns the chunks' results into the answer. Allocates memory for
+/// both.
 pub fn rewrite(alloc: Global, bound: &Bound) -> Result<Rewritten, Memory>
     ensures { IfOk result (λ cut. cut ≡ rewritten bound.now) }
 {
     Ok(rewritten(alloc, bound)?)
 }
 
-/// The query cut in two.
+/// Returns the query in two parts.
 fn rewritten(alloc: Global, bound: &Bound) -> Result<Rewritten, AllocError>
     ensures { IfOk result (λ cut. cut ≡ rewritten bound.now) }
 {
@@ -34,7 +35,7 @@ fn rewritten(alloc: Global, bound: &Bound) -> Result<Rewritten, AllocError>
     Ok(Rewritten { chunk, merge })
 }
 
-/// The query of each chunk, with these items.
+/// Returns the query of each chunk, with these items.
 fn chunk_query(alloc: Global, bound: &Bound, items: ChunkItems) -> Result<ChunkQuery, AllocError>
     requires { items ≡ flat_map (chunk_items_of bound.now.shape) bound.now.items }
     ensures { IfOk result (λ query. query ≡ chunk_query_of bound.now) }
@@ -52,7 +53,7 @@ fn chunk_query(alloc: Global, bound: &Bound, items: ChunkItems) -> Result<ChunkQ
     })
 }
 
-/// The merge, with these items.
+/// Returns the merge, with these items.
 fn merge_plan(alloc: Global, bound: &Bound, items: MergeItems) -> Result<MergePlan, AllocError>
     requires { items ≡ merged_from bound.now.shape 0 bound.now.items }
     ensures { IfOk result (λ merge. merge ≡ merge_plan_of bound.now) }

@@ -1,4 +1,5 @@
-//! Copies of expressions. One function copies one layer, and its list first: where memory then ends, a list is let go as one.
+//! Copies of expressions. Each function copies one level of the tree, and its list first: if an allocation then fails,
+//! the list is dropped as one.
 
 ghost use Rattle.std.specs.Prelude.{◌≡◌, IfOk};
 ghost use Rattle.answer_rules.specs.Rewriting.{of_col};
@@ -8,7 +9,7 @@ use sql_bound::{BoundAtom, BoundCol, BoundExpr, BoundFactor, BoundProd, BoundSig
 use sqlite_items::{Boxed, Items};
 use std::alloc::{AllocError, Global};
 
-/// The same expression once more. Allocates memory for it.
+/// Copies an expression. Allocates memory for the copy.
 #[cycle(copied)]
 #[tactic(auto, using(crate::proofs::Layers::expr_again))]
 pub(crate) fn copied_expr(alloc: Global, e: &BoundExpr) -> Result<BoundExpr, AllocError>
@@ -19,7 +20,7 @@ pub(crate) fn copied_expr(alloc: Global, e: &BoundExpr) -> Result<BoundExpr, All
     Ok(BoundExpr { first, rest })
 }
 
-// The further products of a sum.
+// Copies the products of a sum after the first.
 #[cycle(copied)]
 #[tactic(auto, using(crate::proofs::Loops::one_more))]
 fn copied_signeds(alloc: Global, rest: &[BoundSigned]) -> Result<Items<BoundSigned>, AllocError>
@@ -32,7 +33,7 @@ fn copied_signeds(alloc: Global, rest: &[BoundSigned]) -> Result<Items<BoundSign
     Ok(found)
 }
 
-// A further product of a sum.
+// Copies one such product.
 #[cycle(copied)]
 #[tactic(auto, using(crate::proofs::Layers::signed_again))]
 fn copied_signed(alloc: Global, signed: &BoundSigned) -> Result<BoundSigned, AllocError>
@@ -45,7 +46,7 @@ fn copied_signed(alloc: Global, signed: &BoundSigned) -> Result<BoundSigned, All
     })
 }
 
-// A product.
+// Copies a product.
 #[cycle(copied)]
 #[tactic(auto, using(crate::proofs::Layers::prod_again))]
 fn copied_prod(alloc: Global, prod: &BoundProd) -> Result<BoundProd, AllocError>
@@ -56,7 +57,7 @@ fn copied_prod(alloc: Global, prod: &BoundProd) -> Result<BoundProd, AllocError>
     Ok(BoundProd { first, rest })
 }
 
-// The further factors of a product.
+// Copies the factors of a product after the first.
 #[cycle(copied)]
 #[tactic(auto, using(crate::proofs::Loops::one_more))]
 fn copied_factors(alloc: Global, rest: &[BoundFactor]) -> Result<Items<BoundFactor>, AllocError>
@@ -69,7 +70,7 @@ fn copied_factors(alloc: Global, rest: &[BoundFactor]) -> Result<Items<BoundFact
     Ok(found)
 }
 
-// A factor.
+// Copies a factor.
 #[cycle(copied)]
 #[tactic(auto, using(crate::proofs::Layers::factor_again))]
 fn copied_factor(alloc: Global, factor: &BoundFactor) -> Result<BoundFactor, AllocError>
@@ -82,7 +83,7 @@ fn copied_factor(alloc: Global, factor: &BoundFactor) -> Result<BoundFactor, All
     })
 }
 
-// An atom.
+// Copies an atom.
 #[cycle(copied)]
 fn copied_atom(alloc: Global, atom: &BoundAtom) -> Result<BoundAtom, AllocError>
     ensures { IfOk result (λ copy. copy ≡ atom.now) }
@@ -94,7 +95,7 @@ fn copied_atom(alloc: Global, atom: &BoundAtom) -> Result<BoundAtom, AllocError>
     }
 }
 
-// An expression in brackets.
+// Copies an expression in brackets.
 #[cycle(copied)]
 fn copied_bracket(alloc: Global, e: &BoundExpr) -> Result<BoundAtom, AllocError>
     ensures { IfOk result (λ copy. copy ≡ Bracket e.now) }
@@ -103,7 +104,7 @@ fn copied_bracket(alloc: Global, e: &BoundExpr) -> Result<BoundAtom, AllocError>
     Ok(BoundAtom::Bracket(Boxed::new(alloc, inner)?))
 }
 
-/// A column as an expression. Does not allocate.
+/// Returns a column as an expression. Does not allocate.
 #[tactic(auto, using(crate::proofs::Layers::col_alone))]
 pub(crate) fn of_col(alloc: Global, col: BoundCol) -> BoundExpr
     ensures { result ≡ of_col col }

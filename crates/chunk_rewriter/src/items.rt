@@ -1,4 +1,4 @@
-//! The items of a query, each cut into its parts on a chunk and into how they are merged.
+//! The items of a query, each split into its parts on a chunk and the way they are merged.
 
 ghost use Rattle.std.specs.Prelude.{◌≡◌, ◌+◌, [], ◌∷◌, ◌++◌, IfOk, OnOk, length};
 ghost use Rattle.std.specs.List.{flat_map};
@@ -11,7 +11,7 @@ use answer_rules::{ChunkItem, ChunkItems, MergeItem, MergeItems};
 use sql_bound::{BoundExpr, BoundItem, Shape};
 use std::alloc::{AllocError, Global};
 
-/// Puts the parts of all items into an empty chunk query, and how they are merged into an empty merge.
+/// Appends the parts of all items to an empty chunk query, and the ways they are merged to an empty merge.
 #[tactic(auto, using(crate::proofs::Loops::parts_more, crate::proofs::Loops::merged_more))]
 pub(crate) fn cut_items(
     alloc: Global,
@@ -31,7 +31,7 @@ pub(crate) fn cut_items(
     Ok(())
 }
 
-/// Cuts one item: its parts begin where those of the items before it end.
+/// Splits one item: its parts begin where those of the items before it end.
 fn cut_item(
     alloc: Global,
     shape: &Shape,
@@ -50,7 +50,7 @@ fn cut_item(
     Ok(())
 }
 
-/// Puts the parts of an item behind those of the others.
+/// Appends the parts of an item.
 fn put_parts(
     alloc: Global,
     shape: &Shape,
@@ -66,7 +66,7 @@ fn put_parts(
     }
 }
 
-/// Puts an item of rows or pairs behind the others; an aggregate is none.
+/// Appends an item of rows or pairs. An aggregate has no part there.
 #[tactic(auto, using(crate::proofs::Loops::nothing_more))]
 fn put_row_part(alloc: Global, item: &BoundItem, chunk: &mut ChunkItems) -> Result<(), AllocError>
     ensures { OnOk result (chunk.new ≡ chunk.old ++ row_parts item.now) }
@@ -85,8 +85,7 @@ fn put_row_part(alloc: Global, item: &BoundItem, chunk: &mut ChunkItems) -> Resu
     }
 }
 
-/// Puts the parts of an item of a grouped query behind the others: an aggregate is its own part, and AVG a total and a
-/// count.
+/// Appends the parts of an item of a grouped query: an aggregate is its own part, and AVG is a total and a count.
 #[tactic(auto, using(crate::proofs::Loops::nothing_more))]
 fn put_group_parts(
     alloc: Global,
@@ -112,7 +111,7 @@ fn put_group_parts(
     }
 }
 
-/// Puts a total behind the others.
+/// Appends a total.
 fn put_sum(alloc: Global, e: &BoundExpr, chunk: &mut ChunkItems) -> Result<(), AllocError>
     ensures { OnOk result (chunk.new ≡ chunk.old ++ Sum e.now ∷ []) }
 {
@@ -120,7 +119,7 @@ fn put_sum(alloc: Global, e: &BoundExpr, chunk: &mut ChunkItems) -> Result<(), A
     chunk.push(ChunkItem::Sum(copy))
 }
 
-/// Puts a count of values behind the others.
+/// Appends a count of values.
 fn put_count(alloc: Global, e: &BoundExpr, chunk: &mut ChunkItems) -> Result<(), AllocError>
     ensures { OnOk result (chunk.new ≡ chunk.old ++ CountOf e.now ∷ []) }
 {
@@ -128,7 +127,7 @@ fn put_count(alloc: Global, e: &BoundExpr, chunk: &mut ChunkItems) -> Result<(),
     chunk.push(ChunkItem::CountOf(copy))
 }
 
-/// Puts the two parts of an average behind the others.
+/// Appends the two parts of an average.
 #[tactic(auto, using(crate::proofs::Loops::two_more))]
 fn put_average(alloc: Global, e: &BoundExpr, chunk: &mut ChunkItems) -> Result<(), AllocError>
     ensures { OnOk result (chunk.new ≡ chunk.old ++ Sum e.now ∷ CountOf e.now ∷ []) }
@@ -137,7 +136,7 @@ fn put_average(alloc: Global, e: &BoundExpr, chunk: &mut ChunkItems) -> Result<(
     put_count(alloc, e, chunk)
 }
 
-/// How an item is merged, whose parts begin at `place` and end before `end`.
+/// Returns how an item is merged, whose parts begin at `place` and end before `end`.
 fn merged_item(
     alloc: Global,
     shape: &Shape,
@@ -155,7 +154,7 @@ fn merged_item(
     }
 }
 
-/// The same of an item of a grouped query; a plain one is computed from the keys.
+/// Returns how an item of a grouped query is merged; a plain one is computed from the keys.
 fn merged_group_item(
     alloc: Global,
     item: &BoundItem,

@@ -1,4 +1,4 @@
-//! What a chunk query and a merge are ordered by.
+//! The orders of a chunk query and of a merge.
 
 ghost use Rattle.std.specs.Prelude.{◌≡◌, IfOk, option_map};
 ghost use Rattle.answer_rules.specs.Rewriting.{chunk_order_of, group_key_of, key_expr, key_place, merge_key_of};
@@ -11,7 +11,7 @@ use answer_rules::{ChunkOrder, MergeKey, MergeOrder};
 use sql_bound::{BoundCol, BoundExpr, BoundItem, BoundKey, BoundOrder, Shape};
 use std::alloc::{AllocError, Global};
 
-/// The order of the chunk query: rows and pairs have that of the query, groups none.
+/// Returns the order of the chunk query: rows and pairs have that of the query, groups have none.
 pub(crate) fn chunk_order(
     alloc: Global,
     shape: &Shape,
@@ -27,7 +27,7 @@ pub(crate) fn chunk_order(
     }
 }
 
-/// The order of rows or pairs, where the query has one.
+/// Returns the order of rows or pairs, if the query has one.
 fn row_order(
     alloc: Global,
     items: &[BoundItem],
@@ -41,7 +41,7 @@ fn row_order(
     }
 }
 
-/// The order of rows or pairs.
+/// Returns the order of rows or pairs.
 fn order_by(
     alloc: Global,
     items: &[BoundItem],
@@ -58,7 +58,8 @@ fn order_by(
     }
 }
 
-/// The expression that rows or pairs are ordered by: that of the item at a place, where it is a plain one, or a column.
+/// Returns the expression by which rows or pairs are ordered: a column, or the item with an index if that is a plain
+/// one.
 fn key_expr(
     alloc: Global,
     items: &[BoundItem],
@@ -75,7 +76,7 @@ fn key_expr(
     }
 }
 
-/// The order of the merge, where the query has one.
+/// Returns the order of the merge, if the query has one.
 pub(crate) fn merge_order(shape: &Shape, order: Option<BoundOrder>) -> Option<MergeOrder>
     ensures { result ≡ option_map
         (λ o. record { key = merge_key_of shape.now o.key; down = o.down }) order }
@@ -87,7 +88,7 @@ pub(crate) fn merge_order(shape: &Shape, order: Option<BoundOrder>) -> Option<Me
     })
 }
 
-/// What the merge is ordered by.
+/// Returns the key by which the merge is ordered.
 fn merge_key(shape: &Shape, key: BoundKey) -> MergeKey
     ensures { result ≡ merge_key_of shape.now key }
 {
@@ -98,7 +99,7 @@ fn merge_key(shape: &Shape, key: BoundKey) -> MergeKey
     }
 }
 
-/// What the merge of a grouped query is ordered by.
+/// Returns the key by which the merge of a grouped query is ordered.
 fn group_key(keys: &[BoundCol], key: BoundKey) -> MergeKey
     ensures { result ≡ group_key_of keys.now key }
 {
@@ -108,7 +109,7 @@ fn group_key(keys: &[BoundCol], key: BoundKey) -> MergeKey
     }
 }
 
-/// The place of the first key that is this column, and their count where none is.
+/// Returns the index of the first key that is this column, or the number of keys if none is.
 #[tactic(auto, using(crate::proofs::Loops::place_here, crate::proofs::Loops::place_behind, crate::proofs::Loops::place_nowhere))]
 fn key_place(keys: &[BoundCol], col: &BoundCol) -> usize
     ensures { result ≡ key_place keys.now col.now }
@@ -121,7 +122,7 @@ fn key_place(keys: &[BoundCol], col: &BoundCol) -> usize
     keys.len()
 }
 
-/// Whether the two are one column.
+/// Returns whether the two are the same column.
 fn is_same(a: &BoundCol, b: &BoundCol) -> bool
     ensures { result ≡ same_col a.now b.now }
 {

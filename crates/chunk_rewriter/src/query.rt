@@ -11,14 +11,14 @@ use sql_bound::{Int, Shape};
 use sqlite_items::Items;
 use std::alloc::{AllocError, Global};
 
-/// The same chunk query once more, with trees of its own. Allocates memory for them.
+/// Copies a chunk query; the copy has trees of its own. Allocates memory for them.
 pub fn copy_of(alloc: Global, query: &ChunkQuery) -> Result<ChunkQuery, Memory>
     ensures { IfOk result (λ copy. copy ≡ query.now) }
 {
     Ok(copied_query(alloc, query)?)
 }
 
-/// The same chunk query once more.
+/// Copies a chunk query.
 fn copied_query(alloc: Global, query: &ChunkQuery) -> Result<ChunkQuery, AllocError>
     ensures { IfOk result (λ copy. copy ≡ query.now) }
 {
@@ -35,7 +35,7 @@ fn copied_query(alloc: Global, query: &ChunkQuery) -> Result<ChunkQuery, AllocEr
     })
 }
 
-/// The same shape once more. Allocates memory for its keys.
+/// Copies a shape. Allocates memory for its keys.
 pub(crate) fn copied_shape(alloc: Global, shape: &Shape) -> Result<Shape, AllocError>
     ensures { IfOk result (λ copy. copy ≡ shape.now) }
 {
@@ -48,7 +48,7 @@ pub(crate) fn copied_shape(alloc: Global, shape: &Shape) -> Result<Shape, AllocE
     }
 }
 
-/// The same items once more.
+/// Copies items.
 #[tactic(auto, using(crate::proofs::Loops::one_more))]
 fn copied_items(alloc: Global, items: &[ChunkItem]) -> Result<ChunkItems, AllocError>
     ensures { IfOk result (λ copy. copy ≡ items.now) }
@@ -60,7 +60,7 @@ fn copied_items(alloc: Global, items: &[ChunkItem]) -> Result<ChunkItems, AllocE
     Ok(found)
 }
 
-/// The same item once more.
+/// Copies an item.
 fn copied_item(alloc: Global, item: &ChunkItem) -> Result<ChunkItem, AllocError>
     ensures { IfOk result (λ copy. copy ≡ item.now) }
 {
@@ -74,7 +74,7 @@ fn copied_item(alloc: Global, item: &ChunkItem) -> Result<ChunkItem, AllocError>
     }
 }
 
-/// The same order once more.
+/// Copies an order.
 fn copied_order(alloc: Global, order: &Option<ChunkOrder>) -> Result<Option<ChunkOrder>, AllocError>
     ensures { IfOk result (λ copy. copy ≡ order.now) }
 {
@@ -87,8 +87,8 @@ fn copied_order(alloc: Global, order: &Option<ChunkOrder>) -> Result<Option<Chun
     }
 }
 
-/// The LIMIT of the chunk query: that of the query, and none of a grouped query, whose groups may go on in other
-/// chunks.
+/// Returns the LIMIT of the chunk query: that of the query, and none for a grouped query, whose groups may continue in
+/// other chunks.
 pub(crate) fn chunk_limit(shape: &Shape, limit: Option<Int>) -> Option<Int>
     ensures { result ≡ chunk_limit_of shape.now limit }
 {

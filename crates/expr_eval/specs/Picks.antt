@@ -11,11 +11,11 @@ use Rattle.value_rules.specs.Terms.{Term}
 use Rattle.value_rules.specs.Truth.{truth_at}
 use Rattle.value_rules.specs.Values.{Pick, cell_of, value_at}
 
--- the row, with the second row of a pair where there is one
+-- the row, with the second row of a pair if there is one
 abbrev pub pick_of : Obj → Option (Bor Obj) → Pick
 pick_of first second = record { first = first; second = option_copied second }
 
--- the column is one of the table, and one of the second row only where a pair is looked at
+-- the column is one of the table, and one of the second row only in a pair
 abbrev pub is_there : Pick → BoundCol → Bool
 is_there p = has_col (FIRST_COLUMNS + length p.first.further) (is_some p.second)
 
@@ -32,14 +32,14 @@ pub record AreRows (p : Pick) : Type 0 where
 abbrev pub IsSoundTerm : Pick → Term → Type 0
 IsSoundTerm p t = IsTrue (is_sound_at (is_there p) t)
 
--- the same of each term of the formula, and its areas are sound
+-- each term of the formula is well-formed in this sense, and its areas are well-formed
 abbrev pub IsSoundTest : Pick → Formula → Type 0
 IsSoundTest p f = IsTrue (is_sound_formula (is_there p) f)
 
--- the value of the term there
+-- the value of the term on the row or the pair
 abbrev pub value_on : Pick → Term → Option ℤ
 value_on p t = value_at (cell_of p) t
 
--- the truth of the formula there
+-- the truth value of the formula on the row or the pair
 abbrev pub truth_on : Pick → Formula → Option Bool
 truth_on p f = truth_at (cell_of p) p.first.at f

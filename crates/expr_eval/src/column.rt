@@ -7,7 +7,7 @@ ghost use Rattle.value_rules.specs.Values.{cell_of};
 use sky_row::Row;
 use sql_bound::BoundCol;
 
-/// What each row tells of itself: its values are within the bounds of their columns. A caller learns it of all rows.
+/// States of each row that its values are within the bounds of their columns. A call adds the fact to a proof.
 pub(crate) fn know(first: &Row, second: Option<&Row>)
     requires { AreOfOneTable (pick_of first.now second) }
     ensures { AreRows (pick_of first.now second.entry) }
@@ -18,7 +18,7 @@ pub(crate) fn know(first: &Row, second: Option<&Row>)
     }
 }
 
-/// The value in the column; `None` is NULL.
+/// Returns the value in the column; `None` is NULL.
 pub(crate) fn cell(col: &BoundCol, first: &Row, second: Option<&Row>) -> Option<i64>
     requires wide { AreOfOneTable (pick_of first.now second) }
     requires there { IsTrue (is_there (pick_of first.now second) col.now) }

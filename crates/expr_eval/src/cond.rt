@@ -1,4 +1,4 @@
-//! The truth of a condition. One function judges one layer of the tree.
+//! The truth value of a condition. Each function evaluates one level of the tree.
 
 ghost use Rattle.std.specs.Prelude.{◌≡◌, IsTrue};
 ghost use Rattle.std.specs.List.{list_all};
@@ -14,8 +14,8 @@ use crate::three::{both, either, is, is_true, negated_if};
 use sky_row::Row;
 use sql_bound::{BoundAll, BoundAny, BoundCond, BoundPred};
 
-/// The truth of the condition on the row, or on the pair of rows; `None` is unknown. The second row is there where a
-/// column of it is named, and has as many values as the first. Does not allocate.
+/// Returns the truth value of the condition on the row, or on the pair of rows; `None` is unknown. If a column of the
+/// second row is named, the second row is there; it has as many values as the first. Does not allocate.
 pub fn truth(c: &BoundCond, first: &Row, second: Option<&Row>) -> Option<bool>
     requires wide { AreOfOneTable (pick_of first.now second) }
     requires sound { IsTrue (is_sound_cond (is_there (pick_of first.now second)) c.now) }
@@ -25,8 +25,7 @@ pub fn truth(c: &BoundCond, first: &Row, second: Option<&Row>) -> Option<bool>
     one(c, first, second)
 }
 
-/// Whether the condition holds on the row, or on the pair of rows: its truth is true, and not unknown. Does not
-/// allocate.
+/// Returns whether the condition is true on the row, or on the pair of rows, and not unknown. Does not allocate.
 pub fn holds(c: &BoundCond, first: &Row, second: Option<&Row>) -> bool
     requires wide { AreOfOneTable (pick_of first.now second) }
     requires sound { IsTrue (is_sound_cond (is_there (pick_of first.now second)) c.now) }
@@ -35,7 +34,7 @@ pub fn holds(c: &BoundCond, first: &Row, second: Option<&Row>) -> bool
     is_true(truth(c, first, second))
 }
 
-/// Whether the row, or the pair of rows, meets all of the conditions. Does not allocate.
+/// Returns whether the row, or the pair of rows, satisfies all of the conditions. Does not allocate.
 pub fn meets(conds: &[BoundCond], first: &Row, second: Option<&Row>) -> bool
     requires wide { AreOfOneTable (pick_of first.now second) }
     requires sound { IsTrue (list_all (is_sound_cond (is_there (pick_of first.now second)))
@@ -50,7 +49,7 @@ pub fn meets(conds: &[BoundCond], first: &Row, second: Option<&Row>) -> bool
     true
 }
 
-// The truth of a disjunction, from the left, up to the first part that is true.
+// Returns the truth value of a disjunction, from the left, up to the first part that is true.
 #[cycle(judge)]
 fn any(a: &BoundAny, first: &Row, second: Option<&Row>) -> Option<bool>
     requires rows { AreRows (pick_of first.now second) }
@@ -69,7 +68,7 @@ fn any(a: &BoundAny, first: &Row, second: Option<&Row>) -> Option<bool>
     found
 }
 
-// The truth of a conjunction, from the left, up to the first part that is false.
+// Returns the truth value of a conjunction, from the left, up to the first part that is false.
 #[cycle(judge)]
 fn all(a: &BoundAll, first: &Row, second: Option<&Row>) -> Option<bool>
     requires rows { AreRows (pick_of first.now second) }
@@ -88,7 +87,7 @@ fn all(a: &BoundAll, first: &Row, second: Option<&Row>) -> Option<bool>
     found
 }
 
-// The truth of a condition.
+// Returns the truth value of a condition.
 #[cycle(judge)]
 fn one(c: &BoundCond, first: &Row, second: Option<&Row>) -> Option<bool>
     requires rows { AreRows (pick_of first.now second) }
@@ -99,7 +98,7 @@ fn one(c: &BoundCond, first: &Row, second: Option<&Row>) -> Option<bool>
     negated_if(c.not, found)
 }
 
-// The truth of a test. An area test is one of the first row.
+// Returns the truth value of a test. An area test applies to the first row.
 #[cycle(judge)]
 fn test(pred: &BoundPred, first: &Row, second: Option<&Row>) -> Option<bool>
     requires rows { AreRows (pick_of first.now second) }

@@ -1,4 +1,5 @@
-//! The value of an expression. One function computes one layer of the tree, and each number on the way is within ±2^100.
+//! The value of an expression. Each function computes one level of the tree, and each intermediate number is within
+//! ±2^100.
 
 ghost use Rattle.std.specs.Prelude.{◌≡◌, IsTrue};
 ghost use Rattle.expr_eval.specs.Picks.{AreOfOneTable, AreRows, IsSoundTerm, is_there, pick_of, value_on};
@@ -12,8 +13,8 @@ use sky_row::Row;
 use sky_vector::Num;
 use sql_bound::{BoundAtom, BoundExpr, BoundFactor, BoundProd};
 
-/// The value of the expression on the row, or on the pair of rows; `None` is NULL. The second row is there where a
-/// column of it is named, and has as many values as the first. Does not allocate.
+/// Returns the value of the expression on the row, or on the pair of rows; `None` is NULL. If a column of the second
+/// row is named, the second row is there; it has as many values as the first. Does not allocate.
 pub fn value(e: &BoundExpr, first: &Row, second: Option<&Row>) -> Option<Num>
     requires wide { AreOfOneTable (pick_of first.now second) }
     requires sound { IsTrue (is_sound_expr (is_there (pick_of first.now second)) e.now) }
@@ -23,7 +24,7 @@ pub fn value(e: &BoundExpr, first: &Row, second: Option<&Row>) -> Option<Num>
     number(sum(e, first, second))
 }
 
-/// The value of a sum, from the left.
+/// Returns the value of a sum, from the left.
 #[cycle(worth)]
 pub(crate) fn sum(e: &BoundExpr, first: &Row, second: Option<&Row>) -> Option<i128>
     requires rows { AreRows (pick_of first.now second) }
@@ -39,7 +40,7 @@ pub(crate) fn sum(e: &BoundExpr, first: &Row, second: Option<&Row>) -> Option<i1
     sum
 }
 
-// The value of a product, from the left.
+// Returns the value of a product, from the left.
 #[cycle(worth)]
 fn product(p: &BoundProd, first: &Row, second: Option<&Row>) -> Option<i128>
     requires rows { AreRows (pick_of first.now second) }
@@ -55,7 +56,7 @@ fn product(p: &BoundProd, first: &Row, second: Option<&Row>) -> Option<i128>
     product
 }
 
-// The value of a factor.
+// Returns the value of a factor.
 #[cycle(worth)]
 fn factor(f: &BoundFactor, first: &Row, second: Option<&Row>) -> Option<i128>
     requires rows { AreRows (pick_of first.now second) }
@@ -66,7 +67,7 @@ fn factor(f: &BoundFactor, first: &Row, second: Option<&Row>) -> Option<i128>
     signed(f.minus, size)
 }
 
-// The value of an atom.
+// Returns the value of an atom.
 #[cycle(worth)]
 fn atom(a: &BoundAtom, first: &Row, second: Option<&Row>) -> Option<i128>
     requires rows { AreRows (pick_of first.now second) }

@@ -1,4 +1,4 @@
-//! The value of an expression on the key of a group: each column is one of the key's.
+//! The value of an expression on the key of a group, in which each column is one of the key's.
 
 ghost use Rattle.std.specs.Prelude.{◌≡◌, length};
 ghost use Rattle.value_rules.specs.Keys.{key_cell};
@@ -11,8 +11,8 @@ use crate::number::{added, multiplied, number, signed, wide};
 use sky_vector::Num;
 use sql_bound::{BoundAtom, BoundCol, BoundExpr, BoundFactor, BoundProd, ColList};
 
-/// The value of the expression on the key of a group by these columns; `None` is NULL, as is a column that is none of
-/// them. The key has a value for each. Does not allocate.
+/// Returns the value of the expression on the key of a group by these columns; `None` is NULL, as is a column that is
+/// none of them. The key has a value or NULL for each. Does not allocate.
 pub fn value_on_key(e: &BoundExpr, keys: &ColList, key: &[Option<i64>]) -> Option<Num>
     requires long { length key.now ≡ length keys.now }
     requires range { IsInRangeAt (key_cell keys.now key.now) (term_of e.now) }
@@ -21,14 +21,14 @@ pub fn value_on_key(e: &BoundExpr, keys: &ColList, key: &[Option<i64>]) -> Optio
     number(key_sum(e, keys.as_slice(), key))
 }
 
-/// Whether the two are one column.
+/// Returns whether the two are the same column.
 fn is_same(a: &BoundCol, b: &BoundCol) -> bool
     ensures { result ≡ same_col a.now b.now }
 {
     a.second == b.second && a.col == b.col
 }
 
-/// The value of a column: that of the first key column that is the same.
+/// Returns the value of a column: that of the first key column that is the same.
 fn key_cell(col: &BoundCol, keys: &[BoundCol], key: &[Option<i64>]) -> Option<i64>
     requires { length key.now ≡ length keys.now }
     ensures { result ≡ key_cell keys.now key.now col.now }
@@ -41,7 +41,7 @@ fn key_cell(col: &BoundCol, keys: &[BoundCol], key: &[Option<i64>]) -> Option<i6
     None
 }
 
-/// The value of a sum, from the left.
+/// Returns the value of a sum, from the left.
 #[cycle(key_worth)]
 fn key_sum(e: &BoundExpr, keys: &[BoundCol], key: &[Option<i64>]) -> Option<i128>
     requires long { length key.now ≡ length keys.now }
@@ -57,7 +57,7 @@ fn key_sum(e: &BoundExpr, keys: &[BoundCol], key: &[Option<i64>]) -> Option<i128
     sum
 }
 
-// The value of a product, from the left.
+// Returns the value of a product, from the left.
 #[cycle(key_worth)]
 fn key_product(p: &BoundProd, keys: &[BoundCol], key: &[Option<i64>]) -> Option<i128>
     requires long { length key.now ≡ length keys.now }
@@ -73,7 +73,7 @@ fn key_product(p: &BoundProd, keys: &[BoundCol], key: &[Option<i64>]) -> Option<
     product
 }
 
-// The value of a factor.
+// Returns the value of a factor.
 #[cycle(key_worth)]
 fn key_factor(f: &BoundFactor, keys: &[BoundCol], key: &[Option<i64>]) -> Option<i128>
     requires long { length key.now ≡ length keys.now }
@@ -84,7 +84,7 @@ fn key_factor(f: &BoundFactor, keys: &[BoundCol], key: &[Option<i64>]) -> Option
     signed(f.minus, size)
 }
 
-// The value of an atom.
+// Returns the value of an atom.
 #[cycle(key_worth)]
 fn key_atom(a: &BoundAtom, keys: &[BoundCol], key: &[Option<i64>]) -> Option<i128>
     requires long { length key.now ≡ length keys.now }

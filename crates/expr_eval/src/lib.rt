@@ -1,11 +1,11 @@
-//! The evaluator: what a bound expression is worth on a row, a pair of rows or a group's key, and whether a condition
-//! holds.
+//! The evaluator: the value of a bound expression on a row, a pair of rows or a group's key, and the truth value of a
+//! condition.
 //!
-//! Callers see a value as a whole number or NULL and a truth as true, false or unknown, as `value_rules` defines them
-//! of the row, of the two rows of a pair (`specs/Picks.antt`), or of the columns that a key has. Below: `sky_row` for
-//! rows, `sql_bound` for the trees, `value_rules` for what they mean. Above: the scans and the merge. Nothing here
-//! allocates memory or fails: what is asked for is sound, so each column is there and each number fits. Not in it:
-//! totals and orders.
+//! Callers see a value as an integer or NULL, and a truth value as true, false or unknown. `value_rules` defines them
+//! for the row, for the two rows of a pair (`specs/Picks.antt`), or for the columns of a key. Below: `sky_row` for
+//! rows, `sql_bound` for the trees, `value_rules` for their meaning. Above: the scans and the merge. Nothing here
+//! allocates memory or fails: what is evaluated is well-formed, so each column is there and each number fits. Not in
+//! it: totals and orders.
 #![tactic(auto)]
 
 mod area;

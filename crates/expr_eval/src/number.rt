@@ -1,4 +1,4 @@
-//! Numbers and NULL: what is computed of NULL is NULL.
+//! Numbers and NULL: an operation on NULL gives NULL.
 
 ghost use Rattle.std.specs.Prelude.{◌≡◌, ◌*ℤ◌, ◌+ℤ◌, ◌-ℤ◌, if◌then◌else◌, neg_ℤ, option_map};
 ghost use Rattle.value_rules.specs.Values.{of_both};
@@ -6,7 +6,7 @@ ghost use Rattle.value_rules.specs.Widths.{IsOfSize, most};
 
 use sky_vector::Num;
 
-/// The number, or with `minus` what it takes from 0.
+/// Returns the number, or with `minus` its negation.
 pub(crate) fn signed(minus: bool, a: Option<i128>) -> Option<i128>
     requires { IsOfSize most a }
     ensures { result ≡ (if minus then option_map neg_ℤ a else a) }
@@ -14,7 +14,7 @@ pub(crate) fn signed(minus: bool, a: Option<i128>) -> Option<i128>
     if minus { Some(-a?) } else { a }
 }
 
-/// The sum of the two, or with `minus` their difference.
+/// Returns the sum of the two, or with `minus` their difference.
 pub(crate) fn added(a: Option<i128>, minus: bool, b: Option<i128>) -> Option<i128>
     requires a_size { IsOfSize most a }
     requires b_size { IsOfSize most b }
@@ -26,7 +26,7 @@ pub(crate) fn added(a: Option<i128>, minus: bool, b: Option<i128>) -> Option<i12
     Some(if minus { a - b } else { a + b })
 }
 
-/// The product of the two.
+/// Returns the product of the two.
 pub(crate) fn multiplied(a: Option<i128>, b: Option<i128>) -> Option<i128>
     requires { IsOfSize most (of_both (λ x y. x *ℤ y) a b) }
     ensures { result ≡ of_both (λ x y. x *ℤ y) a b }
@@ -34,14 +34,14 @@ pub(crate) fn multiplied(a: Option<i128>, b: Option<i128>) -> Option<i128>
     Some(a? * b?)
 }
 
-/// The value of a column as a value to compute with.
+/// Returns the value of a column as a value to compute with.
 pub(crate) fn wide(a: Option<i64>) -> Option<i128>
     ensures { result ≡ a }
 {
     Some(i128::from(a?))
 }
 
-/// The number of a query.
+/// Returns the number of a query.
 pub(crate) fn number(a: Option<i128>) -> Option<Num>
     requires { IsOfSize most a }
     ensures { result ≡ a }

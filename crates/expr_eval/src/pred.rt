@@ -1,4 +1,4 @@
-//! The truths of tests of expressions.
+//! The truth values of tests of expressions.
 
 ghost use Rattle.std.specs.Prelude.{◌≡◌};
 ghost use Rattle.expr_eval.specs.Picks.{AreRows, IsSoundTerm, pick_of, truth_on};
@@ -12,7 +12,7 @@ use crate::three::{both, negated_if};
 use sky_row::Row;
 use sql_bound::{BoundExpr, Cmp};
 
-/// The truth of a comparison.
+/// Returns the truth value of a comparison.
 pub(crate) fn compare(
     left: &BoundExpr,
     op: Cmp,
@@ -31,7 +31,7 @@ pub(crate) fn compare(
     compared(op, left, right)
 }
 
-/// The truth of BETWEEN, or with `negated` of NOT BETWEEN.
+/// Returns the truth value of BETWEEN, or with `negated` of NOT BETWEEN.
 pub(crate) fn between(
     negated: bool,
     value: &BoundExpr,
@@ -56,7 +56,7 @@ pub(crate) fn between(
     negated_if(negated, both(above, below))
 }
 
-/// The truth of IN, or with `negated` of NOT IN.
+/// Returns the truth value of IN, or with `negated` of NOT IN.
 pub(crate) fn among(
     negated: bool,
     value: &BoundExpr,
@@ -73,7 +73,7 @@ pub(crate) fn among(
     negated_if(negated, crate::compare::among(value, list))
 }
 
-/// The truth of IS NULL, or with `negated` of IS NOT NULL.
+/// Returns the truth value of IS NULL, or with `negated` of IS NOT NULL.
 pub(crate) fn is_null(
     negated: bool,
     value: &BoundExpr,

@@ -1,9 +1,9 @@
-//! The three truths: true, false, and `None` for unknown.
+//! The three truth values: true, false, and `None` for unknown.
 
 ghost use Rattle.std.specs.Prelude.{◌≡◌, ◌↔◌, IsTrue, if◌then◌else◌};
 ghost use Rattle.value_rules.specs.Truth.{is_true, truth_and, truth_not, truth_or};
 
-/// Whether it is known to be this.
+/// Returns whether the truth value is this one, and not unknown.
 pub(crate) fn is(truth: Option<bool>, known: bool) -> bool
     ensures { IsTrue result ↔ (truth ≡ Some known) }
 {
@@ -13,21 +13,21 @@ pub(crate) fn is(truth: Option<bool>, known: bool) -> bool
     }
 }
 
-/// Whether it is true, and not unknown.
+/// Returns whether the truth value is true, and not unknown.
 pub(crate) fn is_true(truth: Option<bool>) -> bool
     ensures { result ≡ is_true truth }
 {
     truth.unwrap_or(false)
 }
 
-/// The truth, or with `negated` its negation.
+/// Returns the truth value, or with `negated` its negation.
 pub(crate) fn negated_if(negated: bool, truth: Option<bool>) -> Option<bool>
     ensures { result ≡ (if negated then truth_not truth else truth) }
 {
     if negated { Some(!truth?) } else { truth }
 }
 
-/// The truth of two parts joined by AND.
+/// Returns the truth value of two parts joined by AND.
 pub(crate) fn both(a: Option<bool>, b: Option<bool>) -> Option<bool>
     ensures { result ≡ truth_and a b }
 {
@@ -38,7 +38,7 @@ pub(crate) fn both(a: Option<bool>, b: Option<bool>) -> Option<bool>
     }
 }
 
-/// The truth of two parts joined by OR.
+/// Returns the truth value of two parts joined by OR.
 pub(crate) fn either(a: Option<bool>, b: Option<bool>) -> Option<bool>
     ensures { result ≡ truth_or a b }
 {

@@ -42,7 +42,7 @@ bound_prod s =
     fold-Prod BoundAtom BoundExpr BoundFactor BoundProd BoundSigned (bound_atom_step s) bound_expr_step
     bound_factor_step bound_prod_step bound_signed_step
 
--- the bound further product
+-- the bound product with its sign
 unfoldable pub bound_signed : Scope → Signed → BoundSigned
 bound_signed s =
     fold-Signed BoundAtom BoundExpr BoundFactor BoundProd BoundSigned (bound_atom_step s) bound_expr_step

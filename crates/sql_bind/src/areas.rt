@@ -34,7 +34,7 @@ impl Gather for AreaList {
     }
 }
 
-// Puts the area test that this may be behind the others, and says whether there was memory for it.
+// Appends the area test that this test may be, and returns whether there was memory for it.
 fn push_test(areas: &mut Areas, test: &TestRef<'_>) -> bool
     ensures { IsTrue result → areas.new ≡ areas.old ++ areas_by (test_of test.now) }
 {
@@ -44,7 +44,7 @@ fn push_test(areas: &mut Areas, test: &TestRef<'_>) -> bool
     }
 }
 
-// Puts an area test, where there is one, behind the others, and says whether there was memory for it.
+// Appends an area test, if there is one, and returns whether there was memory for it.
 fn push_area(areas: &mut Areas, test: Option<AreaTest>) -> bool
     ensures { IsTrue result → areas.new ≡ areas.old ++ option_to_list test }
 {
@@ -54,7 +54,7 @@ fn push_area(areas: &mut Areas, test: Option<AreaTest>) -> bool
     }
 }
 
-/// The area tests of a query, in the order of the text. Allocates memory for them.
+/// Returns the area tests of a query, in the order of the text. Allocates memory for them.
 pub(crate) fn areas_of(alloc: Global, query: &Query) -> Result<Areas, AllocError>
     ensures { IfOk result (λ areas. areas ≡ flat_map areas_by (top_tests query.now.cond)) }
 {

@@ -1,4 +1,4 @@
-//! A written query over a schema.
+//! Binding a written query over a schema.
 ghost use Rattle.std.specs.Prelude.{◌≡◌, IfOk, IfErr, Ok, Err};
 ghost use Rattle.sky_io.specs.Stops.{IfBad};
 ghost use Rattle.bind_rules.specs.Binding.{bound_of};
@@ -12,8 +12,9 @@ use sql_bound::Bound;
 use sql_tree::Query;
 use std::alloc::Global;
 
-/// The bound query of a query over a schema, or its first fault. An allocation failure may come in place of a bound
-/// query, but not of a fault. Allocates memory for the bound query; neither the query nor the schema is kept.
+/// Returns the bound query of a query over a schema, or its first fault. An allocation failure may be returned in place
+/// of a bound query, but not in place of a fault. Allocates memory for the bound query. Neither the query nor the
+/// schema is kept.
 #[tactic(auto, unfolding(bind_rules::specs::Binding::bound_of))]
 pub fn bind(alloc: Global, query: &Query, schema: &Schema) -> Result<Bound, Stop<BindFault>>
     ensures ok { IfOk result (λ bound. bound_of schema.now query.now ≡ Ok bound) }

@@ -8,7 +8,7 @@ ghost use Rattle.bind_checks.specs.Gathering.{test_of};
 use bind_checks::{Gather, TestRef, walk};
 use sql_tree::{Int, Query};
 
-// The largest squared chord below the n of a strict chord test, or the n of another.
+// Returns the largest squared chord below the n of a strict chord test, or the n of another.
 fn limit_of(strict: bool, n: &Int) -> i64
     ensures { result ≡ (if strict then n.now -ℤ pos 1 else n.now) }
 {
@@ -16,7 +16,7 @@ fn limit_of(strict: bool, n: &Int) -> i64
     if strict { n - 1 } else { n }
 }
 
-// The largest squared chord that the test accepts, where it is a chord test.
+// Returns the largest squared chord that the test accepts, if it is a chord test.
 fn test_limit(test: &TestRef<'_>) -> Option<i64>
     ensures { option_to_list result ≡ chord_limit (test_of test.now) }
 {
@@ -48,8 +48,8 @@ impl Gather for FirstLimit {
     }
 }
 
-/// The largest squared chord that the first chord test among the conjuncts of a query accepts, and 0 where it has none.
-/// Does not allocate.
+/// Returns the largest squared chord that the first chord test among the conjuncts of a query accepts, and 0 if it has
+/// none. Does not allocate.
 pub(crate) fn chord_limit(query: &Query) -> i64
     ensures { result ≡ first_or (pos 0) (flat_map chord_limit (top_tests query.now.cond)) }
 {

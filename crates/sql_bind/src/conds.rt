@@ -1,5 +1,5 @@
-//! Conditions with columns in place of names, as a whole. One function binds one layer. A condition that holds a chord
-//! test, or an area test whose arguments do not fit, is none.
+//! Bound conditions, with columns in place of names, as a whole. Each function binds one level of the tree. A condition
+//! that contains a chord test, or an area test whose arguments do not fit, has no bound condition.
 ghost use Rattle.std.specs.Prelude.{◌≡◌, map, IfOk, IsOkAnd, Some};
 ghost use Rattle.bind_rules.specs.Wholes.{all_there, any_by, bound_all, bound_any, bound_cond, bound_pred, conj_by};
 
@@ -10,7 +10,7 @@ use sql_tree::{Cond, Conj, Neg, Pred};
 use sqlite_items::{Boxed, Items};
 use std::alloc::{AllocError, Global};
 
-/// The condition, where it is no chord test and holds none. Allocates memory for it.
+/// Binds the condition, if it neither is a chord test nor contains one. Allocates memory for it.
 #[cycle(whole)]
 #[tactic(auto, using(crate::proofs::CondLayers::cond_whole))]
 pub(crate) fn whole_cond(
@@ -26,7 +26,7 @@ pub(crate) fn whole_cond(
     }
 }
 
-// The disjunction of a conjunction and further ones, where these are there.
+// Returns the disjunction of a conjunction and those after it, if all are there.
 fn any_with(
     first: BoundAll,
     rest: Result<Option<Items<BoundAll>>, AllocError>,
@@ -39,7 +39,7 @@ fn any_with(
     }
 }
 
-// The further conjunctions of a condition.
+// Binds the conjunctions of a condition after the first.
 #[cycle(whole)]
 #[tactic(auto, using(bind_checks::proofs::Loops::there_none, bind_checks::proofs::Loops::there_more, bind_checks::proofs::Loops::there_stops, bind_checks::proofs::Loops::there_end))]
 fn whole_conjs(
@@ -59,7 +59,7 @@ fn whole_conjs(
     Ok(Some(found))
 }
 
-// A conjunction.
+// Binds a conjunction.
 #[cycle(whole)]
 #[tactic(auto, using(crate::proofs::CondLayers::conj_whole))]
 fn whole_conj(alloc: Global, scope: &Scope<'_>, conj: &Conj) -> Result<Option<BoundAll>, AllocError>
@@ -71,7 +71,7 @@ fn whole_conj(alloc: Global, scope: &Scope<'_>, conj: &Conj) -> Result<Option<Bo
     }
 }
 
-// The conjunction of a predicate and further ones, where these are there.
+// Returns the conjunction of a predicate and those after it, if all are there.
 fn all_with(
     first: BoundCond,
     rest: Result<Option<Items<BoundCond>>, AllocError>,
@@ -84,7 +84,7 @@ fn all_with(
     }
 }
 
-// The further predicates of a conjunction.
+// Binds the predicates of a conjunction after the first.
 #[cycle(whole)]
 #[tactic(auto, using(bind_checks::proofs::Loops::there_none, bind_checks::proofs::Loops::there_more, bind_checks::proofs::Loops::there_stops, bind_checks::proofs::Loops::there_end))]
 fn whole_negs(
@@ -104,7 +104,7 @@ fn whole_negs(
     Ok(Some(found))
 }
 
-/// A predicate, and the NOT before it.
+/// Binds a predicate, and the NOT before it.
 #[cycle(whole)]
 #[tactic(auto, using(crate::proofs::CondLayers::neg_whole))]
 pub(crate) fn whole_neg(
@@ -120,7 +120,7 @@ pub(crate) fn whole_neg(
     }
 }
 
-/// A predicate.
+/// Binds a predicate.
 #[cycle(whole)]
 #[tactic(auto, using(crate::proofs::CondLayers::compare_whole, crate::proofs::CondLayers::between_whole, crate::proofs::CondLayers::among_whole, crate::proofs::CondLayers::null_whole, crate::proofs::CondLayers::area_whole, crate::proofs::CondLayers::chord_whole))]
 pub(crate) fn whole_pred(
@@ -146,7 +146,7 @@ pub(crate) fn whole_pred(
     }
 }
 
-// A condition in brackets.
+// Binds a condition in brackets.
 #[cycle(whole)]
 #[tactic(auto, using(crate::proofs::CondLayers::group_whole))]
 fn whole_group(

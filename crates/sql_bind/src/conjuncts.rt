@@ -1,5 +1,5 @@
-//! The conjuncts of WHERE, with columns in place of names: brackets are looked through, AND and an OR of one part are
-//! taken apart, NOT is not looked into. A chord test is left out.
+//! The conjuncts of WHERE, with columns in place of names. Brackets are opened, AND and an OR of one part are split,
+//! and NOT is not entered. A chord test is left out.
 ghost use Rattle.std.specs.Prelude.{◌≡◌, ◌++◌, IfOk, OnOk, Some, option_to_list};
 ghost use Rattle.std.specs.List.{flat_map};
 ghost use Rattle.bind_rules.specs.Wholes.{bound_any, bound_cond, bound_pred, bracket, conds_in};
@@ -12,7 +12,7 @@ use sql_tree::{Cond, Conj, Neg, Pred};
 use sqlite_items::{Boxed, Items};
 use std::alloc::{AllocError, Global};
 
-/// The conjuncts of WHERE. Allocates memory for them.
+/// Returns the conjuncts of WHERE. Allocates memory for them.
 pub(crate) fn conjuncts(
     alloc: Global,
     scope: &Scope<'_>,
@@ -30,7 +30,7 @@ pub(crate) fn conjuncts(
     }
 }
 
-// Adds the conjuncts of the one part, or of more than one part the whole.
+// Adds the conjuncts of the only part, or the whole condition if it has more than one part.
 #[cycle(top)]
 #[tactic(auto, using(crate::proofs::CondLayers::cond_one, crate::proofs::CondLayers::cond_more))]
 fn add_cond(
@@ -48,7 +48,7 @@ fn add_cond(
     }
 }
 
-// Adds a condition in brackets, where it is no chord test and holds none.
+// Adds a condition in brackets, if it neither is a chord test nor contains one.
 fn add_bracket(
     alloc: Global,
     scope: &Scope<'_>,
@@ -87,7 +87,7 @@ fn add_conj(
     add_negs(alloc, scope, conj.rest.as_slice(), found)
 }
 
-// Adds the conjuncts of the further parts.
+// Adds the conjuncts of the parts after the first.
 #[cycle(top)]
 #[tactic(auto, using(bind_checks::proofs::Loops::flat_more))]
 fn add_negs(
@@ -123,7 +123,7 @@ fn add_neg(
     }
 }
 
-// Adds a negation, where it holds no chord test.
+// Adds a negation, if it contains no chord test.
 fn add_whole_neg(
     alloc: Global,
     scope: &Scope<'_>,
@@ -164,7 +164,7 @@ fn add_pred(
     }
 }
 
-// Adds a predicate, where it is no chord test and holds none.
+// Adds a predicate, if it neither is a chord test nor contains one.
 fn add_lone(
     alloc: Global,
     scope: &Scope<'_>,

@@ -1,4 +1,4 @@
-//! Expressions with columns in place of names. One function binds one layer.
+//! Bound expressions, with columns in place of names. Each function binds one level of the tree.
 ghost use Rattle.std.specs.Prelude.{◌≡◌, map, IfOk};
 ghost use Rattle.bind_rules.specs.Bounds.{bound_expr};
 ghost use Rattle.sql_bind.specs.Layers.{bound_atom, bound_factor, bound_prod, bound_signed};
@@ -9,7 +9,7 @@ use sql_tree::{Atom, Expr, Factor, Prod, Signed};
 use sqlite_items::{Boxed, Items};
 use std::alloc::{AllocError, Global};
 
-/// The bound expression. Allocates memory for it.
+/// Binds an expression. Allocates memory for it.
 #[cycle(bind)]
 #[tactic(auto, using(crate::proofs::ExprLayers::expr_parts))]
 pub(crate) fn bound_expr(
@@ -24,7 +24,7 @@ pub(crate) fn bound_expr(
     Ok(BoundExpr { first, rest })
 }
 
-// The further products of a sum.
+// Binds the products of a sum after the first.
 #[cycle(bind)]
 #[tactic(auto, using(bind_checks::proofs::Loops::map_more))]
 fn bound_signeds(
@@ -41,7 +41,7 @@ fn bound_signeds(
     Ok(found)
 }
 
-// A further product of a sum.
+// Binds one such product.
 #[cycle(bind)]
 #[tactic(auto, using(crate::proofs::ExprLayers::signed_parts))]
 fn bound_signed(
@@ -58,7 +58,7 @@ fn bound_signed(
     })
 }
 
-// A product.
+// Binds a product.
 #[cycle(bind)]
 #[tactic(auto, using(crate::proofs::ExprLayers::prod_parts))]
 fn bound_prod(alloc: Global, scope: &Scope<'_>, prod: &Prod) -> Result<BoundProd, AllocError>
@@ -69,7 +69,7 @@ fn bound_prod(alloc: Global, scope: &Scope<'_>, prod: &Prod) -> Result<BoundProd
     Ok(BoundProd { first, rest })
 }
 
-// The further factors of a product.
+// Binds the factors of a product after the first.
 #[cycle(bind)]
 #[tactic(auto, using(bind_checks::proofs::Loops::map_more))]
 fn bound_factors(
@@ -86,7 +86,7 @@ fn bound_factors(
     Ok(found)
 }
 
-// A factor.
+// Binds a factor.
 #[cycle(bind)]
 #[tactic(auto, using(crate::proofs::ExprLayers::factor_parts))]
 fn bound_factor(
@@ -103,7 +103,7 @@ fn bound_factor(
     })
 }
 
-// An atom.
+// Binds an atom.
 #[cycle(bind)]
 #[tactic(auto, using(crate::proofs::ExprLayers::int_atom, crate::proofs::ExprLayers::col_atom, crate::proofs::ExprLayers::bracket_atom))]
 fn bound_atom(alloc: Global, scope: &Scope<'_>, atom: &Atom) -> Result<BoundAtom, AllocError>
@@ -116,7 +116,7 @@ fn bound_atom(alloc: Global, scope: &Scope<'_>, atom: &Atom) -> Result<BoundAtom
     }
 }
 
-// An expression in brackets.
+// Binds an expression in brackets.
 #[cycle(bind)]
 #[tactic(auto, using(crate::proofs::ExprLayers::bracket_atom))]
 fn bound_bracket(alloc: Global, scope: &Scope<'_>, e: &Expr) -> Result<BoundAtom, AllocError>

@@ -1,4 +1,4 @@
-//! The id tests of WHERE: `objectId = n` and `objectId IN (..)`, of the first table's id, at the top.
+//! The id tests of WHERE: `objectId = n` and `objectId IN (..)`, on the first table's id, at the top.
 ghost use Rattle.std.specs.Prelude.{◌≡◌, ◌∷◌, ◌++◌, [], true, Some, IfOk, IsOkAnd, IsTrue, option_to_list};
 ghost use Rattle.std.specs.List.{flat_map};
 ghost use Rattle.bind_rules.specs.IdTests.{LoneCol, ids_by, int_of, is_first_id, lone_of};
@@ -15,7 +15,7 @@ use sql_tree::{Atom, Col, Expr, Factor, IntList, Prod, Query};
 use sqlite_items::Items;
 use std::alloc::{AllocError, Global};
 
-// The column is the id of the first table.
+// Returns whether the column is the id of the first table.
 fn is_id_column(scope: &Scope<'_>, col: &Col) -> bool
     ensures { result ≡ is_first_id scope.now (Some (LoneCol col.now)) }
 {
@@ -23,7 +23,7 @@ fn is_id_column(scope: &Scope<'_>, col: &Col) -> bool
     !bound.second && bound.col == 0
 }
 
-// The atom is the id of the first table.
+// Returns whether the atom is the id of the first table.
 #[tactic(auto, using(crate::proofs::LoneLaws::int_alone, crate::proofs::LoneLaws::col_alone, crate::proofs::LoneLaws::bracket_alone))]
 fn is_id_atom(scope: &Scope<'_>, atom: &Atom) -> bool
     ensures { result ≡ is_first_id scope.now (lone_of_atom atom.now) }
@@ -35,7 +35,7 @@ fn is_id_atom(scope: &Scope<'_>, atom: &Atom) -> bool
     }
 }
 
-// The factor is the id of the first table.
+// Returns whether the factor is the id of the first table.
 #[tactic(auto, using(crate::proofs::LoneLaws::factor_alone))]
 fn is_id_factor(scope: &Scope<'_>, factor: &Factor) -> bool
     ensures { result ≡ is_first_id scope.now (lone_of_factor factor.now) }
@@ -43,7 +43,7 @@ fn is_id_factor(scope: &Scope<'_>, factor: &Factor) -> bool
     !factor.minus && is_id_atom(scope, &factor.atom)
 }
 
-// The product is the id of the first table.
+// Returns whether the product is the id of the first table.
 #[tactic(auto, using(crate::proofs::LoneLaws::prod_alone, crate::proofs::LoneLaws::prod_of_more))]
 fn is_id_prod(scope: &Scope<'_>, prod: &Prod) -> bool
     ensures { result ≡ is_first_id scope.now (lone_of_prod prod.now) }
@@ -51,7 +51,7 @@ fn is_id_prod(scope: &Scope<'_>, prod: &Prod) -> bool
     prod.rest.is_empty() && is_id_factor(scope, &prod.first)
 }
 
-// The expression is the id of the first table, without brackets.
+// Returns whether the expression is the id of the first table, without brackets.
 #[tactic(auto, using(crate::proofs::LoneLaws::expr_alone, crate::proofs::LoneLaws::expr_of_more))]
 fn is_id(scope: &Scope<'_>, e: &Expr) -> bool
     ensures { result ≡ is_first_id scope.now (lone_of e.now) }
@@ -59,7 +59,7 @@ fn is_id(scope: &Scope<'_>, e: &Expr) -> bool
     e.rest.is_empty() && is_id_prod(scope, &e.first)
 }
 
-// The int that an atom is.
+// Returns the int, if the atom is one.
 fn atom_int(atom: &Atom) -> Option<i64>
     ensures { option_to_list result ≡ int_of (lone_of_atom atom.now) }
 {
@@ -70,7 +70,7 @@ fn atom_int(atom: &Atom) -> Option<i64>
     }
 }
 
-// The int that a factor is.
+// Returns the int, if the factor is one.
 #[tactic(auto, using(crate::proofs::LoneLaws::factor_alone))]
 fn factor_int(factor: &Factor) -> Option<i64>
     ensures { option_to_list result ≡ int_of (lone_of_factor factor.now) }
@@ -82,7 +82,7 @@ fn factor_int(factor: &Factor) -> Option<i64>
     }
 }
 
-// The int that a product is.
+// Returns the int, if the product is one.
 #[tactic(auto, using(crate::proofs::LoneLaws::prod_alone, crate::proofs::LoneLaws::prod_of_more))]
 fn prod_int(prod: &Prod) -> Option<i64>
     ensures { option_to_list result ≡ int_of (lone_of_prod prod.now) }
@@ -94,7 +94,7 @@ fn prod_int(prod: &Prod) -> Option<i64>
     }
 }
 
-// The int that an expression is, without brackets and minus.
+// Returns the int, if the expression is one without brackets and minus.
 #[tactic(auto, using(crate::proofs::LoneLaws::expr_alone, crate::proofs::LoneLaws::expr_of_more))]
 fn int_of(e: &Expr) -> Option<i64>
     ensures { option_to_list result ≡ int_of (lone_of e.now) }
@@ -106,7 +106,7 @@ fn int_of(e: &Expr) -> Option<i64>
     }
 }
 
-// Puts the ids of an equation behind the others, and says whether there was memory for them.
+// Appends the ids of an equation, and returns whether there was memory for them.
 fn push_one(ids: &mut IdTests, alloc: Global, scope: &Scope<'_>, left: &Expr, right: &Expr) -> bool
     ensures { IsTrue result →
         ids.new ≡ ids.old ++ ids_by scope.now (Equals left.now right.now) }
@@ -117,7 +117,7 @@ fn push_one(ids: &mut IdTests, alloc: Global, scope: &Scope<'_>, left: &Expr, ri
     }
 }
 
-// Puts one id behind the others, and says whether there was memory for it.
+// Appends one id, and returns whether there was memory for it.
 fn push_id(ids: &mut IdTests, alloc: Global, n: i64) -> bool
     ensures { IsTrue result → ids.new ≡ ids.old ++ (n ∷ []) ∷ [] }
 {
@@ -127,7 +127,7 @@ fn push_id(ids: &mut IdTests, alloc: Global, n: i64) -> bool
     }
 }
 
-// Puts the ids of a list behind the others, and says whether there was memory for them.
+// Appends the ids of a list, and returns whether there was memory for them.
 fn push_listed(
     ids: &mut IdTests,
     alloc: Global,
@@ -141,7 +141,7 @@ fn push_listed(
     !is_id(scope, value) || push_list(ids, values_of(alloc, list))
 }
 
-// Puts a list of ids behind the others, and says whether there was memory for it.
+// Appends a list of ids, and returns whether there was memory for it.
 fn push_list(ids: &mut IdTests, list: Result<Ids, AllocError>) -> bool
     ensures { IsTrue result → IsOkAnd list (λ l. ids.new ≡ ids.old ++ l ∷ []) }
 {
@@ -151,7 +151,7 @@ fn push_list(ids: &mut IdTests, list: Result<Ids, AllocError>) -> bool
     }
 }
 
-// Puts the ids of a test at the top behind the others, and says whether there was memory for them.
+// Appends the ids of a test at the top, and returns whether there was memory for them.
 fn push_test(ids: &mut IdTests, alloc: Global, scope: &Scope<'_>, test: &TestRef<'_>) -> bool
     ensures { IsTrue result → ids.new ≡ ids.old ++ ids_by scope.now (test_of test.now) }
 {
@@ -187,7 +187,7 @@ impl<'a> Gather for IdList<'a> {
     }
 }
 
-/// The id tests of a query over a schema, in the order of the text. Allocates memory for them.
+/// Returns the id tests of a query over a schema, in the order of the text. Allocates memory for them.
 pub(crate) fn ids_of(alloc: Global, query: &Query, schema: &Schema) -> Result<IdTests, AllocError>
     ensures { IfOk result (λ ids. ids ≡
         flat_map (ids_by (scope_of schema.now query.now)) (top_tests query.now.cond)) }

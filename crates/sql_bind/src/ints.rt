@@ -8,7 +8,7 @@ use sql_tree::{IntList, SignedInt};
 use sqlite_items::Items;
 use std::alloc::{AllocError, Global};
 
-// Puts an int behind the others.
+// Appends an int.
 fn push_int(ints: &mut Ids, int: &SignedInt) -> Result<(), AllocError>
     ensures { IfOk result (λ _. ints.new ≡ ints.old ++ int_value int.now ∷ []) }
 {
@@ -17,7 +17,7 @@ fn push_int(ints: &mut Ids, int: &SignedInt) -> Result<(), AllocError>
     Ok(())
 }
 
-/// The ints of a list. Allocates memory for them.
+/// Returns the ints of a list. Allocates memory for them.
 #[tactic(auto, using(bind_checks::proofs::Loops::map_more))]
 pub(crate) fn values_of(alloc: Global, list: &IntList) -> Result<Ids, AllocError>
     ensures { IfOk result (λ ints. ints ≡ values_of list.now) }

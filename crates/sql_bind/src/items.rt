@@ -1,4 +1,4 @@
-//! What stands between SELECT and FROM, with columns in place of names.
+//! The items between SELECT and FROM, with columns in place of names.
 ghost use Rattle.std.specs.Prelude.{◌≡◌, ◌++◌, [], ◌∷◌, IfOk, OnOk, map};
 ghost use Rattle.bind_rules.specs.Binding.{bound_item, bound_items, columns_from, just_column, star_items};
 ghost use Rattle.bind_rules.specs.Columns.{is_join};
@@ -13,7 +13,7 @@ use sql_tree::{ItemKind, ItemList, Query, Selection};
 use sqlite_items::Items;
 use std::alloc::{AllocError, Global};
 
-// The expression that is one column. Does not allocate.
+// Returns the expression that is one column. Does not allocate.
 fn just_column(alloc: Global, second: bool, col: u32) -> BoundExpr
     ensures { result ≡ just_column second col }
 {
@@ -46,7 +46,7 @@ fn add_columns(
     Ok(())
 }
 
-// All columns of the first table, and in a join all of the second.
+// Returns all columns of the first table, and in a join all of the second.
 fn star_items(alloc: Global, scope: &Scope<'_>, join: bool) -> Result<BoundItems, AllocError>
     ensures { IfOk result (λ items. items ≡ star_items scope.now.names join) }
 {
@@ -58,7 +58,7 @@ fn star_items(alloc: Global, scope: &Scope<'_>, join: bool) -> Result<BoundItems
     Ok(found)
 }
 
-// An item, without its alias.
+// Binds an item, without its alias.
 fn bound_item(alloc: Global, scope: &Scope<'_>, what: &ItemKind) -> Result<BoundItem, AllocError>
     ensures { IfOk result (λ item. item ≡ bound_item scope.now what.now) }
 {
@@ -73,7 +73,7 @@ fn bound_item(alloc: Global, scope: &Scope<'_>, what: &ItemKind) -> Result<Bound
     }
 }
 
-// The items of a list.
+// Binds the items of a list.
 #[tactic(auto, using(bind_checks::proofs::Loops::map_more))]
 fn listed_items(alloc: Global, scope: &Scope<'_>, list: &ItemList) -> Result<BoundItems, AllocError>
     ensures { IfOk result (λ items. items
@@ -87,7 +87,7 @@ fn listed_items(alloc: Global, scope: &Scope<'_>, list: &ItemList) -> Result<Bou
     Ok(found)
 }
 
-/// The items of a query. Allocates memory for them.
+/// Binds the items of a query. Allocates memory for them.
 pub(crate) fn bound_items(
     alloc: Global,
     scope: &Scope<'_>,

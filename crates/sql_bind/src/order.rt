@@ -1,4 +1,4 @@
-//! The order of a query, with a column or an item's place in place of its key's name.
+//! The order of a query, with a column or an item's index in place of its key's name.
 ghost use Rattle.std.specs.Prelude.{◌≡◌};
 ghost use Rattle.std.specs.Option.{option_map};
 ghost use Rattle.bind_rules.specs.Binding.{bound_order, key_by};
@@ -9,7 +9,7 @@ use bind_checks::alias_place;
 use sql_bound::{BoundKey, BoundOrder};
 use sql_tree::{Col, OrderBy, Query};
 
-// An alias goes before a column.
+// Binds an order key. An alias is preferred to a column.
 fn bound_key(scope: &Scope<'_>, query: &Query, col: &Col) -> BoundKey
     ensures { result ≡ key_by scope.now col.now (alias_place query.now col.now) }
 {
@@ -19,7 +19,7 @@ fn bound_key(scope: &Scope<'_>, query: &Query, col: &Col) -> BoundKey
     }
 }
 
-/// The order, where there is one. Does not allocate.
+/// Returns the order, if there is one. Does not allocate.
 pub(crate) fn bound_order(scope: &Scope<'_>, query: &Query) -> Option<BoundOrder>
     ensures { result ≡ option_map (bound_order scope.now query.now) query.now.order }
 {

@@ -1,4 +1,4 @@
-//! Predicates that hold no condition, with columns in place of names.
+//! Predicates that contain no condition, with columns in place of names.
 ghost use Rattle.std.specs.Prelude.{◌≡◌, IfOk};
 ghost use Rattle.sql_bound.specs.declared.cond.BoundPred.TheVariants as bound;
 ghost use Rattle.bind_rules.specs.Areas.{area_test};
@@ -14,7 +14,7 @@ use sql_bound::BoundPred;
 use sql_tree::{AreaKind, Cmp, Expr, IntList};
 use std::alloc::{AllocError, Global};
 
-/// A comparison. Allocates memory for its sides.
+/// Returns a comparison. Allocates memory for its sides.
 pub(crate) fn compare(
     alloc: Global,
     scope: &Scope<'_>,
@@ -30,7 +30,7 @@ pub(crate) fn compare(
     Ok(BoundPred::Compare { left, op, right })
 }
 
-/// A value between two bounds. Allocates memory for the three.
+/// Returns the test of a value between two bounds. Allocates memory for the three.
 pub(crate) fn between(
     alloc: Global,
     scope: &Scope<'_>,
@@ -53,7 +53,7 @@ pub(crate) fn between(
     })
 }
 
-/// A value among ints. Allocates memory for the value and the ints.
+/// Returns the test of a value among ints. Allocates memory for the value and the ints.
 pub(crate) fn among(
     alloc: Global,
     scope: &Scope<'_>,
@@ -69,7 +69,7 @@ pub(crate) fn among(
     Ok(BoundPred::Among { not, value, list })
 }
 
-/// Whether a value is NULL. Allocates memory for the value.
+/// Returns the test whether a value is NULL. Allocates memory for the value.
 pub(crate) fn is_null(
     alloc: Global,
     scope: &Scope<'_>,
@@ -82,7 +82,7 @@ pub(crate) fn is_null(
     Ok(BoundPred::IsNull { not, value })
 }
 
-/// An area test, where its arguments fit its function. Does not allocate.
+/// Returns an area test, if its arguments fit its function. Does not allocate.
 pub(crate) fn area(kind: AreaKind, args: &IntList) -> Option<BoundPred>
     ensures { result ≡ area_pred (area_test kind (values_of args.now)) }
 {

@@ -18,7 +18,7 @@ use sql_bound::{Areas, Bound, BoundItems, IdTests, Shape};
 use sql_tree::Query;
 use std::alloc::{AllocError, Global};
 
-// The shape and the items.
+// Returns the shape and the items.
 fn front(alloc: Global, scope: &Scope<'_>, query: &Query) -> Result<(Shape, BoundItems), AllocError>
     ensures { IfOk result (λ front. (front.0 ≡ bound_shape scope.now query.now)
         × (front.1 ≡ bound_items scope.now query.now query.now.items)) }
@@ -28,7 +28,7 @@ fn front(alloc: Global, scope: &Scope<'_>, query: &Query) -> Result<(Shape, Boun
     Ok((shape, items))
 }
 
-// The area tests and the id tests.
+// Returns the area tests and the id tests.
 fn tests(alloc: Global, query: &Query, schema: &Schema) -> Result<(Areas, IdTests), AllocError>
     ensures { IfOk result (λ tests.
         (tests.0 ≡ flat_map areas_by (top_tests query.now.cond))
@@ -39,7 +39,7 @@ fn tests(alloc: Global, query: &Query, schema: &Schema) -> Result<(Areas, IdTest
     Ok((areas, ids))
 }
 
-/// The bound query. Allocates memory for its trees and lists.
+/// Returns the bound query. Allocates memory for its trees and lists.
 #[tactic(auto, unfolding(bind_rules::specs::Binding::bound_query))]
 pub(crate) fn bound_query(
     alloc: Global,

@@ -1,4 +1,4 @@
-//! What a query's names are read by.
+//! The scope of a query: the columns to which its names refer.
 ghost use Rattle.std.specs.Prelude.{◌≡◌};
 ghost use Rattle.std.specs.Str.{bytes_eq};
 ghost use Rattle.bind_rules.specs.Bounds.{bound_col, column_number, is_second};
@@ -25,14 +25,14 @@ impl<'a> Model for Scope<'a> {
     ghost view = { λ s. record { names = s.schema.now; second = s.second.now } };
 }
 
-// The name is the qualifier of the table.
+// Returns whether the name is the qualifier of the table.
 fn is_qualified_by(name: &Name, table: &TableRef) -> bool
     ensures { result ≡ bytes_eq name.now.text (qualifier table.now) }
 {
     name.text.as_slice() == qualifier(table)
 }
 
-// The qualifier is that of the second table.
+// Returns whether the qualifier is that of the second table.
 fn is_second(second: &Option<TableRef>, name: &Option<Name>) -> bool
     ensures { result ≡ is_second second.now name.now }
 {
@@ -42,7 +42,7 @@ fn is_second(second: &Option<TableRef>, name: &Option<Name>) -> bool
     }
 }
 
-// The number of the column with the name, or the number past the last column where none has it.
+// Returns the number of the column with the name, or the number past the last column if no column has it.
 fn column_number(schema: &Schema, name: &[u8]) -> u32
     ensures { result ≡ column_number schema.now name.now }
 {
@@ -50,7 +50,7 @@ fn column_number(schema: &Schema, name: &[u8]) -> u32
 }
 
 impl<'a> Scope<'a> {
-    /// What the names of a query are read by, over a schema.
+    /// Creates the scope of a query over a schema.
     pub(crate) fn new(query: &'a Query, schema: &'a Schema) -> Scope<'a>
         ensures { result ≡ record { names = schema.now; second = query.now.second } }
     {
@@ -60,15 +60,15 @@ impl<'a> Scope<'a> {
         }
     }
 
-    /// The columns of a table.
+    /// Returns the columns of a table.
     pub(crate) fn schema(&self) -> &Schema
         ensures { result.now ≡ self.now.names }
     {
         self.schema
     }
 
-    /// The column that is meant; a name that the schema does not have is the number past its last column. Does not
-    /// allocate.
+    /// Returns the column to which a name refers; for a name that the schema does not have, it has the number past the
+    /// last column. Does not allocate.
     pub(crate) fn column(&self, col: &Col) -> BoundCol
         ensures { result ≡ bound_col self.now col.now }
     {

@@ -1,4 +1,4 @@
-//! What a query goes over: the rows, pairs up to a limit, or groups.
+//! What a query ranges over: the rows, pairs up to a limit, or groups.
 ghost use Rattle.std.specs.Prelude.{◌≡◌, map, IfOk, if◌then◌else◌};
 ghost use Rattle.bind_rules.specs.Binding.{bound_shape};
 ghost use Rattle.bind_rules.specs.Bounds.{bound_col};
@@ -12,7 +12,7 @@ use sql_tree::{Col, Query};
 use sqlite_items::Items;
 use std::alloc::{AllocError, Global};
 
-// Columns, bound.
+// Binds columns.
 #[tactic(auto, using(bind_checks::proofs::Loops::map_more))]
 fn bound_cols(alloc: Global, scope: &Scope<'_>, cols: &[Col]) -> Result<ColList, AllocError>
     ensures { IfOk result (λ keys. keys ≡ map (bound_col scope.now) cols.now) }
@@ -24,7 +24,7 @@ fn bound_cols(alloc: Global, scope: &Scope<'_>, cols: &[Col]) -> Result<ColList,
     Ok(found)
 }
 
-// Rows, or groups by their keys.
+// Returns rows, or groups by their keys.
 fn shape_of_one(alloc: Global, scope: &Scope<'_>, query: &Query) -> Result<Shape, AllocError>
     ensures { IfOk result (λ shape. shape
         ≡ (if is_grouped query.now then Shape.Groups (map (bound_col scope.now) query.now.group)
@@ -38,7 +38,7 @@ fn shape_of_one(alloc: Global, scope: &Scope<'_>, query: &Query) -> Result<Shape
     }
 }
 
-/// What the query goes over. Allocates memory for the keys of groups.
+/// Returns what the query ranges over. Allocates memory for the keys of groups.
 pub(crate) fn bound_shape(
     alloc: Global,
     scope: &Scope<'_>,
