@@ -1,4 +1,4 @@
--- Which rows a condition is true on, and which it is false on: on the others it is unknown.
+-- The rows on which a condition is true, and those on which it is false; on the others it is unknown.
 use Rattle.std.specs.Prelude.{◌≡◌, ℕ, ℤ, pos, Bool, true, false, not, ◌&&◌, ◌||◌, List, length, get_or, map, Option, None, Some, if◌then◌else◌}
 use Rattle.std.specs.List.{range_with_len}
 use Rattle.sky_row.specs.Columns.{no_row}
@@ -14,7 +14,7 @@ use Rattle.column_eval.specs.declared.lane.Lane.{Lane}
 use Rattle.column_eval.specs.Lanes.{numbers_of}
 use Rattle.column_eval.specs.Masks.{IsMask}
 
--- the truth of a formula on a row
+-- the truth value of a formula on a row
 abbrev pub truth_on : Obj → Formula → Option Bool
 truth_on o f = truth_at (cell_of (row o)) o.at f
 
@@ -23,12 +23,12 @@ pub record AreFlags (rows : List Obj) (f : Formula) (flags : Flags) : Type 0 whe
   pub true_on : IsMask (length rows) (λ k. is_true (truth_on (get_or rows k no_row) f)) flags.true_on.items
   pub false_on : IsMask (length rows) (λ k. is_true (truth_not (truth_on (get_or rows k no_row) f))) flags.false_on.items
 
--- the flags of truths where they are known, and unknown elsewhere
+-- the flags of truth values at the valid rows; the others are unknown
 pub record AreKnown (known truth : List Bool) (flags : Flags) : Type 0 where
   pub true_on : IsMask (length known) (λ k. get_or known k false && get_or truth k false) flags.true_on.items
   pub false_on : IsMask (length known) (λ k. get_or known k false && not (get_or truth k false)) flags.false_on.items
 
--- the same flags, or with `negated` with the two masks exchanged
+-- the same flags, or with `negated` the two masks exchanged
 pub record AreNegated (negated : Bool) (old new : Flags) : Type 0 where
   pub true_on : new.true_on.items ≡ (if negated then old.false_on.items else old.true_on.items)
   pub false_on : new.false_on.items ≡ (if negated then old.true_on.items else old.false_on.items)
@@ -43,22 +43,23 @@ pub record AreOr (left right joined : Flags) : Type 0 where
   pub true_on : IsMask (length left.true_on.items) (λ k. get_or left.true_on.items k false || get_or right.true_on.items k false) joined.true_on.items
   pub false_on : IsMask (length left.false_on.items) (λ k. get_or left.false_on.items k false && get_or right.false_on.items k false) joined.false_on.items
 
--- the truth that two flags say
+-- the truth value that two flags represent
 abbrev pub truth_by : Bool → Bool → Option Bool
 truth_by true_on false_on = if true_on then Some true else if false_on then Some false else None
 
--- all truths
+-- the truth values of all rows
 abbrev pub truths_in : List Bool → List Bool → List (Option Bool)
 truths_in true_on false_on = map (λ k. truth_by (get_or true_on k false) (get_or false_on k false)) (range_with_len 0 (length true_on))
 
--- true where both lanes are known and the comparison of their numbers is, and false where both are known and it is not
+-- true at each row at which both are valid and the comparison of their numbers is true, and false where both are valid
+-- and it is not
 pub record AreCompared (op : Cmp) (left right : Lane) (flags : Flags) : Type 0 where
   pub true_on : IsMask (length left.known.items) (λ k. (get_or left.known.items k false && get_or right.known.items k false)
       && compares op (get_or (numbers_of left.numbers) k (pos 0)) (get_or (numbers_of right.numbers) k (pos 0))) flags.true_on.items
   pub false_on : IsMask (length left.known.items) (λ k. (get_or left.known.items k false && get_or right.known.items k false)
       && not (compares op (get_or (numbers_of left.numbers) k (pos 0)) (get_or (numbers_of right.numbers) k (pos 0)))) flags.false_on.items
 
--- the area holds the point with the parts that stand at a place
+-- the area contains the point whose components have an index
 abbrev pub area_at : AreaTest → List ℤ → List ℤ → List ℤ → ℕ → Bool
 area_at test xs ys zs place =
     area_holds test (record { x = get_or xs place (pos 0); y = get_or ys place (pos 0); z = get_or zs place (pos 0) })

@@ -18,8 +18,8 @@ numbers_of (Narrow v) = v.items
 numbers_of (Wide v) = v.items
 numbers_of (Same n count) = replicate count n
 
--- What is kept of a term on some rows: a number for each, which is what the term is worth where NULL counts as 0; whether it
--- has a value there; and the largest size that the numbers can have.
+-- The column vector of a term on some rows: a number for each, which is the value of the term if NULL counts as 0;
+-- whether the term has a value there; and the largest size that the numbers can have.
 pub record IsLane (rows : List Obj) (t : Term) (lane : Lane) : Type 0 where
   pub bound : lane.bound ≡ width_at t
   pub count : length (numbers_of lane.numbers) ≡ length rows
@@ -28,38 +28,39 @@ pub record IsLane (rows : List Obj) (t : Term) (lane : Lane) : Type 0 where
       → get_or (numbers_of lane.numbers) k (pos 0) ≡ number_on (get_or rows k no_row) t
   pub known : (k : ℕ) → k < length rows → get_or lane.known.items k false ≡ is_known (get_or rows k no_row) t
 
--- Numbers that can be joined: as many on each side, and nothing that comes out of it is above the bound in size.
+-- Numbers that can be combined: as many on each side, and no result is above the bound in size.
 pub record CanJoin (op : ℤ → ℤ → ℤ) (bound : ℕ) (left right : List ℤ) : Type 0 where
   pub count : length right ≡ length left
   pub few : bound ≤ most
   pub fits : (k : ℕ) → k < length left → nat_abs (op (get_or left k (pos 0)) (get_or right k (pos 0))) ≤ bound
 
--- Numbers that are joined, each with the one of its place.
+-- Numbers that are combined, element by element.
 pub record AreJoined (op : ℤ → ℤ → ℤ) (left right joined : List ℤ) : Type 0 where
   pub count : length joined ≡ length left
   pub each : (k : ℕ) → k < length left
       → get_or joined k (pos 0) ≡ op (get_or left k (pos 0)) (get_or right k (pos 0))
 
--- Two lanes joined: their numbers place by place, known where both are.
+-- Two column vectors combined: their numbers element by element, valid at each row at which both are.
 pub record AreLanesJoined (op : ℤ → ℤ → ℤ) (size : ℕ) (left right joined : Lane) : Type 0 where
   pub bound : joined.bound ≡ size
   pub numbers : AreJoined op (numbers_of left.numbers) (numbers_of right.numbers) (numbers_of joined.numbers)
   pub known : IsMask (length left.known.items) (λ k. get_or left.known.items k false && get_or right.known.items k false)
       joined.known.items
 
--- A lane that has one number everywhere.
+-- A column vector that has one number everywhere.
 pub record IsRepeated (n : ℤ) (count : ℕ) (lane : Lane) : Type 0 where
   pub bound : lane.bound ≡ nat_abs n
   pub numbers : numbers_of lane.numbers ≡ replicate count n
   pub known : lane.known.items ≡ replicate count true
 
--- A lane and the same one with each number in a list: what they hold does not differ, only how the numbers are kept.
+-- A column vector and the same one with each number materialised in a list: they differ only in how the numbers are
+-- stored.
 pub record IsListed (lane listed : Lane) : Type 0 where
   pub bound : listed.bound ≡ lane.bound
   pub numbers : numbers_of listed.numbers ≡ numbers_of lane.numbers
   pub known : listed.known.items ≡ lane.known.items
 
--- A lane that was read from a column at places.
+-- A column vector that was read from a column at the rows with these numbers.
 pub record IsRead (column : List (Option ℤ)) (places : List ℕ) (size : ℕ) (lane : Lane) : Type 0 where
   pub bound : lane.bound ≡ size
   pub count : length (numbers_of lane.numbers) ≡ length places
@@ -69,13 +70,13 @@ pub record IsRead (column : List (Option ℤ)) (places : List ℕ) (size : ℕ) 
   pub known : (k : ℕ) → k < length places
       → get_or lane.known.items k false ≡ is_some (get_or column (get_or places k 0) None)
 
--- the numbers of a lane are at most as large as it says, which is not too large
+-- the numbers of a column vector are within its bound, which is not too large
 pub record IsSmall (lane : Lane) : Type 0 where
   pub masked : length lane.known.items ≡ length (numbers_of lane.numbers)
   pub few : lane.bound ≤ most
   pub fits : (k : ℕ) → k < length (numbers_of lane.numbers) → nat_abs (get_or (numbers_of lane.numbers) k (pos 0)) ≤ lane.bound
 
--- A lane, or with `minus` what it takes from 0.
+-- A column vector, or with `minus` its negation.
 pub record IsSigned (minus : Bool) (lane signed : Lane) : Type 0 where
   pub bound : signed.bound ≡ lane.bound
   pub count : length (numbers_of signed.numbers) ≡ length (numbers_of lane.numbers)
@@ -84,12 +85,12 @@ pub record IsSigned (minus : Bool) (lane signed : Lane) : Type 0 where
       ≡ (if minus then neg_ℤ (get_or (numbers_of lane.numbers) k (pos 0)) else get_or (numbers_of lane.numbers) k (pos 0))
   pub known : (k : ℕ) → k < length lane.known.items → get_or signed.known.items k false ≡ get_or lane.known.items k false
 
--- a number added, or with `minus` taken away
+-- a number added, or with `minus` subtracted
 abbrev pub with_sign : Bool → ℤ → ℤ → ℤ
 with_sign true a b = a -ℤ b
 with_sign false a b = a +ℤ b
 
--- the value at a place: the number there, where it is known
+-- the value at an index: the number there, if it is valid
 abbrev pub value_in : List ℤ → List Bool → ℕ → Option ℤ
 value_in numbers known k = if get_or known k false then Some (get_or numbers k (pos 0)) else None
 

@@ -1,4 +1,4 @@
--- What may be asked for on some rows.
+-- What may be evaluated on some rows.
 use Rattle.std.specs.Prelude.{◌+◌, false, IsTrue}
 use Rattle.table_rules.specs.declared.limits.TheConstants.{FIRST_COLUMNS}
 use Rattle.column_block.specs.Blocks.{Stored}
@@ -10,6 +10,6 @@ use Rattle.value_rules.specs.Terms.{Term}
 abbrev pub IsSoundFor : Stored → Term → Type 0
 IsSoundFor rows t = IsTrue (is_sound_at (has_col (FIRST_COLUMNS + rows.width) false) t)
 
--- the same of each term of the formula, and its areas are sound
+-- each term of the formula is well-formed in this sense, and its areas are well-formed
 abbrev pub IsSoundTest : Stored → Formula → Type 0
 IsSoundTest rows f = IsTrue (is_sound_formula (has_col (FIRST_COLUMNS + rows.width) false) f)

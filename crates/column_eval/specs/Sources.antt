@@ -1,15 +1,15 @@
--- The values of rows by where they stand: in a lane, or in a column of the block.
+-- The values of rows by their source: a column vector, or a column of the block.
 use Rattle.std.specs.Prelude.{ℤ, List, map, Option, Some}
 use Rattle.column_eval.specs.Lanes.{IsSmall, numbers_of, values_in}
 use Rattle.column_eval.specs.declared.value_list.Source.{Source}
 use Rattle.column_eval.specs.declared.value_list.Source.TheVariants.{Lane, Column}
 
--- the values: of a lane where it is known, and all numbers of a column that is read at places
+-- the values: those of a column vector at its valid rows, or all numbers of a column at selected rows
 abbrev pub values_of : Source → List (Option ℤ)
 values_of (Lane lane) = values_in (numbers_of lane.numbers) lane.known.items
 values_of (Column numbers) = map Some numbers
 
--- a lane is at most as large as it says; of a picked column nothing more is asked
+-- a column vector is within its bound; for a column at selected rows nothing is required
 abbrev pub IsWithinBound : Source → Type 0
 IsWithinBound (Lane lane) = IsSmall lane
 IsWithinBound (Column numbers) = Unit {0}

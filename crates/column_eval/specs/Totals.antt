@@ -1,4 +1,4 @@
--- What a term is worth where NULL counts as 0, and whether it has a value at all.
+-- The value of a term if NULL counts as 0, and whether the term has a value at all.
 use Rattle.std.specs.Prelude.{ℤ, ◌+ℤ◌, ◌-ℤ◌, ◌*ℤ◌, neg_ℤ, Bool, is_some}
 use Rattle.table_rules.specs.Objects.{Obj}
 use Rattle.sky_row.specs.Columns.{or_zero}
@@ -6,7 +6,7 @@ use Rattle.sql_bound.specs.declared.expr.BoundCol.{BoundCol}
 use Rattle.value_rules.specs.Terms.{Term, Number, Column, Minus, Plus, Less, Times}
 use Rattle.value_rules.specs.Values.{row, cell_of, value_at}
 
--- the number that a term is where the columns hold these numbers
+-- the number to which a term evaluates if the columns have these numbers
 abbrev pub number_at : (BoundCol → ℤ) → Term → ℤ
 number_at cells (Number n) = n
 number_at cells (Column c) = cells c
@@ -15,7 +15,7 @@ number_at cells (Plus t u) = number_at cells t +ℤ number_at cells u
 number_at cells (Less t u) = number_at cells t -ℤ number_at cells u
 number_at cells (Times t u) = number_at cells t *ℤ number_at cells u
 
--- the number that a term is on a row, where NULL counts as 0
+-- the number to which a term evaluates on a row, if NULL counts as 0
 abbrev pub number_on : Obj → Term → ℤ
 number_on o t = number_at (λ c. or_zero (cell_of (row o) c)) t
 

@@ -1,8 +1,8 @@
-//! What the values of some rows come to: how many there are, their sum, the least and the greatest.
+//! Aggregates of the values of some rows: their count, their sum, the least and the greatest.
 //!
-//! Numbers of 64 bits are joined in 64 bits, a sum by stretches of so many rows that it cannot become too large in one, and in
-//! 128 from stretch to stretch (`sum_by_blocks`; no `Block` is meant). Where no value of a stretch is NULL its flags are looked
-//! at once before, and not at each number.
+//! Numbers of 64 bits are combined in 64 bits. A sum is computed in segments of so few rows that no segment's sum
+//! overflows, and the segments' sums are added in 128 bits (`sum_by_blocks`; no `Block` is meant). If no value of a
+//! segment is NULL, its validity is checked once before, and not at each number.
 ghost use Rattle.std.specs.Prelude.{◌≡◌, ◌+◌, ◌+ℤ◌, ◌*◌, ◌<◌, ◌≤◌, ℕ, ℤ, List, true, false, length, get_or, nat_abs, pos, if◌then◌else◌, IfSome, []};
 ghost use Rattle.table_rules.specs.declared.limits.TheConstants.{ROWS_MOST};
 ghost use Rattle.column_eval.specs.Aggregates.{AreSummed, IsNoLarger, StaysWithin, greater, joined_all, joined_from, lesser, numbers_between, sum_of};
@@ -13,12 +13,12 @@ use crate::join::{Join, NARROW_MOST, Plus};
 use crate::lane::Lane;
 use crate::numbers::Numbers;
 
-/// How many rows a stretch has where the numbers are small, as those of a column are, and where they are larger.
+/// The number of rows of a segment if the numbers are small, as those of a column are, and if they are larger.
 pub(crate) const LONG: usize = 4096;
 
 const SHORT: usize = 64;
 
-/// The lesser of two.
+/// The operation that returns the lesser of two.
 #[derive(Clone, Copy)]
 pub(crate) struct Lesser;
 
@@ -36,7 +36,7 @@ impl Join for Lesser {
     }
 }
 
-/// The greater of two.
+/// The operation that returns the greater of two.
 #[derive(Clone, Copy)]
 pub(crate) struct Greater;
 
@@ -54,7 +54,7 @@ impl Join for Greater {
     }
 }
 
-/// How many rows from one place up to another are known.
+/// Returns how many of the rows from index `from` to before index `to` are valid.
 pub(crate) fn count(known: &[bool], from: usize, to: usize) -> u32
     requires order { from ≤ to }
     requires there { to ≤ length known.now }
@@ -69,7 +69,7 @@ pub(crate) fn count(known: &[bool], from: usize, to: usize) -> u32
     count
 }
 
-/// The sum of the values of the lane from one place up to another.
+/// Returns the sum of the values of the column vector from index `from` to before index `to`.
 pub(crate) fn sum(lane: &Lane, from: usize, to: usize) -> i128
     requires order { from ≤ to }
     requires there { to ≤ length lane.now.known.items }
@@ -87,7 +87,7 @@ pub(crate) fn sum(lane: &Lane, from: usize, to: usize) -> i128
     }
 }
 
-/// How many numbers that are no larger than the bound have a sum of 64 bits, if these are enough for a stretch.
+/// Returns how many numbers within the bound always have a sum of 64 bits, if these are enough for a segment.
 fn rows_of(bound: u128) -> Option<usize>
     ensures { IfSome result (λ rows. (0 < rows) × (rows * bound ≤ NARROW_MOST)) }
 {
@@ -100,7 +100,7 @@ fn rows_of(bound: u128) -> Option<usize>
     }
 }
 
-/// The same of numbers of 64 bits, of which so many always have a sum of 64 bits.
+/// Returns the sum of the valid numbers of 64 bits in a range, if `rows` of them always have a sum of 64 bits.
 fn sum_by_blocks(numbers: &[i64], known: &[bool], from: usize, to: usize, rows: usize) -> i128
     requires count { length known.now ≡ length numbers.now }
     requires order { from ≤ to }
@@ -122,7 +122,8 @@ fn sum_by_blocks(numbers: &[i64], known: &[bool], from: usize, to: usize, rows: 
     total
 }
 
-/// The least or the greatest of the values of the lane from one place up to another, by the one of two that is taken.
+/// Returns the least or the greatest of the values of the column vector in a range, by the operation that returns one
+/// of two.
 pub(crate) fn chosen<J: Join>(join: &J, lane: &Lane, from: usize, to: usize) -> Option<i128>
     requires order { from ≤ to }
     requires there { to ≤ length lane.now.known.items }
@@ -139,7 +140,7 @@ pub(crate) fn chosen<J: Join>(join: &J, lane: &Lane, from: usize, to: usize) -> 
     Some(chosen_from(join, lane, first, first + 1, to))
 }
 
-/// What the value at the first place and the values from one place up to another come to.
+/// Combines the value at index `first` with the values of a range.
 fn chosen_from<J: Join>(join: &J, lane: &Lane, first: usize, from: usize, to: usize) -> i128
     requires order { from ≤ to }
     requires there { to ≤ length lane.now.known.items }
@@ -159,7 +160,7 @@ fn chosen_from<J: Join>(join: &J, lane: &Lane, first: usize, from: usize, to: us
     }
 }
 
-/// The first row from one place up to another that is known; the other place, where there is none.
+/// Returns the first index in a range that is valid, or the end of the range if there is none.
 fn first_known(known: &[bool], from: usize, to: usize) -> usize
     requires order { from ≤ to }
     requires there { to ≤ length known.now }
@@ -177,7 +178,7 @@ fn first_known(known: &[bool], from: usize, to: usize) -> usize
     to
 }
 
-/// What the numbers from one place up to another that are known come to, behind a first one.
+/// Combines a first number with the valid numbers of a range, in 64 bits.
 fn narrow_from<J: Join>(
     join: &J,
     first: i64,
@@ -201,7 +202,7 @@ fn narrow_from<J: Join>(
     }
 }
 
-/// Whether all rows from one place up to another are known.
+/// Returns whether all rows of a range are valid.
 fn are_known(known: &[bool], from: usize, to: usize) -> bool
     requires order { from ≤ to }
     requires there { to ≤ length known.now }
@@ -215,7 +216,7 @@ fn are_known(known: &[bool], from: usize, to: usize) -> bool
     all
 }
 
-/// The same where all are known.
+/// Combines a first number with the numbers of a range, all of which are valid.
 fn whole_from<J: Join>(
     join: &J,
     first: i64,
@@ -240,7 +241,7 @@ fn whole_from<J: Join>(
     total
 }
 
-/// The same where some are not.
+/// Combines a first number with the valid numbers of a range, some of which are NULL.
 fn partly_from<J: Join>(
     join: &J,
     first: i64,
@@ -264,7 +265,7 @@ fn partly_from<J: Join>(
     total
 }
 
-/// The two joined, where the number is known.
+/// Combines the two, if the number is valid.
 #[inline(always)]
 fn with_narrow<J: Join>(join: &J, total: i64, number: i64, is_known: bool) -> i64
     requires { is_known ≡ true → nat_abs (J.joins total number) ≤ NARROW_MOST }
@@ -277,7 +278,7 @@ fn with_narrow<J: Join>(join: &J, total: i64, number: i64, is_known: bool) -> i6
     }
 }
 
-/// The same in 128 bits.
+/// Combines a first number with the valid numbers of a range, in 128 bits.
 fn wide_from<J: Join>(
     join: &J,
     first: i128,
@@ -301,7 +302,7 @@ fn wide_from<J: Join>(
     total
 }
 
-/// The two joined, where the number is known.
+/// Combines the two, if the number is valid.
 #[inline(always)]
 fn with_wide<J: Join>(join: &J, total: i128, number: i128, is_known: bool) -> i128
     requires { is_known ≡ true → nat_abs (J.joins total number) ≤ WIDE_MOST }

@@ -1,4 +1,4 @@
-//! Expressions that are a column alone, and the numbers of such a column where none is NULL.
+//! Expressions that are a single column, and the numbers of such a column if none is NULL.
 ghost use Rattle.std.specs.Prelude.{◌≡◌, ◌≢◌, ◌+◌, ◌≤◌, ℕ, All, IfNone, IfSome, IsTrue, Some, false, map, nat_abs};
 ghost use Rattle.sql_bound.specs.Trees.{just};
 ghost use Rattle.sql_bound.specs.declared.expr.BoundAtom.TheVariants.{Col};
@@ -13,8 +13,8 @@ use column_block::Block;
 use sql_bound::{BoundAtom, BoundCol, BoundExpr};
 use table_rules::limits::FIRST_COLUMNS;
 
-/// The column of the first row that the expression is, by its number; none only where it is not written as a column
-/// alone. Does not allocate.
+/// Returns the number of the column of the first row, if the expression is one. `None` only if it is not written as a
+/// single column. Does not allocate.
 pub fn column_of(e: &BoundExpr) -> Option<u32>
     ensures some { IfSome result (λ col. term_of e.now ≡ Column (first_col col)) }
     ensures none { IfNone result ((col : ℕ) → e.now ≢ just (Col (first_col col))) }
@@ -29,7 +29,7 @@ pub fn column_of(e: &BoundExpr) -> Option<u32>
     }
 }
 
-/// The number of a column of the first row.
+/// Returns the number of a column of the first row.
 fn first_column(col: &BoundCol) -> Option<u32>
     ensures some { IfSome result (λ found. first_col found ≡ col.now) }
     ensures none { IfNone result ((found : ℕ) → first_col found ≢ col.now) }
@@ -37,7 +37,7 @@ fn first_column(col: &BoundCol) -> Option<u32>
     if col.second { None } else { Some(col.col) }
 }
 
-/// The numbers of the extra column that the expression is, where none is NULL.
+/// Returns the numbers of the extra column, if the expression is one and none of its values is NULL.
 pub(crate) fn whole_column<'a>(block: &'a Block, e: &BoundExpr) -> Option<&'a [i64]>
     requires sound { IsTrue
         (is_sound_expr (has_col (FIRST_COLUMNS + block.now.width) false) e.now) }

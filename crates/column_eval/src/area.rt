@@ -1,4 +1,4 @@
-//! The truths of area tests.
+//! The truth values of area tests.
 ghost use Rattle.std.specs.Prelude.{◌≡◌, ◌<◌, ◌≤◌, [], IfOk, All, length, get_or, pos, vec_capacity};
 ghost use Rattle.sky_row.specs.Columns.{no_row};
 ghost use Rattle.sky_vector.specs.Points.{IsWithin};
@@ -17,7 +17,7 @@ use sky_io::Memory;
 use sky_vector::Pos;
 use sql_bound::AreaTest;
 
-/// The flags of an area test, which is never unknown.
+/// Returns the flags of an area test, which is never unknown.
 pub(crate) fn area(
     test: &AreaTest,
     rows: &Picked<'_>,
@@ -30,7 +30,7 @@ pub(crate) fn area(
     Ok(flags_of(all, held))
 }
 
-/// Which of the rows at these places lie in the area, in an empty mask that has room for them.
+/// Returns which of the rows with these numbers are in the area. `found` is an empty mask that has room for them.
 pub(crate) fn lying(test: &AreaTest, block: &Block, places: &[u32], found: Vec<bool>) -> Vec<bool>
     requires there { All (λ place. place < length block.now.objects) places.now }
     requires empty { found.items ≡ [] }
@@ -42,7 +42,7 @@ pub(crate) fn lying(test: &AreaTest, block: &Block, places: &[u32], found: Vec<b
     lying_at(test, block.xs(), block.ys(), block.zs(), places, found)
 }
 
-/// The same of the points with these parts.
+/// Returns which of the points with these components are in the area.
 fn lying_at(
     test: &AreaTest,
     xs: &[i32],
@@ -70,7 +70,7 @@ fn lying_at(
     found
 }
 
-/// Whether the point lies in the area.
+/// Returns whether the point is in the area.
 fn lies_in(test: &AreaTest, x: i32, y: i32, z: i32) -> bool
     requires x { IsWithin x }
     requires y { IsWithin y }

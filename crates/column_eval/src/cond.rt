@@ -1,4 +1,4 @@
-//! The truths of a condition. One function judges one layer of the tree, a column at a time.
+//! The truth values of a condition. Each function evaluates one level of the tree, a column at a time.
 ghost use Rattle.std.specs.Prelude.{◌≡◌, ◌+◌, ◌<◌, false, IfOk, IsTrue, All, length, map};
 ghost use Rattle.sky_row.specs.Columns.{objects_at};
 ghost use Rattle.table_rules.specs.Objects.{IsRow};
@@ -20,8 +20,9 @@ use column_block::Block;
 use sky_io::Memory;
 use sql_bound::{BoundAll, BoundAny, BoundCond, BoundPred};
 
-/// The truths of the condition on the rows of the block at the picked places, counted from 0, in the order of the
-/// places; `None` is unknown. Allocates memory for each node of the condition, where the scratch has no free vector.
+/// Returns the truth values of the condition on the selected rows of the block. The selection vector counts from 0, and
+/// its order is kept; `None` is unknown. Allocates memory for each node of the condition if the scratch has no free
+/// vector.
 pub fn truths(
     block: &Block,
     c: &BoundCond,
@@ -40,7 +41,7 @@ pub fn truths(
     Ok(TruthList::of(flags))
 }
 
-// The flags of a disjunction.
+// Returns the flags of a disjunction.
 #[cycle(judge)]
 fn any(a: &BoundAny, rows: &Picked<'_>, scratch: &mut Scratch) -> Result<Flags, Memory>
     requires rows { All IsRow rows.now.objects }
@@ -56,7 +57,7 @@ fn any(a: &BoundAny, rows: &Picked<'_>, scratch: &mut Scratch) -> Result<Flags, 
     Ok(found)
 }
 
-// The flags of a conjunction.
+// Returns the flags of a conjunction.
 #[cycle(judge)]
 fn all(a: &BoundAll, rows: &Picked<'_>, scratch: &mut Scratch) -> Result<Flags, Memory>
     requires rows { All IsRow rows.now.objects }
@@ -72,7 +73,7 @@ fn all(a: &BoundAll, rows: &Picked<'_>, scratch: &mut Scratch) -> Result<Flags, 
     Ok(found)
 }
 
-// The flags of a condition.
+// Returns the flags of a condition.
 #[cycle(judge)]
 fn one(c: &BoundCond, rows: &Picked<'_>, scratch: &mut Scratch) -> Result<Flags, Memory>
     requires rows { All IsRow rows.now.objects }
@@ -83,7 +84,7 @@ fn one(c: &BoundCond, rows: &Picked<'_>, scratch: &mut Scratch) -> Result<Flags,
     Ok(negated_if(c.not, found))
 }
 
-// The flags of a test.
+// Returns the flags of a test.
 #[cycle(judge)]
 fn test(pred: &BoundPred, rows: &Picked<'_>, scratch: &mut Scratch) -> Result<Flags, Memory>
     requires rows { All IsRow rows.now.objects }

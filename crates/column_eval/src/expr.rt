@@ -1,4 +1,4 @@
-//! The lane of an expression. One function computes one layer of the tree, a column at a time.
+//! The column vector of an expression. Each function computes one level of the tree, a column at a time.
 ghost use Rattle.std.specs.Prelude.{◌≡◌, ◌+◌, ◌*◌, ◌<◌, ◌*ℤ◌, false, IfOk, IsTrue, All, length, map};
 ghost use Rattle.sky_row.specs.Columns.{objects_at};
 ghost use Rattle.table_rules.specs.Objects.{IsRow};
@@ -21,9 +21,9 @@ use column_block::Block;
 use sky_io::Memory;
 use sql_bound::{BoundAtom, BoundCol, BoundExpr, BoundFactor, BoundProd, Int};
 
-/// The values of the expression on the rows of the block at the picked places, counted from 0, in the order of the
-/// places; `None` is NULL. A extra column without a NULL is read where it stands, as its values are asked for; for
-/// another expression it allocates memory for each node, where the scratch has no free vector.
+/// Returns the values of the expression on the selected rows of the block. The selection vector counts from 0, and its
+/// order is kept; `None` is NULL. An extra column without a NULL is not copied: its values are read in the block when
+/// they are asked for. For another expression, allocates memory for each node if the scratch has no free vector.
 pub fn values<'a>(
     block: &'a Block,
     e: &BoundExpr,
@@ -42,8 +42,9 @@ pub fn values<'a>(
     }
 }
 
-/// The same, each value in a list: for values that are read one by one, with much else done in between. Allocates
-/// memory for each node of the expression, where the scratch has no free vector.
+/// Returns the values of the expression on the selected rows, each materialised in a list: for values that are read one
+/// by one, with much other work in between. Allocates memory for each node of the expression if the scratch has no free
+/// vector.
 pub fn listed_values<'a>(
     block: &'a Block,
     e: &BoundExpr,
@@ -62,7 +63,7 @@ pub fn listed_values<'a>(
     Ok(ValueList::of(lane))
 }
 
-// The lane of a sum, each number in a list.
+// Returns the column vector of a sum, with each number materialised in a list.
 fn listed_sum(e: &BoundExpr, rows: &Picked<'_>, scratch: &mut Scratch) -> Result<Lane, Memory>
     requires rows { All IsRow rows.now.objects }
     requires sound { IsSoundFor rows.now (term_of e.now) }
@@ -72,7 +73,7 @@ fn listed_sum(e: &BoundExpr, rows: &Picked<'_>, scratch: &mut Scratch) -> Result
     lane.listed(scratch)
 }
 
-/// The lane of a sum, from the left.
+/// Returns the column vector of a sum, from the left.
 #[cycle(worth)]
 pub(crate) fn sum(e: &BoundExpr, rows: &Picked<'_>, scratch: &mut Scratch) -> Result<Lane, Memory>
     requires rows { All IsRow rows.now.objects }
@@ -88,7 +89,7 @@ pub(crate) fn sum(e: &BoundExpr, rows: &Picked<'_>, scratch: &mut Scratch) -> Re
     Ok(lane)
 }
 
-// The lane of a product, from the left.
+// Returns the column vector of a product, from the left.
 #[cycle(worth)]
 fn product(p: &BoundProd, rows: &Picked<'_>, scratch: &mut Scratch) -> Result<Lane, Memory>
     requires rows { All IsRow rows.now.objects }
@@ -104,7 +105,7 @@ fn product(p: &BoundProd, rows: &Picked<'_>, scratch: &mut Scratch) -> Result<La
     Ok(lane)
 }
 
-// The lane of a factor.
+// Returns the column vector of a factor.
 #[cycle(worth)]
 fn factor(f: &BoundFactor, rows: &Picked<'_>, scratch: &mut Scratch) -> Result<Lane, Memory>
     requires rows { All IsRow rows.now.objects }
@@ -115,7 +116,7 @@ fn factor(f: &BoundFactor, rows: &Picked<'_>, scratch: &mut Scratch) -> Result<L
     signed(f.minus, lane, scratch)
 }
 
-// The lane of an atom.
+// Returns the column vector of an atom.
 #[cycle(worth)]
 fn atom(a: &BoundAtom, rows: &Picked<'_>, scratch: &mut Scratch) -> Result<Lane, Memory>
     requires rows { All IsRow rows.now.objects }
@@ -129,14 +130,14 @@ fn atom(a: &BoundAtom, rows: &Picked<'_>, scratch: &mut Scratch) -> Result<Lane,
     }
 }
 
-// The lane of an int.
+// Returns the column vector of an int.
 fn int(n: &Int, rows: &Picked<'_>, scratch: &mut Scratch) -> Result<Lane, Memory>
     ensures { IfOk result (IsLane rows.now.objects (Number n.now)) }
 {
     literal(n.get(), rows.len(), scratch)
 }
 
-// The lane of a column.
+// Returns the column vector of a column.
 fn column(col: &BoundCol, rows: &Picked<'_>, scratch: &mut Scratch) -> Result<Lane, Memory>
     requires { IsSoundFor rows.now (Column col.now) }
     ensures { IfOk result (IsLane rows.now.objects (Column col.now)) }
@@ -144,7 +145,7 @@ fn column(col: &BoundCol, rows: &Picked<'_>, scratch: &mut Scratch) -> Result<La
     rows.read(col.col, scratch)
 }
 
-// The lane, or with `minus` what it takes from 0.
+// Returns the column vector, or with `minus` its negation.
 fn signed(minus: bool, lane: Lane, scratch: &mut Scratch) -> Result<Lane, Memory>
     requires { IsSmall lane }
     ensures { IfOk result (IsSigned minus lane) }
@@ -157,7 +158,7 @@ fn signed(minus: bool, lane: Lane, scratch: &mut Scratch) -> Result<Lane, Memory
     lanes_joined(&Less, zero, lane, bound, scratch)
 }
 
-// The sum of the two, or with `minus` their difference.
+// Returns the sum of the two, or with `minus` their difference.
 fn added(left: Lane, minus: bool, right: Lane, scratch: &mut Scratch) -> Result<Lane, Memory>
     requires can { CanJoin (with_sign minus) (left.bound + right.bound)
         (numbers_of left.numbers) (numbers_of right.numbers) }
@@ -172,7 +173,7 @@ fn added(left: Lane, minus: bool, right: Lane, scratch: &mut Scratch) -> Result<
     }
 }
 
-// The product of the two.
+// Returns the product of the two.
 fn multiplied(left: Lane, right: Lane, scratch: &mut Scratch) -> Result<Lane, Memory>
     requires can { CanJoin (λ a b. a *ℤ b) (left.bound * right.bound)
         (numbers_of left.numbers) (numbers_of right.numbers) }

@@ -1,4 +1,4 @@
-//! The three truths of rows as two masks: where a condition is true, and where it is false.
+//! The truth values of rows as two masks: the rows on which a condition is true, and those on which it is false.
 //!
 //! NOT exchanges the two masks; AND and OR are an AND of one pair of masks and an OR of the other.
 ghost use Rattle.std.specs.Prelude.{◌≡◌, length};
@@ -7,14 +7,14 @@ ghost use Rattle.column_eval.specs.Flags.{AreAnd, AreKnown, AreNegated, AreOr};
 use crate::mask::{both, either, without};
 use crate::scratch::Scratch;
 
-/// On which rows a condition is true, and on which it is false.
+/// The rows on which a condition is true, and those on which it is false.
 #[derive(Drop)]
 pub(crate) struct Flags {
     pub true_on: Vec<bool>,
     pub false_on: Vec<bool>,
 }
 
-/// The flags of truths that are known on some rows.
+/// Returns the flags of truth values that are valid on some rows.
 pub(crate) fn flags_of(known: Vec<bool>, truth: Vec<bool>) -> Flags
     requires { length truth.items ≡ length known.items }
     ensures { AreKnown known.items truth.items result }
@@ -26,7 +26,7 @@ pub(crate) fn flags_of(known: Vec<bool>, truth: Vec<bool>) -> Flags
     Flags { true_on, false_on }
 }
 
-/// The truths, or with `negated` their negations.
+/// Returns the truth values, or with `negated` their negations.
 pub(crate) fn negated_if(negated: bool, flags: Flags) -> Flags
     ensures { AreNegated negated flags result }
 {
@@ -41,7 +41,7 @@ pub(crate) fn negated_if(negated: bool, flags: Flags) -> Flags
     }
 }
 
-/// The truths of two conditions joined by AND.
+/// Returns the truth values of two conditions joined by AND.
 pub(crate) fn joined_by_and(left: Flags, right: Flags, scratch: &mut Scratch) -> Flags
     requires true_on { length right.true_on.items ≡ length left.true_on.items }
     requires false_on { length right.false_on.items ≡ length left.false_on.items }
@@ -57,7 +57,7 @@ pub(crate) fn joined_by_and(left: Flags, right: Flags, scratch: &mut Scratch) ->
     Flags { true_on, false_on }
 }
 
-/// The truths of two conditions joined by OR.
+/// Returns the truth values of two conditions joined by OR.
 pub(crate) fn joined_by_or(left: Flags, right: Flags, scratch: &mut Scratch) -> Flags
     requires true_on { length right.true_on.items ≡ length left.true_on.items }
     requires false_on { length right.false_on.items ≡ length left.false_on.items }
@@ -73,7 +73,7 @@ pub(crate) fn joined_by_or(left: Flags, right: Flags, scratch: &mut Scratch) -> 
     Flags { true_on, false_on }
 }
 
-/// Gives the masks back.
+/// Gives the masks back to the scratch.
 fn give_back(flags: Flags, scratch: &mut Scratch) {
     scratch.flags.give(flags.true_on);
     scratch.flags.give(flags.false_on);

@@ -1,4 +1,4 @@
-//! Sums, differences and products of two numbers, and of two vectors of them place by place.
+//! Binary operations on two numbers, and on two vectors of them element by element.
 //!
 //! An operation is a type of its own, so that the same loops, in 64 and in 128 bits, serve all of them.
 ghost use Rattle.std.specs.Prelude.{◌≡◌, ◌≤◌, ◌<◌, ◌+ℤ◌, ◌-ℤ◌, ◌*ℤ◌, ℕ, ℤ, FitsSigned, IfOk, length, nat_abs, get_or, pos, replicate};
@@ -10,23 +10,23 @@ use crate::numbers::Numbers;
 use crate::scratch::Scratch;
 use sky_io::Memory;
 
-/// The largest size that a number in 64 bits is let to have, though one below 0 could be larger by 1.
+/// The largest size that a number in 64 bits may have, though one below 0 could be larger by 1.
 pub(crate) const NARROW_MOST: u128 = i64::MAX as u128;
 
-/// The largest size that a number in 128 bits is let to have: that of a sum of 2^24 numbers that queries compute.
+/// The largest size that a number in 128 bits may have: that of a sum of 2^24 numbers that queries compute.
 pub(crate) const WIDE_MOST: u128 = 1 << 124;
 
 /// An operation on two numbers.
 pub(crate) trait Join {
-    /// What comes out.
+    /// The result.
     ghost joins: { ℤ → ℤ → ℤ };
 
-    /// The operation in 64 bits.
+    /// Returns the result in 64 bits.
     fn narrow(&self, left: i64, right: i64) -> i64
         requires { nat_abs (joins left right) ≤ NARROW_MOST }
         ensures { result ≡ joins left right };
 
-    /// The operation in 128 bits.
+    /// Returns the result in 128 bits.
     fn wide(&self, left: i128, right: i128) -> i128
         requires { nat_abs (joins left right) ≤ WIDE_MOST }
         ensures { result ≡ joins left right };
@@ -86,8 +86,9 @@ impl Join for Times {
     }
 }
 
-/// The numbers on the left, each joined with the one of its place on the right, of which none is above the bound in
-/// size. They are in 64 bits where both sides are and the bound fits, and else in 128. Allocates memory for those.
+/// Returns the results of the operation on the numbers of both sides, element by element, none of which is above the
+/// bound in size. They are in 64 bits if both sides are and the bound fits, and else in 128. Allocates memory for those
+/// in 128.
 pub(crate) fn joined<J: Join>(
     join: &J,
     left: Numbers,
@@ -103,7 +104,7 @@ pub(crate) fn joined<J: Join>(
     joined_listed(join, left, right, bound, scratch)
 }
 
-/// The same where those on the left are listed.
+/// Returns the results, if each number on the left is materialised in a list.
 fn joined_listed<J: Join>(
     join: &J,
     left: Numbers,
@@ -126,7 +127,7 @@ fn joined_listed<J: Join>(
     }
 }
 
-/// The same where both sides are in 64 bits.
+/// Returns the results, if both sides are in 64 bits.
 fn joined_narrow<J: Join>(
     join: &J,
     left: Vec<i64>,
@@ -146,7 +147,7 @@ fn joined_narrow<J: Join>(
     Ok(Numbers::Narrow(left))
 }
 
-/// The same where the number on the right is one so many times.
+/// Returns the results, if the right side is one number, repeated `count` times.
 fn joined_same<J: Join>(
     join: &J,
     left: Vec<i64>,
@@ -173,7 +174,7 @@ fn joined_same<J: Join>(
     }
 }
 
-/// The same in 128 bits.
+/// Returns the results in 128 bits.
 fn joined_wide<J: Join>(
     join: &J,
     left: Numbers,
@@ -191,7 +192,7 @@ fn joined_wide<J: Join>(
     Ok(Numbers::Wide(left))
 }
 
-/// Joins each number on the left with the one of its place on the right.
+/// Replaces each number on the left by the result with the number of the same index on the right.
 fn each_narrow<J: Join>(join: &J, left: &mut [i64], right: &[i64])
     requires { CanJoin J.joins NARROW_MOST left.old right.now }
     ensures { AreJoined J.joins left.old right.now left.new }
@@ -201,7 +202,7 @@ fn each_narrow<J: Join>(join: &J, left: &mut [i64], right: &[i64])
     }
 }
 
-/// The same with one number, which stands there so many times.
+/// Replaces each number on the left by the result with one number, which is repeated `count` times.
 fn each_with<J: Join>(join: &J, left: &mut [i64], n: i64, count: usize)
     requires { CanJoin J.joins NARROW_MOST left.old (replicate count n) }
     ensures { AreJoined J.joins left.old (replicate count n) left.new }
@@ -211,7 +212,7 @@ fn each_with<J: Join>(join: &J, left: &mut [i64], n: i64, count: usize)
     }
 }
 
-/// The same in 128 bits.
+/// Replaces each number on the left by the result with the number of the same index on the right, in 128 bits.
 fn each_wide<J: Join>(join: &J, left: &mut [i128], right: &[i128])
     requires { CanJoin J.joins NUMBER_MOST left.old right.now }
     ensures { AreJoined J.joins left.old right.now left.new }

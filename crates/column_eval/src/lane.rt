@@ -1,4 +1,5 @@
-//! What is kept of one node of an expression: a number for each row, which of them are known, and how large they can be.
+//! The column vector of one node of an expression: a number for each row, which of them are valid, and how large they
+//! can be.
 ghost use Rattle.std.specs.Prelude.{◌≡◌, IfOk, length};
 ghost use Rattle.column_eval.specs.Lanes.{AreLanesJoined, CanJoin, IsListed, numbers_of};
 
@@ -8,7 +9,7 @@ use crate::numbers::Numbers;
 use crate::scratch::Scratch;
 use sky_io::Memory;
 
-/// Numbers of rows, of which those of NULL have no meaning, and the largest size that they can have.
+/// The numbers of rows, of which those of NULL have no meaning, and the largest size that they can have.
 #[derive(Drop)]
 pub(crate) struct Lane {
     pub numbers: Numbers,
@@ -17,7 +18,7 @@ pub(crate) struct Lane {
 }
 
 impl Lane {
-    /// The same with each number in a list.
+    /// Returns the same column vector, with each number materialised in a list.
     pub(crate) fn listed(self, scratch: &mut Scratch) -> Result<Lane, Memory>
         ensures { IfOk result (IsListed self) }
     {
@@ -34,15 +35,15 @@ impl Lane {
         })
     }
 
-    /// Gives the vectors back.
+    /// Gives the vectors back to the scratch.
     pub(crate) fn give_back(self, scratch: &mut Scratch) {
         self.numbers.give_back(scratch);
         scratch.flags.give(self.known);
     }
 }
 
-/// The two joined, row by row: NULL where one of them is. None is above the bound in size. Allocates memory where the
-/// numbers become too large for 64 bits.
+/// Applies an operation to two column vectors, row by row; the result is NULL if one of the two is. No result is above
+/// the bound in size. Allocates memory if the numbers become too large for 64 bits.
 pub(crate) fn lanes_joined<J: Join>(
     join: &J,
     left: Lane,

@@ -1,4 +1,4 @@
-//! The leaves of an expression: a number is the same on each row, and a column is read at the picked places.
+//! The leaves of an expression: a number is the same on each row, and a column is read at the selected rows.
 ghost use Rattle.std.specs.Prelude.{◌≡◌, ◌+◌, ◌<◌, ◌≤◌, [], Some, IfOk, IfSome, All, length, map, nat_abs, replicate, vec_capacity, is_some};
 ghost use Rattle.column_eval.specs.Lanes.{IsRead, IsRepeated};
 ghost use Rattle.sky_row.specs.Columns.{IsGathered, column_in};
@@ -14,7 +14,7 @@ use sky_row::Column;
 use sky_vector::limits::COORDINATE_MOST;
 use table_rules::limits::{FURTHER_MOST, ID_MOST};
 
-/// A number, the same on each of so many rows. Allocates memory for its flags.
+/// Returns a number that is the same on each of the given number of rows. Allocates memory for its flags.
 pub(crate) fn literal(n: i64, count: usize, scratch: &mut Scratch) -> Result<Lane, Memory>
     ensures { IfOk result (λ lane. IsRepeated n count lane) }
 {
@@ -26,7 +26,7 @@ pub(crate) fn literal(n: i64, count: usize, scratch: &mut Scratch) -> Result<Lan
     })
 }
 
-/// A column of a block by its number, at these places. Allocates memory for it.
+/// Returns a column of a block by its number, at the rows with these numbers. Allocates memory for it.
 pub(crate) fn read(
     block: &Block,
     places: &[u32],
@@ -47,7 +47,8 @@ pub(crate) fn read(
     }
 }
 
-/// The numbers of a column that has one for each row, at these places. Allocates memory for them.
+/// Returns the numbers of a column that has one for each row, at the rows with these numbers. Allocates memory for
+/// them.
 pub(crate) fn whole(
     values: &[i64],
     places: &[u32],
@@ -66,7 +67,7 @@ pub(crate) fn whole(
     })
 }
 
-/// The same of a column of 32 bits.
+/// Returns the numbers of a column of 32 bits, at the rows with these numbers. Allocates memory for them.
 pub(crate) fn whole_short(
     values: &[i32],
     places: &[u32],
@@ -85,7 +86,8 @@ pub(crate) fn whole_short(
     })
 }
 
-/// The numbers of a extra column at these places, and where it has one. Allocates memory for them.
+/// Returns the numbers of an extra column at the rows with these numbers, and which of them are valid. Allocates memory
+/// for them.
 pub(crate) fn further(
     column: &Column,
     places: &[u32],
@@ -103,7 +105,7 @@ pub(crate) fn further(
     })
 }
 
-/// The numbers of a column, if none of its values is NULL.
+/// Returns the numbers of a column, if none of its values is NULL.
 pub(crate) fn numbers_if_whole(column: &Column) -> Option<&[i64]>
     ensures { IfSome result (λ values. map Some values.now ≡ column.now) }
 {
@@ -113,7 +115,8 @@ pub(crate) fn numbers_if_whole(column: &Column) -> Option<&[i64]>
     }
 }
 
-/// Where a extra column has a value, of these places, in an empty vector that has room for them.
+/// Returns which of the rows with these numbers have a value in an extra column. `found` is an empty vector that has
+/// room for them.
 fn known(column: &Column, places: &[u32], found: Vec<bool>) -> Vec<bool>
     requires there { All (λ place. place < length column.now) places.now }
     requires empty { found.items ≡ [] }
@@ -126,7 +129,7 @@ fn known(column: &Column, places: &[u32], found: Vec<bool>) -> Vec<bool>
     }
 }
 
-/// An item so many times, in an empty vector that has room for it.
+/// Returns an item repeated `count` times. `found` is an empty vector that has room for it.
 pub(crate) fn repeated<T: Copy>(item: T, count: usize, found: Vec<T>) -> Vec<T>
     requires empty { found.items ≡ [] }
     requires room { count ≤ vec_capacity found }
@@ -139,7 +142,7 @@ pub(crate) fn repeated<T: Copy>(item: T, count: usize, found: Vec<T>) -> Vec<T>
     found
 }
 
-/// The values at these places, in an empty vector that has room for them.
+/// Returns the values of the rows with these numbers. `found` is an empty vector that has room for them.
 fn gathered<T: Copy>(values: &[T], places: &[u32], found: Vec<T>) -> Vec<T>
     requires there { All (λ place. place < length values.now) places.now }
     requires empty { found.items ≡ [] }
@@ -153,7 +156,8 @@ fn gathered<T: Copy>(values: &[T], places: &[u32], found: Vec<T>) -> Vec<T>
     found
 }
 
-/// The same of values of 32 bits.
+/// Returns the values of the rows with these numbers, from values of 32 bits. `found` is an empty vector that has room
+/// for them.
 fn gathered_short(values: &[i32], places: &[u32], found: Vec<i64>) -> Vec<i64>
     requires there { All (λ place. place < length values.now) places.now }
     requires empty { found.items ≡ [] }

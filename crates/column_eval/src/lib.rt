@@ -1,17 +1,20 @@
-//! The evaluator of a block: values of expressions and truths of conditions on picked rows, a column at a time.
+//! The evaluator of a block: values of expressions and truth values of conditions on selected rows, a column at a time.
 //!
-//! Callers see two lists, with one entry for each picked row: of values (`ValueList`; `None` is NULL), or of truths
-//! (`TruthList`; `None` is unknown). Each entry is what `value_rules` defines of that row. A list of values also tells
-//! how many of its rows have one, and their sum, the least and the greatest. `column_of` tells an expression that is a
-//! column alone. Inside, each node of the tree is one loop over vectors that are used again (`Scratch`). A node of
-//! numbers is a `Lane`: a number for each row, 0 in place of a NULL, and a flag that it is known. Numbers stay in 64
-//! bits as long as the bounds of the columns say that they fit, and in 128 from there on. A node of truths is two flags
-//! for each row: true, and false. The values of a extra column without a NULL are no lane: they are read where they
-//! stand, as they are asked for (`PickedColumn`), unless a list is asked for. Below: `column_block` for the columns,
-//! `sql_bound` for the trees, `value_rules` for what they mean; `lane_filter` for comparisons with one number;
-//! `expr_eval`, which evaluates one row at a time, for area tests and for laws of the trees' layers. Above:
-//! `chunk_scan`, which asks for rows of a chunk, and `judge`, which tries it on rows of its own. Not in it: pairs of
-//! rows, and tests of a column that `lane_filter` does faster.
+//! Callers see two lists, with one entry for each selected row: of values (`ValueList`; `None` is NULL), or of truth
+//! values (`TruthList`; `None` is unknown). Each entry is what `value_rules` defines for that row. A list of values
+//! also returns its count of values, their sum, the least and the greatest. `column_of` recognises an expression that
+//! is a single column.
+//!
+//! Inside, each node of the tree is one loop over vectors that are reused (`Scratch`). A node of numbers is a column
+//! vector, a `Lane`: a number for each row, 0 in place of a NULL, and a validity flag. Numbers stay in 64 bits as long
+//! as the bounds of the columns imply that they fit, and are in 128 from there on. A node of truth values is two flags
+//! for each row: true, and false. The values of an extra column without a NULL are not copied into a column vector:
+//! they are read in the block when they are asked for (`PickedColumn`), unless a list is asked for.
+//!
+//! Below: `column_block` for the columns, `sql_bound` for the trees, `value_rules` for their meaning; `lane_filter` for
+//! comparisons with one number; `expr_eval`, which evaluates one row at a time, for area tests and for lemmas on the
+//! levels of the trees. Above: `chunk_scan`, which asks for rows of a chunk, and `judge`, which calls it on rows of its
+//! own. Not in it: pairs of rows, and tests of a column that `lane_filter` does faster.
 #![tactic(auto)]
 
 mod aggregate;

@@ -1,8 +1,8 @@
-//! Masks: a truth for each row. Each loop goes over equal slices without a branch.
+//! Masks: a truth value for each row. Each loop goes over equal slices without a branch.
 ghost use Rattle.std.specs.Prelude.{◌≡◌, ◌≤◌, ◌<◌, ◌&&◌, ◌||◌, ℕ, [], false, length, get_or, not, vec_capacity};
 ghost use Rattle.column_eval.specs.Masks.{IsMask};
 
-/// Keeps what the other mask holds too.
+/// Replaces the mask by its AND with the other mask.
 pub(crate) fn both(mask: &mut [bool], other: &[bool])
     requires { length other.now ≡ length mask.old }
     ensures { IsMask (length mask.old)
@@ -13,7 +13,7 @@ pub(crate) fn both(mask: &mut [bool], other: &[bool])
     }
 }
 
-/// Adds what the other mask holds.
+/// Replaces the mask by its OR with the other mask.
 pub(crate) fn either(mask: &mut [bool], other: &[bool])
     requires { length other.now ≡ length mask.old }
     ensures { IsMask (length mask.old)
@@ -24,7 +24,7 @@ pub(crate) fn either(mask: &mut [bool], other: &[bool])
     }
 }
 
-/// Clears what the other mask holds.
+/// Clears the mask at each row at which the other mask is true.
 pub(crate) fn without(mask: &mut [bool], other: &[bool])
     requires { length other.now ≡ length mask.old }
     ensures { IsMask (length mask.old)
@@ -35,7 +35,7 @@ pub(crate) fn without(mask: &mut [bool], other: &[bool])
     }
 }
 
-/// The mask in an empty vector that has room for it.
+/// Copies the mask. `found` is an empty vector that has room for it.
 pub(crate) fn copied(mask: &[bool], found: Vec<bool>) -> Vec<bool>
     requires empty { found.items ≡ [] }
     requires room { length mask.now ≤ vec_capacity found }

@@ -1,7 +1,7 @@
-//! A number for each picked row, in 64 bits or in 128.
+//! A number for each selected row, in 64 bits or in 128.
 //!
-//! What is the same on each row, as a number of the query, is kept once: a loop that meets it on its right need not read it
-//! from a list, and elsewhere it is listed.
+//! A number that is the same on each row, as a literal of the query, is stored once. A loop that has it on its right
+//! need not read it from a list; elsewhere it is materialised in a list.
 ghost use Rattle.std.specs.Prelude.{◌≡◌, ◌<◌, ◌≤◌, ℕ, [], IfOk, length, get_or, pos, replicate, vec_capacity};
 ghost use Rattle.column_eval.specs.Lanes.{numbers_of};
 
@@ -9,7 +9,7 @@ use crate::leaf::repeated;
 use crate::scratch::{Pool, Scratch};
 use sky_io::Memory;
 
-/// Numbers of one width, or one number as often as there are rows.
+/// Numbers of one width, or one number repeated for each row.
 #[derive(Drop)]
 pub(crate) enum Numbers {
     Narrow(Vec<i64>),
@@ -18,7 +18,7 @@ pub(crate) enum Numbers {
 }
 
 impl Numbers {
-    /// How many there are.
+    /// Returns how many numbers there are.
     pub(crate) fn len(&self) -> usize
         ensures { result ≡ length (numbers_of self.now) }
     {
@@ -29,7 +29,7 @@ impl Numbers {
         }
     }
 
-    /// The number at this place, from 0.
+    /// Returns the number with this index, from 0.
     pub(crate) fn get(&self, i: usize) -> i128
         requires { i < length (numbers_of self.now) }
         ensures { result ≡ get_or (numbers_of self.now) i (pos 0) }
@@ -41,7 +41,7 @@ impl Numbers {
         }
     }
 
-    /// The same numbers in 128 bits.
+    /// Returns the same numbers in 128 bits.
     pub(crate) fn widened(self, scratch: &mut Scratch) -> Result<Vec<i128>, Memory>
         ensures { IfOk result (λ wide. wide.items ≡ numbers_of self) }
     {
@@ -52,7 +52,7 @@ impl Numbers {
         }
     }
 
-    /// The same numbers, each in a list.
+    /// Returns the same numbers, each materialised in a list.
     pub(crate) fn listed(self, scratch: &mut Scratch) -> Result<Numbers, Memory>
         ensures { IfOk result (λ made. numbers_of made ≡ numbers_of self) }
     {
@@ -62,7 +62,7 @@ impl Numbers {
         }
     }
 
-    /// Gives the vector back.
+    /// Gives the vector back to the scratch.
     pub(crate) fn give_back(self, scratch: &mut Scratch) {
         match self {
             Numbers::Narrow(numbers) => scratch.narrow.give(numbers),
@@ -72,7 +72,7 @@ impl Numbers {
     }
 }
 
-/// A number so many times, in a list.
+/// Returns a number repeated `count` times, in a list.
 fn listed_narrow(n: i64, count: usize, scratch: &mut Scratch) -> Result<Numbers, Memory>
     ensures { IfOk result (λ made. numbers_of made ≡ replicate count n) }
 {
@@ -80,14 +80,14 @@ fn listed_narrow(n: i64, count: usize, scratch: &mut Scratch) -> Result<Numbers,
     Ok(Numbers::Narrow(numbers))
 }
 
-/// The same in 128 bits.
+/// Returns a number repeated `count` times, in a list of 128 bits.
 fn listed_wide(n: i64, count: usize, scratch: &mut Scratch) -> Result<Vec<i128>, Memory>
     ensures { IfOk result (λ wide. wide.items ≡ replicate count n) }
 {
     Ok(repeated(i128::from(n), count, scratch.wide.take(count)?))
 }
 
-/// Numbers of 64 bits in 128.
+/// Returns numbers of 64 bits in 128.
 fn widened(numbers: Vec<i64>, scratch: &mut Scratch) -> Result<Vec<i128>, Memory>
     ensures { IfOk result (λ wide. wide.items ≡ numbers.items) }
 {
@@ -96,7 +96,7 @@ fn widened(numbers: Vec<i64>, scratch: &mut Scratch) -> Result<Vec<i128>, Memory
     Ok(wide)
 }
 
-/// The numbers in an empty vector of 128 bits, which has room for them.
+/// Returns the numbers in 128 bits. `wide` is an empty vector that has room for them.
 fn in_128_bits(numbers: &[i64], wide: Vec<i128>) -> Vec<i128>
     requires empty { wide.items ≡ [] }
     requires room { length numbers.now ≤ vec_capacity wide }

@@ -1,4 +1,4 @@
-//! The rows of a block at picked places.
+//! The selected rows of a block.
 ghost use Rattle.std.specs.Prelude.{◌≡◌, ◌+◌, ◌<◌, ◌≤◌, [], false, length, get_or, All, IfOk, vec_capacity};
 ghost use Rattle.table_rules.specs.declared.limits.TheConstants.{FIRST_COLUMNS};
 ghost use Rattle.sky_row.specs.Columns.{no_row, objects_at};
@@ -16,7 +16,7 @@ use sky_io::Memory;
 use sql_bound::AreaTest;
 use std::marker::Model;
 
-/// A block and places in it, in the order in which they are looked at.
+/// A block and a selection vector, in whose order its rows are read.
 #[derive(Drop)]
 pub(crate) struct Picked<'a> {
     pub block: &'a Block,
@@ -39,7 +39,7 @@ impl<'a> Model for Picked<'a> {
 }
 
 impl<'a> Picked<'a> {
-    /// The rows at these places, counted from 0.
+    /// Creates the selection of the rows with these numbers, counted from 0.
     pub(crate) fn new(block: &'a Block, places: &'a [u32]) -> Picked<'a>
         requires { All (λ place. place < length block.now.objects) places.now }
         ensures { result ≡ record {
@@ -50,14 +50,14 @@ impl<'a> Picked<'a> {
         Picked { block, places }
     }
 
-    /// How many rows there are.
+    /// Returns how many rows are selected.
     pub(crate) fn len(&self) -> usize
         ensures { result ≡ length self.now.objects }
     {
         self.places.len()
     }
 
-    /// A column of the rows by its number. Allocates memory for it.
+    /// Returns a column of the rows by its number. Allocates memory for it.
     pub(crate) fn read(&self, col: u32, scratch: &mut Scratch) -> Result<Lane, Memory>
         requires { col < FIRST_COLUMNS + self.now.width }
         ensures { IfOk result (IsLane self.now.objects
@@ -66,7 +66,7 @@ impl<'a> Picked<'a> {
         read(self.block, self.places, col, scratch)
     }
 
-    /// Which of the rows lie in the area, in an empty mask that has room for them.
+    /// Returns which of the rows are in the area. `found` is an empty mask that has room for them.
     pub(crate) fn lying(&self, test: &AreaTest, found: Vec<bool>) -> Vec<bool>
         requires empty { found.items ≡ [] }
         requires room { length self.now.objects ≤ vec_capacity found }

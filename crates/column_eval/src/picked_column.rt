@@ -1,6 +1,6 @@
-//! A column of 64-bit numbers without a NULL, at picked places. It is read where it stands: nothing is copied.
+//! A column of 64-bit numbers without a NULL, at selected rows. It is read in the block: nothing is copied.
 //!
-//! A sum goes by stretches of so many rows that it stays in 64 bits in one, as that of a lane does.
+//! A sum is computed in segments of so few rows that it stays in 64 bits in one, as the sum of a column vector is.
 ghost use Rattle.std.specs.Prelude.{◌≡◌, ◌+◌, ◌+ℤ◌, ◌<◌, ◌≤◌, All, Some, get_or, length, map, pos};
 ghost use Rattle.table_rules.specs.declared.limits.TheConstants.{ROWS_MOST};
 ghost use Rattle.column_eval.specs.Aggregates.{AreSummed, IsNoLarger, StaysWithin, joined_all, joined_from, numbers_between, sum_of};
@@ -11,7 +11,7 @@ use crate::aggregate::LONG;
 use crate::join::{Join, Plus};
 use std::marker::Model;
 
-/// The numbers of a column, and places in it, in the order in which they are looked at.
+/// The numbers of a column and a selection vector, in whose order they are read.
 #[derive(Drop)]
 pub(crate) struct PickedColumn<'a> {
     values: &'a [i64],
@@ -30,7 +30,7 @@ impl<'a> Model for PickedColumn<'a> {
 }
 
 impl<'a> PickedColumn<'a> {
-    /// The numbers at these places.
+    /// Creates the column of the numbers of the rows with these numbers.
     pub(crate) fn new(values: &'a [i64], places: &'a [u32]) -> PickedColumn<'a>
         requires { IsPickedColumn values.now places.now }
         ensures { result ≡ numbers_at values.now places.now }
@@ -38,14 +38,14 @@ impl<'a> PickedColumn<'a> {
         PickedColumn { values, places }
     }
 
-    /// How many there are.
+    /// Returns how many numbers are selected.
     pub(crate) fn len(&self) -> usize
         ensures { result ≡ length self.now }
     {
         self.places.len()
     }
 
-    /// The number at this place among them.
+    /// Returns the number with this index among them.
     pub(crate) fn get(&self, i: usize) -> i64
         requires { i < length self.now }
         ensures { result ≡ get_or self.now i (pos 0) }
@@ -53,7 +53,7 @@ impl<'a> PickedColumn<'a> {
         number_at(self.values, self.places, i)
     }
 
-    /// Their sum from one place up to another.
+    /// Returns their sum from index `from` to before index `to`.
     pub(crate) fn sum(&self, from: usize, to: usize) -> i128
         requires order { from ≤ to }
         requires there { to ≤ length self.now }
@@ -63,7 +63,7 @@ impl<'a> PickedColumn<'a> {
         sum_at(self.values, self.places, from, to)
     }
 
-    /// The least or the greatest of them from one place up to another, by the one of two that is taken.
+    /// Returns the least or the greatest of them in a range, by the operation that returns one of two.
     pub(crate) fn chosen<J: Join>(&self, join: &J, from: usize, to: usize) -> Option<i128>
         requires order { from ≤ to }
         requires there { to ≤ length self.now }
@@ -79,7 +79,7 @@ impl<'a> PickedColumn<'a> {
     }
 }
 
-/// The number at one of the places.
+/// Returns the number of one selected row.
 #[inline(always)]
 fn number_at(values: &[i64], places: &[u32], i: usize) -> i64
     requires there { All (λ place. place < length values.now) places.now }
@@ -89,7 +89,7 @@ fn number_at(values: &[i64], places: &[u32], i: usize) -> i64
     values[places[i] as usize]
 }
 
-/// The sum of the numbers at the places from one up to another.
+/// Returns the sum of the numbers of a range of the selected rows.
 fn sum_at(values: &[i64], places: &[u32], from: usize, to: usize) -> i128
     requires there { All (λ place. place < length values.now) places.now }
     requires order { from ≤ to }
@@ -110,7 +110,7 @@ fn sum_at(values: &[i64], places: &[u32], from: usize, to: usize) -> i128
     total
 }
 
-/// What the numbers at the places from one up to another come to, behind a first one.
+/// Combines a first number with the numbers of a range of the selected rows.
 fn joined_at<J: Join>(
     join: &J,
     first: i64,

@@ -1,4 +1,4 @@
-//! The truths of tests, a column at a time.
+//! The truth values of tests, a column at a time.
 ghost use Rattle.std.specs.Prelude.{◌≡◌, ◌+◌, ◌<◌, ◌≤◌, ℤ, [], IfOk, IsTrue, All, length, get_or, pos, vec_capacity};
 ghost use Rattle.sql_tree.specs.declared.cond.Cmp.TheVariants.{AtMost};
 ghost use Rattle.table_rules.specs.Objects.{IsRow};
@@ -22,7 +22,7 @@ use lane_filter::keep;
 use sky_io::Memory;
 use sql_bound::{BoundExpr, Cmp};
 
-/// The flags of a comparison.
+/// Returns the flags of a comparison.
 pub(crate) fn compare(
     left: &BoundExpr,
     op: Cmp,
@@ -44,7 +44,7 @@ pub(crate) fn compare(
     Ok(flags)
 }
 
-/// The flags of BETWEEN, or with `negated` of NOT BETWEEN.
+/// Returns the flags of BETWEEN, or with `negated` of NOT BETWEEN.
 pub(crate) fn between(
     negated: bool,
     value: &BoundExpr,
@@ -73,7 +73,7 @@ pub(crate) fn between(
     Ok(negated_if(negated, within))
 }
 
-/// The flags of IN, or with `negated` of NOT IN.
+/// Returns the flags of IN, or with `negated` of NOT IN.
 pub(crate) fn among(
     negated: bool,
     value: &BoundExpr,
@@ -93,7 +93,7 @@ pub(crate) fn among(
     Ok(negated_if(negated, flags_of(known, found)))
 }
 
-/// The flags of IS NULL, or with `negated` of IS NOT NULL.
+/// Returns the flags of IS NULL, or with `negated` of IS NOT NULL.
 pub(crate) fn is_null(
     negated: bool,
     value: &BoundExpr,
@@ -112,7 +112,7 @@ pub(crate) fn is_null(
     Ok(negated_if(!negated, flags_of(all, known)))
 }
 
-// The flags of a comparison of two lanes, which is unknown where one of them is NULL.
+// Returns the flags of a comparison of two column vectors, which is unknown at each row at which one of them is NULL.
 fn compared(op: Cmp, left: &Lane, right: &Lane, scratch: &mut Scratch) -> Result<Flags, Memory>
     requires numbers { length (numbers_of right.now.numbers)
         ≡ length (numbers_of left.now.numbers) }
@@ -132,7 +132,7 @@ fn compared(op: Cmp, left: &Lane, right: &Lane, scratch: &mut Scratch) -> Result
     Ok(flags_of(known, truth))
 }
 
-// How the numbers of the left compare with those of the right, in an empty mask that has room for it.
+// Compares the numbers of the left with those of the right. `found` is an empty mask that has room for the results.
 fn truths_of(op: Cmp, left: &Numbers, right: &Numbers, found: Vec<bool>) -> Vec<bool>
     requires count { length (numbers_of right.now) ≡ length (numbers_of left.now) }
     requires empty { found.items ≡ [] }
@@ -153,8 +153,8 @@ fn truths_of(op: Cmp, left: &Numbers, right: &Numbers, found: Vec<bool>) -> Vec<
     }
 }
 
-// The same of numbers of 64 bits. Each comparison has a loop of its own: with a choice among them in each turn it would not
-// become vector code.
+// Compares numbers of 64 bits. Each comparison has a loop of its own: with a choice among them in each iteration, the
+// loop would not become vector code.
 fn truths_of_narrow(op: Cmp, left: &[i64], right: &[i64], found: Vec<bool>) -> Vec<bool>
     requires count { length right.now ≡ length left.now }
     requires empty { found.items ≡ [] }
@@ -172,7 +172,7 @@ fn truths_of_narrow(op: Cmp, left: &[i64], right: &[i64], found: Vec<bool>) -> V
     }
 }
 
-// The same by a comparison that is known where this is laid in.
+// Compares numbers of 64 bits, by a comparison that is a constant where this call is inlined.
 #[inline(always)]
 fn truths_by(op: Cmp, left: &[i64], right: &[i64], found: Vec<bool>) -> Vec<bool>
     requires count { length right.now ≡ length left.now }
@@ -188,7 +188,7 @@ fn truths_by(op: Cmp, left: &[i64], right: &[i64], found: Vec<bool>) -> Vec<bool
     found
 }
 
-// How numbers of 64 bits compare with one number.
+// Compares numbers of 64 bits with one number.
 fn truths_with(op: Cmp, values: &[i64], n: i64, found: Vec<bool>) -> Vec<bool>
     requires empty { found.items ≡ [] }
     requires room { length values.now ≤ vec_capacity found }
@@ -200,7 +200,7 @@ fn truths_with(op: Cmp, values: &[i64], n: i64, found: Vec<bool>) -> Vec<bool>
     found
 }
 
-// The comparison that says the same with its sides exchanged.
+// Returns the comparison that is equivalent when its sides are exchanged.
 fn turned(op: Cmp) -> Cmp
     ensures { (a b : ℤ) → compares result a b ≡ compares op b a }
 {
@@ -214,7 +214,7 @@ fn turned(op: Cmp) -> Cmp
     }
 }
 
-// The same of numbers of which some are wider.
+// Compares numbers of which some are wider than 64 bits.
 fn truths_of_wide(op: Cmp, left: &Numbers, right: &Numbers, found: Vec<bool>) -> Vec<bool>
     requires count { length (numbers_of right.now) ≡ length (numbers_of left.now) }
     requires empty { found.items ≡ [] }
@@ -230,7 +230,7 @@ fn truths_of_wide(op: Cmp, left: &Numbers, right: &Numbers, found: Vec<bool>) ->
     found
 }
 
-// Whether the comparison is true of the two numbers.
+// Returns whether the comparison is true of the two numbers.
 #[inline(always)]
 fn compares(op: Cmp, a: i128, b: i128) -> bool
     ensures { result ≡ compares op a b }
@@ -245,7 +245,7 @@ fn compares(op: Cmp, a: i128, b: i128) -> bool
     }
 }
 
-// Which of the numbers are in the list, in an empty mask that has room for it.
+// Returns which of the numbers are in the list. `found` is an empty mask that has room for the results.
 fn found_in(list: &[i64], numbers: &Numbers, found: Vec<bool>) -> Vec<bool>
     requires empty { found.items ≡ [] }
     requires room { length (numbers_of numbers.now) ≤ vec_capacity found }
@@ -259,7 +259,7 @@ fn found_in(list: &[i64], numbers: &Numbers, found: Vec<bool>) -> Vec<bool>
     found
 }
 
-// Whether the number is among those of the list.
+// Returns whether the number is in the list.
 fn is_one_of(list: &[i64], a: i128) -> bool
     ensures { result ≡ is_one_of list.now a }
 {

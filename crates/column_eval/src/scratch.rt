@@ -1,10 +1,10 @@
-//! Vectors that are used again: what one node of a tree no longer needs, the next one takes.
+//! Vectors that are reused: a vector that one node of a tree no longer needs is taken by the next one.
 ghost use Rattle.std.specs.Prelude.{◌≡◌, ◌≤◌, [], IfOk, length, replicate, vec_capacity};
 
 use sky_io::Memory;
 use std::alloc::Global;
 
-/// The vectors of an evaluation. It begins with none and keeps those that it took, for the next evaluation.
+/// The vectors of an evaluation. It begins with none and keeps those that it allocated, for the next evaluation.
 #[derive(Drop)]
 pub struct Scratch {
     pub(crate) narrow: Pool<i64>,
@@ -13,7 +13,7 @@ pub struct Scratch {
 }
 
 impl Scratch {
-    /// A scratch without vectors. Does not allocate.
+    /// Creates a scratch without vectors. Does not allocate.
     pub fn new(alloc: Global) -> Scratch {
         Scratch {
             narrow: Pool::new(alloc),
@@ -23,7 +23,7 @@ impl Scratch {
     }
 }
 
-/// Vectors of one kind that nobody uses.
+/// The free vectors of one element type.
 #[derive(Drop)]
 pub struct Pool<T> {
     alloc: Global,
@@ -31,7 +31,7 @@ pub struct Pool<T> {
 }
 
 impl<T: Copy> Pool<T> {
-    /// No vectors. Does not allocate.
+    /// Creates a pool without vectors. Does not allocate.
     pub fn new(alloc: Global) -> Pool<T> {
         Pool {
             alloc,
@@ -39,8 +39,8 @@ impl<T: Copy> Pool<T> {
         }
     }
 
-    /// An empty vector with room for so many items: one that is free, or a new one. Allocates memory where there is
-    /// none, or where it has less room.
+    /// Returns an empty vector with room for the given number of items: one that is free, or a new one. Allocates
+    /// memory if no vector is free, or if the free one has less room.
     pub fn take(&mut self, count: usize) -> Result<Vec<T>, Memory>
         ensures empty { IfOk result (λ found. found.items ≡ []) }
         ensures room { IfOk result (λ found. count ≤ vec_capacity found) }
@@ -51,7 +51,7 @@ impl<T: Copy> Pool<T> {
         Ok(found)
     }
 
-    /// The same with so many times one item in it.
+    /// Returns a vector with one item repeated `count` times.
     pub fn filled(&mut self, item: T, count: usize) -> Result<Vec<T>, Memory>
         ensures { IfOk result (λ found. found.items ≡ replicate count item) }
     {
@@ -60,7 +60,7 @@ impl<T: Copy> Pool<T> {
         Ok(found)
     }
 
-    /// The same with so many items in it, whatever they are: for what is written before it is read.
+    /// Returns a vector of the given number of items, whatever they are: for what is written before it is read.
     pub fn sized(&mut self, item: T, count: usize) -> Result<Vec<T>, Memory>
         ensures { IfOk result (λ found. length found.items ≡ count) }
     {
@@ -69,7 +69,7 @@ impl<T: Copy> Pool<T> {
         Ok(found)
     }
 
-    /// Keeps a vector for its next use, whatever it holds. Where there is no memory to keep it, it is gone.
+    /// Keeps a vector for its next use, whatever it holds. If there is no memory to keep it, it is dropped.
     pub fn give(&mut self, used: Vec<T>) {
         let _ = self.free.push(used);
     }

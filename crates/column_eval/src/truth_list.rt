@@ -1,4 +1,4 @@
-//! The truths of a condition on some rows.
+//! The truth values of a condition on some rows.
 ghost use Rattle.std.specs.Prelude.{◌≡◌, ◌<◌, None, false, length, get_or, map};
 ghost use Rattle.value_rules.specs.Truth.{is_true};
 ghost use Rattle.column_eval.specs.Flags.{truth_by, truths_in};
@@ -7,12 +7,12 @@ use crate::flags::Flags;
 use crate::scratch::Scratch;
 use std::marker::Model;
 
-/// Truths, of which `None` is unknown, one a row.
+/// The truth values, one for each row; `None` is unknown.
 #[derive(Drop)]
 pub struct TruthList {
-    /// Where it is true.
+    /// The rows on which the condition is true.
     true_on: Vec<bool>,
-    /// Where it is false.
+    /// The rows on which the condition is false.
     false_on: Vec<bool>,
 }
 
@@ -28,7 +28,7 @@ impl Model for TruthList {
 }
 
 impl TruthList {
-    /// The truths that flags say.
+    /// Creates the truth values that the flags represent.
     pub(crate) fn of(flags: Flags) -> TruthList
         requires { length flags.false_on.items ≡ length flags.true_on.items }
         ensures { result ≡ truths_in flags.true_on.items flags.false_on.items }
@@ -39,14 +39,14 @@ impl TruthList {
         }
     }
 
-    /// How many rows there are. Does not allocate.
+    /// Returns the number of rows. Does not allocate.
     pub fn len(&self) -> usize
         ensures { result ≡ length self.now }
     {
         self.true_on.len()
     }
 
-    /// The truth of the row with this number, from 0; `None` is unknown. Does not allocate.
+    /// Returns the truth value of the row with this number, from 0; `None` is unknown. Does not allocate.
     pub fn get(&self, i: usize) -> Option<bool>
         requires { i < length self.now }
         ensures { result ≡ get_or self.now i None }
@@ -54,7 +54,7 @@ impl TruthList {
         truth_at(self.true_on.as_slice(), self.false_on.as_slice(), i)
     }
 
-    /// On which rows it is true, and not unknown. Does not allocate.
+    /// Returns on which rows the condition is true, and not unknown. Does not allocate.
     pub fn holds(&self) -> &[bool]
         ensures { result.now ≡ map is_true self.now }
     {
@@ -68,7 +68,7 @@ impl TruthList {
     }
 }
 
-/// The truth that two masks say of a place.
+/// Returns the truth value that two masks represent at an index.
 fn truth_at(true_on: &[bool], false_on: &[bool], i: usize) -> Option<bool>
     requires true_on { i < length true_on.now }
     requires false_on { i < length false_on.now }

@@ -12,18 +12,18 @@ use crate::picked_column::PickedColumn;
 use crate::scratch::Scratch;
 use std::marker::Model;
 
-/// Values, of which `None` is NULL, one a row.
+/// The values, one for each row; `None` is NULL.
 #[derive(Drop)]
 pub struct ValueList<'a> {
     source: Source<'a>,
 }
 
-/// Where values stand.
+/// The source of the values.
 #[derive(Drop)]
 pub(crate) enum Source<'a> {
-    /// A number for each row, which has no meaning where the row has no value, and which rows have one.
+    /// A number for each row, which has no meaning if the row has no value, and which rows have one.
     Lane(Lane),
-    /// A column of the block, at the places of the rows.
+    /// A column of the block, at the selected rows.
     Column(PickedColumn<'a>),
 }
 
@@ -39,7 +39,7 @@ impl<'a> Model for ValueList<'a> {
 }
 
 impl<'a> ValueList<'a> {
-    /// The values of a lane.
+    /// Creates the values of a column vector.
     pub(crate) fn of(lane: Lane) -> ValueList<'a>
         requires { IsSmall lane }
         ensures { result ≡ values_in (numbers_of lane.numbers) lane.known.items }
@@ -49,7 +49,7 @@ impl<'a> ValueList<'a> {
         }
     }
 
-    /// The numbers of a column at picked places.
+    /// Creates the values of a column at selected rows.
     pub(crate) fn picked(numbers: PickedColumn<'a>) -> ValueList<'a>
         ensures { result ≡ map Some numbers.entry }
     {
@@ -58,7 +58,7 @@ impl<'a> ValueList<'a> {
         }
     }
 
-    /// How many rows there are. Does not allocate.
+    /// Returns the number of rows. Does not allocate.
     pub fn len(&self) -> usize
         ensures { result ≡ length self.now }
     {
@@ -68,7 +68,7 @@ impl<'a> ValueList<'a> {
         }
     }
 
-    /// The value of the row with this number, from 0; `None` is NULL. Does not allocate.
+    /// Returns the value of the row with this number, from 0; `None` is NULL. Does not allocate.
     pub fn get(&self, i: usize) -> Option<i128>
         requires { i < length self.now }
         ensures { result ≡ get_or self.now i None }
@@ -79,7 +79,7 @@ impl<'a> ValueList<'a> {
         }
     }
 
-    /// How many of the values from one place up to another are not NULL. Does not allocate.
+    /// Returns how many of the values from index `from` to before index `to` are not NULL. Does not allocate.
     pub fn count(&self, from: usize, to: usize) -> u32
         requires order { from ≤ to }
         requires there { to ≤ length self.now }
@@ -92,7 +92,7 @@ impl<'a> ValueList<'a> {
         }
     }
 
-    /// Their sum, 0 where there is none. Does not allocate.
+    /// Returns their sum, 0 if there are none. Does not allocate.
     pub fn sum(&self, from: usize, to: usize) -> i128
         requires order { from ≤ to }
         requires there { to ≤ length self.now }
@@ -105,7 +105,7 @@ impl<'a> ValueList<'a> {
         }
     }
 
-    /// The least of them, if there is one. Does not allocate.
+    /// Returns the least of them, if there is one. Does not allocate.
     pub fn least(&self, from: usize, to: usize) -> Option<i128>
         requires order { from ≤ to }
         requires there { to ≤ length self.now }
@@ -114,7 +114,7 @@ impl<'a> ValueList<'a> {
         self.chosen(&Lesser, from, to)
     }
 
-    /// The greatest of them, if there is one. Does not allocate.
+    /// Returns the greatest of them, if there is one. Does not allocate.
     pub fn greatest(&self, from: usize, to: usize) -> Option<i128>
         requires order { from ≤ to }
         requires there { to ≤ length self.now }
@@ -123,7 +123,7 @@ impl<'a> ValueList<'a> {
         self.chosen(&Greater, from, to)
     }
 
-    /// The least or the greatest of them, by the one of two that is taken.
+    /// Returns the least or the greatest of them, by the operation that returns one of two.
     fn chosen<J: Join>(&self, join: &J, from: usize, to: usize) -> Option<i128>
         requires order { from ≤ to }
         requires there { to ≤ length self.now }
@@ -145,7 +145,7 @@ impl<'a> ValueList<'a> {
     }
 }
 
-/// The value at a place: the number there, where it is known.
+/// Returns the value at an index: the number there, if it is valid.
 fn value_at(numbers: &Numbers, known: &[bool], i: usize) -> Option<i128>
     requires numbers { i < length (numbers_of numbers.now) }
     requires known { i < length known.now }

@@ -1,4 +1,4 @@
--- Laws of overlap.
+-- Lemmas on overlap.
 use Rattle.std.specs.Prelude.{◌↔◌, ℕ, ◌<◌, ◌≤ℤ◌, pos, ◌||◌, IsTrue}
 use Rattle.std.specs.List.{AllPairs, Contains}
 use Rattle.sky_vector.specs.Points.{Point, chord_squared, square}
@@ -7,8 +7,8 @@ use Rattle.sky_rules.specs.Limits.{IsSky}
 use Rattle.sky_rules.specs.Bounds.{in_chunk, in_sub, near_chunk, near_sub}
 use Rattle.overlap_tables.specs.Overlaps.{in_full_overlap, near_others}
 
--- Where a point that is no farther than the overlap radius from a point of a subchunk is: in the near region of the
--- subchunk and in that of its chunk, hence in the chunk or in the full overlap of the chunk.
+-- The location of a point that is no farther than the overlap radius from a point of a subchunk: in the near region of
+-- the subchunk and in that of its chunk, hence in the chunk or in the full overlap of the chunk.
 pub record StaysIn (g : Partition) (c s : ℕ) (p : Point) : Type 0 where
   pub near_its_sub : IsTrue (near_sub g c s p)
   pub near_its_chunk : IsTrue (near_chunk g c p)
@@ -25,7 +25,7 @@ OverlapIsEnough =
 abbrev pub OthersAscend : Type 0
 OthersAscend = (g : Partition) (p : Point) → AllPairs (λ a b. a < b) (near_others g p)
 
--- they are those chunks whose full overlap holds the point
+-- the chunks that need a point are those whose full overlap contains it
 abbrev pub OthersNeedIt : Type 0
 OthersNeedIt =
     (g : Partition) (p : Point) (c : ℕ)

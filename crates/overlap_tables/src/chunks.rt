@@ -14,8 +14,8 @@ use sky_plan::SkyPlan;
 use sky_vector::{Pos, length_ok};
 use std::alloc::Global;
 
-/// The numbers of the chunks whose full overlap holds the position, ascending: it is near them, and they do not hold
-/// it. Allocates memory for them.
+/// Returns the numbers of the chunks whose full overlap contains the position, ascending: the position is near them,
+/// and not in them. Allocates memory for them.
 pub fn near_chunks(alloc: Global, plan: &SkyPlan, p: &Pos) -> Result<Vec<u32>, Memory>
     ensures { IfOk result (λ chunks. chunks.items ≡ near_others plan.now (point p.now)) }
 {
@@ -24,8 +24,8 @@ pub fn near_chunks(alloc: Global, plan: &SkyPlan, p: &Pos) -> Result<Vec<u32>, M
     Ok(chunks)
 }
 
-/// Puts the numbers of the chunks whose full overlap holds the position behind those of a list, ascending. Allocates
-/// memory for them; where there is none, a front of them may stand behind those of the list.
+/// Appends the numbers of the chunks whose full overlap contains the position to a list, ascending. Allocates memory
+/// for them. If an allocation fails, a prefix of them may have been appended.
 pub fn push_near_chunks(plan: &SkyPlan, p: &Pos, into: &mut Vec<u32>) -> Result<(), Memory>
     ensures all { IfOk result (λ _.
         into.new.items ≡ into.old.items ++ near_others plan.now (point p.now)) }
@@ -39,9 +39,10 @@ pub fn push_near_chunks(plan: &SkyPlan, p: &Pos, into: &mut Vec<u32>) -> Result<
     }
 }
 
-/// Puts the numbers of the chunks whose full overlap holds an admissible position, whose own chunk is known, behind
-/// those of a list, ascending; because an allocation failed a front of them may stand there. The stripe is where their
-/// stripes are looked for first: any will do, and the one that has the position is mostly where they are found.
+/// Appends the numbers of the chunks whose full overlap contains an admissible position to a list, ascending, if the
+/// position's own chunk is known. If an allocation fails, a prefix of them may have been appended. The search for their
+/// stripes begins at the given stripe. Any will do; the one that contains the position is mostly the one in which they
+/// are found.
 pub fn push_near_others(
     plan: &SkyPlan,
     stripe: usize,
@@ -60,7 +61,7 @@ pub fn push_near_others(
     push_in_stripes(plan, own, from, to, p, into)
 }
 
-/// The same, by a test of each chunk.
+/// Appends the same numbers, by a test of each chunk.
 fn push_by_test(plan: &SkyPlan, p: &Pos, into: &mut Vec<u32>) -> Result<(), Memory>
     ensures all { IfOk result (λ _.
         into.new.items ≡ into.old.items ++ near_others plan.now (point p.now)) }
@@ -72,7 +73,7 @@ fn push_by_test(plan: &SkyPlan, p: &Pos, into: &mut Vec<u32>) -> Result<(), Memo
     Ok(())
 }
 
-/// Whether the full overlap of the chunk holds the position, which may be any.
+/// Returns whether the full overlap of the chunk contains the position, which may be any.
 fn needs(plan: &SkyPlan, chunk: u32, p: &Pos) -> bool
     requires { chunk < chunk_count plan.now }
     ensures { result ≡ in_full_overlap plan.now chunk (point p.now) }
@@ -80,7 +81,7 @@ fn needs(plan: &SkyPlan, chunk: u32, p: &Pos) -> bool
     in_near(plan, chunk, p) && !is_held(plan, chunk, p)
 }
 
-/// Puts those chunks from one number up to and without another behind the list.
+/// Appends those of the chunks from one number up to but not including another.
 pub(crate) fn push_others(
     plan: &SkyPlan,
     own: u32,
@@ -103,7 +104,7 @@ pub(crate) fn push_others(
     Ok(())
 }
 
-/// Puts the chunk behind the list where it is needed there.
+/// Appends the chunk if it is needed there.
 fn push_if(is_needed: bool, chunk: u32, into: &mut Vec<u32>) -> Result<(), Memory>
     ensures all { IfOk result (λ _.
         into.new.items ≡ into.old.items ++ (if is_needed then chunk ∷ [] else [])) }
@@ -115,7 +116,8 @@ fn push_if(is_needed: bool, chunk: u32, into: &mut Vec<u32>) -> Result<(), Memor
     Ok(())
 }
 
-/// Whether the full overlap of the chunk holds the position, where the chunk that holds it is known.
+/// Returns whether the full overlap of the chunk contains the position, if the chunk that contains the position is
+/// known.
 #[tactic(auto, using(crate::proofs::Own::other_near))]
 fn is_other(plan: &SkyPlan, own: u32, chunk: u32, p: &Pos) -> bool
     requires own { IsOwn plan.now own (point p.now) }

@@ -1,9 +1,9 @@
-//! Laws of overlap, as functions that do nothing: a caller has what they ensure.
+//! Lemmas on overlap, as functions that do nothing: a caller has what they ensure.
 
 ghost use Rattle.overlap_tables.specs.Laws.{OthersAscend, OthersNeedIt, OverlapIsEnough};
 
-/// Overlap is enough: what is no farther than the overlap radius from a position of a subchunk is in the near region
-/// of the subchunk, and in its chunk or the full overlap of that.
+/// Overlap is sufficient: a position that is no farther than the overlap radius from a position of a subchunk is in the
+/// near region of the subchunk, and in its chunk or the full overlap of that.
 pub fn overlap_is_enough()
     ensures { OverlapIsEnough }
 {}
@@ -13,7 +13,7 @@ pub fn others_ascend()
     ensures { OthersAscend }
 {}
 
-/// The chunks that need a position are those whose full overlap holds it.
+/// The chunks that need a position are those whose full overlap contains it.
 pub fn others_need_it()
     ensures { OthersNeedIt }
 {}

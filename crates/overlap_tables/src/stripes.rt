@@ -15,9 +15,9 @@ use sky_plan::SkyPlan;
 use sky_rules::limits::{SKY_BOTTOM, SKY_END};
 use sky_vector::Pos;
 
-/// The stripes, from a number up to and without another, that have each chunk near an admissible position. They are looked for
-/// within the greatest overlap radius, since a chunk reaches as far as that of its own stripe, and in the given stripe first:
-/// mostly the one that has the position is all of them.
+/// Returns the stripes, from a number up to but not including another, that contain each chunk near an admissible
+/// position. They are searched for within the greatest overlap radius, since a chunk reaches as far as that of its own
+/// stripe. The search begins at the given stripe: mostly the one that contains the position is all of them.
 pub(crate) fn stripes_near(plan: &SkyPlan, stripe: usize, p: &Pos) -> (usize, usize)
     requires admissible { IsAdmissible (point p.now) }
     requires stripe { stripe < length plan.now.stripes }
@@ -29,7 +29,7 @@ pub(crate) fn stripes_near(plan: &SkyPlan, stripe: usize, p: &Pos) -> (usize, us
     (from, last + 1)
 }
 
-/// The lowest height within the reach of another one.
+/// Returns the lowest height within the reach of another one.
 fn lowest(z: i64, reach: u32) -> i64
     requires reach { reach ≤ OVERLAP_MOST }
     requires bottom { sky_bottom ≤ℤ z }
@@ -43,7 +43,7 @@ fn lowest(z: i64, reach: u32) -> i64
     if low < SKY_BOTTOM { SKY_BOTTOM } else { low }
 }
 
-/// The highest height within the reach of another one.
+/// Returns the highest height within the reach of another one.
 fn highest(z: i64, reach: u32) -> i64
     requires reach { reach ≤ OVERLAP_MOST }
     requires bottom { sky_bottom ≤ℤ z }
@@ -57,7 +57,7 @@ fn highest(z: i64, reach: u32) -> i64
     if high < SKY_END { high } else { SKY_END - 1 }
 }
 
-/// Puts those chunks of some stripes behind the list whose full overlap holds the position, ascending.
+/// Appends those chunks of some stripes whose full overlap contains the position, ascending.
 pub(crate) fn push_in_stripes(
     plan: &SkyPlan,
     own: u32,
@@ -80,7 +80,7 @@ pub(crate) fn push_in_stripes(
     Ok(())
 }
 
-/// Puts those chunks of a stripe behind the list whose full overlap holds the position, ascending.
+/// Appends those chunks of a stripe whose full overlap contains the position, ascending.
 fn push_in_stripe(
     plan: &SkyPlan,
     own: u32,

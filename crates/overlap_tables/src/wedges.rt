@@ -1,11 +1,11 @@
-//! Which wedges of a stripe a position can be near, found by a walk over the sides beside it.
+//! The wedges of a stripe that a position can be near, found by a walk over the sides around it.
 //!
-//! A position is near a wedge that does not hold it only where it is near the line of one of the wedge's two sides.
-//! The walk goes from the wedge that holds the position to both ways, each up to the first side whose line the
-//! position is far from. Where the way between these two sides is less than half a turn, the position is far from
-//! each line that does not lead through it; so it can be near the wedges on that way, and those opposite to it, whose
-//! sides lie on the same lines. Where the way is one wedge of an even number, the wedge opposite has no line inside of it,
-//! and is left out. A longer way comes of few wedges, or of a position beside the axis: then all wedges are left.
+//! A position is near a wedge that does not contain it only if it is near the line of one of the wedge's two sides. The
+//! walk goes both ways from the wedge that contains the position, each way up to the first side whose line the position
+//! is far from. If the arc between these two sides is less than half a turn, the position is far from each line that
+//! does not pass through the arc. So it can be near the wedges of that arc, and those opposite to it, whose sides are
+//! on the same lines. If the arc is one wedge of an even number, the wedge opposite has no line inside of it, and is
+//! left out. A longer arc results from few wedges, or from a position near the axis: then all wedges are candidates.
 
 ghost use Rattle.std.specs.Prelude.{◌≡◌, ◌+◌, ◌*◌, ◌-◌, ◌/◌, ◌%◌, ◌<◌, ◌≤◌, IfSome, false, min};
 ghost use Rattle.sky_vector.specs.Pos.{point};
@@ -19,7 +19,7 @@ use crate::near::is_near_side;
 use sky_vector::Pos;
 use wedge_rules::{direction_of, wedge_of};
 
-/// Three runs of wedges in a row, each from its first wedge up to and without its end.
+/// Three consecutive runs of wedges, each from its first wedge up to but not including its end.
 #[derive(Clone, Copy)]
 pub(crate) struct Runs {
     pub(crate) low: u32,
@@ -30,8 +30,8 @@ pub(crate) struct Runs {
     pub(crate) high_end: u32,
 }
 
-/// The runs outside of which no wedge has the position in its near region, for the wedges of a stripe and a radius in grid
-/// units.
+/// Returns the runs outside of which no wedge has the position in its near region, for the wedges of a stripe and a
+/// radius in grid units.
 pub(crate) fn candidates(wedges: u32, radius: u32, p: &Pos) -> Runs
     requires count { IsWedgeCount wedges }
     requires few { wedges ≤ STRIPE_CHUNKS_MOST }
@@ -45,7 +45,7 @@ pub(crate) fn candidates(wedges: u32, radius: u32, p: &Pos) -> Runs
     }
 }
 
-/// All wedges, as the last run.
+/// Returns all wedges, as the last run.
 fn all(wedges: u32) -> Runs
     ensures empty_low { (result.low ≡ 0) × (result.low_end ≡ 0) }
     ensures empty_middle { (result.middle ≡ 0) × (result.middle_end ≡ 0) }
@@ -61,8 +61,8 @@ fn all(wedges: u32) -> Runs
     }
 }
 
-/// The wedge alone, of an even number: the one opposite to it has its sides on the same two lines, so that a position between
-/// these that is far from both is not near it.
+/// Returns a single wedge of an even number: the one opposite to it has its sides on the same two lines, so that a
+/// position between these that is far from both is not near it.
 #[tactic(auto, using(crate::proofs::Runs::alone_cover))]
 fn alone(wedges: u32, wedge: u32) -> Runs
     requires few { wedges ≤ STRIPE_CHUNKS_MOST }
@@ -81,7 +81,7 @@ fn alone(wedges: u32, wedge: u32) -> Runs
     }
 }
 
-/// The wedges between two sides that are less than half a turn apart, and those opposite to them.
+/// Returns the wedges between two sides that are less than half a turn apart, and those opposite to them.
 fn of_way(wedges: u32, first: u32, second: u32) -> Runs
     requires few { wedges ≤ STRIPE_CHUNKS_MOST }
     requires first { first < wedges }
@@ -115,7 +115,7 @@ fn of_way(wedges: u32, first: u32, second: u32) -> Runs
     }
 }
 
-/// The sides at which the walk ends, where they are less than half a turn apart.
+/// Returns the sides at which the walk ends, if they are less than half a turn apart.
 fn window(wedges: u32, radius: u32, p: &Pos) -> Option<(u32, u32)>
     requires count { IsWedgeCount wedges }
     requires few { wedges ≤ STRIPE_CHUNKS_MOST }
@@ -132,8 +132,8 @@ fn window(wedges: u32, radius: u32, p: &Pos) -> Option<(u32, u32)>
     }
 }
 
-/// How many steps back from the first side of a wedge the first one stands whose line the position is far from. It is
-/// looked for as far as half a turn.
+/// Returns the number of steps back from the first side of a wedge to the first side whose line the position is far
+/// from. The search ends after half a turn.
 fn steps_back(wedges: u32, radius: u32, wedge: u32, p: &Pos) -> Option<u32>
     requires few { wedges ≤ STRIPE_CHUNKS_MOST }
     requires radius { radius ≤ OVERLAP_MOST }
@@ -150,7 +150,8 @@ fn steps_back(wedges: u32, radius: u32, wedge: u32, p: &Pos) -> Option<u32>
     None
 }
 
-/// The same, on from the second side of the wedge.
+/// Returns the number of steps on from the second side of the wedge to the first side whose line the position is far
+/// from. The search ends after half a turn.
 fn steps_on(wedges: u32, radius: u32, wedge: u32, p: &Pos) -> Option<u32>
     requires few { wedges ≤ STRIPE_CHUNKS_MOST }
     requires radius { radius ≤ OVERLAP_MOST }
@@ -167,7 +168,7 @@ fn steps_on(wedges: u32, radius: u32, wedge: u32, p: &Pos) -> Option<u32>
     None
 }
 
-/// Whether the position is, in the plane, no farther than the radius from the line of a side.
+/// Returns whether the position is, in the plane, no farther than the radius from the line of a side.
 fn is_near(wedges: u32, radius: u32, side: u32, p: &Pos) -> bool
     requires few { wedges ≤ STRIPE_CHUNKS_MOST }
     requires radius { radius ≤ OVERLAP_MOST }
@@ -177,7 +178,7 @@ fn is_near(wedges: u32, radius: u32, side: u32, p: &Pos) -> bool
     is_near_side(&direction_of(wedges, side), radius, p)
 }
 
-/// The side so many steps back from the first side of a wedge, round the sky.
+/// Returns the side that is the given number of steps back from the first side of a wedge, round the sky.
 fn side_back(wedges: u32, wedge: u32, steps: u32) -> u32
     requires few { wedges ≤ STRIPE_CHUNKS_MOST }
     requires there { wedge < wedges }
@@ -192,7 +193,7 @@ fn side_back(wedges: u32, wedge: u32, steps: u32) -> u32
     }
 }
 
-/// The side so many steps on from the second side of a wedge, round the sky.
+/// Returns the side that is the given number of steps on from the second side of a wedge, round the sky.
 fn side_on(wedges: u32, wedge: u32, steps: u32) -> u32
     requires few { wedges ≤ STRIPE_CHUNKS_MOST }
     requires there { wedge < wedges }

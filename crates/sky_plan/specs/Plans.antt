@@ -1,9 +1,9 @@
--- What a plan keeps beside its stripes.
+-- What a plan stores besides its stripes.
 use Rattle.std.specs.Prelude.{◌≡◌, ℕ, ◌+◌, ◌<◌, ◌≤◌, List, length, get_or, take}
 use Rattle.sky_rules.specs.Partition.{Stripe, Partition, chunks_in, chunk_count, greatest_overlap, nowhere, overlap_at}
 use Rattle.sky_rules.specs.Limits.{IsSky}
 
--- The number of each stripe's first chunk: so many chunks lie below the stripe.
+-- The number of each stripe's first chunk: it is the number of chunks below the stripe.
 pub record AreFirsts (stripes : List Stripe) (firsts : List ℕ) : Type 0 where
   pub all : length firsts ≡ length stripes
   pub each : (i d : ℕ) → i < length stripes → get_or firsts i d ≡ chunks_in (take i stripes)
@@ -19,7 +19,7 @@ pub record IsPlan (g : Partition) (kept : List ℕ) (all most : ℕ) : Type 0 wh
 abbrev pub stripe_numbered : Partition → ℕ → Stripe
 stripe_numbered g i = get_or g.stripes i nowhere.stripe
 
--- The stripe with this number has the chunk.
+-- The stripe with this number contains the chunk.
 pub record HasChunk (g : Partition) (i c : ℕ) : Type 0 where
   pub there : i < length g.stripes
   pub low : chunks_in (take i g.stripes) ≤ c

@@ -1,4 +1,4 @@
--- Where a chunk of a partition within the limits can stand.
+-- The sites that a chunk of a partition within the limits can have.
 use Rattle.std.specs.Prelude.{ℕ, ◌+◌, ◌<◌, ℤ, pos, ◌+ℤ◌, ◌≤ℤ◌, ◌<ℤ◌, drop, length}
 use Rattle.sky_rules.specs.Partition.{Partition, Site, sky_bottom, sky_end, floor_of}
 use Rattle.sky_rules.specs.declared.limits.TheConstants.{HEIGHT_LEAST}
@@ -14,7 +14,7 @@ pub record IsPlaced (site : Site) : Type 0 where
   pub end : site.end ≤ℤ sky_end
   pub wedge : site.wedge < site.stripe.chunks
 
--- Row t of a site's subchunks has the height z.
+-- Row t of a site's subchunks contains the height z.
 pub record HasHeight (site : Site) (t : ℕ) (z : ℤ) : Type 0 where
   pub there : t < site.stripe.rows
   pub low : row_start site t ≤ℤ z
@@ -24,7 +24,7 @@ pub record HasHeight (site : Site) (t : ℕ) (z : ℤ) : Type 0 where
 abbrev pub end_numbered : Partition → ℕ → ℤ
 end_numbered g i = floor_of (drop (i + 1) g.stripes)
 
--- where a wedge of the stripe with this number stands
+-- the site of a wedge of the stripe with this number
 abbrev pub site_numbered : Partition → ℕ → ℕ → Site
 site_numbered g i w = record { stripe = stripe_numbered g i; end = end_numbered g i; wedge = w }
 

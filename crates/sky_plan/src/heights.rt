@@ -1,15 +1,15 @@
-//! Where a height stands among stripes that rise.
+//! The stripe of a height: search among stripes in ascending order.
 
 ghost use Rattle.std.specs.Prelude.{◌≡◌, ◌≤◌, true, false, int_le, length};
 ghost use Rattle.std.specs.List.Sorted.{IsPartitionPoint, IsPartitionedBy};
 
 use crate::stripe::Stripe;
 
-/// The most stripes of which those at a height or below it are counted one by one: the heights of rows come in no order, so the
-/// processor guesses half of a bisection's steps wrong.
+/// The most stripes for which a linear count replaces bisection: the heights of rows come in no order, so half of a
+/// bisection's branches are mispredicted.
 const STRIPES_COUNTED: usize = 32;
 
-/// How many of the stripes, which rise, begin at the height or below it.
+/// Returns how many of the stripes, which ascend, begin at the height or below it.
 pub(crate) fn stripes_below(stripes: &[Stripe], z: i64) -> usize
     requires { IsPartitionedBy (λ s. int_le s.z_low z) stripes.now }
     ensures bound { result ≤ length stripes.now }
@@ -23,7 +23,7 @@ pub(crate) fn stripes_below(stripes: &[Stripe], z: i64) -> usize
     }
 }
 
-/// The same, by a loop without a branch.
+/// Returns the same count by a loop without a branch.
 fn counted_below(stripes: &[Stripe], z: i64) -> usize
     requires { IsPartitionedBy (λ s. int_le s.z_low z) stripes.now }
     ensures bound { result ≤ length stripes.now }

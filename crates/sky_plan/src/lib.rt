@@ -1,9 +1,10 @@
-//! The plan of the sky: its stripes in memory, and the chunk and the subchunk of a position by its height and a division.
+//! The plan of the sky: its stripes in memory, and the chunk and the subchunk of a position, found by its height and a
+//! division.
 //!
 //! Callers see a `SkyPlan` as a `Partition`, a `Stripe` as a stripe of it, and a `Region` as its bounds
-//! (`specs/Regions.antt`).
-//! Below: `sky_rules` for what a partition is, `wedge_rules` for wedges. Above: overlaps, chunks and the choice of chunks.
-//! No rows and no overlap: which positions are near a chunk is not told here.
+//! (`specs/Regions.antt`). Below: `sky_rules` for the definition of a partition, `wedge_rules` for wedges. Above:
+//! overlaps, chunks and the choice of chunks. No rows and no overlap: which positions are near a chunk is not decided
+//! here.
 #![tactic(auto)]
 
 mod heights;

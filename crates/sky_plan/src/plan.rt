@@ -1,4 +1,4 @@
-//! The plan of the sky, and the place of a position in it.
+//! The plan of the sky, and the chunk and subchunk of a position in it.
 
 ghost use Rattle.std.specs.Prelude.{◌≡◌, ◌+◌, ◌≤◌, ◌<◌, ◌≤ℤ◌, ◌<ℤ◌, IfOk, IsTrue, length, take};
 ghost use Rattle.sky_vector.specs.Points.{IsAdmissible};
@@ -26,7 +26,7 @@ use std::alloc::Global;
 use std::marker::Model;
 use wedge_rules::wedge_of;
 
-/// The greatest overlap radius of these stripes.
+/// Returns the greatest overlap radius of these stripes.
 fn greatest_of(stripes: &[Stripe]) -> u32
     ensures { result ≡ greatest_overlap (record { stripes = stripes.now }) }
 {
@@ -60,7 +60,7 @@ impl Model for SkyPlan {
 }
 
 impl SkyPlan {
-    /// The plan of these stripes, lowest first. Allocates memory for a number a stripe; where there is none, the
+    /// Creates the plan of these stripes, lowest first. Allocates memory for one number per stripe. If that fails, the
     /// stripes are dropped.
     pub fn of(alloc: Global, stripes: Vec<Stripe>) -> Result<SkyPlan, Memory>
         requires { IsSky (record { stripes = stripes.items }) }
@@ -83,7 +83,7 @@ impl SkyPlan {
         })
     }
 
-    /// The overlap radius of a chunk, in grid units. Does not allocate.
+    /// Returns the overlap radius of a chunk, in grid units. Does not allocate.
     pub fn radius_of(&self, chunk: u32) -> u32
         requires { chunk < chunk_count self.now }
         ensures value { result ≡ overlap_at self.now chunk }
@@ -92,7 +92,7 @@ impl SkyPlan {
         self.site(chunk).radius()
     }
 
-    /// The least overlap radius of all chunks. Does not allocate.
+    /// Returns the least overlap radius of all chunks. Does not allocate.
     pub fn least_radius(&self) -> u32
         ensures value { result ≡ least_overlap self.now }
         ensures most { result ≤ OVERLAP_MOST }
@@ -104,7 +104,7 @@ impl SkyPlan {
             .unwrap_or(0)
     }
 
-    /// The greatest overlap radius of all chunks. Does not allocate.
+    /// Returns the greatest overlap radius of all chunks. Does not allocate.
     pub fn greatest_radius(&self) -> u32
         ensures value { result ≡ greatest_overlap self.now }
         ensures covers { CoversOverlaps self.now result }
@@ -114,14 +114,14 @@ impl SkyPlan {
         self.greatest
     }
 
-    /// The number of stripes, from 1 to 256. Does not allocate.
+    /// Returns the number of stripes, from 1 to 256. Does not allocate.
     pub fn stripes(&self) -> usize
         ensures { result ≡ length self.now.stripes }
     {
         self.stripes.len()
     }
 
-    /// The number of chunks, from 1 to 16,384. Does not allocate.
+    /// Returns the number of chunks, from 1 to 16,384. Does not allocate.
     pub fn chunks(&self) -> u32
         ensures count { result ≡ chunk_count self.now }
         ensures limits { IsSky self.now }
@@ -129,7 +129,7 @@ impl SkyPlan {
         self.count
     }
 
-    /// The number of subchunks of a chunk, from 1 to 4,096. Does not allocate.
+    /// Returns the number of subchunks of a chunk, from 1 to 4,096. Does not allocate.
     pub fn subs(&self, chunk: u32) -> u32
         requires { chunk < chunk_count self.now }
         ensures { result ≡ sub_count self.now chunk }
@@ -137,7 +137,7 @@ impl SkyPlan {
         self.site(chunk).subs()
     }
 
-    /// The bounds of a chunk. Does not allocate.
+    /// Returns the bounds of a chunk. Does not allocate.
     pub fn region(&self, chunk: u32) -> Region
         requires { chunk < chunk_count self.now }
         ensures { bounds_shown result ≡ bounds_of self.now chunk }
@@ -145,7 +145,7 @@ impl SkyPlan {
         self.site(chunk).region()
     }
 
-    /// The bounds of a subchunk. Does not allocate.
+    /// Returns the bounds of a subchunk. Does not allocate.
     pub fn sub_region(&self, chunk: u32, sub: u32) -> Region
         requires chunk { chunk < chunk_count self.now }
         requires sub { sub < sub_count self.now chunk }
@@ -154,7 +154,7 @@ impl SkyPlan {
         self.site(chunk).sub_region(sub)
     }
 
-    /// The chunk that holds an admissible position, and the subchunk of it that does. Does not allocate.
+    /// Returns the chunk that contains an admissible position, and the subchunk of it that does. Does not allocate.
     pub fn place_of(&self, p: &Pos) -> SubPlace
         requires { IsAdmissible (point p.now) }
         ensures { IsOnlyPlace self.now result.chunk result.sub (point p.now) }
@@ -162,7 +162,7 @@ impl SkyPlan {
         self.place_in(self.stripe_of(p), p)
     }
 
-    /// The same of a position in the stripe with this number.
+    /// Returns the chunk and the subchunk of a position in the stripe with this number.
     fn place_in(&self, number: usize, p: &Pos) -> SubPlace
         requires admissible { IsAdmissible (point p.now) }
         requires spans { SpansHeight self.now number p.now.z }
@@ -179,7 +179,7 @@ impl SkyPlan {
         }
     }
 
-    /// The number of the chunk that holds an admissible position. Does not allocate.
+    /// Returns the number of the chunk that contains an admissible position. Does not allocate.
     pub fn chunk_of(&self, p: &Pos) -> u32
         requires { IsAdmissible (point p.now) }
         ensures there { result < chunk_count self.now }
@@ -189,7 +189,8 @@ impl SkyPlan {
         self.place_of(p).chunk
     }
 
-    /// The number of the chunk that holds an admissible position in the stripe with this number. Does not allocate.
+    /// Returns the number of the chunk that contains an admissible position in the stripe with this number. Does not
+    /// allocate.
     pub fn chunk_in(&self, number: usize, p: &Pos) -> u32
         requires admissible { IsAdmissible (point p.now) }
         requires spans { SpansHeight self.now number p.now.z }
@@ -200,7 +201,8 @@ impl SkyPlan {
         self.place_in(number, p).chunk
     }
 
-    /// The number of the subchunk that holds an admissible position, in the chunk that holds it. Does not allocate.
+    /// Returns the number of the subchunk that contains an admissible position, in the chunk that contains it. Does not
+    /// allocate.
     pub fn sub_of(&self, p: &Pos) -> u32
         requires { IsAdmissible (point p.now) }
         ensures { SubHolds self.now result (point p.now) }
@@ -208,7 +210,7 @@ impl SkyPlan {
         self.place_of(p).sub
     }
 
-    /// Where a chunk stands.
+    /// Returns the site of a chunk.
     fn site(&self, chunk: u32) -> Site
         requires { chunk < chunk_count self.now }
         ensures { result ≡ site_of self.now chunk }
@@ -217,7 +219,7 @@ impl SkyPlan {
         self.site_in(number, chunk - self.first_of(number))
     }
 
-    /// Where a wedge of the stripe with this number stands.
+    /// Returns the site of a wedge of the stripe with this number.
     fn site_in(&self, number: usize, wedge: u32) -> Site
         requires stripe { number < length self.now.stripes }
         requires wedge { wedge < (stripe_numbered self.now number).chunks }
@@ -226,7 +228,7 @@ impl SkyPlan {
         Site::new(self.stripe_numbered(number), self.end_of(number), wedge)
     }
 
-    /// The stripe with this number, from 0, lowest first. Does not allocate.
+    /// Returns the stripe with this number, from 0, lowest first. Does not allocate.
     pub fn stripe_numbered(&self, number: usize) -> Stripe
         requires { number < length self.now.stripes }
         ensures value { result ≡ stripe_numbered self.now number }
@@ -236,7 +238,7 @@ impl SkyPlan {
         self.stripes[number]
     }
 
-    /// The first z above the stripe with this number.
+    /// Returns the first z above the stripe with this number.
     fn end_of(&self, number: usize) -> i64
         requires { number < length self.now.stripes }
         ensures { result ≡ end_numbered self.now number }
@@ -250,7 +252,7 @@ impl SkyPlan {
         }
     }
 
-    /// The number of the first chunk of the stripe with this number. Does not allocate.
+    /// Returns the number of the first chunk of the stripe with this number. Does not allocate.
     pub fn first_of(&self, number: usize) -> u32
         requires { number < length self.now.stripes }
         ensures { result ≡ chunks_in (take number self.now.stripes) }
@@ -258,7 +260,7 @@ impl SkyPlan {
         self.firsts[number]
     }
 
-    /// The number of the stripe that has the chunk, from 0.
+    /// Returns the number of the stripe that contains the chunk, from 0.
     fn stripe_with(&self, chunk: u32) -> usize
         requires { chunk < chunk_count self.now }
         ensures { HasChunk self.now result chunk }
@@ -266,7 +268,7 @@ impl SkyPlan {
         self.firsts.partition_point(|first| *first <= chunk) - 1
     }
 
-    /// The number of the stripe that has the height, from 0. Does not allocate.
+    /// Returns the number of the stripe that contains the height, from 0. Does not allocate.
     pub fn stripe_at(&self, z: i64) -> usize
         requires bottom { sky_bottom ≤ℤ z }
         requires end { z <ℤ sky_end }
@@ -275,7 +277,7 @@ impl SkyPlan {
         stripes_below(self.stripes.as_slice(), z) - 1
     }
 
-    /// The number of the stripe that has an admissible position, from 0. Does not allocate.
+    /// Returns the number of the stripe that contains an admissible position, from 0. Does not allocate.
     pub fn stripe_of(&self, p: &Pos) -> usize
         requires { IsAdmissible (point p.now) }
         ensures { SpansHeight self.now result p.now.z }
@@ -283,8 +285,8 @@ impl SkyPlan {
         self.stripe_at(p.z)
     }
 
-    /// The number of the stripe that has the height, from 0. The stripe with the given number, which may be any, is
-    /// looked at before the others. Does not allocate.
+    /// Returns the number of the stripe that contains the height, from 0. The stripe with the given number, which may
+    /// be any, is tried before the others. Does not allocate.
     pub fn stripe_beside(&self, number: usize, z: i64) -> usize
         requires number { number < length self.now.stripes }
         requires bottom { sky_bottom ≤ℤ z }

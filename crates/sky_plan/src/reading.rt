@@ -1,7 +1,8 @@
 //! Reads the plan of the sky from its text, in one pass over the lines.
 //!
-//! Each line that is no note is cut into its numbers (`numbers.rt`), which say a version or a stripe (`said.rt`); a
-//! stripe is judged by itself and by those before it (`stripes.rt`), and the first fault ends the reading.
+//! Each line that is no comment line is split into its numbers (`numbers.rt`), which spell a version or a stripe
+//! (`said.rt`). A stripe is validated by itself and against those before it (`stripes.rt`), and the first fault ends
+//! the reading.
 ghost use Rattle.std.specs.Prelude.{◌≡◌, ◌≤◌, [], Ok, Err, IfOk, IfErr, length};
 ghost use Rattle.text_rules.specs.declared.limits.TheConstants.{TEXT_MOST};
 ghost use Rattle.sky_rules.specs.SkyText.{judged_version, sky_of};
@@ -24,8 +25,8 @@ use sky_rules::SkyFault;
 use std::alloc::Global;
 
 impl SkyPlan {
-    /// The plan that a sky text of at most 2^29 bytes says, or its first fault. Allocates memory for the stripes; where
-    /// there is none, nothing is kept.
+    /// Returns the plan that a sky text of at most 2^29 bytes spells, or its first fault. Allocates memory for the
+    /// stripes. If an allocation fails, no memory is kept.
     #[tactic(auto, using(crate::proofs::SkyLines::sky_of_text, crate::proofs::SkyLines::text_within))]
     pub fn read(alloc: Global, text: &[u8]) -> Result<SkyPlan, Stop<SkyFault>>
         requires { length text.now ≤ TEXT_MOST }
@@ -39,7 +40,7 @@ impl SkyPlan {
     }
 }
 
-/// The plan of the stripes.
+/// Returns the plan of the stripes.
 fn plan_of(alloc: Global, stripes: Stripes) -> Result<SkyPlan, Stop<SkyFault>>
     requires { IsSky (record { stripes = stripes }) }
     ensures ok { IfOk result (λ plan. plan ≡ record { stripes = stripes }) }
@@ -51,7 +52,7 @@ fn plan_of(alloc: Global, stripes: Stripes) -> Result<SkyPlan, Stop<SkyFault>>
     }
 }
 
-/// The stripes on the lines of a text.
+/// Returns the stripes on the lines of a text.
 fn stripes_of(alloc: Global, mut lines: PlanLines<'_>) -> Result<Stripes, Stop<SkyFault>>
     ensures ok { IfOk result (λ stripes. sky_on lines.entry ≡ Ok (record { stripes = stripes })) }
     ensures bad { IfErr result (λ stop. IfBad stop (λ fault. sky_on lines.entry ≡ Err fault)) }
@@ -67,7 +68,7 @@ fn stripes_of(alloc: Global, mut lines: PlanLines<'_>) -> Result<Stripes, Stop<S
     }
 }
 
-/// The version on the first line, or its fault.
+/// Returns the version on the first line, or its fault.
 fn judged_version(number: u32, text: &[u8]) -> Result<Version, SkyFault>
     ensures { result ≡ judged_version number (version_on text.now) }
 {
@@ -80,7 +81,7 @@ fn judged_version(number: u32, text: &[u8]) -> Result<Version, SkyFault>
     }
 }
 
-/// The stripes on the lines behind the first, of which there is at least one.
+/// Returns the stripes on the lines after the first, of which there is at least one.
 #[tactic(auto, using(sky_rules::proofs::Steps::read_line_by_line))]
 fn stripes_under(
     alloc: Global,

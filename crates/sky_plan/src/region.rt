@@ -1,4 +1,4 @@
-//! A part of the sky, by its bounds.
+//! A region: a part of the sky, by its bounds.
 
 ghost use Rattle.std.specs.Prelude.{◌≡◌, ◌+◌, ◌*◌, ◌≤◌, ◌<◌, ◌≤ℤ◌, ◌<ℤ◌};
 ghost use Rattle.sky_rules.specs.Partition.{sky_bottom, sky_end};
@@ -8,7 +8,7 @@ ghost use Rattle.sky_rules.specs.Bounds.{sides_of, wedge_bounds};
 use sky_vector::Dir;
 use wedge_rules::direction_of;
 
-/// The positions from `z_low` to `z_high` that lie at or past the first side and short of the second. Without sides it
+/// The positions from `z_low` to `z_high` that are at or past the first side and short of the second. Without sides it
 /// goes all round.
 #[derive(Clone, Copy, Debug)]
 pub struct Region {
@@ -25,7 +25,8 @@ pub struct Region {
 impl Region {
     ghost use Rattle.sky_plan.specs.Regions.{sides_shown, bounds_shown};
 
-    /// The region of a wedge, of at least 1 wedge, from `z_low` up to and without `end`, which is above it.
+    /// Returns the region of a wedge of the given number of wedges, at least 1, from `z_low` up to but not including
+    /// `end`, which is above it.
     pub(crate) fn of_wedge(wedges: u32, wedge: u32, z_low: i64, end: i64) -> Region
         requires few { wedges ≤ STRIPE_CHUNKS_MOST * CUTS_MOST }
         requires there { wedge < wedges }
@@ -42,7 +43,7 @@ impl Region {
         }
     }
 
-    /// The sides of a wedge; a single wedge has none.
+    /// Returns the sides of a wedge; a single wedge has none.
     fn sides(wedges: u32, wedge: u32) -> Option<(Dir, Dir)>
         requires few { wedges ≤ STRIPE_CHUNKS_MOST * CUTS_MOST }
         requires there { wedge < wedges }

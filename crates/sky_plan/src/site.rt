@@ -1,4 +1,4 @@
-//! Where a chunk stands in the sky, and the parts of it.
+//! A site: a chunk's location in the sky, and the parts of the chunk.
 
 ghost use Rattle.std.specs.Prelude.{◌≡◌, ◌+◌, ◌*◌, ◌/◌, ◌%◌, ◌≤◌, ◌<◌, ◌≤ℤ◌, ◌<ℤ◌};
 ghost use Rattle.sky_vector.specs.declared.limits.TheConstants.{COORDINATE_MOST};
@@ -31,7 +31,7 @@ impl Model for Site {
 }
 
 impl Site {
-    /// The site of a wedge of a stripe.
+    /// Creates the site of a wedge of a stripe.
     pub(crate) fn new(stripe: Stripe, end: i64, wedge: u32) -> Site
         requires { IsPlaced (record { stripe = stripe; end = end; wedge = wedge }) }
         ensures { result ≡ record { stripe = stripe; end = end; wedge = wedge } }
@@ -39,7 +39,7 @@ impl Site {
         Site { stripe, end, wedge }
     }
 
-    /// The overlap radius.
+    /// Returns the overlap radius.
     pub(crate) fn radius(&self) -> u32
         ensures value { result ≡ self.now.stripe.overlap }
         ensures most { result ≤ OVERLAP_MOST }
@@ -47,21 +47,21 @@ impl Site {
         self.stripe.overlap
     }
 
-    /// The number of subchunks, at most 4,096.
+    /// Returns the number of subchunks, at most 4,096.
     pub(crate) fn subs(&self) -> u32
         ensures { result ≡ self.now.stripe.rows * self.now.stripe.columns }
     {
         self.stripe.rows * self.stripe.columns
     }
 
-    /// The region of the chunk.
+    /// Returns the region of the chunk.
     pub(crate) fn region(&self) -> Region
         ensures { bounds_shown result ≡ chunk_bounds self.now }
     {
         Region::of_wedge(self.stripe.chunks, self.wedge, self.stripe.z_low, self.end)
     }
 
-    /// The region of a subchunk.
+    /// Returns the region of a subchunk.
     pub(crate) fn sub_region(&self, sub: u32) -> Region
         requires { sub < self.now.stripe.rows * self.now.stripe.columns }
         ensures { bounds_shown result ≡ sub_bounds self.now sub }
@@ -72,7 +72,7 @@ impl Site {
         Region::of_wedge(wedges, fine, self.row_start(row), self.row_start(row + 1))
     }
 
-    /// The subchunk that has a height and a column.
+    /// Returns the subchunk that contains a height and a column.
     pub(crate) fn sub_at(&self, z: i64, column: u32) -> u32
         requires low { self.now.stripe.z_low ≤ℤ z }
         requires high { z <ℤ self.now.end }
@@ -84,7 +84,7 @@ impl Site {
         self.row_of(z) * self.stripe.columns + column
     }
 
-    /// The row of subchunks that has a height.
+    /// Returns the row of subchunks that contains a height.
     fn row_of(&self, z: i64) -> u32
         requires low { self.now.stripe.z_low ≤ℤ z }
         requires high { z <ℤ self.now.end }
@@ -95,7 +95,7 @@ impl Site {
         (((above + 1) * rows - 1) / self.height()) as u32
     }
 
-    /// Where a row of subchunks begins; the one behind the last begins where the stripe ends.
+    /// Returns the height at which a row of subchunks begins; the row after the last begins at the end of the stripe.
     fn row_start(&self, row: u32) -> i64
         requires { row ≤ self.now.stripe.rows }
         ensures { result ≡ row_start self.now row }
@@ -104,7 +104,7 @@ impl Site {
         self.stripe.z_low + above as i64
     }
 
-    /// The height of the stripe.
+    /// Returns the height of the stripe.
     fn height(&self) -> u64
         ensures value { result ≡ height_of self.now }
         ensures some { HEIGHT_LEAST ≤ result }

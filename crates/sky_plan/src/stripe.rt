@@ -1,10 +1,10 @@
-//! A stripe of the sky: where it begins, and how it is cut.
+//! A stripe of the sky: the height at which it begins, and its division.
 
 ghost use Rattle.std.specs.Prelude.{◌≡◌};
 
 use std::marker::Model;
 
-/// The positions from a height up to the next stripe, cut into chunks by direction, and each chunk into subchunks.
+/// The positions from a height up to the next stripe, divided into chunks by direction, and each chunk into subchunks.
 #[derive(Clone, Copy, Debug)]
 pub struct Stripe {
     pub(crate) z_low: i64,
@@ -25,8 +25,8 @@ impl Model for Stripe {
 }
 
 impl Stripe {
-    /// The stripe that begins at a height, with so many chunks, columns and rows of subchunks in each, and an overlap
-    /// radius in grid units. Does not allocate.
+    /// Creates the stripe that begins at a height, with a number of chunks, numbers of columns and rows of subchunks in
+    /// each, and an overlap radius in grid units. Does not allocate.
     pub fn new(z_low: i64, chunks: u32, columns: u32, rows: u32, overlap: u32) -> Stripe
         ensures { result ≡ record {
           z_low = z_low;
@@ -45,14 +45,14 @@ impl Stripe {
         }
     }
 
-    /// The number of chunks. Does not allocate.
+    /// Returns the number of chunks. Does not allocate.
     pub fn chunks(&self) -> u32
         ensures { result ≡ self.now.chunks }
     {
         self.chunks
     }
 
-    /// The overlap radius, in grid units. Does not allocate.
+    /// Returns the overlap radius, in grid units. Does not allocate.
     pub fn overlap(&self) -> u32
         ensures { result ≡ self.now.overlap }
     {

@@ -1,4 +1,4 @@
-//! The place of a position in the sky: a subchunk.
+//! The location of a position in the sky: a subchunk.
 
 /// The numbers of a chunk, and of a subchunk in it, both from 0.
 #[derive(Clone, Copy, Debug, PartialEq, Eq)]

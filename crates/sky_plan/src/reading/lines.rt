@@ -1,4 +1,4 @@
-//! The lines of a sky text that are no notes, one by one.
+//! The lines of a sky text that are not comment lines, one by one.
 ghost use Rattle.std.specs.Prelude.{◌≡◌, ◌≤◌, [], ◌∷◌, IfNone, IfSome, length};
 ghost use Rattle.text_rules.specs.Lines.{lines_of};
 ghost use Rattle.text_rules.specs.declared.limits.TheConstants.{TEXT_MOST};
@@ -8,7 +8,7 @@ ghost use Rattle.sky_plan.specs.Reading.{behind, said_lines};
 use sky_text::{Line, Lines, is_note};
 use std::marker::Model;
 
-/// The lines that are left of a sky text. Notes among them are counted and skipped.
+/// The lines that are left of a sky text. Comment lines among them are counted and skipped.
 #[derive(Drop)]
 pub(crate) struct PlanLines<'a> {
     lines: Lines<'a>,
@@ -29,7 +29,7 @@ impl<'a> Model for PlanLines<'a> {
 }
 
 impl<'a> PlanLines<'a> {
-    /// All lines of a text of at most 2^29 bytes.
+    /// Creates the lines of a text of at most 2^29 bytes.
     #[tactic(auto, using(crate::proofs::LineCounts::few_lines))]
     pub(crate) fn new(text: &'a [u8]) -> PlanLines<'a>
         requires { length text.now ≤ TEXT_MOST }
@@ -41,7 +41,7 @@ impl<'a> PlanLines<'a> {
         }
     }
 
-    /// The next line that is no note, or `None` where none is left; then all lines are behind.
+    /// Returns the next line that is no comment line, or `None` if there is none; then no line is left.
     pub(crate) fn next(&mut self) -> Option<Line<'a>>
         ensures line { IfSome result (λ line.
             said_lines self.old.lines ≡ line_of line ∷ said_lines self.new.lines) }
@@ -57,7 +57,7 @@ impl<'a> PlanLines<'a> {
         None
     }
 
-    /// The number of the next line, or of the one behind the last.
+    /// Returns the number of the next line, or of the one after the last.
     pub(crate) fn number(&self) -> u32
         ensures { result ≡ self.now.number }
     {

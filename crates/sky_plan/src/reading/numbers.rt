@@ -26,7 +26,7 @@ impl Model for Numbers {
 }
 
 impl Numbers {
-    /// No numbers.
+    /// Creates an empty list of numbers.
     fn new() -> Numbers
         ensures { result ≡ [] }
     {
@@ -36,14 +36,14 @@ impl Numbers {
         }
     }
 
-    /// The numbers, in order.
+    /// Returns the numbers, in order.
     pub(crate) fn as_slice(&self) -> &[i128]
         ensures { result.now ≡ self.now }
     {
         &self.room[..self.len]
     }
 
-    /// Puts a number behind the others, where they are fewer than five; else answers `None`, and nothing changes.
+    /// Appends a number, if there are fewer than five; else returns `None`, and nothing changes.
     pub(crate) fn push(&mut self, number: i128) -> Option<()>
         ensures some { IfSome result (λ _. self.new ≡ self.old ++ number ∷ []) }
         ensures fits { IfSome result (λ _. length self.old < 5) }
@@ -58,7 +58,7 @@ impl Numbers {
     }
 }
 
-/// The numbers that the words are, where each is one and they are at most five.
+/// Returns the numbers that the words spell, if each spells one and there are at most five.
 fn numbers_in(words: Pieces<'_>) -> Option<Numbers>
     ensures { result ≡ option_and_then at_most_five (all_there (map int_of words.entry)) }
 {
@@ -70,7 +70,8 @@ fn numbers_in(words: Pieces<'_>) -> Option<Numbers>
     Some(numbers)
 }
 
-/// The numbers of the line `KEYWORD NUMBER ..`, where the words behind the keyword are numbers and at most five.
+/// Returns the numbers of the line `KEYWORD NUMBER ..`, if the words after the keyword spell numbers and there are at
+/// most five.
 pub(crate) fn numbers_on(keyword: &[u8], text: &[u8]) -> Option<Numbers>
     ensures { result ≡ option_and_then at_most_five (numbers_on keyword.now text.now) }
 {

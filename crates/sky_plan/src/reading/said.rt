@@ -1,12 +1,12 @@
-//! What a line of a sky text says, before it is judged.
+//! The content of a line of a sky text, before it is validated.
 ghost use Rattle.std.specs.Prelude.{◌≡◌, ◌<◌, IfNone, IfSome, length};
 ghost use Rattle.sky_rules.specs.SkyWords.{five_said, said_on, version_on, with_overlap};
 
 use crate::reading::numbers::{Numbers, numbers_on};
 use std::marker::Model;
 
-/// The version that a first line says: `overlap R`, with one overlap for all stripes, or `version 2`, where each stripe
-/// has its own.
+/// The version on a first line: `overlap R`, with one overlap for all stripes, or `version 2`, in which each stripe has
+/// its own.
 #[derive(Drop)]
 pub(crate) struct Version {
     pub(crate) shared: Option<i128>,
@@ -45,7 +45,7 @@ impl Model for Said {
     } };
 }
 
-/// The version that a first line says.
+/// Returns the version that a first line spells.
 pub(crate) fn version_on(text: &[u8]) -> Option<Version>
     ensures { result ≡ version_on text.now }
 {
@@ -59,7 +59,7 @@ pub(crate) fn version_on(text: &[u8]) -> Option<Version>
     }
 }
 
-/// The numbers of a stripe with its overlap, where they are at most five.
+/// Returns the numbers of a stripe with its overlap, if there are at most five.
 fn with_overlap(version: &Version, mut numbers: Numbers) -> Option<Numbers>
     ensures some { IfSome result (λ all. all ≡ with_overlap version.now numbers) }
     ensures none { IfNone result (5 < length (with_overlap version.now numbers)) }
@@ -70,7 +70,7 @@ fn with_overlap(version: &Version, mut numbers: Numbers) -> Option<Numbers>
     Some(numbers)
 }
 
-/// What five numbers say of a stripe; any other count says nothing.
+/// Returns the stripe that five numbers spell; any other count spells none.
 fn five_said(numbers: &[i128]) -> Option<Said>
     ensures { result ≡ five_said numbers.now }
 {
@@ -86,7 +86,7 @@ fn five_said(numbers: &[i128]) -> Option<Said>
     }
 }
 
-/// What a stripe line says.
+/// Returns the numbers of the stripe that a stripe line spells.
 pub(crate) fn said_on(version: &Version, text: &[u8]) -> Option<Said>
     ensures { result ≡ said_on version.now text.now }
 {

@@ -1,4 +1,4 @@
-//! The stripes read so far, and the judgement of the next one.
+//! The stripes read so far, and the validation of the next one.
 ghost use Rattle.std.specs.Prelude.{◌≡◌, ◌+◌, ◌≤◌, [], ◌∷◌, ◌++◌, ◌↔◌, ◌&&◌, ◌||◌, pos, Ok, Err, Some, None};
 ghost use Rattle.std.specs.Prelude.{IfOk, IfErr, IfSome, IfNone, IsTrue, false, length};
 ghost use Rattle.std.specs.Ordering.{int_eq};
@@ -20,10 +20,10 @@ use sky_rules::limits::{
 use std::alloc::Global;
 use std::marker::Model;
 
-/// The highest z at which a stripe can begin: it leaves the least height up to the end of the sky.
+/// The highest z at which a stripe can begin: it leaves the least height below the end of the sky.
 const HIGHEST: i128 = SKY_END as i128 - HEIGHT_LEAST as i128;
 
-/// The stripes read so far, lowest first, of not more chunks than there can be.
+/// The stripes read so far, lowest first, with no more chunks than allowed.
 #[derive(Drop)]
 pub(crate) struct Stripes {
     list: Vec<Stripe>,
@@ -43,7 +43,7 @@ impl Model for Stripes {
 }
 
 impl Stripes {
-    /// No stripe. Does not allocate.
+    /// Creates an empty list of stripes. Does not allocate.
     pub(crate) fn new(alloc: Global) -> Stripes
         ensures { result ≡ [] }
     {
@@ -53,21 +53,21 @@ impl Stripes {
         }
     }
 
-    /// The stripes as they are. Does not allocate.
+    /// Returns the stripes as a vector. Does not allocate.
     pub(crate) fn into_vec(self) -> Vec<Stripe>
         ensures { result.items ≡ self }
     {
         self.list
     }
 
-    /// Whether there is no stripe.
+    /// Returns whether there is no stripe.
     pub(crate) fn is_empty(&self) -> bool
         ensures { IsTrue result ↔ (self.now ≡ []) }
     {
         self.list.is_empty()
     }
 
-    /// Puts the stripe on a line behind the others, or answers the line's fault. Allocates memory for the stripe.
+    /// Appends the stripe on a line, or returns the line's fault. Allocates memory for the stripe.
     pub(crate) fn add(
         &mut self,
         version: &Version,
@@ -91,7 +91,7 @@ impl Stripes {
         }
     }
 
-    /// The stripe of these numbers, or its fault behind the stripes so far.
+    /// Returns the stripe of these numbers, or its fault after the stripes so far.
     #[tactic(auto, using(crate::proofs::Judged::room_left))]
     fn judged(&self, line: u32, said: &Said) -> Result<Stripe, SkyFault>
         ensures value { result ≡ judged_stripe line self.now (Some said.now) }
@@ -112,7 +112,7 @@ impl Stripes {
         Ok(stripe_said(z_low, said))
     }
 
-    /// The height, where a stripe can begin there behind these.
+    /// Returns the height, if a stripe can begin there after these.
     #[tactic(auto, using(crate::proofs::Judged::order_above))]
     fn bound(&self, z: i128) -> Option<i64>
         ensures some { IfSome result (λ bound. IsTrue (is_in_order self.now z) × (bound ≡ z)) }
@@ -125,14 +125,14 @@ impl Stripes {
         }
     }
 
-    /// Whether one more stripe has its place, and so have its chunks.
+    /// Returns whether there is room for one more stripe, and for its chunks.
     fn has_room(&self, said: &Said) -> bool
         ensures { result ≡ is_room self.now said.now.chunks }
     {
         self.list.len() < STRIPES_MOST && said.chunks <= i128::from(CHUNKS_MOST - self.chunks)
     }
 
-    /// Puts a stripe behind the others.
+    /// Appends a stripe.
     fn push(&mut self, stripe: Stripe) -> Result<(), Memory>
         requires { chunks_in self.old + stripe.chunks ≤ CHUNKS_MOST }
         ensures { IfOk result (λ _. self.new ≡ self.old ++ stripe ∷ []) }
@@ -146,7 +146,7 @@ impl Stripes {
     }
 }
 
-/// The height, where a stripe can begin there behind one that begins at the other height.
+/// Returns the height, if a stripe can begin there after one that begins at the other height.
 fn bound_above(below: i64, z: i128) -> Option<i64>
     ensures some { IfSome result (λ bound. IsTrue (is_above below z) × (bound ≡ z)) }
     ensures none { IfNone result (is_above below z ≡ false) }
@@ -158,35 +158,35 @@ fn bound_above(below: i64, z: i128) -> Option<i64>
     }
 }
 
-/// Whether the number is in the range.
+/// Returns whether the number is in the range.
 fn is_from(low: i128, high: i128, n: i128) -> bool
     ensures { result ≡ is_from low high n }
 {
     low <= n && n <= high
 }
 
-/// Whether the number is an overlap radius, in grid units.
+/// Returns whether the number is an overlap radius, in grid units.
 pub(crate) fn is_overlap(r: i128) -> bool
     ensures { result ≡ is_overlap r }
 {
     is_from(0, i128::from(OVERLAP_MOST), r)
 }
 
-/// Whether a stripe can have so many chunks.
+/// Returns whether a stripe can have this number of chunks.
 fn is_chunks(chunks: i128) -> bool
     ensures { result ≡ (int_eq chunks (pos 1) || is_from (pos 3) (pos STRIPE_CHUNKS_MOST) chunks) }
 {
     chunks == 1 || is_from(3, i128::from(STRIPE_CHUNKS_MOST), chunks)
 }
 
-/// Whether a chunk that goes all round is cut in two columns, which are no wedges.
+/// Returns whether a chunk that goes all round is cut into two columns, which are no wedges.
 fn is_halved(chunks: i128, columns: i128) -> bool
     ensures { result ≡ (int_eq chunks (pos 1) && int_eq columns (pos 2)) }
 {
     chunks == 1 && columns == 2
 }
 
-/// Whether the numbers of chunks, columns and rows are those of a stripe.
+/// Returns whether the numbers of chunks, columns and rows are those of a stripe.
 fn is_cut(said: &Said) -> bool
     ensures { result ≡ is_cut said.now }
 {
@@ -196,7 +196,7 @@ fn is_cut(said: &Said) -> bool
         && is_from(1, i128::from(CUTS_MOST), said.rows)
 }
 
-/// The stripe of these numbers, whose height is given once more.
+/// Returns the stripe of these numbers, with its height given separately.
 fn stripe_said(z_low: i64, said: &Said) -> Stripe
     requires height { said.now.z_low ≡ z_low }
     requires overlap { IsTrue (is_overlap said.now.overlap) }
