@@ -10,7 +10,7 @@ use crate::cap::cap_meets;
 use sky_plan::Region;
 use sql_bound::{AreaTest, SquaredRadius};
 
-/// Whether each of the areas may have a point in the region.
+/// Returns whether each of the areas may have a point in the region.
 pub(crate) fn areas_meet(areas: &[AreaTest], region: &Region) -> bool
     ensures { result ≡ list_all (area_meets (bounds_shown region.now)) areas.now }
 {
@@ -22,7 +22,7 @@ pub(crate) fn areas_meet(areas: &[AreaTest], region: &Region) -> bool
     true
 }
 
-/// Whether the area may have a point in the region.
+/// Returns whether the area may have a point in the region.
 fn area_meets(area: &AreaTest, region: &Region) -> bool
     ensures { result ≡ area_meets (bounds_shown region.now) area.now }
 {
@@ -35,14 +35,14 @@ fn area_meets(area: &AreaTest, region: &Region) -> bool
     }
 }
 
-/// The value of a squared radius, at most 2^62.
+/// Returns the value of a squared radius, at most 2^62.
 fn value_of(n: &SquaredRadius) -> i64
     ensures { result ≡ n.now }
 {
     n.get() as i64
 }
 
-/// Whether the band has some height, and shares some with the region.
+/// Returns whether the band is not empty, and shares some height with the region.
 fn band_meets(lo: i64, hi: i64, region: &Region) -> bool
     ensures { result ≡ band_meets lo hi (bounds_shown region.now) }
 {

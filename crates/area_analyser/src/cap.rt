@@ -11,7 +11,8 @@ ghost use Rattle.answer_rules.specs.Plans.{cap_meets_heights, cap_meets_sides};
 use sky_plan::Region;
 use sky_vector::{Dir, Pos, cross};
 
-/// Whether the centre is no farther below the region, above it, and beyond each of its sides, than the root of n.
+/// Returns whether the centre is no farther below the region, above it, and beyond each of its sides, than the root of
+/// n.
 pub(crate) fn cap_meets(centre: &Pos, n: i64, region: &Region) -> bool
     ensures { result ≡ (cap_meets_heights centre.now n (bounds_shown region.now)
         && cap_meets_sides centre.now n (sides_shown region.now.sides)) }
@@ -19,14 +20,14 @@ pub(crate) fn cap_meets(centre: &Pos, n: i64, region: &Region) -> bool
     heights_meet(centre, n, region) && sides_meet(centre, n, &region.sides)
 }
 
-/// Whether the centre is no farther below the region, and no farther above it, than the root of n.
+/// Returns whether the centre is no farther below the region, and no farther above it, than the root of n.
 fn heights_meet(centre: &Pos, n: i64, region: &Region) -> bool
     ensures { result ≡ cap_meets_heights centre.now n (bounds_shown region.now) }
 {
     is_at_most(region.z_low, centre.z, n) && is_at_most(centre.z, region.z_high, n)
 }
 
-/// Whether the first height is at most the second, or no farther above it than the root of n.
+/// Returns whether the first height is at most the second, or no farther above it than the root of n.
 fn is_at_most(a: i64, b: i64, n: i64) -> bool
     requires a_within { IsWithin a }
     requires b_within { IsWithin b }
@@ -35,7 +36,7 @@ fn is_at_most(a: i64, b: i64, n: i64) -> bool
     a <= b || gap_squared(a, b) <= n
 }
 
-/// The square of the difference of two heights, at most 2^60.
+/// Returns the square of the difference of two heights, at most 2^60.
 fn gap_squared(a: i64, b: i64) -> i64
     requires a_within { IsWithin a }
     requires b_within { IsWithin b }
@@ -45,8 +46,8 @@ fn gap_squared(a: i64, b: i64) -> i64
     gap * gap
 }
 
-/// Whether the centre is at or past the first side and short of the second, or no farther from that side's line than the
-/// root of n.
+/// Returns whether the centre is, for each side, on the region's side of it (at or past the first, short of the
+/// second), or no farther from that side's line than the root of n.
 fn sides_meet(centre: &Pos, n: i64, sides: &Option<(Dir, Dir)>) -> bool
     ensures { result ≡ cap_meets_sides centre.now n (sides_shown sides.now) }
 {
@@ -56,7 +57,7 @@ fn sides_meet(centre: &Pos, n: i64, sides: &Option<(Dir, Dir)>) -> bool
     }
 }
 
-/// Whether the position is at or past the direction, or near its line.
+/// Returns whether the position is at or past the direction, or near its line.
 fn has_reached(d: &Dir, p: &Pos, n: i64) -> bool
     ensures { result ≡ (int_le (pos 0) (plane_product d.now.dx d.now.dy p.now.x p.now.y)
         || is_near_line d.now.dx d.now.dy p.now.x p.now.y n) }
@@ -64,7 +65,7 @@ fn has_reached(d: &Dir, p: &Pos, n: i64) -> bool
     0 <= cross(d, p) || is_near_line(d, p, n)
 }
 
-/// Whether the position is short of the direction, or near its line.
+/// Returns whether the position is short of the direction, or near its line.
 fn is_short_of(d: &Dir, p: &Pos, n: i64) -> bool
     ensures { result ≡ (int_lt (plane_product d.now.dx d.now.dy p.now.x p.now.y) (pos 0)
         || is_near_line d.now.dx d.now.dy p.now.x p.now.y n) }
@@ -72,14 +73,14 @@ fn is_short_of(d: &Dir, p: &Pos, n: i64) -> bool
     cross(d, p) < 0 || is_near_line(d, p, n)
 }
 
-/// Whether the position is, in the plane, no farther from the direction's line than the root of n.
+/// Returns whether the position is, in the plane, no farther from the direction's line than the root of n.
 fn is_near_line(d: &Dir, p: &Pos, n: i64) -> bool
     ensures { result ≡ is_near_line d.now.dx d.now.dy p.now.x p.now.y n }
 {
     squared(cross(d, p)) <= scaled(length_squared(d), n)
 }
 
-/// The square of a plane product.
+/// Returns the square of a plane product.
 fn squared(a: i64) -> i128
     requires { unsigned_abs a ≤ 2 ^ 59 }
     ensures { result ≡ square a }
@@ -88,7 +89,7 @@ fn squared(a: i64) -> i128
     wide * wide
 }
 
-/// The squared length of a direction.
+/// Returns the squared length of a direction.
 fn length_squared(d: &Dir) -> i64
     ensures value { result ≡ length_squared d.now.dx d.now.dy }
     ensures most { unsigned_abs result ≤ 2 ^ 59 }
@@ -96,7 +97,7 @@ fn length_squared(d: &Dir) -> i64
     part_squared(d.dx) + part_squared(d.dy)
 }
 
-/// The square of a part of a direction.
+/// Returns the square of a component of a direction.
 fn part_squared(part: i64) -> i64
     requires { IsWithin part }
     ensures value { result ≡ square part }
@@ -105,7 +106,7 @@ fn part_squared(part: i64) -> i64
     part * part
 }
 
-/// A squared length times n.
+/// Returns a squared length times n.
 fn scaled(length: i64, n: i64) -> i128
     requires { unsigned_abs length ≤ 2 ^ 59 }
     ensures { result ≡ length *ℤ n }

@@ -1,4 +1,4 @@
-//! Which of the chunks that hold a row a query needs.
+//! The choice of the chunks that a query needs, among those that have rows.
 
 ghost use Rattle.std.specs.Prelude.{◌≡◌, ◌<◌, [], All, AllPairs, IfOk, List, filter};
 ghost use Rattle.std.specs.List.{list_all};
@@ -18,8 +18,9 @@ use sky_plan::SkyPlan;
 use sql_bound::{AreaTest, Bound};
 use std::alloc::Global;
 
-/// The chunks that a query needs, of those that hold a row: each passes the query's area tests, and holds one of the
-/// ids of each of its id tests. Allocates memory for the chunks, and for a mark a chunk while it looks ids up.
+/// Returns the chunks that a query needs, among those that have rows: each passes the query's area tests, and contains
+/// one of the ids of each of its id tests. Allocates memory for the chunks, and for a mark a chunk while it looks ids
+/// up.
 pub fn plan(
     alloc: Global,
     bound: &Bound,
@@ -38,7 +39,7 @@ pub fn plan(
     with_ids(alloc, index, bound.ids.as_slice(), chunks)
 }
 
-/// The chunks that a query without id tests needs, of those that hold a row: no index is asked for them. Allocates
+/// Returns the chunks that a query without id tests needs, among those that have rows; it needs no index. Allocates
 /// memory for the chunks.
 pub fn plan_by_areas(
     alloc: Global,
@@ -56,7 +57,7 @@ pub fn plan_by_areas(
     in_areas(alloc, sky, bound.areas.as_slice(), filled)
 }
 
-/// Those of the chunks that each of the areas may have a point in.
+/// Returns those of the chunks in which each of the areas may have a point.
 fn in_areas(
     alloc: Global,
     sky: &SkyPlan,
@@ -75,7 +76,7 @@ fn in_areas(
     Ok(kept)
 }
 
-/// Whether each of the areas may have a point in the chunk. Without areas its bounds are not computed.
+/// Returns whether each of the areas may have a point in the chunk. Without areas its bounds are not computed.
 fn areas_meet_chunk(areas: &[AreaTest], sky: &SkyPlan, chunk: u32) -> bool
     requires { chunk < chunk_count sky.now }
     ensures { result ≡ list_all (area_meets (bounds_of sky.now chunk)) areas.now }

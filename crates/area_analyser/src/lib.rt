@@ -1,9 +1,9 @@
 //! The choice of a query's chunks by its area tests and its id tests, and whether their overlap allows a join's limit.
 //!
 //! Callers see a plan as the ascending list that `plan_of` of `answer_rules` defines over the flat table. A chunk is
-//! judged by its bounds, as `sky_plan` gives them, and by the places that `object_index` finds for the ids.
-//! Below: `answer_rules` for what a plan is, `scan_rules` for a set of chunks. Above: the czar, which plans each query.
-//! No row is looked at but those whose ids a search passes, and no chunk that holds none.
+//! tested by its bounds, as `sky_plan` gives them, and by the chunks and rows that `object_index` finds for the ids.
+//! Below: `answer_rules` for the definition of a plan, `scan_rules` for a set of chunks. Above: the czar, which plans
+//! each query. Only those rows are read whose ids a lookup inspects, and no chunk without rows is considered.
 #![tactic(auto)]
 
 mod area;

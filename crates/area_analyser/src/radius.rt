@@ -11,8 +11,8 @@ use scan_rules::ChunkSet;
 use sky_plan::SkyPlan;
 use sql_bound::{Bound, Shape};
 
-/// Whether a join's limit is at most the square of the least overlap radius of these chunks, or of all where there is
-/// none; a refusal has the limit and that square, in squared grid units. Does not allocate.
+/// Checks whether a join's limit is at most the square of the least overlap radius of these chunks, or of all chunks if
+/// there are none. A refusal has the limit and that square, in squared grid units. Does not allocate.
 pub fn radius_ok(bound: &Bound, sky: &SkyPlan, chunks: &ChunkSet) -> Result<(), Radius>
     requires { All (λ c. c < chunk_count sky.now) chunks.now }
     ensures ok { IfOk result (λ _.
@@ -27,7 +27,7 @@ pub fn radius_ok(bound: &Bound, sky: &SkyPlan, chunks: &ChunkSet) -> Result<(), 
     }
 }
 
-/// Whether the limit is at most the square of the radius.
+/// Checks whether the limit is at most the square of the radius.
 fn within(limit: i64, radius: u32) -> Result<(), Radius>
     requires { radius ≤ OVERLAP_MOST }
     ensures ok { IfOk result (λ _. above_radius limit radius ≡ None) }
@@ -44,7 +44,7 @@ fn within(limit: i64, radius: u32) -> Result<(), Radius>
     }
 }
 
-/// The square of a radius.
+/// Returns the square of a radius.
 fn squared(radius: u32) -> i64
     requires { radius ≤ OVERLAP_MOST }
     ensures { result ≡ pos (radius * radius) }
@@ -53,7 +53,7 @@ fn squared(radius: u32) -> i64
     (wide * wide) as i64
 }
 
-/// The least overlap radius of these chunks, or of all where there is none.
+/// Returns the least overlap radius of these chunks, or of all if there are none.
 fn least_overlap(sky: &SkyPlan, chunks: &[u32]) -> u32
     requires { All (λ c. c < chunk_count sky.now) chunks.now }
     ensures value { result ≡ overlap_of sky.now chunks.now }
@@ -65,7 +65,7 @@ fn least_overlap(sky: &SkyPlan, chunks: &[u32]) -> u32
     }
 }
 
-/// The least of a radius and those of these chunks.
+/// Returns the least of a radius and those of these chunks.
 fn least_from(sky: &SkyPlan, radius: u32, chunks: &[u32]) -> u32
     requires radius { radius ≤ OVERLAP_MOST }
     requires there { All (λ c. c < chunk_count sky.now) chunks.now }

@@ -1,4 +1,4 @@
--- Laws of the rows of subchunks, over the lists that a store gives.
+-- Lemmas on the rows of subchunks, over the lists that a store returns.
 use Rattle.std.specs.Prelude.{◌≡◌, ℕ, ◌<◌, ◌≤ℤ◌, pos, ◌⊎◌, All, List, Some, slice_get}
 use Rattle.std.specs.List.{Contains}
 use Rattle.sky_vector.specs.Points.{IsAdmissible, chord_squared, square}
@@ -7,7 +7,7 @@ use Rattle.sky_rules.specs.Partition.{Partition, chunk_count, overlap_at, sub_co
 use Rattle.sky_rules.specs.Limits.{IsSky}
 use Rattle.chunk_store.specs.Places.{chunk_rows, sub_rows, sub_overlap_rows}
 
--- The one subchunk of a chunk whose rows have the place.
+-- The one subchunk of a chunk whose rows include the row number.
 pub record IsOnlySub (g : Partition) (objects : List Obj) (c place s : ℕ) : Type 0 where
   pub there : s < sub_count g c
   pub has : Contains (sub_rows g objects c s) place

@@ -1,4 +1,4 @@
--- The lists of places that a store keeps, one for each chunk.
+-- The lists of row numbers that a store keeps, one for each chunk.
 use Rattle.std.specs.Prelude.{◌≡◌, ℕ, ◌<◌, ◌==◌, Bool, true, false, List, [], ◌∷◌, ◌++◌, if◌then◌else◌, length, get_or}
 use Rattle.std.specs.Prelude.{slice_get, filter, map}
 use Rattle.std.specs.List.{range_with_len}
@@ -19,29 +19,29 @@ abbrev pub has_some : List ℕ → Bool
 has_some [] = false
 has_some (place ∷ rest) = true
 
--- the number alone where the answer is yes, and else nothing
+-- the number alone if `is` is true, and else nothing
 abbrev pub kept_if : Bool → ℕ → List ℕ
 kept_if is n = if is then n ∷ [] else []
 
--- the place, as often as the chunk is among these
+-- the row number, as often as the chunk is among these
 abbrev pub as_often : ℕ → ℕ → List ℕ → List ℕ
 as_often place c chunks = map (λ d. place) (filter (λ d. d == c) chunks)
 
--- The place was put behind the lists of these chunks.
+-- The row number was appended to the lists of these chunks.
 pub record Pushed (chunks : List ℕ) (place : ℕ) (old new : List (List ℕ)) : Type 0 where
   pub same : length new ≡ length old
   pub each : (c : ℕ) → c < length old → get_or new c [] ≡ get_or old c [] ++ as_often place c chunks
 
--- the places below n of the objects that pass the test
+-- the row numbers below n of the objects that pass the test
 abbrev pub places_below : ℕ → (Obj → Bool) → List Obj → List ℕ
 places_below n test objects = filter (λ i. passes test (slice_get objects i)) (range_with_len 0 n)
 
--- The lists of so many chunks, each of the places below n whose object passes the chunk's test.
+-- A list for each of the given number of chunks, of the row numbers below n whose object passes the chunk's test.
 pub record AreLists (test : ℕ → Obj → Bool) (count : ℕ) (objects : List Obj) (n : ℕ) (lists : List (List ℕ)) : Type 0 where
   pub all : length lists ≡ count
   pub each : (c : ℕ) → c < count → get_or lists c [] ≡ places_below n (test c) objects
 
--- The lists of a chunk's subchunks, each of those of these places whose object the subchunk holds.
+-- A list for each of a chunk's subchunks, of those of these row numbers whose object the subchunk contains.
 pub record AreParts (g : Partition) (objects : List Obj) (c : ℕ) (places : List ℕ) (lists : List (List ℕ)) : Type 0 where
   pub all : length lists ≡ sub_count g c
   pub each : (s : ℕ) → s < sub_count g c → get_or lists s [] ≡ filter (λ i. passes (λ o. in_sub g c s o.at) (slice_get objects i)) places
@@ -54,7 +54,7 @@ own_test g c o = in_chunk g c o.at
 abbrev pub overlap_test : Partition → ℕ → Obj → Bool
 overlap_test g c o = in_full_overlap g c o.at
 
--- the rows at these places as columns
+-- the rows with these numbers as columns
 abbrev pub block_at : Catalogue → List ℕ → Stored
 block_at table places = record { width = length table.names; objects = objects_at table.objects places }
 
@@ -63,7 +63,7 @@ pub record AreBegunBlocks (table : Parts) (lists : List (List ℕ)) (chunks : Li
   pub count : length blocks ≡ length chunks
   pub each : (k : ℕ) → k < length chunks → AreBegun table (get_or lists (get_or chunks k 0) []) (get_or blocks k (no_rows 0))
 
--- What a store keeps beside the plan and the rows: each list is the one that is meant, and so is each block.
+-- What a store keeps besides the plan and the rows: each list is as it is defined over the table, and so is each block.
 pub record IsStored (g : Partition) (table : Catalogue) (rows near : List (List ℕ)) (kept : List ℕ) (columns : List Stored) : Type 0 where
   pub sky : IsSky g
   pub own : AreLists (own_test g) (chunk_count g) table.objects (length table.objects) rows

@@ -1,4 +1,4 @@
--- Two ascending lists as one.
+-- The merge of two ascending lists.
 use Rattle.std.specs.Prelude.{ℕ, Bool, true, false, List, [], ◌∷◌, nat_lt, if◌then◌else◌}
 
 -- the next element is the first list's: its first is below the other's

@@ -1,6 +1,6 @@
--- Which rows a chunk and a subchunk hold, and which they need beside their own so that a near-neighbour join never
--- leaves them. Each is a list of places: a row's place is its number in the table, from 0.
--- Overlap rows are Qserv's idea (SC 2011); which rows they are is a rule of this repository.
+-- Which rows a chunk and a subchunk contain, and which they need in addition to their own so that a near-neighbour join
+-- never leaves them. Each is a list of row numbers: a row's number in the table, from 0. Overlap rows are Qserv's idea
+-- (SC 2011); which rows they are is a rule of this repository.
 use Rattle.std.specs.Prelude.{ℕ, Bool, not, ◌&&◌, ◌||◌, List, filter, length, map}
 use Rattle.std.specs.List.{range_with_len}
 use Rattle.sky_vector.specs.Points.{Point}
@@ -36,6 +36,6 @@ sub_lists g objects c = map (λ s. sub_rows g objects c s) (range_with_len 0 (su
 abbrev pub sub_overlap_rows : Partition → List Obj → ℕ → ℕ → List ℕ
 sub_overlap_rows g objects c s = places_by (λ o. in_sub_overlap g c s o.at) objects
 
--- the rows of a chunk as columns: those rows of the table that its region holds, in the table's order
+-- the rows of a chunk as columns: those rows of the table that are in its region, in the table's order
 abbrev pub chunk_block : Partition → Catalogue → ℕ → Stored
 chunk_block g table c = record { width = length table.names; objects = filter (λ o. in_chunk g c o.at) table.objects }

@@ -1,8 +1,8 @@
--- What a store is of: a partition of the sky and the rows of a catalogue.
+-- What a store represents: a partition of the sky and the rows of a catalogue.
 use Rattle.table_rules.specs.Objects.{Catalogue}
 use Rattle.sky_rules.specs.Partition.{Partition}
 
--- A survey: how its sky is cut, and its catalogue.
+-- A survey: the partition of its sky, and its catalogue.
 pub record Survey : Type 0 where
   pub plan : Partition
   pub rows : Catalogue

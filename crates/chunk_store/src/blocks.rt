@@ -1,7 +1,8 @@
-//! The blocks of the chunks that hold a row.
+//! The blocks of the chunks that have rows.
 //!
-//! Rows of one chunk stand far apart in the table. So all blocks are filled by turns from a part of the table that stays near
-//! the processor meanwhile: a block gets those of its rows that stand in the part, some tens, and then the next block does.
+//! Rows of one chunk are far apart in the table. So all blocks are filled in turns from a part of the table that stays
+//! in the processor's cache meanwhile. A block gets those of its rows that are in the part, some tens, and then the
+//! next block does.
 
 ghost use Rattle.std.specs.Prelude.{◌≡◌, ◌<◌, [], IfOk, OnOk, All, AllPairs, get_or, length, map};
 ghost use Rattle.std.specs.List.{Contains};
@@ -16,11 +17,11 @@ use sky_row::{Lists as RowLists, Rows};
 use std::alloc::Global;
 use table_rules::limits::FIRST_COLUMNS;
 
-/// How many rows of the table a part of it has for each block: few, so that the part stays near the processor, and enough to be
-/// worth the walk over all blocks.
+/// The number of rows of a part of the table, for each block: few, so that the part stays in the cache, and enough to
+/// pay for the walk over all blocks.
 const ROWS_A_TURN: usize = 64;
 
-/// The block of each of the chunks, in their order. Allocates memory for their columns.
+/// Returns the block of each of the chunks, in their order. Allocates memory for their columns.
 pub(crate) fn blocks_of(
     alloc: Global,
     rows: &Rows,
@@ -42,7 +43,7 @@ pub(crate) fn blocks_of(
     Ok(blocks)
 }
 
-/// The block of the chunk with this number, from 0, among the chunks, from the columns of its first rows.
+/// Returns the block of the chunk with this number, from 0, among the chunks, from the columns of its first rows.
 fn finished(
     table: &RowLists,
     own: &Lists,
@@ -63,8 +64,8 @@ fn finished(
     Block::finish(table, own.of(chunks[k]), begun)
 }
 
-/// For each of the chunks the columns of its first rows: those that stand in a whole part of the table. What is behind the last
-/// of these is less than a part.
+/// Returns for each of the chunks the columns of its first rows: those that are in a whole part of the table. What
+/// follows the last of these parts is less than a part.
 fn begun_blocks(
     alloc: Global,
     rows: &Rows,
@@ -93,7 +94,7 @@ fn begun_blocks(
     Ok(blocks)
 }
 
-/// For each of the chunks columns over no row, with room for its rows.
+/// Returns for each of the chunks columns without rows, with room for its rows.
 fn empty_blocks(
     alloc: Global,
     table: &RowLists,
@@ -112,7 +113,7 @@ fn empty_blocks(
     Ok(blocks)
 }
 
-/// Puts behind the rows of each of the chunks those of its next ones that stand before this place in the table.
+/// Appends to the rows of each of the chunks those of its next ones whose row numbers are below this one.
 fn fill_turn(
     table: &RowLists,
     own: &Lists,
@@ -132,7 +133,7 @@ fn fill_turn(
     Ok(())
 }
 
-/// Puts behind the rows of a chunk those at the next of its places that stand before this one in the table.
+/// Appends to the rows of a chunk the next of its rows whose row numbers are below this one.
 fn fill_before(
     table: &RowLists,
     places: &[u32],
@@ -149,7 +150,7 @@ fn fill_before(
     block.fill(table, places, done + next)
 }
 
-/// The number, from 0, of a chunk in an ascending list that has it.
+/// Returns the index, from 0, of a chunk in an ascending list that contains it.
 pub(crate) fn slot_of(chunks: &[u32], chunk: u32) -> usize
     requires ascend { AllPairs (λ a b. a < b) chunks.now }
     requires has { Contains chunks.now chunk }

@@ -7,7 +7,7 @@ ghost use Rattle.chunk_store.specs.Examples.{six_lit, six_rows, two_overlaps};
 ghost use Rattle.chunk_rules.specs.Filled.{filled_chunks};
 ghost use Rattle.chunk_store.specs.Places.{chunk_block, chunk_rows, full_overlap_rows, sub_lists, sub_overlap_rows, sub_rows};
 
-/// Three of the eight chunks hold a row.
+/// Three of the eight chunks have rows.
 #[tactic(auto, unfolding(wedge_rules::specs::Heading::heading, wedge_rules::specs::Heading::walk))]
 pub fn chunks_that_hold_a_row()
     ensures { filled_chunks halves six_rows ≡ 0 ∷ 4 ∷ 7 ∷ [] }
@@ -32,15 +32,15 @@ pub fn overlaps_of_each_stripe()
     ensures last { length (full_overlap_rows two_overlaps six_rows 7) ≡ 4 }
 {}
 
-/// The first subchunk of chunk 4 holds three of its rows, and needs two of the chunk's overlap; the fourth row, at the pole,
-/// is far from it.
+/// The first subchunk of chunk 4 contains three of its rows, and needs two of the chunk's overlap; the fourth row, at
+/// the pole, is far from it.
 #[tactic(auto, unfolding(wedge_rules::specs::Heading::heading, wedge_rules::specs::Heading::walk))]
 pub fn rows_of_a_subchunk()
     ensures rows { sub_rows halves six_rows 4 0 ≡ 0 ∷ 1 ∷ 2 ∷ [] }
     ensures overlap { sub_overlap_rows halves six_rows 4 0 ≡ 3 ∷ 4 ∷ [] }
 {}
 
-/// The four rows of chunk 4 lie in two of its four subchunks.
+/// The four rows of chunk 4 are in two of its four subchunks.
 #[tactic(auto, unfolding(wedge_rules::specs::Heading::heading, wedge_rules::specs::Heading::walk))]
 pub fn rows_of_all_subchunks()
     ensures { sub_lists halves six_rows 4 ≡ (0 ∷ 1 ∷ 2 ∷ []) ∷ [] ∷ (5 ∷ []) ∷ [] ∷ [] }

@@ -1,4 +1,4 @@
-//! Fills the lists of a store, in one pass over the rows: a row's chunk is looked for once.
+//! Fills the lists of a store, in one pass over the rows: a row's chunk is searched for once.
 
 ghost use Rattle.std.specs.Prelude.{◌≡◌, ◌<◌, ◌∷◌, [], IfOk, OnOk, length, replicate};
 ghost use Rattle.sky_vector.specs.Points.{IsAdmissible};
@@ -16,7 +16,7 @@ use sky_row::Rows;
 use sky_vector::Pos;
 use std::alloc::Global;
 
-/// An empty list for each chunk.
+/// Returns an empty list for each chunk.
 fn empty_lists(alloc: Global, plan: &SkyPlan) -> Result<Lists, Memory>
     ensures ok { IfOk result (λ lists. lists ≡ replicate (chunk_count plan.now) []) }
     ensures limits { IsSky plan.now }
@@ -24,7 +24,7 @@ fn empty_lists(alloc: Global, plan: &SkyPlan) -> Result<Lists, Memory>
     Lists::empty(alloc, plan.chunks())
 }
 
-/// An empty list for each subchunk of a chunk.
+/// Returns an empty list for each subchunk of a chunk.
 #[tactic(auto, using(crate::proofs::SubLists::few_subs))]
 pub(crate) fn empty_parts(alloc: Global, plan: &SkyPlan, chunk: u32) -> Result<Lists, Memory>
     requires chunk { chunk < chunk_count plan.now }
@@ -34,8 +34,8 @@ pub(crate) fn empty_parts(alloc: Global, plan: &SkyPlan, chunk: u32) -> Result<L
     Lists::empty(alloc, plan.subs(chunk))
 }
 
-/// Puts the place of a row at a position behind the lists of the chunks that it is near, where its own stripe and chunk are known;
-/// `near` is room for their numbers.
+/// Appends the row number of a row at a position to the lists of the chunks that the position is near. Its own stripe
+/// and chunk are given; `near` is room for the chunks' numbers.
 fn push_near(
     plan: &SkyPlan,
     stripe: usize,
@@ -56,7 +56,7 @@ fn push_near(
     lists.push_all(near.as_slice(), place)
 }
 
-/// For each chunk the places of its rows, and those of the rows in its full overlap.
+/// Returns for each chunk the row numbers of its rows, and those of the rows in its full overlap.
 pub(crate) fn row_lists(
     alloc: Global,
     plan: &SkyPlan,

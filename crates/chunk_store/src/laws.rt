@@ -1,4 +1,4 @@
-//! Laws of the rows of subchunks, as functions that do nothing: a caller has what they ensure.
+//! Lemmas on the rows of subchunks, as functions that do nothing: a caller has what they ensure.
 
 ghost use Rattle.chunk_store.specs.Laws.{EachRowInOneSub, NearRowsAreThere, SubRowsAreTheChunks};
 

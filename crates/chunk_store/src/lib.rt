@@ -1,10 +1,10 @@
-//! The chunks of a survey: which rows each chunk holds, and which it needs beside its own.
+//! The chunks of a survey: which rows each chunk contains, and which it needs in addition to its own.
 //!
-//! Callers see a `Store` as its `Survey` (`specs/Survey.antt`), each list as a filter of the flat table
-//! (`specs/Places.antt`): ascending places in the rows, and the columns of a chunk's rows as a `Block`.
-//! Below: `sky_plan` for the place of a position, `overlap_tables` for near regions, `sky_row` for rows, `column_block` for a
-//! chunk's columns. Above: the scans and joins of a chunk, the czar, who plans over the chunks that hold a row, and the report.
-//! No queries and no ids: a row is known by its place in the table.
+//! Callers see a `Store` as its `Survey` (`specs/Survey.antt`), and each list as a filter of the flat table
+//! (`specs/Places.antt`): ascending row numbers, and the columns of a chunk's rows as a `Block`. Below: `sky_plan` for
+//! the chunk of a position, `overlap_tables` for near regions, `sky_row` for rows, `column_block` for a chunk's
+//! columns. Above: the scans and joins of a chunk, the czar, which plans over the chunks that have rows, and the
+//! report. No queries and no ids: a row is identified by its number in the table.
 #![tactic(auto)]
 
 mod blocks;

@@ -1,4 +1,4 @@
-//! A list of places for each chunk of a sky, or for each subchunk of a chunk.
+//! A list of row numbers for each chunk of a sky, or for each subchunk of a chunk.
 
 ghost use Rattle.std.specs.Prelude.{◌≡◌, ◌<◌, ◌≤◌, [], ◌∷◌, ◌++◌, IfOk, OnOk, All, length, get_or, replicate, filter, map};
 ghost use Rattle.std.specs.List.{range_with_len};
@@ -9,14 +9,14 @@ use sky_io::Memory;
 use std::alloc::Global;
 use std::marker::Model;
 
-/// Whether the list has an element.
+/// Returns whether the list has an element.
 fn has_some(list: &[u32]) -> bool
     ensures { result ≡ has_some list.now }
 {
     !list.is_empty()
 }
 
-/// Puts the number behind the list.
+/// Appends the number to the list.
 fn push(list: &mut Vec<u32>, number: u32) -> Result<(), Memory>
     ensures { OnOk result (list.new.items ≡ list.old.items ++ number ∷ []) }
 {
@@ -24,14 +24,14 @@ fn push(list: &mut Vec<u32>, number: u32) -> Result<(), Memory>
     Ok(())
 }
 
-/// Puts the number behind the list, where the answer is yes.
+/// Appends the number to the list, if `is` is true.
 pub(crate) fn push_if(list: &mut Vec<u32>, is: bool, number: u32) -> Result<(), Memory>
     ensures { OnOk result (list.new.items ≡ list.old.items ++ kept_if is number) }
 {
     if is { push(list, number) } else { Ok(()) }
 }
 
-/// A list of places for each chunk of a sky, or for each subchunk of a chunk: by its number, from 0.
+/// A list of row numbers for each chunk of a sky, or for each subchunk of a chunk: by its number, from 0.
 #[derive(Drop)]
 pub struct Lists {
     lists: Vec<Vec<u32>>,
@@ -48,7 +48,7 @@ impl Model for Lists {
     ghost invariant = { λ l. length l.lists.items ≤ CHUNKS_MOST };
 }
 
-/// Puts an empty list behind the others.
+/// Appends an empty list.
 fn push_empty(alloc: Global, lists: &mut Vec<Vec<u32>>) -> Result<(), Memory>
     ensures { OnOk result (map (λ l. l.items) lists.new.items
         ≡ map (λ l. l.items) lists.old.items ++ [] ∷ []) }
@@ -57,7 +57,7 @@ fn push_empty(alloc: Global, lists: &mut Vec<Vec<u32>>) -> Result<(), Memory>
     Ok(())
 }
 
-/// So many empty lists.
+/// Creates the given number of empty lists.
 fn empty_lists(alloc: Global, count: u32) -> Result<Vec<Vec<u32>>, Memory>
     ensures { IfOk result (λ lists. map (λ l. l.items) lists.items ≡ replicate count []) }
 {
@@ -69,7 +69,7 @@ fn empty_lists(alloc: Global, count: u32) -> Result<Vec<Vec<u32>>, Memory>
 }
 
 impl Lists {
-    /// So many empty lists, at most 16,384.
+    /// Creates the given number of empty lists, at most 16,384.
     pub(crate) fn empty(alloc: Global, count: u32) -> Result<Lists, Memory>
         requires { count ≤ CHUNKS_MOST }
         ensures { IfOk result (λ lists. lists ≡ replicate count []) }
@@ -79,14 +79,14 @@ impl Lists {
         })
     }
 
-    /// How many lists there are, at most 16,384. Does not allocate.
+    /// Returns how many lists there are, at most 16,384. Does not allocate.
     pub fn len(&self) -> u32
         ensures { result ≡ length self.now }
     {
         self.lists.len() as u32
     }
 
-    /// The list with this number, from 0. Does not allocate.
+    /// Returns the list with this number, from 0. Does not allocate.
     pub fn of(&self, chunk: u32) -> &[u32]
         requires { chunk < length self.now }
         ensures { result.now ≡ get_or self.now chunk [] }
@@ -94,7 +94,7 @@ impl Lists {
         self.lists[chunk as usize].as_slice()
     }
 
-    /// Puts the place behind a chunk's list.
+    /// Appends the row number to a chunk's list.
     pub(crate) fn push(&mut self, chunk: u32, place: u32) -> Result<(), Memory>
         requires { chunk < length self.old }
         ensures { OnOk result (Pushed (chunk ∷ []) place self.old self.new) }
@@ -103,7 +103,7 @@ impl Lists {
         Ok(())
     }
 
-    /// Puts the place behind the list of each of the chunks.
+    /// Appends the row number to the list of each of the chunks.
     pub(crate) fn push_all(&mut self, chunks: &[u32], place: u32) -> Result<(), Memory>
         requires { All (λ chunk. chunk < length self.old) chunks.now }
         ensures { OnOk result (Pushed chunks.now place self.old self.new) }
@@ -114,7 +114,7 @@ impl Lists {
         Ok(())
     }
 
-    /// The chunks, ascending, whose list has an element.
+    /// Returns the chunks, ascending, whose list has an element.
     pub(crate) fn filled(&self, alloc: Global) -> Result<Vec<u32>, Memory>
         ensures { IfOk result (λ filled. filled.items
             ≡ filter (λ c. has_some (get_or self.now c [])) (range_with_len 0 (length self.now))) }

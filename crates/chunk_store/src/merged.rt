@@ -1,11 +1,11 @@
-//! Two ascending lists, read as one.
+//! A merge of two ascending lists.
 
 ghost use Rattle.std.specs.Prelude.{◌≡◌, [], ◌∷◌, IfSome, IfNone};
 ghost use Rattle.chunk_store.specs.Merged.{merged, takes_first};
 
 use std::marker::Model;
 
-/// Whether the next element is the first list's.
+/// Returns whether the next element is the first list's.
 fn takes_first(first: &[u32], second: &[u32]) -> bool
     ensures { result ≡ takes_first first.now second.now }
 {
@@ -16,7 +16,7 @@ fn takes_first(first: &[u32], second: &[u32]) -> bool
     }
 }
 
-/// What is left of two ascending lists, whose elements come in ascending order.
+/// What is left of two ascending lists, whose elements are returned in ascending order.
 #[derive(Drop)]
 pub(crate) struct Merged<'a> {
     first: &'a [u32],
@@ -33,14 +33,14 @@ impl<'a> Model for Merged<'a> {
 }
 
 impl<'a> Merged<'a> {
-    /// All elements of both lists.
+    /// Creates the merge of all elements of both lists.
     pub(crate) fn new(first: &'a [u32], second: &'a [u32]) -> Merged<'a>
         ensures { result ≡ merged first.now second.now }
     {
         Merged { first, second }
     }
 
-    /// The next element, or `None` where none is left.
+    /// Returns the next element, or `None` if none is left.
     #[tactic(auto, using(crate::proofs::Merging::first_next, crate::proofs::Merging::second_next, crate::proofs::Merging::none_next))]
     pub(crate) fn next(&mut self) -> Option<u32>
         ensures none { IfNone result (self.old ≡ []) }

@@ -1,4 +1,4 @@
-//! The store: a plan of the sky, the rows, and which of them each chunk holds and needs.
+//! The store: a plan of the sky, the rows, and which of them each chunk contains and needs.
 
 ghost use Rattle.std.specs.Prelude.{◌≡◌, ◌<◌, ◌&&◌, not, true, get_or, All, AllPairs, IfOk, length, slice_get};
 ghost use Rattle.sky_rules.specs.Limits.{IsSky};
@@ -22,8 +22,8 @@ use sky_row::Rows;
 use std::alloc::Global;
 use std::marker::Model;
 
-/// A survey's rows by chunk: for each chunk the places of its rows and of its full overlap, the chunks that hold a row, and
-/// the columns of each of those. A row's place is its number in the table, from 0.
+/// A survey's rows by chunk: for each chunk the row numbers of its rows and of its full overlap, the chunks that have
+/// rows, and the columns of each of those. A row number is the row's number in the table, from 0.
 #[derive(Drop)]
 pub struct Store {
     plan: SkyPlan,
@@ -31,7 +31,7 @@ pub struct Store {
     own: Lists,
     overlap: Lists,
     filled: Vec<u32>,
-    /// Of the filled chunks, in their order.
+    /// The blocks of the filled chunks, in their order.
     blocks: Vec<Block>,
 }
 
@@ -47,8 +47,8 @@ impl Model for Store {
 }
 
 impl Store {
-    /// The store of a catalogue's rows under a plan. Allocates memory for a number a row and for each chunk that it is
-    /// near, and for each column once more; where there is none, plan and rows are dropped.
+    /// Creates the store of a catalogue's rows under a plan. Allocates memory for a number a row and for each chunk
+    /// that it is near, and for each column once more. If an allocation fails, plan and rows are dropped.
     #[tactic(auto, using(crate::proofs::Filled::filled_of, crate::proofs::ChunkBlocks::chunks_there, crate::proofs::ChunkBlocks::lists_there, crate::proofs::ChunkBlocks::blocks_stored))]
     pub fn build(alloc: Global, plan: SkyPlan, rows: Rows) -> Result<Store, Memory>
         ensures { IfOk result (λ store. store ≡ record { plan = plan; rows = rows }) }
@@ -66,21 +66,21 @@ impl Store {
         })
     }
 
-    /// The plan of the sky. Does not allocate.
+    /// Returns the plan of the sky. Does not allocate.
     pub fn plan(&self) -> &SkyPlan
         ensures { result.now ≡ self.now.plan }
     {
         &self.plan
     }
 
-    /// The rows, in ascending id. Does not allocate.
+    /// Returns the rows, in ascending id. Does not allocate.
     pub fn rows(&self) -> &Rows
         ensures { result.now ≡ self.now.rows }
     {
         &self.rows
     }
 
-    /// The chunks that hold a row, ascending. Does not allocate.
+    /// Returns the chunks that have rows, ascending. Does not allocate.
     pub fn filled(&self) -> &[u32]
         ensures value { result.now ≡ filled_chunks self.now.plan self.now.rows.objects }
         ensures there { All (λ chunk. chunk < chunk_count self.now.plan) result.now }
@@ -91,14 +91,14 @@ impl Store {
         self.filled_list()
     }
 
-    /// The kept list of the chunks that hold a row.
+    /// Returns the stored list of the chunks that have rows.
     fn filled_list(&self) -> &[u32]
         ensures { result.now ≡ filled_chunks self.now.plan self.now.rows.objects }
     {
         self.filled.as_slice()
     }
 
-    /// The places of a chunk's rows, ascending. Does not allocate.
+    /// Returns the row numbers of a chunk's rows, ascending. Does not allocate.
     #[tactic(auto, using(crate::proofs::Ranges::places_there))]
     pub fn chunk(&self, chunk: u32) -> &[u32]
         requires { chunk < chunk_count self.now.plan }
@@ -109,7 +109,8 @@ impl Store {
         self.own.of(chunk)
     }
 
-    /// The columns of a chunk's rows, in the order of their places, where the chunk holds a row. Does not allocate.
+    /// Returns the columns of a chunk's rows, in the order of their row numbers, if the chunk has rows. Does not
+    /// allocate.
     #[tactic(auto, using(crate::proofs::ChunkBlocks::block_places))]
     pub fn block(&self, chunk: u32) -> &Block
         requires there { chunk < chunk_count self.now.plan }
@@ -121,7 +122,7 @@ impl Store {
         &self.blocks[self.slot(chunk)]
     }
 
-    /// The number, from 0, of a chunk among those that hold a row.
+    /// Returns the index, from 0, of a chunk among those that have rows.
     fn slot(&self, chunk: u32) -> usize
         requires there { chunk < chunk_count self.now.plan }
         requires filled { is_filled self.now.plan self.now.rows.objects chunk ≡ true }
@@ -131,7 +132,7 @@ impl Store {
         slot_of(self.filled(), chunk)
     }
 
-    /// The places, ascending, of the rows in a chunk's near region that are not in it. Does not allocate.
+    /// Returns the row numbers, ascending, of the rows in a chunk's near region that are not in it. Does not allocate.
     #[tactic(auto, using(crate::proofs::Ranges::places_there))]
     pub fn full_overlap(&self, chunk: u32) -> &[u32]
         requires { chunk < chunk_count self.now.plan }
@@ -142,7 +143,7 @@ impl Store {
         self.overlap.of(chunk)
     }
 
-    /// The places of a subchunk's rows, ascending. Allocates memory for them.
+    /// Returns the row numbers of a subchunk's rows, ascending. Allocates memory for them.
     pub fn sub(&self, alloc: Global, chunk: u32, sub: u32) -> Result<Vec<u32>, Memory>
         requires chunk { chunk < chunk_count self.now.plan }
         requires sub { sub < sub_count self.now.plan chunk }
@@ -159,8 +160,8 @@ impl Store {
         Ok(places)
     }
 
-    /// The places of the rows of each of a chunk's subchunks, ascending, by the subchunks' numbers: in one pass over
-    /// the chunk's rows. Allocates memory for a list a subchunk, and for the places.
+    /// Returns the row numbers of the rows of each of a chunk's subchunks, ascending, by the subchunks' numbers: in one
+    /// pass over the chunk's rows. Allocates memory for a list a subchunk, and for the row numbers.
     pub fn subs(&self, alloc: Global, chunk: u32) -> Result<Lists, Memory>
         requires { chunk < chunk_count self.now.plan }
         ensures value { IfOk result (λ subs.
@@ -176,7 +177,7 @@ impl Store {
         Ok(subs)
     }
 
-    /// The number of the subchunk that holds the row at the place, in the chunk that does.
+    /// Returns the number of the subchunk that contains the row with this number, in the chunk that does.
     fn sub_at(&self, place: u32) -> u32
         requires { place < length self.now.rows.objects }
         ensures { SubHolds self.now.plan result (get_or self.now.rows.objects place no_row).at }
@@ -184,8 +185,8 @@ impl Store {
         self.plan.sub_of(&self.rows.position(place))
     }
 
-    /// The places, ascending, of those rows of a subchunk's chunk and of the chunk's full overlap that are in the
-    /// subchunk's near region and not in the subchunk. Allocates memory for them.
+    /// Returns the row numbers, ascending, of those rows of a subchunk's chunk and of the chunk's full overlap that are
+    /// in the subchunk's near region and not in the subchunk. Allocates memory for them.
     pub fn sub_overlap(&self, alloc: Global, chunk: u32, sub: u32) -> Result<Vec<u32>, Memory>
         requires chunk { chunk < chunk_count self.now.plan }
         requires sub { sub < sub_count self.now.plan chunk }
@@ -202,7 +203,7 @@ impl Store {
         Ok(places)
     }
 
-    /// Whether the subchunk holds the row at the place.
+    /// Returns whether the subchunk contains the row with this number.
     fn holds(&self, chunk: u32, sub: u32, place: u32) -> bool
         requires chunk { chunk < chunk_count self.now.plan }
         requires sub { sub < sub_count self.now.plan chunk }
@@ -213,7 +214,7 @@ impl Store {
         is_in(&self.plan, chunk, sub, &self.rows.position(place))
     }
 
-    /// Whether the row at the place is in the subchunk's near region and not in the subchunk.
+    /// Returns whether the row with this number is in the subchunk's near region and not in the subchunk.
     fn is_beside(&self, chunk: u32, sub: u32, place: u32) -> bool
         requires chunk { chunk < chunk_count self.now.plan }
         requires sub { sub < sub_count self.now.plan chunk }

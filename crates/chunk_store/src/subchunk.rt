@@ -1,4 +1,4 @@
-//! Whether a subchunk holds a position, and whether it needs a row there beside its own.
+//! Whether a subchunk contains a position, and whether it needs a row there in addition to its own.
 
 ghost use Rattle.std.specs.Prelude.{◌≡◌, ◌<◌, ◌&&◌, ◌==◌, not};
 ghost use Rattle.sky_vector.specs.Points.{IsAdmissible};
@@ -10,14 +10,14 @@ use overlap_tables::in_near_sub;
 use sky_plan::{SkyPlan, SubPlace};
 use sky_vector::Pos;
 
-/// Whether the place is this subchunk of this chunk.
+/// Returns whether the location is this subchunk of this chunk.
 fn is_place(place: &SubPlace, chunk: u32, sub: u32) -> bool
     ensures { result ≡ (place.now.chunk == chunk && place.now.sub == sub) }
 {
     place.chunk == chunk && place.sub == sub
 }
 
-/// Whether the subchunk holds the position.
+/// Returns whether the subchunk contains the position.
 #[tactic(auto, using(crate::proofs::Subs::is_place))]
 pub(crate) fn is_in(plan: &SkyPlan, chunk: u32, sub: u32, p: &Pos) -> bool
     requires chunk { chunk < chunk_count plan.now }
@@ -28,7 +28,7 @@ pub(crate) fn is_in(plan: &SkyPlan, chunk: u32, sub: u32, p: &Pos) -> bool
     is_place(&plan.place_of(p), chunk, sub)
 }
 
-/// Whether the position is in the subchunk's near region and not in the subchunk.
+/// Returns whether the position is in the subchunk's near region and not in the subchunk.
 pub(crate) fn is_near(plan: &SkyPlan, chunk: u32, sub: u32, p: &Pos) -> bool
     requires chunk { chunk < chunk_count plan.now }
     requires sub { sub < sub_count plan.now chunk }

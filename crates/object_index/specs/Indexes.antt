@@ -1,11 +1,11 @@
--- What an index of ids says. The idea is Qserv's (SC 2011).
+-- The meaning of an index of ids. The idea is Qserv's (SC 2011).
 use Rattle.std.specs.Prelude.{◌≡◌, ℕ, ◌<◌, ℤ, List, Some, slice_get, IsTrue}
 use Rattle.sky_rules.specs.Partition.{Partition, chunk_count}
 use Rattle.sky_rules.specs.Bounds.{in_chunk}
 use Rattle.table_rules.specs.Objects.{Obj}
 use Rattle.sky_plan.specs.Places.{IsOnlyChunk}
 
--- What an index is of: how the sky is cut, and the rows of a table.
+-- What an index is defined over: the partition of the sky, and the rows of a table.
 pub record Indexed : Type 0 where
   pub plan : Partition
   pub rows : List Obj
@@ -16,7 +16,7 @@ pub record IsRowOf (rows : List Obj) (id : ℤ) (row : ℕ) (object : Obj) : Typ
   pub has : object.id ≡ id
   pub alone : (i : ℕ) (o : Obj) → slice_get rows i ≡ Some o → o.id ≡ id → i ≡ row
 
--- The place of an id: the number of the one row that has it, and the one chunk that holds that row's position.
+-- The location of an id: the number of the one row that has it, and the one chunk that contains that row's position.
 pub record IsPlaceOf (g : Partition) (rows : List Obj) (id : ℤ) (chunk row : ℕ) : Type 0 where
   pub object : Obj
   pub is : IsRowOf rows id row object

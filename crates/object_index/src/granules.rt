@@ -1,7 +1,7 @@
-//! A sparse index of ids that ascend: one entry for each granule of rows, with the id and the number of its first row.
+//! A sparse index of ascending ids: one entry for each granule of rows, with the id and the number of its first row.
 //!
-//! An id lies in the last granule that begins no higher than the id. So it is looked for among the first ids, which are few,
-//! and then among the ids of one granule.
+//! An id can only be in the last granule that begins no higher than the id. So it is searched for among the first ids,
+//! which are few, and then among the ids of one granule.
 ghost use Rattle.std.specs.Prelude.{◌≡◌, ◌≤◌, ◌<ℤ◌, AllPairs, IfNone, IfOk, IfSome, false, length};
 ghost use Rattle.std.specs.List.{list_any};
 ghost use Rattle.std.specs.Ordering.{int_eq};
@@ -12,10 +12,10 @@ use indexmap::IndexMap;
 use sky_io::Memory;
 use std::alloc::Global;
 
-/// How many rows a granule has; the last one has those that are left.
+/// The number of rows of a granule; the last one has those that are left.
 pub const GRANULE: usize = 1 << 12;
 
-/// The id of each granule's first row with that row's number. Allocates memory for an entry a granule.
+/// Returns the id of each granule's first row with that row's number. Allocates memory for an entry a granule.
 pub(crate) fn first_rows(alloc: Global, ids: &[i64]) -> Result<IndexMap<i64, u32>, Memory>
     requires few { length ids.now ≤ ROWS_MOST }
     requires ascend { AllPairs (λ a b. a <ℤ b) ids.now }
@@ -34,7 +34,7 @@ pub(crate) fn first_rows(alloc: Global, ids: &[i64]) -> Result<IndexMap<i64, u32
     Ok(firsts)
 }
 
-/// The number of the row with the id, or `None` where no row has it. Does not allocate.
+/// Returns the number of the row with the id, or `None` if no row has it. Does not allocate.
 pub(crate) fn row_with(ids: &[i64], firsts: &IndexMap<i64, u32>, id: i64) -> Option<u32>
     requires few { length ids.now ≤ ROWS_MOST }
     requires ascend { AllPairs (λ a b. a <ℤ b) ids.now }
@@ -48,7 +48,8 @@ pub(crate) fn row_with(ids: &[i64], firsts: &IndexMap<i64, u32>, id: i64) -> Opt
     }
 }
 
-/// The number of the first row of the granule that the id lies in, if any has it, or `None` where it is below all ids.
+/// Returns the number of the first row of the granule that has the id if any has it, or `None` if the id is below all
+/// ids.
 fn granule_for(ids: &[i64], firsts: &IndexMap<i64, u32>, id: i64) -> Option<u32>
     requires ascend { AllPairs (λ a b. a <ℤ b) ids.now }
     requires sparse { IsSparse ids.now firsts.now.entries }
@@ -62,7 +63,8 @@ fn granule_for(ids: &[i64], firsts: &IndexMap<i64, u32>, id: i64) -> Option<u32>
     }
 }
 
-/// The number of the row with the id in the granule that begins at this row, or `None` where none there has it.
+/// Returns the number of the row with the id in the granule that begins at this row, or `None` if no row of it has the
+/// id.
 fn row_among(ids: &[i64], first: usize, id: i64) -> Option<u32>
     requires few { length ids.now ≤ ROWS_MOST }
     requires ascend { AllPairs (λ a b. a <ℤ b) ids.now }

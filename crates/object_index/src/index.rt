@@ -1,4 +1,4 @@
-//! An index of the rows of a catalogue by their ids, which finds one by the first ids of granules of rows.
+//! An index of the rows of a catalogue by their ids, which finds a row by the first ids of granules of rows.
 ghost use Rattle.std.specs.Prelude.{◌≡◌, ◌<◌, false, get_or, length, IfNone, IfOk, IfSome, IsTrue};
 ghost use Rattle.sky_rules.specs.Partition.{chunk_count};
 ghost use Rattle.sky_rules.specs.Bounds.{in_chunk};
@@ -16,12 +16,12 @@ use sky_row::Rows;
 use std::alloc::Global;
 use std::marker::Model;
 
-/// A plan of the sky and the rows of a catalogue, which are asked for the places of ids.
+/// A plan of the sky and the rows of a catalogue, for lookups of the chunks and rows of ids.
 #[derive(Drop)]
 pub struct Index<'w> {
     plan: &'w SkyPlan,
     rows: &'w Rows,
-    /// Of each granule of the rows, in their order, the id and the number of the first row.
+    /// The id and the number of the first row of each granule of the rows, in their order.
     firsts: IndexMap<i64, u32>,
 }
 
@@ -38,25 +38,26 @@ impl<'w> Model for Index<'w> {
 }
 
 impl<'w> Index<'w> {
-    /// The index of the rows over the plan. Allocates memory for an entry a granule of rows, and looks at no other row.
+    /// Creates the index of the rows over the plan. Allocates memory for an entry a granule of rows, and reads no other
+    /// row.
     pub fn build(alloc: Global, plan: &'w SkyPlan, rows: &'w Rows) -> Result<Index<'w>, Memory>
         ensures { IfOk result (λ index.
             index ≡ record { plan = plan.now; rows = rows.now.objects }) }
     {
-        // the rows tell that their ids ascend
+        // the contract of `len` gives that the ids ascend
         let _count = rows.len();
         let firsts = first_rows(alloc, rows.ids())?;
         Ok(Index { plan, rows, firsts })
     }
 
-    /// The plan of the sky. Does not allocate.
+    /// Returns the plan of the sky. Does not allocate.
     pub fn plan(&self) -> &SkyPlan
         ensures { result.now ≡ self.now.plan }
     {
         self.plan
     }
 
-    /// The place of the row with the id, or `None` where no row has it. Does not allocate.
+    /// Returns the chunk and the number of the row with the id, or `None` if no row has it. Does not allocate.
     pub fn place(&self, id: i64) -> Option<Place>
         ensures found { IfSome result (λ place.
             IsPlaceOf self.now.plan self.now.rows id place.chunk place.row) }
@@ -68,7 +69,7 @@ impl<'w> Index<'w> {
         }
     }
 
-    /// The row with this number, and the chunk that holds it.
+    /// Returns the row with this number, and the chunk that contains it.
     fn place_of(&self, row: u32) -> Place
         requires { row < length self.now.rows }
         ensures row { result.row ≡ row }
@@ -85,14 +86,14 @@ impl<'w> Index<'w> {
         }
     }
 
-    /// The number of the row with the id, or `None` where no row has it.
+    /// Returns the number of the row with the id, or `None` if no row has it.
     fn row_of(&self, id: i64) -> Option<u32>
         ensures low { IfSome result (λ row. row < length self.now.rows) }
         ensures found { IfSome result (λ row.
             IsRowOf self.now.rows id row (get_or self.now.rows row no_row)) }
         ensures none { IfNone result (has_id self.now.rows id ≡ false) }
     {
-        // the rows tell that their ids ascend
+        // the contract of `len` gives that the ids ascend
         let _count = self.rows.len();
         row_with(self.rows.ids(), &self.firsts, id)
     }

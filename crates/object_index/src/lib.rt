@@ -1,9 +1,9 @@
 //! The index from an object's id to its chunk and its row.
 //!
-//! Callers see an `Index` as the partition and the rows that it is of (`specs/Indexes.antt`).
-//! It is sparse: the rows stand in ascending id, so it keeps an entry for each granule of them in place of one for each row.
-//! Below: `sky_row` keeps the rows, `sky_plan` places a position, `indexmap` keeps the entries. Above: the choice of a query's
-//! chunks by ids.
+//! Callers see an `Index` as the partition and the rows that it indexes (`specs/Indexes.antt`). It is sparse: the rows
+//! are in ascending id, so it stores an entry for each granule of them instead of one for each row. Below: `sky_row`
+//! stores the rows, `sky_plan` finds the chunk of a position, `indexmap` stores the entries. Above: the choice of a
+//! query's chunks by ids.
 #![tactic(auto)]
 
 pub mod granules;

@@ -1,6 +1,6 @@
-//! The place of an id.
+//! The location of an id: its chunk and its row.
 
-/// The number of the chunk that holds a row, and the row's number in the table, both from 0.
+/// The number of the chunk that contains a row, and the row's number in the table, both from 0.
 #[derive(Clone, Copy, Debug, PartialEq, Eq)]
 pub struct Place {
     pub chunk: u32,
