@@ -1,4 +1,4 @@
--- What a session attaches for the queries of a script: of each planned one its chunks, and its piece before any chunk.
+-- What a session attaches for the queries of a script: for each planned one its chunks, and its piece before any chunk.
 use Rattle.std.specs.Prelude.{ℕ, ◌+◌, List, [], ◌∷◌, Option, None, Some, IfSome}
 use Rattle.table_rules.specs.Objects.{Catalogue}
 use Rattle.sky_rules.specs.Partition.{Partition}
@@ -18,22 +18,22 @@ abbrev pub chunk_query : Plan → Option ChunkQuery
 chunk_query (Planned head query chunks) = Some query.chunk
 chunk_query (Refused why) = None
 
--- the chunk queries that there are, each with its number, the first of which is k
+-- the chunk queries that are present, each with its number, counted from k
 abbrev pub numbered_from : ℕ → List (Option ChunkQuery) → List (ℕ × ChunkQuery)
 numbered_from k [] = []
 numbered_from k (Some query ∷ queries) = (k, query) ∷ numbered_from (k + 1) queries
 numbered_from k (None ∷ queries) = numbered_from (k + 1) queries
 
--- what the pieces of the session rest on
+-- the root of the session's pieces
 abbrev pub base_of : Partition → Catalogue → List (Option ChunkQuery) → Base
 base_of g c queries = record { plan = g; rows = c; queries = numbered_from 1 queries }
 
--- the same with the chunk query of one query more, where it has one
+-- the root with the chunk query of one more query, if it has one
 abbrev pub with_next : Base → ℕ → Option ChunkQuery → Base
 with_next b q (Some query) = with_query b q query
 with_next b q None = b
 
--- a chunk query that is there can be run over a table of so many columns
+-- a chunk query, if present, can be run over a table with the given number of columns
 abbrev pub IsSoundIfThere : ℕ → Option ChunkQuery → Type 0
 IsSoundIfThere columns query = IfSome query (IsSoundChunk columns)
 

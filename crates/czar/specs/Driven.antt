@@ -1,4 +1,4 @@
--- What a session over the board leaves, and what the end of each query rests on.
+-- What a session over the board leaves, and what the end of each query depends on.
 use Rattle.std.specs.Prelude.{◌≡◌, ℕ, List, Option, length}
 use Rattle.table_rules.specs.Objects.{Catalogue}
 use Rattle.sky_rules.specs.Partition.{Partition, chunk_count}
@@ -14,8 +14,8 @@ use Rattle.scan_session.specs.declared.end.End.{End as BoardEnd}
 use Rattle.scan_session.specs.declared.end.Planned.{Planned as Attachable}
 use Rattle.czar.specs.Attached.{base_of}
 
--- Some journal of the board bears the ends out, in a session with so many workers, of the queries with these chunk queries,
--- for which this is attached.
+-- In a session with the given number of workers, some journal of the board justifies these ends of the queries with
+-- these chunk queries, for which this is attached.
 pub record IsDriven (workers : ℕ) (g : Partition) (c : Catalogue) (steps : List Step) (queries : List (Option ChunkQuery))
     (planned : List (Option (Attachable PieceView))) (ends : List (BoardEnd PieceView)) : Type 0 where
   pub seen : Journal

@@ -1,4 +1,4 @@
--- What the queries of a script end with: an answer over the flat table, or the reason for which there is none.
+-- The ends of the queries of a script: an answer over the flat table, or the reason for which there is none.
 use Rattle.std.specs.Prelude.{◌≡◌, ℕ, List, [], ◌∷◌, None, Some, Ok, length}
 use Rattle.table_rules.specs.Objects.{Catalogue}
 use Rattle.sky_rules.specs.Partition.{Partition}
@@ -30,15 +30,15 @@ pub record IsAnswered (g : Partition) (c : Catalogue) (text : Bytes) (head : Que
   pub count : chunks ≡ length (plan_of g c.objects understanding.bound)
   pub accepted : early_refusal g c text ≡ None
 
--- the end shows what the query with this line comes to; a query that was cancelled, or whose work wanted for memory, shows
--- nothing
+-- the end is the result of the query with this line; a query that was cancelled, or in whose work an allocation failed,
+-- has no result
 abbrev pub EndShows : Partition → Catalogue → Bytes → End → Type 0
 EndShows g c text (Answered head table chunks) = IsAnswered g c text head table chunks
 EndShows g c text (Refused why) = refusal_of g c text ≡ Some why
 EndShows g c text Cancelled = Unit {0}
 EndShows g c text Spent = Unit {0}
 
--- an end for each of the queries with these lines, in their order
+-- there is an end for each of the queries with these lines, in their order
 abbrev pub EndsShow : Partition → Catalogue → List Bytes → List End → Type 0
 EndsShow g c [] [] = Unit {0}
 EndsShow g c [] (end ∷ ends) = ⊥

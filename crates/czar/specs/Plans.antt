@@ -1,4 +1,5 @@
--- What is planned for the queries of a script: of each its chunk query, its merge and its chunks, or why it is refused.
+-- The plans of the queries of a script: for each its chunk query, its merge and its chunks, or the reason for which it
+-- is refused.
 use Rattle.std.specs.Prelude.{◌≡◌, ℕ, List, [], ◌∷◌, None, Some, Ok}
 use Rattle.table_rules.specs.Objects.{Catalogue}
 use Rattle.sky_rules.specs.Partition.{Partition}
@@ -14,7 +15,7 @@ use Rattle.czar.specs.declared.understanding.Understanding.{Understanding}
 use Rattle.czar.specs.declared.plan.Plan.{Plan}
 use Rattle.czar.specs.declared.plan.Plan.TheVariants.{Planned, Refused}
 
--- A query that can be run: its tree, how it is cut in two, and the chunks that it needs.
+-- A query that can be run: its tree, its rewriting into two parts, and the chunks that it needs.
 pub record IsPlanned (g : Partition) (c : Catalogue) (text : Bytes) (head : Query) (query : Rewritten) (chunks : List ℕ)
     : Type 0 where
   pub understanding : Understood
@@ -29,20 +30,20 @@ abbrev pub PlanFor : Partition → Catalogue → Bytes → Plan → Type 0
 PlanFor g c text (Planned head query chunks) = IsPlanned g c text head query chunks
 PlanFor g c text (Refused why) = early_refusal g c text ≡ Some why
 
--- so of each line that is understood as this tree, bound so
+-- the plan of each line whose understanding is this tree and this bound query
 abbrev pub IsPlanOf : Partition → Catalogue → Query → Bound → Plan → Type 0
 IsPlanOf g c tree bound plan =
     (text : Bytes) → understood c.names text ≡ Ok (record { tree = tree; bound = bound }) → PlanFor g c text plan
 
--- so of each line of which this is understood
+-- the plan of each line with this understanding
 abbrev pub IsPlanBy : Partition → Catalogue → Understanding → Plan → Type 0
 IsPlanBy g c it plan = (text : Bytes) → IsUnderstanding c.names text it → PlanFor g c text plan
 
--- the query of this tree that is bound so, cut over these chunks
+-- the plan of a query with this tree and this bound query, rewritten over these chunks
 abbrev pub IsCutOf : Query → Bound → List ℕ → Plan → Type 0
 IsCutOf tree bound chunks plan = plan ≡ Planned tree (rewritten bound) chunks
 
--- a plan for each of the queries with these lines, in their order
+-- there is a plan for each of the queries with these lines, in their order
 abbrev pub ArePlans : Partition → Catalogue → List Bytes → List Plan → Type 0
 ArePlans g c [] [] = Unit {0}
 ArePlans g c [] (plan ∷ plans) = ⊥

@@ -1,4 +1,4 @@
--- What the running of a query over its chunks rests on, and what it comes to.
+-- What the run of a query over its chunks depends on, and its result.
 use Rattle.std.specs.Prelude.{◌≡◌, ◌+◌, ◌<◌, ℕ, ℤ, true, List, None, Ok, Err, length}
 use Rattle.table_rules.specs.Objects.{Catalogue}
 use Rattle.table_rules.specs.declared.limits.TheConstants.{FIRST_COLUMNS}
@@ -23,13 +23,14 @@ use Rattle.czar.specs.declared.end.End.{End}
 use Rattle.czar.specs.declared.end.End.TheVariants as end
 use Rattle.czar.specs.Plans.{IsPlanned}
 
--- The chunk can be scanned for a chunk query of this shape: it holds a row, and a join reaches there.
+-- The chunk can be scanned for a chunk query of this shape: it has rows, and its overlap suffices for a join's limit.
 pub record IsOpen (g : Partition) (c : Catalogue) (shape : Shape) (chunk : ℕ) : Type 0 where
   pub there : chunk < chunk_count g
   pub filled : is_filled g c.objects chunk ≡ true
   pub reach : Reaches g shape chunk
 
--- A query that can be run: it is sound and tested, it is cut so, these are its chunks, and their overlap allows it.
+-- A query that can be run: it is well-formed and tested, this is its rewriting, these are its chunks, and their overlap
+-- allows it.
 pub record CanRun (g : Partition) (c : Catalogue) (q : Bound) (query : Rewritten) (chunks : List ℕ) : Type 0 where
   pub sound : IsSound (FIRST_COLUMNS + length c.names) q
   pub tested : IsTested q
@@ -37,16 +38,16 @@ pub record CanRun (g : Partition) (c : Catalogue) (q : Bound) (query : Rewritten
   pub plan : chunks ≡ plan_of g c.objects q
   pub allowed : radius_refusal g c.objects q ≡ None
 
--- Some query is cut so, needs these chunks, and can be run.
+-- Some query has this rewriting, needs these chunks, and can be run.
 pub record IsRunnable (g : Partition) (c : Catalogue) (query : Rewritten) (chunks : List ℕ) : Type 0 where
   pub bound : Bound
   pub can : CanRun g c bound query chunks
 
--- each query that is cut so and needs these chunks has this answer over the flat table
+-- each query with this rewriting and these chunks has this answer over the flat table
 abbrev pub Answers : Partition → Catalogue → Rewritten → List ℕ → List (List Value) → Type 0
 Answers g c query chunks table = (q : Bound) → CanRun g c q query chunks → flat_answer c.objects q ≡ Ok table
 
--- each query that is cut so and needs these chunks has this total out of range
+-- each query with this rewriting and these chunks has this total out of range
 abbrev pub IsTotalOf : Partition → Catalogue → Rewritten → List ℕ → ℤ → Type 0
 IsTotalOf g c query chunks total = (q : Bound) → CanRun g c q query chunks → flat_answer c.objects q ≡ Err total
 
@@ -55,7 +56,7 @@ pub record IsSomePlan (g : Partition) (c : Catalogue) (head : Query) (query : Re
   pub text : Bytes
   pub is : IsPlanned g c text head query chunks
 
--- what a query ends with whose finish stops so: its total is the refusal
+-- the end of a query whose finish stops with this error: its total is the refusal
 abbrev pub IsOutOfRange : Stop TotalOut → End → Type 0
 IsOutOfRange (stop.Bad out) e = e ≡ end.Refused (refusal.Total out)
 IsOutOfRange stop.Memory e = ⊥

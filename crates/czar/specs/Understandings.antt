@@ -1,4 +1,4 @@
--- What is understood of a query's line.
+-- The understanding of a query's line.
 use Rattle.std.specs.Prelude.{◌≡◌, List, Ok, Err}
 use Rattle.sky_io.specs.declared.Stop.{Stop}
 use Rattle.sky_io.specs.declared.Stop.TheVariants as stop
@@ -12,21 +12,21 @@ use Rattle.transcript_rules.specs.Refusals.{understood}
 use Rattle.czar.specs.declared.understanding.Understanding.{Understanding}
 use Rattle.czar.specs.declared.understanding.Understanding.TheVariants.{Known, Unknown}
 
--- the tree of the line and what it is bound to over the schema, or why there is none
+-- the tree of the line and its bound query over the schema, or the reason for which there is none
 abbrev pub IsUnderstanding : List Bytes → Bytes → Understanding → Type 0
 IsUnderstanding names text (Known tree bound) = understood names text ≡ Ok (record { tree = tree; bound = bound })
 IsUnderstanding names text (Unknown why) = understood names text ≡ Err why
 
--- so of each line that has this tree
+-- this is the understanding of each line that has this tree
 pub record IsUnderstandingOf (names : List Bytes) (tree : Query) (it : Understanding) : Type 0 where
   pub each : (text : Bytes) → tree_of text ≡ Ok tree → IsUnderstanding names text it
 
--- what is understood of a line where the reader stops so: its fault is the refusal
+-- the understanding of a line on which the reader stops with this error: its fault is the refusal
 abbrev pub IsUnread : Stop SqlFault → Understanding → Type 0
 IsUnread (stop.Bad fault) it = it ≡ Unknown (refusal.Sql fault)
 IsUnread stop.Memory it = ⊥
 
--- and of a tree where the binder does
+-- the understanding of a tree on which the binder stops with this error: its fault is the refusal
 abbrev pub IsUnbound : Stop BindFault → Understanding → Type 0
 IsUnbound (stop.Bad fault) it = it ≡ Unknown (refusal.Bind fault)
 IsUnbound stop.Memory it = ⊥

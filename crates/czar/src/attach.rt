@@ -1,4 +1,4 @@
-//! What a session attaches for the queries of a script, and the board that it is attached to.
+//! What a session attaches for the queries of a script, and the board to which it attaches.
 
 ghost use Rattle.std.specs.Prelude.{◌≡◌, ◌+◌, ◌<◌, ◌≤◌, ◌++◌, ◌∷◌, []};
 ghost use Rattle.std.specs.Prelude.{All, IfOk, OnOk, length, map, take};
@@ -19,7 +19,7 @@ use scan_session::Planned;
 use sky_io::Memory;
 use std::alloc::Global;
 
-/// What is attached for a query: nothing where it is refused.
+/// Returns what is attached for a query: nothing if it is refused.
 fn attached_by<'w>(alloc: Global, plan: &Plan) -> Result<Option<Planned<Piece<'w>>>, Memory>
     ensures { IfOk result (λ it. it ≡ attached plan.now) }
 {
@@ -39,8 +39,8 @@ fn attached_by<'w>(alloc: Global, plan: &Plan) -> Result<Option<Planned<Piece<'w
     }
 }
 
-/// A copy of the chunk query of a query that is planned: the engine of the workers borrows chunk queries alone, and a plan
-/// has its own beside the query's tree.
+/// Copies the chunk query of a query that is planned. The engine of the workers borrows only chunk queries, and a plan
+/// has its own together with the query's tree.
 fn query_by(alloc: Global, plan: &Plan) -> Result<Option<ChunkQuery>, Memory>
     ensures { IfOk result (λ it. it ≡ chunk_query plan.now) }
 {
@@ -53,7 +53,7 @@ fn query_by(alloc: Global, plan: &Plan) -> Result<Option<ChunkQuery>, Memory>
     }
 }
 
-/// Puts the chunk query of one query more, and what is attached for it, behind those of the others.
+/// Appends the chunk query of one more query, and what is attached for it.
 fn prepare<'w>(
     alloc: Global,
     plan: &Plan,
@@ -70,7 +70,7 @@ fn prepare<'w>(
     Ok(())
 }
 
-/// The chunk query of each query of a script, and what is attached for it, in their order.
+/// Returns the chunk query of each query of a script, and what is attached for it, in their order.
 pub(crate) fn prepared<'w>(
     alloc: Global,
     plans: &[Plan],
@@ -86,7 +86,7 @@ pub(crate) fn prepared<'w>(
     Ok((queries, planned))
 }
 
-/// Gives the root the chunk query of the query with this number, where there is one.
+/// Adds to the root the chunk query of the query with this number, if there is one.
 fn give(
     alloc: Global,
     query: &Option<ChunkQuery>,
@@ -108,7 +108,7 @@ fn give(
     }
 }
 
-/// Gives the root of the chunk queries before a place the one at it.
+/// Adds the next chunk query to a root that has those before it.
 fn give_next(
     alloc: Global,
     world: &Store,
@@ -128,8 +128,8 @@ fn give_next(
     give(alloc, &queries[place], place as u32 + 1, root)
 }
 
-/// What the pieces of a session rest on: the world, and the chunk queries with their numbers. These are copies: the root
-/// lies in the board, and a worker that scans a chunk for a query has let the board go.
+/// Returns the root of a session's pieces: the world, and the chunk queries with their numbers. These are copies: the
+/// root is in the board, and a worker that scans a chunk for a query does not hold the board.
 fn root_of<'w>(
     alloc: Global,
     world: &'w Store,
@@ -147,7 +147,7 @@ fn root_of<'w>(
     Ok(root)
 }
 
-/// A board over the chunks of the world for these chunk queries, and the czar's seat at it.
+/// Creates a board over the chunks of the world for these chunk queries, and the czar's participant.
 pub(crate) fn seated<'w>(
     alloc: Global,
     world: &'w Store,

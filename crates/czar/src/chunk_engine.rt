@@ -1,4 +1,4 @@
-//! The engine of a session: the piece of a query on a chunk.
+//! The engine of a session: it makes the piece of a query on a chunk.
 
 ghost use Rattle.std.specs.Prelude.{◌≡◌, ◌+◌, ◌∷◌, [], IfOk, length};
 ghost use Rattle.sky_rules.specs.Limits.{IsSky};
@@ -26,7 +26,7 @@ pub(crate) struct ChunkEngine<'w, 's> {
     pub(crate) queries: &'s [Option<ChunkQuery>],
 }
 
-/// The piece of one chunk: by a scan of its rows, or for pairs by a join.
+/// Returns the piece of one chunk: by a scan of its rows, or for pairs by a join.
 fn piece_of<'w>(
     alloc: Global,
     world: &'w Store,

@@ -1,4 +1,4 @@
-//! What a query ends with.
+//! The end of a query.
 
 ghost use Rattle.std.specs.Prelude.{◌≡◌};
 ghost use Rattle.czar.specs.Ends.{kind_of};
@@ -8,25 +8,25 @@ use session_rules::EndKind;
 use sql_tree::Query;
 use transcript_rules::Refusal;
 
-/// What a query ends with.
+/// The end of a query.
 #[derive(Drop)]
 pub enum End {
-    /// The query's tree, its answer, and how many chunks its plan has.
+    /// The query's tree, its answer, and the number of chunks of its plan.
     Answered {
         head: Query,
         table: Table,
         chunks: u32,
     },
-    /// Why it is refused.
+    /// The reason for which it is refused.
     Refused(Refusal),
     /// The script cancelled it in time.
     Cancelled,
-    /// Memory was wanting in its own work.
+    /// An allocation failed in its own work.
     Spent,
 }
 
 impl End {
-    /// How the query ended. Does not allocate.
+    /// Returns how the query ended. Does not allocate.
     pub fn kind(&self) -> EndKind
         ensures { result ≡ kind_of self.now }
     {

@@ -17,7 +17,7 @@ use session_script::Script;
 use sky_io::{Put, Sink};
 use sql_tree::Query;
 
-/// The block that explains a query which can be run; `text` is its line.
+/// Writes the block that explains a query that can be run; `text` is its line.
 fn put_planned<K: Sink>(
     sink: &mut K,
     world: &Store,
@@ -41,7 +41,7 @@ fn put_planned<K: Sink>(
     put_explain(sink, number, &shown)
 }
 
-/// The block that explains a query with this plan; `text` is its line.
+/// Writes the block that explains a query with this plan; `text` is its line.
 fn put_plan<K: Sink>(sink: &mut K, world: &Store, number: u32, text: &[u8], plan: &Plan) -> Put
     requires { PlanFor world.now.plan world.now.rows text.now plan.now }
     ensures { Wrote (K.state sink.old) (K.state sink.new)
@@ -57,7 +57,7 @@ fn put_plan<K: Sink>(sink: &mut K, world: &Store, number: u32, text: &[u8], plan
     }
 }
 
-/// The block that explains the query at a place, from 0.
+/// Writes the block that explains the query with an index, from 0.
 fn put_block<K: Sink>(
     sink: &mut K,
     world: &Store,
@@ -81,7 +81,7 @@ fn put_block<K: Sink>(
     )
 }
 
-/// Writes what explains a script. Does not allocate.
+/// Writes the text that explains a script. Does not allocate.
 pub fn put_explained<K: Sink>(
     sink: &mut K,
     world: &Store,

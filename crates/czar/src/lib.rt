@@ -1,11 +1,12 @@
-//! The front end of the engine: the queries of a script are planned, run over their chunks, merged, and told.
+//! The front end of the engine: the queries of a script are planned, run over their chunks and merged, and their ends
+//! are written.
 //!
-//! Callers see a script's plans as `ArePlans` (`specs/Plans.antt`) and its ends as `EndsShow` (`specs/Ends.antt`): an answer
-//! is that of the flat table, in which nothing is said of chunks.
-//! Below: `sql_reader` and `sql_bind` for what a query is, `area_analyser` over an `object_index` for its chunks,
-//! `chunk_rewriter` for its two halves, `scan_session` for the session over a shared board, `chunk_scan` and `near_join` for a
-//! chunk's work, `partial_merge` for the merge, `answer_text` for its text. Above: the program's top call.
-//! No file: texts are slices that the caller holds. Threads come from the caller.
+//! Callers see a script's plans as `ArePlans` (`specs/Plans.antt`) and its ends as `EndsShow` (`specs/Ends.antt`): an
+//! answer is that of the flat table, whose definition does not mention chunks. Below: `sql_reader` and `sql_bind` for
+//! the meaning of a query, `area_analyser` over an `object_index` for its chunks, `chunk_rewriter` for its two parts,
+//! `scan_session` for the session over a shared board, `chunk_scan` and `near_join` for a chunk's work, `partial_merge`
+//! for the merge, `answer_text` for its text. Above: the program's top call. No file: texts are slices that the caller
+//! holds. Threads come from the caller.
 #![tactic(auto)]
 
 mod attach;

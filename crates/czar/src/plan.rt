@@ -1,7 +1,7 @@
-//! What is planned for a query before it is run.
+//! The plan of a query before it is run.
 //!
-//! What holds a tree where an arm ends early drops it by name: that is one call, where what goes out of scope is dropped part by
-//! part, and the function's proof is many times as long.
+//! Code that holds a tree when an arm ends early drops it by name. That is one call; what goes out of scope is dropped
+//! part by part, and the function's proof is then many times as long.
 
 ghost use Rattle.std.specs.Prelude.{◌≡◌, ◌+◌, ◌<◌, ◌≤◌, All, IfOk, None, OnOk, length, take};
 ghost use Rattle.text_rules.specs.declared.limits.TheConstants.{QUERIES_MOST, QUERY_TEXT_MOST};
@@ -26,21 +26,21 @@ use sql_tree::Query;
 use std::alloc::Global;
 use transcript_rules::Refusal;
 
-/// What is planned for a query, or why it is refused before it is run.
+/// The plan of a query, or the reason for which it is refused before it is run.
 #[derive(Drop)]
 pub enum Plan {
-    /// The query's tree, how it is cut in two, and the chunks that it needs.
+    /// The query's tree, its rewriting into two parts, and the chunks that it needs.
     Planned {
         head: Query,
         query: Rewritten,
         chunks: ChunkSet,
     },
-    /// For its grammar, for the schema, or for its radius.
+    /// The refusal, because of its grammar, the schema, or its radius.
     Refused(Refusal),
 }
 
-/// The plans of a script's queries, in their order; lines that wait or cancel are skipped. Allocates memory for them.
-/// Nothing is run.
+/// Returns the plans of a script's queries, in their order; lines that wait or cancel are skipped. Allocates memory for
+/// them. Nothing is run.
 pub fn explain(alloc: Global, world: &Store, script: &Script<'_>) -> Result<Vec<Plan>, Memory>
     ensures { IfOk result (λ plans.
         ArePlans world.now.plan world.now.rows (query_lines script.now) plans.items) }
@@ -52,7 +52,7 @@ pub fn explain(alloc: Global, world: &Store, script: &Script<'_>) -> Result<Vec<
     Ok(plans)
 }
 
-/// Puts the plan of the query behind so many others behind theirs.
+/// Appends the plan of the query that follows `number` others.
 fn push_plan(
     alloc: Global,
     world: &Store,
@@ -74,7 +74,7 @@ fn push_plan(
     }
 }
 
-/// The plan of the query with this line.
+/// Returns the plan of the query with this line.
 pub(crate) fn plan_line(alloc: Global, world: &Store, text: &[u8]) -> Result<Plan, Memory>
     requires { length text.now ≤ QUERY_TEXT_MOST }
     ensures { IfOk result (PlanFor world.now.plan world.now.rows text.now) }
@@ -85,7 +85,7 @@ pub(crate) fn plan_line(alloc: Global, world: &Store, text: &[u8]) -> Result<Pla
     }
 }
 
-/// The plan of the queries of which this is understood.
+/// Returns the plan of the queries with this understanding.
 fn plan_understood(
     alloc: Global,
     world: &Store,
@@ -103,7 +103,7 @@ fn plan_understood(
     }
 }
 
-/// The plan of the queries that are understood as this tree, bound so.
+/// Returns the plan of the queries with this tree and this bound query.
 fn plan_known(alloc: Global, world: &Store, tree: Query, bound: &Bound) -> Result<Plan, Memory>
     ensures { IfOk result (IsPlanOf world.now.plan world.now.rows tree bound.now) }
 {
@@ -116,7 +116,7 @@ fn plan_known(alloc: Global, world: &Store, tree: Query, bound: &Bound) -> Resul
     }
 }
 
-/// The chunks that the query needs. Where it has id tests, it allocates memory for an index of the ids.
+/// Returns the chunks that the query needs. If it has id tests, allocates memory for an index of the ids.
 fn chunks_of(alloc: Global, world: &Store, bound: &Bound) -> Result<ChunkSet, Memory>
     ensures plan { IfOk result (λ chunks.
         chunks ≡ plan_of world.now.plan world.now.rows.objects bound.now) }
@@ -130,7 +130,7 @@ fn chunks_of(alloc: Global, world: &Store, bound: &Bound) -> Result<ChunkSet, Me
     }
 }
 
-/// The plan of those that need these chunks: they are refused where the overlap of these does not allow them.
+/// Returns the plan of the queries that need these chunks: they are refused if the chunks' overlap does not allow them.
 fn plan_over(
     alloc: Global,
     world: &Store,
@@ -151,7 +151,7 @@ fn plan_over(
     }
 }
 
-/// The plan of those that can be run over these chunks.
+/// Returns the plan of the queries that can be run over these chunks.
 fn cut_over(alloc: Global, tree: Query, bound: &Bound, chunks: ChunkSet) -> Result<Plan, Memory>
     ensures { IfOk result (IsCutOf tree bound.now chunks) }
 {

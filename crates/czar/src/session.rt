@@ -1,4 +1,5 @@
-//! The session of a script: its queries are planned, driven over a shared board with workers beside the czar, and told.
+//! The session of a script: its queries are planned and driven over a shared board with workers beside the czar, and
+//! their ends are returned.
 
 ghost use Rattle.std.specs.Prelude.{◌≡◌, ◌+◌, ◌≤◌, All, IfOk, length, map};
 ghost use Rattle.table_rules.specs.Objects.{IsCatalogue};
@@ -34,10 +35,10 @@ use std::alloc::Global;
 use std::sync::Wait;
 use std::thread::Threads;
 
-/// Runs the queries of a script over a shared board, with so many workers on threads beside the caller, who works too
-/// while he waits. Who takes a chunk passes the gate before the work on it. Allocates memory, and waits; each answer is
-/// made before any of it is written. Wait lines and cancel lines are obeyed in the order of the script; a query whose
-/// own work wants for memory ends as spent, and the others go on.
+/// Runs the queries of a script over a shared board, with the given number of workers on threads beside the caller,
+/// which works too while it waits. A worker that takes a chunk passes the gate before the work on it. Allocates memory,
+/// and waits; each answer is computed before any of it is written. Wait lines and cancel lines are obeyed in the order
+/// of the script. If an allocation fails in a query's own work, the query ends as `Spent`, and the others go on.
 pub fn run_session<R: Threads + Wait + Sync, G: Gate + Sync>(
     alloc: Global,
     rt: &R,
@@ -66,7 +67,7 @@ pub fn run_session<R: Threads + Wait + Sync, G: Gate + Sync>(
     }
 }
 
-/// What a session is run over, and by whom: it stays the same while the session goes on.
+/// What a session is run over, and the means to run it: it stays the same during the session.
 #[derive(Drop)]
 struct Session<'s, 't, R, G> {
     alloc: Global,
@@ -78,7 +79,7 @@ struct Session<'s, 't, R, G> {
 }
 
 impl<'s, 't, R: Threads + Wait + Sync, G: Gate + Sync> Session<'s, 't, R, G> {
-    /// Runs the queries that are planned so.
+    /// Runs the queries with these plans.
     fn run(&self, plans: Vec<Plan>) -> Result<Vec<End>, Memory>
         requires few { self.now.workers ≤ WORKERS_MOST }
         requires plans { ArePlans self.now.world.now.plan self.now.world.now.rows
@@ -96,7 +97,7 @@ impl<'s, 't, R: Threads + Wait + Sync, G: Gate + Sync> Session<'s, 't, R, G> {
         }
     }
 
-    /// What each query is told, by its plan and by how it ended at the board.
+    /// Returns the end of each query, by its plan and by how it ended at the board.
     fn told(&self, plans: Vec<Plan>, ends: Vec<BoardEnd<Piece<'_>>>) -> Result<Vec<End>, Memory>
         requires plans { ArePlans self.now.world.now.plan self.now.world.now.rows
             (query_lines self.now.script.now) plans.items }
@@ -115,7 +116,7 @@ impl<'s, 't, R: Threads + Wait + Sync, G: Gate + Sync> Session<'s, 't, R, G> {
         all_told(self.alloc, plans, ends)
     }
 
-    /// Prepares the queries that are planned so, and drives them.
+    /// Prepares the queries with these plans, and drives them.
     fn driven(&self, plans: &[Plan]) -> Result<Vec<BoardEnd<Piece<'s>>>, Memory>
         requires few { self.now.workers ≤ WORKERS_MOST }
         requires plans { ArePlans self.now.world.now.plan self.now.world.now.rows
@@ -132,7 +133,7 @@ impl<'s, 't, R: Threads + Wait + Sync, G: Gate + Sync> Session<'s, 't, R, G> {
         }
     }
 
-    /// Drives what is attached over a board of its own, by these chunk queries.
+    /// Drives what is attached over a board of its own, with these chunk queries.
     fn driven_by(
         &self,
         queries: &[Option<ChunkQuery>],
@@ -155,7 +156,7 @@ impl<'s, 't, R: Threads + Wait + Sync, G: Gate + Sync> Session<'s, 't, R, G> {
         }
     }
 
-    /// Drives what is attached over this board, from the czar's first seat at it.
+    /// Drives what is attached over this board, from the czar's first participant.
     fn driven_at(
         &self,
         queries: &[Option<ChunkQuery>],
@@ -198,7 +199,7 @@ impl<'s, 't, R: Threads + Wait + Sync, G: Gate + Sync> Session<'s, 't, R, G> {
     }
 }
 
-/// What a store tells of itself: its plan and its rows are within the limits. Does not allocate.
+/// States of a store that its plan and its rows are within the limits. Does not allocate.
 fn know(world: &Store)
     ensures sky { IsSky world.now.plan }
     ensures rows { IsCatalogue world.now.rows }

@@ -1,4 +1,4 @@
-//! What a query is told, by its plan and by how it ended at the board.
+//! The end of a query, by its plan and by how it ended at the board.
 //!
 //! What a plan still holds is dropped by name, as in `plan`.
 
@@ -23,7 +23,7 @@ use std::alloc::Global;
 use std::vec::IntoIter;
 use transcript_rules::Refusal;
 
-/// The answer of a query whose piece over these chunks this is, or its refusal for a total out of range.
+/// Returns the answer of a query with this piece over these chunks, or its refusal for a total out of range.
 fn answer_of(
     head: Query,
     merge: &MergePlan,
@@ -48,7 +48,7 @@ fn answer_of(
     }
 }
 
-/// What a query ends with whose finish stops so.
+/// Returns the end of a query whose finish stops with this error.
 fn out_of_range(stop: Stop<TotalOut>) -> Result<End, Memory>
     ensures { IfOk result (IsOutOfRange stop) }
 {
@@ -58,7 +58,7 @@ fn out_of_range(stop: Stop<TotalOut>) -> Result<End, Memory>
     }
 }
 
-/// What a query with this plan is told, whose piece over all its chunks this is.
+/// Returns the end of a query with this plan and this piece over all its chunks.
 fn finished_by(plan: Plan, piece: Piece<'_>) -> Result<End, Memory>
     requires { MayAnswer plan piece }
     ensures { IfOk result (λ end. end ≡ finished_end plan piece.entry) }
@@ -77,7 +77,7 @@ fn finished_by(plan: Plan, piece: Piece<'_>) -> Result<End, Memory>
     }
 }
 
-/// What a query is told that was not attached.
+/// Returns the end of a query that was not attached.
 fn refused_by(plan: Plan) -> End
     requires { IsRefusal plan }
     ensures { result ≡ refused_end plan }
@@ -88,7 +88,7 @@ fn refused_by(plan: Plan) -> End
     }
 }
 
-/// What a query is told that was cancelled.
+/// Returns the end of a query that was cancelled.
 fn cancelled_by(plan: Plan) -> End
     ensures { result ≡ End.Cancelled }
 {
@@ -96,7 +96,7 @@ fn cancelled_by(plan: Plan) -> End
     End::Cancelled
 }
 
-/// What a query is told whose work wanted for memory.
+/// Returns the end of a query in whose work an allocation failed.
 fn spent_by(plan: Plan) -> End
     ensures { result ≡ End.Spent }
 {
@@ -104,7 +104,7 @@ fn spent_by(plan: Plan) -> End
     End::Spent
 }
 
-/// What a query with this plan is told that ended so.
+/// Returns the end of a query with this plan, by how it ended at the board.
 fn end_by(plan: Plan, end: BoardEnd<Piece<'_>>) -> Result<End, Memory>
     requires { MayEnd plan end }
     ensures { IfOk result (λ told. told ≡ ended plan end.entry) }
@@ -117,7 +117,7 @@ fn end_by(plan: Plan, end: BoardEnd<Piece<'_>>) -> Result<End, Memory>
     }
 }
 
-/// Puts what a query with this plan is told that ended so behind what the others are.
+/// Appends the end of a query with this plan, by how it ended at the board.
 fn push_told(plan: Plan, end: BoardEnd<Piece<'_>>, told: &mut Vec<End>) -> Result<(), Memory>
     requires { MayEnd plan end }
     ensures { OnOk result (told.new.items ≡ told.old.items ++ ended plan end.entry ∷ []) }
@@ -128,7 +128,7 @@ fn push_told(plan: Plan, end: BoardEnd<Piece<'_>>, told: &mut Vec<End>) -> Resul
     }
 }
 
-/// Tells the query with this plan the next of these ends.
+/// Appends the end of the query with this plan, by the next of these ends at the board.
 fn tell_next(
     plan: Plan,
     ends: &mut IntoIter<BoardEnd<Piece<'_>>, Global>,
@@ -146,7 +146,7 @@ fn tell_next(
     }
 }
 
-/// What each query of a script is told, in their order.
+/// Returns the end of each query of a script, in their order.
 pub(crate) fn all_told(
     alloc: Global,
     plans: Vec<Plan>,

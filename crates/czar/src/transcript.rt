@@ -18,7 +18,7 @@ use session_script::Script;
 use sky_io::{Put, Sink};
 use sql_tree::Query;
 
-/// The block of a query that is answered; `text` is its line.
+/// Writes the block of a query that is answered; `text` is its line.
 fn put_answer<K: Sink>(
     sink: &mut K,
     world: &Store,
@@ -42,7 +42,7 @@ fn put_answer<K: Sink>(
     put_table(sink, number, &shown)
 }
 
-/// The block of a query that ended so; `text` is its line.
+/// Writes the block of a query with this end; `text` is its line.
 fn put_end<K: Sink>(sink: &mut K, world: &Store, number: u32, text: &[u8], end: &End) -> Put
     requires { EndShows world.now.plan world.now.rows text.now end.now }
     ensures { Wrote (K.state sink.old) (K.state sink.new)
@@ -60,7 +60,7 @@ fn put_end<K: Sink>(sink: &mut K, world: &Store, number: u32, text: &[u8], end: 
     }
 }
 
-/// The block of the query at a place, from 0.
+/// Writes the block of the query with an index, from 0.
 fn put_block<K: Sink>(
     sink: &mut K,
     world: &Store,
@@ -85,7 +85,7 @@ fn put_block<K: Sink>(
     )
 }
 
-/// Writes the transcript of a script whose queries ended so. Does not allocate.
+/// Writes the transcript of a script whose queries have these ends. Does not allocate.
 pub fn put_transcript<K: Sink>(
     sink: &mut K,
     world: &Store,

@@ -1,4 +1,4 @@
-//! What is understood of a query's line: its tree, and what the tree is bound to over the schema.
+//! The understanding of a query's line: its tree, and its bound query over the schema.
 
 ghost use Rattle.std.specs.Prelude.{◌≤◌, IfOk, length};
 ghost use Rattle.text_rules.specs.declared.limits.TheConstants.{QUERY_TEXT_MOST};
@@ -13,16 +13,16 @@ use sql_tree::Query;
 use std::alloc::Global;
 use transcript_rules::Refusal;
 
-/// What is understood of a query's line.
+/// The understanding of a query's line.
 #[derive(Drop)]
 pub enum Understanding {
-    /// The line's tree, and what it is bound to.
+    /// The line's tree, and its bound query.
     Known { tree: Query, bound: Bound },
-    /// Why nothing is understood: it is no query, or does not fit the schema.
+    /// The reason for which there is none: the line is no query, or does not fit the schema.
     Unknown(Refusal),
 }
 
-/// What is understood of a line of at most 16,384 bytes, over the schema. Allocates memory for the trees.
+/// Returns the understanding of a line of at most 16,384 bytes, over the schema. Allocates memory for the trees.
 pub(crate) fn understand(
     alloc: Global,
     schema: &Schema,
@@ -37,7 +37,7 @@ pub(crate) fn understand(
     }
 }
 
-/// What is understood of the lines on which the reader stops so.
+/// Returns the understanding of the lines on which the reader stops with this error.
 fn unread(stop: Stop<SqlFault>) -> Result<Understanding, Memory>
     ensures { IfOk result (IsUnread stop) }
 {
@@ -47,7 +47,7 @@ fn unread(stop: Stop<SqlFault>) -> Result<Understanding, Memory>
     }
 }
 
-/// What is understood of the lines with this tree.
+/// Returns the understanding of the lines with this tree.
 fn bound_over(alloc: Global, schema: &Schema, tree: Query) -> Result<Understanding, Memory>
     ensures { IfOk result (IsUnderstandingOf schema.now tree) }
 {
@@ -60,7 +60,7 @@ fn bound_over(alloc: Global, schema: &Schema, tree: Query) -> Result<Understandi
     }
 }
 
-/// What is understood of the lines on whose tree the binder stops so.
+/// Returns the understanding of the lines on whose tree the binder stops with this error.
 fn unbound(stop: Stop<BindFault>) -> Result<Understanding, Memory>
     ensures { IfOk result (IsUnbound stop) }
 {

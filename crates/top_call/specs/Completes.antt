@@ -1,4 +1,4 @@
--- Which outcome of the top call must come.
+-- Which outcome of the top call must occur.
 use Rattle.std.specs.Prelude.{◌≡◌, Option, None, Some}
 use Rattle.sky_io.specs.Sinks.{Rose}
 use Rattle.top_call.specs.Words.{Form, Load, Asks, Demo, Names, names_of}
@@ -25,19 +25,20 @@ IsDoneOrMemory (Done ends) = Unit {0}
 IsDoneOrMemory Memory = Unit {0}
 IsDoneOrMemory _ = ⊥
 
--- Which outcome must come over these texts, of a form with these names.
+-- Which outcome must occur over these texts, for a command with these names.
 pub record Completes (names : Names) (shown : Shown) (outcome : Outcome) (texts : Texts) : Type 0 where
-  -- a text that is reached and isn't accepted is refused
+  -- a text that is reached and not accepted is refused
   pub refused :
       (which : Which) → HasText names which → AreEarlierAccepted names texts which →
       (IsAccepted which (text_at names texts which) → ⊥) →
       AreStill names shown.shelf_old.failed shown.shelf_new.failed which → IsRefusalOrMemory which outcome
-  -- all being accepted, and nothing having failed, the work is done
+  -- if all are accepted, and nothing has failed, the work is done
   pub done :
       AreAccepted names texts → AreAllStill names shown.shelf_old.failed shown.shelf_new.failed →
       (Rose shown.sink_old.faults shown.sink_new.faults → ⊥) → IsDoneOrMemory outcome
 
--- the same, where the shelf tells the texts that the form names; a demo names none, so what the shelf tells plays no part
+-- the outcome that must occur for a command occurs, if the shelf's texts are observable; a demo names no text, so the
+-- shelf is not used
 abbrev pub CompleteOf : Form → Shown → Outcome → Type 0
 CompleteOf (Load sky catalogue) shown outcome =
     IfTold shown.shelf_old.texts (Completes (names_of (Load sky catalogue)) shown outcome)
@@ -46,7 +47,7 @@ CompleteOf (Asks task sky catalogue script) shown outcome =
 CompleteOf (Demo count seed workers) shown outcome =
     (texts : Texts) → Completes (names_of (Demo count seed workers)) shown outcome texts
 
--- the same, where the words are a form
+-- the outcome that must occur occurs, if the arguments are a command
 abbrev pub Complete : Option Form → Shown → Outcome → Type 0
 Complete None shown outcome = Unit {0}
 Complete (Some form) shown outcome = CompleteOf form shown outcome

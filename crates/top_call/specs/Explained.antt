@@ -1,4 +1,4 @@
--- What each outcome of the top call says.
+-- The meaning of each outcome of the top call.
 use Rattle.std.specs.Prelude.{◌≡◌, ◌<◌, ℕ, List, Option, None, Some, false}
 use Rattle.sky_io.specs.Shelves.{ShelfState, GrewBy, times}
 use Rattle.sky_io.specs.Sinks.{SinkState, Appended, AppendedPart, Rose}
@@ -14,7 +14,7 @@ use Rattle.top_call.specs.declared.outcome.Outcome.{Outcome}
 use Rattle.top_call.specs.declared.outcome.Outcome.TheVariants.{Done, Usage, BadSky, BadCatalogue, BadScript}
 use Rattle.top_call.specs.declared.outcome.Outcome.TheVariants.{TooLong, ShelfFault, SinkFault, Memory}
 
--- What shelf and sink show before and after the call.
+-- The states of shelf and sink before and after the call.
 pub record Shown : Type 0 where
   pub shelf_old : ShelfState
   pub shelf_new : ShelfState
@@ -34,7 +34,7 @@ IsUntouched shown = shown.sink_new ≡ shown.sink_old
 abbrev pub AllFetched : Shown → Type 0
 AllFetched shown = shown.shelf_new ≡ shown.shelf_old
 
--- All was written and sent, and nothing has failed: exactly the text of what the form asks for.
+-- All was written and sent, and nothing has failed: exactly the text of what the command asks for.
 pub record IsDone (form : Form) (shown : Shown) (ends : List EndKind) : Type 0 where
   pub job : Job
   pub asked : IsJobOf form shown.shelf_old.texts job
@@ -45,7 +45,7 @@ pub record IsDone (form : Form) (shown : Shown) (ends : List EndKind) : Type 0 w
   pub calm : shown.sink_new.faults ≡ shown.sink_old.faults
   pub sent : shown.sink_new.held ≡ false
 
--- The sink failed: its count rose, and a front of that text was written.
+-- The sink failed: its count of faults rose, and a prefix of that text was written.
 pub record IsSinkFault (form : Form) (shown : Shown) (ends : List EndKind) : Type 0 where
   pub job : Job
   pub asked : IsJobOf form shown.shelf_old.texts job
@@ -55,7 +55,7 @@ pub record IsSinkFault (form : Form) (shown : Shown) (ends : List EndKind) : Typ
   pub written : AppendedPart shown.sink_old.written (text_of_job job ends) shown.sink_new.written
   pub cause : Rose shown.sink_old.faults shown.sink_new.faults
 
--- A text is refused, for something that holds of it: it was reached, each earlier one being accepted and no fetch having
+-- A text is refused, for a reason that holds of it: it was reached, as each earlier one is accepted and no fetch has
 -- failed, and nothing was written.
 pub record IsRefused (names : Names) (shown : Shown) (which : Which) (Why : List ℕ → Type 0) : Type 0 where
   pub has : HasText names which
@@ -64,7 +64,7 @@ pub record IsRefused (names : Names) (shown : Shown) (which : Which) (Why : List
   pub fetched : AllFetched shown
   pub untouched : IsUntouched shown
 
--- The shelf failed at a text: the count of that very name rose and no other's, each earlier text being accepted.
+-- The shelf failed at a text: the count of that very name rose and no other's, and each earlier text is accepted.
 pub record IsShelfFault (names : Names) (shown : Shown) (which : Which) : Type 0 where
   pub has : HasText names which
   pub earlier : IfTold shown.shelf_old.texts (λ texts. AreEarlierAccepted names texts which)
@@ -73,7 +73,7 @@ pub record IsShelfFault (names : Names) (shown : Shown) (which : Which) : Type 0
       times (name_of names which) shown.shelf_old.failed < times (name_of names which) shown.shelf_new.failed
   pub untouched : IsUntouched shown
 
--- what an outcome says that comes of the texts alone, of a form with these names
+-- the meaning of an outcome that results from the texts alone, for a command with these names
 abbrev pub IsStop : Names → Shown → Outcome → Type 0
 IsStop names shown (Done ends) = ⊥
 IsStop names shown Usage = ⊥
@@ -85,13 +85,13 @@ IsStop names shown (ShelfFault which) = IsShelfFault names shown which
 IsStop names shown (SinkFault ends) = ⊥
 IsStop names shown Memory = AllFetched shown × IsUntouched shown
 
--- what an outcome says, where the words are a form
+-- the meaning of an outcome for a command
 abbrev pub ExplainedOf : Form → Shown → Outcome → Type 0
 ExplainedOf form shown (Done ends) = IsDone form shown ends
 ExplainedOf form shown (SinkFault ends) = IsSinkFault form shown ends
 ExplainedOf form shown outcome = IsStop (names_of form) shown outcome
 
--- what an outcome says: where the words are no form it is Usage, and neither shelf nor sink was touched
+-- the meaning of an outcome: if the arguments are no command it is Usage, and neither shelf nor sink was touched
 abbrev pub Explained : Option Form → Shown → Outcome → Type 0
 Explained None shown outcome =
     (outcome ≡ Usage) × (shown.shelf_new ≡ shown.shelf_old) × IsUntouched shown

@@ -1,4 +1,4 @@
--- The lines that tell the fault of a text: the place, then the thing, then the value.
+-- The lines that report the fault of a text: the place, then the thing, then the value.
 use Rattle.std.specs.Prelude.{ℕ, ℤ, List, ◌++◌, codes}
 use Rattle.std.specs.Fmt.{decimal, signed_decimal}
 use Rattle.sky_rules.specs.declared.fault.SkyFault.{SkyFault}
@@ -12,11 +12,11 @@ use Rattle.session_script.specs.declared.fault.ScriptFault.TheVariants as script
 abbrev pub place : List ℕ → ℕ → List ℕ
 place thing n = thing ++ decimal n
 
--- a thing with its number, and what is said of it
+-- a thing with its number, and the text after it
 abbrev pub numbered : List ℕ → ℕ → List ℕ → List ℕ
 numbered thing n behind = place thing n ++ behind
 
--- what a value is, and the value at the line's end
+-- the description of a value, and the value at the line's end
 abbrev pub valued : List ℕ → ℤ → List ℕ
 valued before value = before ++ (signed_decimal value ++ codes "\n")
 
@@ -28,7 +28,7 @@ sky_line (sky.Order line) = numbered (codes "sky line ") line (codes ": order\n"
 sky_line (sky.Count line) = numbered (codes "sky line ") line (codes ": count\n")
 sky_line (sky.TooMany line) = numbered (codes "sky line ") line (codes ": too many\n")
 
--- the place of a data row's fault, and what is said of it
+-- the place of a data row's fault, and the text after it
 abbrev pub row_line : ℕ → List ℕ → List ℕ
 row_line row behind = numbered (codes "catalogue row ") row behind
 
@@ -43,7 +43,7 @@ catalogue_line (load.Length row) = row_line row (codes ": length\n")
 catalogue_line (load.Repeated row id) = row_line row (valued (codes ": repeated id ") id)
 catalogue_line load.TooManyRows = codes "catalogue: too many rows\n"
 
--- what is said of a number in a line of a script
+-- the place of a fault in a line of a script, and the text after it
 abbrev pub script_place : ℕ → List ℕ → List ℕ
 script_place line behind = numbered (codes "script line ") line behind
 

@@ -1,4 +1,4 @@
--- What the texts of a form say.
+-- The meaning of the texts of a command.
 use Rattle.chunk_store.specs.Survey.{Survey}
 use Rattle.top_call.specs.declared.inputs.Inputs.{Inputs}
 

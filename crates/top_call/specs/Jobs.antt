@@ -1,4 +1,4 @@
--- What is to be done, and what is written of it.
+-- The jobs of a command, and what is written for them.
 use Rattle.std.specs.Prelude.{◌≡◌, ℕ, List, [], All, Option, Ok}
 use Rattle.sky_io.specs.Shelves.{named_text}
 use Rattle.sky_rules.specs.SkyText.{sky_of}
@@ -16,16 +16,16 @@ use Rattle.top_call.specs.Reached.{Texts, IfTold, IsCatalogueOf, IsScriptOf, IsS
 use Rattle.top_call.specs.declared.task.Task.{Task}
 use Rattle.top_call.specs.declared.task.Task.TheVariants.{Answer, Explain}
 
--- What is to be done.
+-- A job.
 pub data Job : Type 0 where
-  -- to report how the rows of a survey lie in its chunks
+  -- to report how the rows of a survey are distributed over its chunks
   Reports : Survey → Job
-  -- to answer the queries of a script over a survey, with so many workers
+  -- to answer the queries of a script over a survey, with the given number of workers
   Runs : (workers : ℕ) → Survey → ScriptView → Job
-  -- to explain them
+  -- to explain the queries of a script over a survey
   Explains : Survey → ScriptView → Job
 
--- the text of a job whose queries end so
+-- the text of a job whose queries have these ends
 abbrev pub text_of_job : Job → List EndKind → List ℕ
 text_of_job (Reports survey) ends = report survey.plan survey.rows.objects
 text_of_job (Runs workers survey view) ends = transcript survey.plan survey.rows view ends
@@ -37,14 +37,14 @@ EndsFit (Reports survey) ends = ends ≡ []
 EndsFit (Runs workers survey view) ends = FitEnds workers survey.plan survey.rows view ends
 EndsFit (Explains survey view) ends = ends ≡ []
 
--- the query was answered, or memory was wanting in its own work
+-- the query was answered, or an allocation failed in its own work
 abbrev pub IsAnsweredOrSpent : EndKind → Type 0
 IsAnsweredOrSpent Answered = Unit {0}
 IsAnsweredOrSpent Refused = ⊥
 IsAnsweredOrSpent Cancelled = ⊥
 IsAnsweredOrSpent Spent = Unit {0}
 
--- of a demo no query is refused, and none is cancelled
+-- no query of a demo is refused, and none is cancelled
 abbrev pub DemoIsTold : Form → List EndKind → Type 0
 DemoIsTold (Load sky catalogue) ends = Unit {0}
 DemoIsTold (Asks task sky catalogue script) ends = Unit {0}
@@ -60,16 +60,16 @@ abbrev pub AreSurveyAndScript : (sky catalogue script : List ℕ) → Survey →
 AreSurveyAndScript sky catalogue script survey view texts =
     IsSurveyOf sky catalogue survey texts × IsScriptOf (named_text script texts) view
 
--- what is asked of a script over a survey
+-- the job of a task on a script over a survey
 abbrev pub job_on : Task → Survey → ScriptView → Job
 job_on (Answer workers) survey view = Runs workers survey view
 job_on Explain survey view = Explains survey view
 
--- the survey is the demo's: its sky plan, and so many objects that are drawn from a seed
+-- the survey is the demo's: its sky plan, and the given number of objects that are drawn from a seed
 abbrev pub IsDemoSurvey : ℕ → ℕ → Survey → Type 0
 IsDemoSurvey count seed survey = (sky_of demo_sky ≡ Ok survey.plan) × IsDemoCatalogue count seed survey.rows
 
--- This is what the form asks for, where the shelf tells its texts; the demo asks for none of them.
+-- This is the job of the command, if the shelf's texts are observable; the demo uses none of them.
 abbrev pub IsJobOf : Form → Option Texts → Job → Type 0
 IsJobOf (Load sky catalogue) told job =
     (survey : Survey) × (job ≡ Reports survey) × IfTold told (IsSurveyOf sky catalogue survey)

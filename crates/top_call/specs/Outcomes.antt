@@ -1,4 +1,4 @@
--- What is told of an outcome: the exit status, and the line on standard error.
+-- The report of an outcome: the exit status, and the line on standard error.
 use Rattle.std.specs.Prelude.{ℕ, List, [], ◌++◌, Option, None, Some, codes, unwrap_or}
 use Rattle.top_call.specs.Words.{Form, Names, names_of}
 use Rattle.top_call.specs.FaultLines.{sky_line, catalogue_line, script_line}
@@ -20,17 +20,17 @@ status_of (ShelfFault which) = 7
 status_of (SinkFault ends) = 8
 status_of Memory = 9
 
--- the name of a text, where there is such a text
+-- the name of a text, if there is such a text
 abbrev pub name_at : Names → Which → Option (List ℕ)
 name_at names Sky = names.sky
 name_at names Catalogue = names.catalogue
 name_at names Script = names.script
 
--- the same, and nothing where there is no such text
+-- the name of a text, and nothing if there is no such text
 abbrev pub name_of : Names → Which → List ℕ
 name_of names which = unwrap_or (name_at names which) []
 
--- the name that the words give to a text, and nothing where they are no form
+-- the name that the arguments give to a text, and nothing if they are no command
 abbrev pub name_in : Option Form → Which → List ℕ
 name_in None which = []
 name_in (Some form) which = name_of (names_of form) which

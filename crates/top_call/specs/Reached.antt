@@ -1,4 +1,4 @@
--- Which of the named texts is reached: they are fetched and judged one by one, sky, catalogue, script.
+-- Which of the named texts is reached: they are fetched and validated one by one, sky, catalogue, script.
 use Rattle.std.specs.Prelude.{◌≡◌, ℕ, ◌≤◌, ◌<◌, List, length, Option, None, Some, IsSome, Ok, Err}
 use Rattle.text_rules.specs.declared.limits.TheConstants.{SCRIPT_TEXT_MOST, SKY_TEXT_MOST, TEXT_MOST}
 use Rattle.sky_io.specs.Shelves.{named_text, times}
@@ -16,20 +16,20 @@ use Rattle.top_call.specs.Outcomes.{name_at, name_of}
 use Rattle.top_call.specs.declared.outcome.Which.{Which}
 use Rattle.top_call.specs.declared.outcome.Which.TheVariants.{Sky, Catalogue, Script}
 
--- the texts that a shelf tells, by their names
+-- the observable texts of a shelf, by their names
 abbrev pub Texts : Type 0
 Texts = List (List ℕ × List ℕ)
 
--- a fact of the texts, where the shelf tells them
+-- a fact of the texts, if the shelf's texts are observable
 abbrev pub IfTold : Option Texts → (Texts → Type 0) → Type 0
 IfTold None P = Unit {0}
 IfTold (Some texts) P = P texts
 
--- the text of a name of the form
+-- the text of a name of the command
 abbrev pub text_at : Names → Texts → Which → List ℕ
 text_at names texts which = named_text (name_of names which) texts
 
--- the longest text of its kind, in bytes
+-- the greatest length of a text of its kind, in bytes
 abbrev pub limit_of : Which → ℕ
 limit_of Sky = SKY_TEXT_MOST
 limit_of Catalogue = TEXT_MOST
@@ -85,15 +85,15 @@ AreEarlierAccepted names texts Sky = Unit {0}
 AreEarlierAccepted names texts Catalogue = IsSkyAccepted names texts
 AreEarlierAccepted names texts Script = IsSkyAccepted names texts × IsCatalogueAccepted names texts
 
--- the form has the text
+-- the command has the text
 abbrev pub HasText : Names → Which → Type 0
 HasText names which = IsSome (name_at names which)
 
--- each text of the form is accepted
+-- each text of the command is accepted
 abbrev pub AreAccepted : Names → Texts → Type 0
 AreAccepted names texts = (which : Which) → HasText names which → IsAccepted which (text_at names texts which)
 
--- the count of a text's failures is what it was
+-- the count of a text's failures has not changed
 abbrev pub IsStill : Names → List (List ℕ) → List (List ℕ) → Which → Type 0
 IsStill names old new which = times (name_of names which) new ≡ times (name_of names which) old
 

@@ -1,4 +1,4 @@
--- What each step of the top call says, from the fetch of one text to the writing of a job.
+-- The meaning of each step of the top call, from the fetch of one text to the writing of a job.
 use Rattle.std.specs.Prelude.{◌≡◌, ◌<◌, ◌≤◌, ℕ, List, false, length, Option, Ok, Err}
 use Rattle.sky_io.specs.Shelves.{ShelfState, GivesText, GrewBy, named_text, times}
 use Rattle.sky_io.specs.Sinks.{SinkState, Appended, AppendedPart, Rose, Flushed}
@@ -29,13 +29,13 @@ pub record HasFailed (name : List ℕ) (old new : ShelfState) : Type 0 where
   pub grew : GrewBy name old.failed new.failed
   pub cause : times name old.failed < times name new.failed
 
--- why a text was not given: it could not be fetched, or memory was wanting
+-- the reason for which a text was not given: it could not be fetched, or an allocation failed
 abbrev pub IsFetchFault : List ℕ → Which → ShelfState → ShelfState → Outcome → Type 0
 IsFetchFault name which old new (ShelfFault named) = (named ≡ which) × HasFailed name old new
 IsFetchFault name which old new Memory = new ≡ old
 IsFetchFault name which old new _ = ⊥
 
--- Something holds of the texts, where they are told, and the shelf is as it was.
+-- Something holds of the texts, if they are observable, and the shelf is as it was.
 pub record IsRead (Holds : Texts → Type 0) (old new : ShelfState) : Type 0 where
   pub same : new ≡ old
   pub holds : IfTold old.texts Holds
@@ -49,29 +49,30 @@ pub record IsWhole (name : List ℕ) (which : Which) (text : List ℕ) (old new 
   pub short : length text ≤ limit_of which
   pub read : IsRead (OfNamed name (λ whole. whole ≡ text)) old new
 
--- why the whole of a text was not given: it is too long, it could not be fetched, or memory was wanting
+-- the reason for which the whole of a text was not given: it is too long, it could not be fetched, or an allocation
+-- failed
 abbrev pub IsWholeStop : List ℕ → Which → ShelfState → ShelfState → Outcome → Type 0
 IsWholeStop name which old new (TooLong named) = (named ≡ which) × IsRead (OfNamed name (IsLong which)) old new
 IsWholeStop name which old new (ShelfFault named) = (named ≡ which) × HasFailed name old new
 IsWholeStop name which old new Memory = new ≡ old
 IsWholeStop name which old new _ = ⊥
 
--- why a sky plan was not read
+-- the reason for which a sky plan was not read
 abbrev pub IsSkyStop : List ℕ → ShelfState → ShelfState → Outcome → Type 0
 IsSkyStop name old new (BadSky fault) = IsRead (OfNamed name (λ text. IsSkyFault text fault)) old new
 IsSkyStop name old new outcome = IsWholeStop name Sky old new outcome
 
--- why a catalogue was not read
+-- the reason for which a catalogue was not read
 abbrev pub IsCatalogueStop : List ℕ → ShelfState → ShelfState → Outcome → Type 0
 IsCatalogueStop name old new (BadCatalogue fault) = IsRead (OfNamed name (λ text. IsCatalogueFault text fault)) old new
 IsCatalogueStop name old new outcome = IsWholeStop name Catalogue old new outcome
 
--- the shelf alone explains the outcome, of a form with these names: over any sink that nothing was done to
+-- the shelf alone explains the outcome of a command with these names: over any sink that is not touched
 abbrev pub IsShelfStop : (sky catalogue : List ℕ) → Option (List ℕ) → ShelfState → ShelfState → Outcome → Type 0
 IsShelfStop sky catalogue script old new outcome =
     (sink : SinkState) → IsStop (names_from sky catalogue script) (shown old new sink sink) outcome
 
--- the same, of any form with a sky plan and a catalogue of these names
+-- the shelf alone explains the outcome of any command with a sky plan and a catalogue of these names
 abbrev pub IsSurveyStop : (sky catalogue : List ℕ) → ShelfState → ShelfState → Outcome → Type 0
 IsSurveyStop sky catalogue old new outcome =
     (script : Option (List ℕ)) → IsShelfStop sky catalogue script old new outcome
@@ -88,45 +89,45 @@ pub record IsSent (job : Job) (ends : List EndKind) (old new : SinkState) : Type
   pub calm : new.faults ≡ old.faults
   pub sent : new.held ≡ false
 
--- The sink failed, with a front of the text written.
+-- The sink failed, with a prefix of the text written.
 pub record IsTorn (job : Job) (ends : List EndKind) (old new : SinkState) : Type 0 where
   pub fits : EndsFit job ends
   pub written : AppendedPart old.written (text_of_job job ends) new.written
   pub cause : Rose old.faults new.faults
 
--- what the writing of a job comes to
+-- the outcome of the writing of a job
 abbrev pub IsWritten : Job → SinkState → SinkState → Outcome → Type 0
 IsWritten job old new (Done ends) = IsSent job ends old new
 IsWritten job old new (SinkFault ends) = IsTorn job ends old new
 IsWritten job old new Memory = new ≡ old
 IsWritten job old new _ = ⊥
 
--- what is held back was sent, or the sink failed
+-- the bytes that are held back were sent, or the sink failed
 abbrev pub IsFlushed : List EndKind → SinkState → SinkState → Outcome → Type 0
 IsFlushed ends old new (Done told) = (told ≡ ends) × Flushed old new Put.Done
 IsFlushed ends old new (SinkFault told) = (told ≡ ends) × Flushed old new Put.Failed
 IsFlushed ends old new _ = ⊥
 
--- The text is read as the script of which the job is written so.
+-- The text is read as a script, and the outcome is that of the writing of its job.
 pub record IsTaskAsRead (task : Task) (survey : Survey) (text : List ℕ) (old new : SinkState) (outcome : Outcome) : Type 0 where
   pub view : ScriptView
   pub same : view.text ≡ text
   pub steps : script_of text ≡ Ok view.steps
   pub work : IsWritten (job_on task survey view) old new outcome
 
--- what the work on the text of a script comes to: the text has a fault, or it is read and worked on
+-- the outcome of the work on the text of a script: the text has a fault, or it is read and worked on
 abbrev pub IsTaskOver : Task → Survey → List ℕ → SinkState → SinkState → Outcome → Type 0
 IsTaskOver task survey text old new (BadScript fault) = (script_of text ≡ Err fault) × (new ≡ old)
 IsTaskOver task survey text old new Memory = new ≡ old
 IsTaskOver task survey text old new outcome = IsTaskAsRead task survey text old new outcome
 
--- The job on the demo's script over a survey is written so.
+-- The outcome is that of the writing of the job on the demo's script over a survey.
 pub record IsDemoWritten (workers : ℕ) (survey : Survey) (old new : SinkState) (outcome : Outcome) : Type 0 where
   pub view : ScriptView
   pub read : IsScriptOf demo_script view
   pub work : IsWritten (Runs workers survey view) old new outcome
 
--- what the work on the demo's script over a survey comes to
+-- the outcome of the work on the demo's script over a survey
 abbrev pub IsDemoOver : (workers : ℕ) → Survey → SinkState → SinkState → Outcome → Type 0
 IsDemoOver workers survey old new Memory = new ≡ old
 IsDemoOver workers survey old new outcome = IsDemoWritten workers survey old new outcome

@@ -1,4 +1,4 @@
--- The form that the words give, as the program holds it.
+-- The command that the arguments give, as the program represents it.
 use Rattle.std.specs.Prelude.{◌≤◌}
 use Rattle.table_rules.specs.declared.limits.TheConstants.{ROWS_MOST}
 use Rattle.demo_rules.specs.declared.limits.TheConstants.{SEED_MOST}
@@ -7,13 +7,13 @@ use Rattle.session_rules.specs.declared.limits.TheConstants.{WORKERS_MOST}
 use Rattle.top_call.specs.declared.words.Form.{Form}
 use Rattle.top_call.specs.declared.words.Form.TheVariants as held
 
--- the form, with its names as lists of bytes
+-- the command, with its names as lists of bytes
 abbrev pub asked_by : Form → Asked
 asked_by (held.Load sky catalogue) = Load sky.now catalogue.now
 asked_by (held.Asks task sky catalogue script) = Asks task sky.now catalogue.now script.now
 asked_by (held.Demo count seed workers) = Demo count seed workers
 
--- the numbers of the form are those that its rows can be drawn with, and its workers are no more than there may be
+-- the numbers of the command are within their limits: those of a demo's rows, and the number of workers
 abbrev pub IsWithin : Form → Type 0
 IsWithin (held.Load sky catalogue) = Unit {0}
 IsWithin (held.Asks task sky catalogue script) = IsManned task

@@ -1,4 +1,4 @@
--- The forms of the command line.
+-- The commands, and the arguments that give them.
 use Rattle.std.specs.Prelude.{ℕ, ◌≤◌, ◌&&◌, List, [], ◌∷◌, Option, None, Some, map, codes}
 use Rattle.std.specs.Prelude.{if◌then◌else◌, nat_le, String}
 use Rattle.std.specs.String.{string_bytes}
@@ -12,52 +12,52 @@ use Rattle.top_call.specs.declared.limits.TheConstants.{WORD_DIGITS_MOST}
 use Rattle.top_call.specs.declared.task.Task.{Task}
 use Rattle.top_call.specs.declared.task.Task.TheVariants.{Answer, Explain}
 
--- What the words ask for, with the names of the texts.
+-- A command, with the names of the texts.
 pub data Form : Type 0 where
-  -- to report how the rows of a catalogue lie in the chunks of a sky plan
+  -- to report how the rows of a catalogue are distributed over the chunks of a sky plan
   Load : (sky catalogue : List ℕ) → Form
   -- to answer or to explain the queries of a script over them
   Asks : (task : Task) (sky catalogue script : List ℕ) → Form
-  -- to answer the queries of the demo's script over its sky plan and so many objects, drawn from a seed, with so many
-  -- workers
+  -- to answer the queries of the demo's script over its sky plan and the given number of objects, drawn from a seed,
+  -- with the given number of workers
   Demo : (count seed workers : ℕ) → Form
 
--- The names of the texts of a form, of those that it has.
+-- The names of the texts of a command, of those that it has.
 pub record Names : Type 0 where
   pub sky : Option (List ℕ)
   pub catalogue : Option (List ℕ)
   pub script : Option (List ℕ)
 
--- the names of a sky plan and a catalogue, and of a script where there is one
+-- the names of a sky plan and a catalogue, and of a script if there is one
 abbrev pub names_from : (sky catalogue : List ℕ) → Option (List ℕ) → Names
 names_from sky catalogue script = record { sky = Some sky; catalogue = Some catalogue; script = script }
 
--- the names of the texts of a form
+-- the names of the texts of a command
 abbrev pub names_of : Form → Names
 names_of (Load sky catalogue) = names_from sky catalogue None
 names_of (Asks task sky catalogue script) = names_from sky catalogue (Some script)
 names_of (Demo count seed workers) = record { sky = None; catalogue = None; script = None }
 
--- the workers beside the czar, where the task has any, are at most 16
+-- the workers beside the czar, if the task has any, are at most 16
 abbrev pub IsManned : Task → Type 0
 IsManned (Answer workers) = workers ≤ WORKERS_MOST
 IsManned Explain = Unit {0}
 
--- the number, where it is there and lies between two others
+-- the number, if there is one and it is between two others
 abbrev pub number_between : (least most : ℕ) → Option ℕ → Option ℕ
 number_between least most None = None
 number_between least most (Some n) = if nat_le least n && nat_le n most then Some n else None
 
--- the number of workers that a word gives: 1 to 10 digits, of value 0 to 16
+-- the number of workers that an argument gives: 1 to 10 digits, of value 0 to 16
 abbrev pub workers_by : List ℕ → Option ℕ
 workers_by word = number_between 0 WORKERS_MOST (natural WORD_DIGITS_MOST word)
 
--- the answers of the named script, where the number of workers is there
+-- the command that answers the named script, if the number of workers is there
 abbrev pub query_of : (sky catalogue script : List ℕ) (workers : Option ℕ) → Option Form
 query_of sky catalogue script (Some workers) = Some (Asks (Answer workers) sky catalogue script)
 query_of sky catalogue script None = None
 
--- the demo of this count and this seed, where they and the number of workers are there
+-- the demo of this count and this seed, if they and the number of workers are there
 abbrev pub demo_of : (count seed workers : Option ℕ) → Option Form
 demo_of (Some count) (Some seed) (Some workers) = Some (Demo count seed workers)
 demo_of (Some count) (Some seed) None = None
@@ -70,15 +70,15 @@ demo_by count seed workers =
     demo_of (number_between 0 ROWS_MOST (natural WORD_DIGITS_MOST count))
     (number_between 1 SEED_MOST (natural WORD_DIGITS_MOST seed)) (workers_by workers)
 
--- the form of four words, by the first
+-- the command of four arguments, by the first
 abbrev pub form_of_four : (word second third fourth : List ℕ) → Option Form
 form_of_four word second third fourth =
     if bytes_eq word (codes "explain") then Some (Asks Explain second third fourth)
     else if bytes_eq word (codes "demo") then demo_by second third fourth
     else None
 
--- the forms `load SKY CSV`, `explain SKY CSV SCRIPT`, `query SKY CSV SCRIPT WORKERS` and `demo COUNT SEED WORKERS`, of which the
--- numbers are 1 to 10 digits and WORKERS is 0 to 16; None of all other words
+-- the commands `load SKY CSV`, `explain SKY CSV SCRIPT`, `query SKY CSV SCRIPT WORKERS` and `demo COUNT SEED WORKERS`,
+-- whose numbers are 1 to 10 digits and whose WORKERS is 0 to 16; None for all other arguments
 abbrev pub form_of : List (List ℕ) → Option Form
 form_of (word ∷ sky ∷ catalogue ∷ []) = if bytes_eq word (codes "load") then Some (Load sky catalogue) else None
 form_of (word ∷ second ∷ third ∷ fourth ∷ []) = form_of_four word second third fourth
@@ -86,6 +86,6 @@ form_of (word ∷ sky ∷ catalogue ∷ script ∷ workers ∷ []) =
     if bytes_eq word (codes "query") then query_of sky catalogue script (workers_by workers) else None
 form_of _ = None
 
--- the bytes of each word
+-- the bytes of each argument
 abbrev pub bytes_of : List (String Global) → List (List ℕ)
 bytes_of words = map string_bytes words

@@ -1,4 +1,5 @@
-//! The demo, whose texts are made and not fetched: a sky plan, a catalogue that is drawn from a seed, and a script.
+//! The demo, whose texts are generated and not fetched: a sky plan, a catalogue that is drawn from a seed, and a
+//! script.
 ghost use Rattle.std.specs.Prelude.{◌≡◌, ◌≤◌, ◌^◌, IfOk};
 ghost use Rattle.table_rules.specs.declared.limits.TheConstants.{ROWS_MOST};
 ghost use Rattle.demo_rules.specs.declared.limits.TheConstants.{SEED_MOST};
@@ -20,8 +21,8 @@ use std::alloc::Global;
 use std::sync::Wait;
 use std::thread::Threads;
 
-/// Answers the queries of the demo's script over its sky plan and so many objects, drawn from a seed, with so many
-/// workers. Allocates memory, and waits. The shelf plays no part.
+/// Answers the queries of the demo's script over its sky plan and the given number of objects, drawn from a seed, with
+/// the given number of workers. Allocates memory, and waits. The shelf is not used.
 pub fn run_demo<R: Threads + Wait + Sync, K: Sink, G: Gate + Sync>(
     alloc: Global,
     rt: &R,
@@ -47,14 +48,14 @@ pub fn run_demo<R: Threads + Wait + Sync, K: Sink, G: Gate + Sync>(
     }
 }
 
-// The demo's sky plan and catalogue.
+// Creates the demo's sky plan and catalogue.
 fn demo_inputs(alloc: Global, count: u32, seed: u32) -> Result<Inputs, Memory>
     requires few { count ≤ ROWS_MOST }
     requires first { 1 ≤ seed }
     requires last { seed ≤ SEED_MOST }
     ensures { IfOk result (λ inputs. IsDemoSurvey count seed (survey_of inputs)) }
 {
-    // The text is a sky plan, so nothing but memory can be wanting.
+    // The text is a sky plan, so only an allocation can fail.
     demo_sky_is_accepted();
     let Ok(plan) = SkyPlan::read(alloc, demo_sky()) else {
         return Err(Memory);
@@ -75,7 +76,7 @@ fn answer_demo<R: Threads + Wait + Sync, K: Sink, G: Gate + Sync>(
     requires { workers ≤ WORKERS_MOST }
     ensures { IsDemoOver workers (survey_of inputs) (K.state sink.old) (K.state sink.new) result }
 {
-    // The text is a script, so nothing but memory can be wanting.
+    // The text is a script, so only an allocation can fail.
     demo_script_is_accepted();
     match Script::read(alloc, demo_script()) {
         Ok(script) => answer_queries(alloc, rt, inputs, &script, workers, sink, gate),

@@ -7,14 +7,14 @@ use session_rules::Ends;
 use sky_io::Memory;
 use std::alloc::Global;
 
-/// The ends of no queries. Does not allocate.
+/// Returns the ends of no queries. Does not allocate.
 pub fn no_ends(alloc: Global) -> Ends
     ensures { result ≡ [] }
 {
     Ends::from_vec(Vec::new(alloc))
 }
 
-/// How queries with these ends ended. Allocates memory.
+/// Returns how queries with these ends ended. Allocates memory.
 #[tactic(auto, using(crate::proofs::EndLists::one_more))]
 pub fn kinds_of(alloc: Global, ends: &[End]) -> Result<Ends, Memory>
     ensures { IfOk result (λ kinds. kinds ≡ map kind_of ends.now) }

@@ -1,4 +1,4 @@
-//! The lines that tell the fault of a text.
+//! The lines that report the fault of a text.
 ghost use Rattle.std.specs.Prelude.{◌≡◌, ◌++◌, codes};
 ghost use Rattle.std.specs.Fmt.{signed_decimal};
 ghost use Rattle.sky_io.specs.Sinks.{Wrote};
@@ -55,7 +55,7 @@ pub(crate) fn put_place<K: Sink>(sink: &mut K, thing: &[u8], n: u32) -> Put
     }
 }
 
-// Writes a thing with its number, and what is said of it.
+// Writes a thing with its number, and the text after it.
 pub(crate) fn put_numbered<K: Sink>(sink: &mut K, thing: &[u8], n: u32, behind: &[u8]) -> Put
     ensures { Wrote (K.state sink.old) (K.state sink.new) (numbered thing.now n behind.now) result }
 {
@@ -65,7 +65,7 @@ pub(crate) fn put_numbered<K: Sink>(sink: &mut K, thing: &[u8], n: u32, behind: 
     }
 }
 
-// Writes the row, and what is said of a number in it.
+// Writes the row, a thing in it with its number, and the text after it.
 fn put_in_row<K: Sink>(sink: &mut K, row: u32, thing: &[u8], n: u32, behind: &[u8]) -> Put
     ensures { Wrote (K.state sink.old) (K.state sink.new)
         (row_line row (numbered thing.now n behind.now)) result }
@@ -87,7 +87,7 @@ fn put_last<K: Sink>(sink: &mut K, value: &i128) -> Put
     }
 }
 
-// Writes what a value is, and the value, and ends the line.
+// Writes the description of a value, and the value, and ends the line.
 fn put_valued<K: Sink>(sink: &mut K, before: &[u8], value: &i128) -> Put
     ensures { Wrote (K.state sink.old) (K.state sink.new) (valued before.now value.now) result }
 {

@@ -1,8 +1,8 @@
-//! The texts of a form, each fetched and read before the next is fetched: sky, catalogue, script.
+//! The texts of a command, each fetched and read before the next is fetched: sky, catalogue, script.
 //!
-//! A text is fetched to one byte past its limit, so that a longer one shows itself; it is refused as too long. The raw
-//! texts of the sky plan and of the catalogue are let go before the next is fetched. A script stands over its text, so its
-//! text is given raw, and whoever holds it reads it.
+//! A text is fetched to one byte past its limit, so that a longer one is recognised; it is refused as too long. The raw
+//! texts of the sky plan and of the catalogue are freed before the next is fetched. A script borrows its text, so its
+//! text is returned raw, and the caller that holds the text reads it.
 ghost use Rattle.std.specs.Prelude.{◌≡◌, ◌≤◌, ◌^◌, IfOk, IfErr, length, Some};
 ghost use Rattle.catalogue_load.specs.Catalogue.{catalogue_of};
 ghost use Rattle.top_call.specs.Inputs.{survey_of};
@@ -19,14 +19,14 @@ use sky_row::Rows;
 use std::alloc::Global;
 use text_rules::limits::{SCRIPT_TEXT_MOST, SKY_TEXT_MOST, TEXT_MOST};
 
-/// What a sky plan and a catalogue say.
+/// The survey that a sky plan and a catalogue spell.
 #[derive(Drop)]
 pub struct Inputs {
     pub plan: SkyPlan,
     pub rows: Rows,
 }
 
-/// Fetches and reads the sky plan and the catalogue of these names. Allocates memory. Where it stops, the shelf alone
+/// Fetches and reads the sky plan and the catalogue of these names. Allocates memory. If it stops, the shelf alone
 /// explains the outcome.
 pub fn fetch_survey<S: Shelf>(
     alloc: Global,
@@ -44,8 +44,8 @@ pub fn fetch_survey<S: Shelf>(
     Ok(Inputs { plan, rows })
 }
 
-/// Fetches the texts of these names, and reads the sky plan and the catalogue; the script is given as its text. Takes
-/// memory. Where it stops, the shelf alone explains the outcome.
+/// Fetches the texts of these names, and reads the sky plan and the catalogue; the script is returned as its text.
+/// Allocates memory. If it stops, the shelf alone explains the outcome.
 pub fn fetch_all<S: Shelf>(
     alloc: Global,
     shelf: &mut S,
@@ -98,7 +98,7 @@ fn fetch_catalogue<S: Shelf>(alloc: Global, shelf: &mut S, name: &str) -> Result
     }
 }
 
-// Fetches the whole of a text that is within its limit.
+// Fetches the whole of a text, if it is within its limit.
 fn fetch_whole<S: Shelf>(
     alloc: Global,
     shelf: &mut S,

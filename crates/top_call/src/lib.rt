@@ -1,10 +1,11 @@
-//! The top call: does what the words of a command line ask, over a shelf of texts and a sink for what is written.
+//! The top call: executes the command that the arguments give, over a shelf of texts and a sink for the output.
 //!
-//! `qserv` is generic over both; its contract (`specs/Explained.antt`) says what each outcome means, and with
-//! `specs/Completes.antt` which outcome must come. `status` and `put_outcome` tell an outcome to who called the program.
-//! Below: `sky_plan`, `catalogue_load` and `session_script` read the texts, `sky_generate` makes those of the demo, `czar`
-//! runs and writes the queries, `answer_text` the load report, `sky_io` is the outside. Above: the program.
-//! No reading of a text, no SQL, no sky and no thread here: the order of the work, the outcomes, and what is told of them.
+//! `qserv` is generic over both. Its contract (`specs/Explained.antt`) defines what each outcome means, and with
+//! `specs/Completes.antt` which outcome must occur. `status` and `put_outcome` report an outcome to the caller of the
+//! program. Below: `sky_plan`, `catalogue_load` and `session_script` read the texts, `sky_generate` creates those of
+//! the demo, `czar` runs the queries and writes their results, `answer_text` writes the load report, `sky_io` is the
+//! outside. Above: the program. No reading of a text, no SQL, no sky and no thread here: the order of the work, the
+//! outcomes, and how they are reported.
 #![tactic(auto)]
 
 mod demo;

@@ -1,4 +1,4 @@
-//! The limits of the words of a command: each stands here once, and definitions and code cite it.
+//! The limits of the arguments of a command: each is stated here once, and definitions and code cite it.
 
-/// The most digits of a number among the words.
+/// The most digits of a number among the arguments.
 pub const WORD_DIGITS_MOST: usize = 10;

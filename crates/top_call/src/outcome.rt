@@ -1,4 +1,4 @@
-//! How the top call ends.
+//! The outcomes of the top call.
 ghost use Rattle.std.specs.Prelude.{◌≡◌};
 ghost use Rattle.top_call.specs.Outcomes.{status_of};
 
@@ -7,7 +7,7 @@ use session_script::ScriptFault;
 use sky_rules::SkyFault;
 use table_rules::LoadFault;
 
-/// One of the texts of a form, in the order in which they are fetched.
+/// One of the texts of a command, in the order in which they are fetched.
 #[derive(Clone, Copy, Debug, PartialEq, Eq)]
 pub enum Which {
     Sky,
@@ -15,30 +15,30 @@ pub enum Which {
     Script,
 }
 
-/// How the top call ends.
+/// The outcome of the top call.
 #[derive(Drop)]
 pub enum Outcome {
-    /// All was written and sent. Where queries were run there is an end for each.
+    /// All was written and sent. If queries were run, there is an end for each.
     Done { ends: Ends },
-    /// The words are none of the forms.
+    /// The arguments are no command.
     Usage,
-    /// The sky plan isn't accepted; its first fault.
+    /// The sky plan is not accepted; its first fault.
     BadSky { fault: SkyFault },
-    /// The catalogue isn't accepted; its first fault.
+    /// The catalogue is not accepted; its first fault.
     BadCatalogue { fault: LoadFault },
-    /// The script isn't accepted; its first fault.
+    /// The script is not accepted; its first fault.
     BadScript { fault: ScriptFault },
     /// A text is longer than its limit.
     TooLong { which: Which },
     /// A text could not be fetched.
     ShelfFault { which: Which },
-    /// The output failed, and a front of it may have been written.
+    /// The output failed, and a prefix of it may have been written.
     SinkFault { ends: Ends },
-    /// Memory was wanting, and nothing was written.
+    /// An allocation failed, and nothing was written.
     Memory,
 }
 
-/// The exit status. Does not allocate.
+/// Returns the exit status. Does not allocate.
 pub fn status(outcome: &Outcome) -> u8
     ensures { result ≡ status_of outcome.now }
 {

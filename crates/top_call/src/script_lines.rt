@@ -1,4 +1,4 @@
-//! The lines that tell the fault of a script.
+//! The lines that report the fault of a script.
 ghost use Rattle.std.specs.Prelude.{◌≡◌, ◌++◌, codes};
 ghost use Rattle.sky_io.specs.Sinks.{Wrote};
 ghost use Rattle.top_call.specs.FaultLines.{numbered, script_line, script_place};
@@ -22,7 +22,7 @@ pub fn put_script_fault<K: Sink>(sink: &mut K, fault: &ScriptFault) -> Put
     }
 }
 
-// Writes the line that names a query which isn't there.
+// Writes the line that names a query that does not exist.
 fn put_unknown<K: Sink>(sink: &mut K, line: u32, number: u32) -> Put
     ensures { Wrote (K.state sink.old) (K.state sink.new)
         (script_place line (numbered (codes ": unknown query ") number (codes "\n"))) result }

@@ -1,10 +1,10 @@
-//! What is asked of a script.
+//! The tasks of a command on the queries of a script.
 
-/// What is asked of the queries of a script.
+/// The task of a command on the queries of a script.
 #[derive(Clone, Copy, Debug, PartialEq, Eq)]
 pub enum Task {
-    /// Their answers, with so many workers beside the czar.
+    /// To answer them, with the given number of workers beside the czar.
     Answer { workers: u32 },
-    /// Their plans.
+    /// To explain their plans.
     Explain,
 }

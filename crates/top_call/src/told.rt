@@ -1,4 +1,4 @@
-//! The line that is told of an outcome.
+//! The line that reports an outcome.
 ghost use Rattle.std.specs.Prelude.{◌≡◌, ◌++◌, Some};
 ghost use Rattle.sky_io.specs.Sinks.{Wrote};
 ghost use Rattle.top_call.specs.Outcomes.{outcome_line, name_in, name_of};
@@ -10,7 +10,7 @@ use crate::script_lines::put_script_fault;
 use crate::words::{Form, read_words};
 use sky_io::{Put, Sink};
 
-/// The line of `Usage`: the forms of the command line.
+/// The line of `Usage`: the commands.
 const USAGE: &[u8] =
     b"usage: qserv load SKY CSV; query SKY CSV SCRIPT WORKERS; explain SKY CSV SCRIPT; demo COUNT SEED WORKERS\n";
 
@@ -36,7 +36,7 @@ pub fn put_outcome<K: Sink>(sink: &mut K, outcome: &Outcome, words: &[String]) -
     }
 }
 
-// The name that the words give to a text, and the empty name where they give none.
+// Returns the name that the arguments give to a text, and the empty name if they give none.
 fn name_in(words: &[String], which: Which) -> &str
     ensures { result.now ≡ name_in (form_of (bytes_of words.now)) which }
 {
@@ -54,7 +54,7 @@ fn name_in(words: &[String], which: Which) -> &str
     }
 }
 
-// The name of a text among the three.
+// Returns the name of a text among the three.
 fn name_among<'a>(sky: &'a str, catalogue: &'a str, script: &'a str, which: Which) -> &'a str
     ensures { result.now
         ≡ name_of (names_from sky.now catalogue.now (Some script.now)) which }
@@ -66,7 +66,7 @@ fn name_among<'a>(sky: &'a str, catalogue: &'a str, script: &'a str, which: Whic
     }
 }
 
-// Writes a name, and what is said of it.
+// Writes a name, and the text after it.
 #[tactic(auto, using(sky_io::proofs::Writes::wrote_one, sky_io::proofs::Writes::wrote_two))]
 fn put_named<K: Sink>(sink: &mut K, name: &str, rest: &[u8]) -> Put
     ensures { Wrote (K.state sink.old) (K.state sink.new) (name.now ++ rest.now) result }

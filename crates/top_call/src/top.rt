@@ -1,4 +1,4 @@
-//! The top call: words, then the texts, then the work, then the writing.
+//! The top call: arguments, then the texts, then the work, then the writing.
 ghost use Rattle.std.specs.Prelude.{◌≡◌, ◌↔◌, None};
 ghost use Rattle.top_call.specs.Words.{Load, Asks, IsManned, form_of, bytes_of};
 ghost use Rattle.top_call.specs.WordForms.{IsWithin, asked_by};
@@ -16,12 +16,12 @@ use std::alloc::Global;
 use std::sync::Wait;
 use std::thread::Threads;
 
-/// Does what the words ask: fetches the texts from the shelf, reports how the rows lie in the chunks, or answers or
-/// explains the queries of the script, and writes to the sink. All texts are accepted and all answers made before the
-/// first byte is written, and writing does not allocate. Allocates memory for the texts, the rows and their chunks, and
-/// the answers. Queries are answered by so many threads beside this one as the words ask for, of which the one that
-/// takes a chunk passes the gate before the work on it, and it waits for them; a thread that can't be started costs no
-/// answer.
+/// Executes the command that the arguments give. It fetches the texts from the shelf, reports how the rows are
+/// distributed over the chunks, or answers or explains the queries of the script, and writes to the sink. All texts are
+/// accepted and all answers computed before the first byte is written, and writing does not allocate. Allocates memory
+/// for the texts, the rows and their chunks, and the answers. Queries are answered by as many threads beside this one
+/// as the arguments ask for; a thread that takes a chunk passes the gate before the work on it. Waits for the threads.
+/// A thread that cannot be started costs no answer.
 pub fn qserv<R: Threads + Wait + Sync, S: Shelf, K: Sink, G: Gate + Sync>(
     rt: &R,
     alloc: Global,
@@ -44,7 +44,7 @@ pub fn qserv<R: Threads + Wait + Sync, S: Shelf, K: Sink, G: Gate + Sync>(
     }
 }
 
-// Does what a form asks.
+// Executes a command.
 fn run_form<R: Threads + Wait + Sync, S: Shelf, K: Sink, G: Gate + Sync>(
     alloc: Global,
     rt: &R,
@@ -74,7 +74,7 @@ fn run_form<R: Threads + Wait + Sync, S: Shelf, K: Sink, G: Gate + Sync>(
     }
 }
 
-// Reports how the rows of the named catalogue lie in the chunks of the named sky plan.
+// Reports how the rows of the named catalogue are distributed over the chunks of the named sky plan.
 fn run_load<S: Shelf, K: Sink>(
     alloc: Global,
     sky: &str,
@@ -92,7 +92,7 @@ fn run_load<S: Shelf, K: Sink>(
     }
 }
 
-// Does what is asked of the named script over the named sky plan and catalogue.
+// Executes the task on the named script over the named sky plan and catalogue.
 fn run_task<R: Threads + Wait + Sync, S: Shelf, K: Sink, G: Gate + Sync>(
     alloc: Global,
     rt: &R,

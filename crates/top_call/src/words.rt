@@ -1,4 +1,4 @@
-//! The forms of the command line.
+//! The commands, and the arguments that give them.
 ghost use Rattle.std.specs.Prelude.{◌≡◌, ◌≤◌, ◌^◌, [], ◌∷◌, None, Some, IfNone, IfSome};
 ghost use Rattle.text_rules.specs.Numbers.{natural};
 ghost use Rattle.top_call.specs.declared.limits.TheConstants.{WORD_DIGITS_MOST};
@@ -12,10 +12,10 @@ use session_rules::limits::WORKERS_MOST;
 use sky_text::read_natural;
 use table_rules::limits::ROWS_MOST;
 
-/// What the words ask for, with the names of the texts as the words give them.
+/// A command, with the names of the texts as the arguments give them.
 #[derive(Clone, Copy)]
 pub enum Form<'a> {
-    /// To report how the rows of a catalogue lie in the chunks of a sky plan.
+    /// To report how the rows of a catalogue are distributed over the chunks of a sky plan.
     Load {
         sky: &'a str,
         catalogue: &'a str,
@@ -27,8 +27,8 @@ pub enum Form<'a> {
         catalogue: &'a str,
         script: &'a str,
     },
-    /// To answer the queries of the demo's script over its sky plan and so many objects, drawn from a seed, with so many
-    /// workers.
+    /// To answer the queries of the demo's script over its sky plan and the given number of objects, drawn from a seed,
+    /// with the given number of workers.
     Demo {
         count: u32,
         seed: u32,
@@ -36,7 +36,7 @@ pub enum Form<'a> {
     },
 }
 
-/// The form of the words, or `None` where they are no form. Does not allocate.
+/// Returns the command of the arguments, or `None` if they are no command. Does not allocate.
 pub fn read_words(words: &[String]) -> Option<Form<'_>>
     ensures none { IfNone result (form_of (bytes_of words.now) ≡ None) }
     ensures form { IfSome result (λ form. form_of (bytes_of words.now) ≡ Some (asked_by form)) }
@@ -52,7 +52,7 @@ pub fn read_words(words: &[String]) -> Option<Form<'_>>
     }
 }
 
-// The form `load SKY CSV`.
+// Returns the command `load SKY CSV`.
 fn read_load<'a>(word: &str, sky: &'a str, catalogue: &'a str) -> Option<Form<'a>>
     ensures none { IfNone result
         (form_of (word.now ∷ sky.now ∷ catalogue.now ∷ []) ≡ None) }
@@ -66,7 +66,7 @@ fn read_load<'a>(word: &str, sky: &'a str, catalogue: &'a str) -> Option<Form<'a
     Some(Form::Load { sky, catalogue })
 }
 
-// The form of four words: `explain SKY CSV SCRIPT` or `demo COUNT SEED WORKERS`.
+// Returns the command of four arguments: `explain SKY CSV SCRIPT` or `demo COUNT SEED WORKERS`.
 fn read_four<'a>(word: &str, second: &'a str, third: &'a str, fourth: &'a str) -> Option<Form<'a>>
     ensures none { IfNone result
         (form_of_four word.now second.now third.now fourth.now ≡ None) }
@@ -88,7 +88,7 @@ fn read_four<'a>(word: &str, second: &'a str, third: &'a str, fourth: &'a str) -
     read_demo(second.as_bytes(), third.as_bytes(), fourth.as_bytes())
 }
 
-// The form of a demo, of which these are the numbers.
+// Returns the command of a demo with these numbers.
 fn read_demo<'a>(count: &[u8], seed: &[u8], workers: &[u8]) -> Option<Form<'a>>
     ensures none { IfNone result (demo_by count.now seed.now workers.now ≡ None) }
     ensures form { IfSome result (λ form.
@@ -105,7 +105,7 @@ fn read_demo<'a>(count: &[u8], seed: &[u8], workers: &[u8]) -> Option<Form<'a>>
     })
 }
 
-// The word is a number in few enough digits, and lies between two others.
+// Returns the number that the argument spells, if it has few enough digits and is between two others.
 fn read_between(word: &[u8], least: u32, most: u32) -> Option<u32>
     ensures number { result ≡ number_between least most (natural WORD_DIGITS_MOST word.now) }
     ensures from { IfSome result (λ n. least ≤ n) }
@@ -118,7 +118,7 @@ fn read_between(word: &[u8], least: u32, most: u32) -> Option<u32>
     Some(n as u32)
 }
 
-// The form `query SKY CSV SCRIPT WORKERS`.
+// Returns the command `query SKY CSV SCRIPT WORKERS`.
 fn read_query<'a>(
     word: &str,
     sky: &'a str,

@@ -1,8 +1,8 @@
-//! The work of a form whose texts were fetched, and its writing.
+//! The work of a command whose texts were fetched, and its writing.
 //!
-//! What holds the rows is dropped by name: that is one call, where what goes out of scope is dropped part by part.
-//! Whatever allocates memory is done before the first byte is written: the store, the answers, and the list of how the
-//! queries ended. A script is judged before the store is built.
+//! What holds the rows is dropped by name. That is one call; what goes out of scope is dropped part by part. All that
+//! allocates memory is created before the first byte is written: the store, the answers, and the list of how the
+//! queries ended. A script is validated before the store is built.
 ghost use Rattle.std.specs.Prelude.{◌≡◌, ◌≤◌, ◌^◌, ℕ, [], length, map};
 ghost use Rattle.text_rules.specs.declared.limits.TheConstants.{SCRIPT_TEXT_MOST};
 ghost use Rattle.session_script.specs.Views.{query_lines};
@@ -44,7 +44,7 @@ pub fn report<K: Sink>(alloc: Global, inputs: Inputs, sink: &mut K) -> Outcome
     }
 }
 
-/// Reads a script and does what is asked of it. Allocates memory, and waits.
+/// Reads a script and executes the task on it. Allocates memory, and waits.
 pub fn do_task<R: Threads + Wait + Sync, K: Sink, G: Gate + Sync>(
     alloc: Global,
     rt: &R,
@@ -72,7 +72,7 @@ pub fn do_task<R: Threads + Wait + Sync, K: Sink, G: Gate + Sync>(
     }
 }
 
-// Does what is asked of a script.
+// Executes the task on a script.
 fn do_script<R: Threads + Wait + Sync, K: Sink, G: Gate + Sync>(
     alloc: Global,
     rt: &R,
@@ -94,7 +94,8 @@ fn do_script<R: Threads + Wait + Sync, K: Sink, G: Gate + Sync>(
     }
 }
 
-/// Answers the queries of a script with so many workers, and writes their transcript. Allocates memory, and waits.
+/// Answers the queries of a script with the given number of workers, and writes their transcript. Allocates memory, and
+/// waits.
 pub fn answer_queries<R: Threads + Wait + Sync, K: Sink, G: Gate + Sync>(
     alloc: Global,
     rt: &R,
@@ -139,7 +140,7 @@ fn answer_over<R: Threads + Wait + Sync, K: Sink, G: Gate + Sync>(
     }
 }
 
-// Explains the queries of a script, and writes what explains them.
+// Explains the queries of a script, and writes the explanation.
 fn explain_queries<K: Sink>(
     alloc: Global,
     inputs: Inputs,
@@ -160,7 +161,7 @@ fn explain_queries<K: Sink>(
     }
 }
 
-// Explains the queries of a script over a store, and writes what explains them.
+// Explains the queries of a script over a store, and writes the explanation.
 fn explain_over<K: Sink>(alloc: Global, store: &Store, script: &Script<'_>, sink: &mut K) -> Outcome
     ensures { IsWritten (Explains store.now script.now)
         (K.state sink.old) (K.state sink.new) result }
@@ -182,8 +183,9 @@ fn write_report<K: Sink>(alloc: Global, store: &Store, sink: &mut K) -> Outcome
     }
 }
 
-// Writes the transcript of a script whose queries ended so, and sends it: what is written is that of any number of workers
-// with which they may end so. The list of how they ended is made before the first byte is written.
+// Writes the transcript of a script whose queries have these ends, and sends it. What is written is the transcript for
+// any number of workers with which they may end so. The list of how they ended is created before the first byte is
+// written.
 fn write_transcript<K: Sink>(
     alloc: Global,
     store: &Store,
@@ -205,7 +207,7 @@ fn write_transcript<K: Sink>(
     }
 }
 
-// Writes what explains a script with these plans, and sends it.
+// Writes the explanation of a script with these plans, and sends it.
 fn write_explained<K: Sink>(
     alloc: Global,
     store: &Store,
@@ -224,7 +226,7 @@ fn write_explained<K: Sink>(
     }
 }
 
-// Sends what is held back, once all is written.
+// Sends the bytes that are held back, once all is written.
 fn send<K: Sink>(sink: &mut K, ends: Ends) -> Outcome
     ensures { IsFlushed ends (K.state sink.old) (K.state sink.new) result }
 {
