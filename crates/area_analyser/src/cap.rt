@@ -46,8 +46,8 @@ fn gap_squared(a: i64, b: i64) -> i64
     gap * gap
 }
 
-/// Returns whether the centre is, for each side, on the region's side of it (at or past the first, short of the
-/// second), or no farther from that side's line than the root of n.
+/// Returns whether the centre is at or past the first side and short of the second. For each side it may also be no
+/// farther from that side's line than the root of n.
 fn sides_meet(centre: &Pos, n: i64, sides: &Option<(Dir, Dir)>) -> bool
     ensures { result ≡ cap_meets_sides centre.now n (sides_shown sides.now) }
 {

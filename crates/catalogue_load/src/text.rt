@@ -18,8 +18,8 @@ use sky_row::{Rows, Schema};
 use std::alloc::Global;
 use table_rules::LoadFault;
 
-/// Reads the records that the reader has left, up to the first with a fault other than a repeated id, and appends the
-/// rows of those before it. There are no rows at first.
+/// Reads the records that the reader has left, up to the first with a fault other than a repeated id. Appends the rows
+/// of those before it. There are no rows at first.
 fn read_rest(
     mut reader: Reader<&[u8]>,
     mut fields: ByteRecord,
@@ -73,8 +73,8 @@ fn rows_under(
 }
 
 /// Reads a catalogue from a text of at most 2^29 bytes: its rows in ascending id, or its first fault. Allocates memory
-/// for the rows, for their ids if they do not ascend, and for the ids with their row numbers to find a fault of such
-/// rows. After an error no memory is kept.
+/// for the rows. If they do not ascend, it allocates memory for their ids, and for the ids with their row numbers to
+/// find a fault. After an error no memory is kept.
 pub fn load(alloc: Global, text: &[u8]) -> Result<Rows, Stop<LoadFault>>
     requires { length text.now ≤ TEXT_MOST }
     ensures ok { IfOk result (λ rows. catalogue_of text.now ≡ Ok rows) }

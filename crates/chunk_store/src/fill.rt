@@ -1,4 +1,4 @@
-//! Fills the lists of a store, in one pass over the rows: a row's chunk is searched for once.
+//! Fills the lists of a store, in one traversal of the rows: a row's chunk is searched for once.
 
 ghost use Rattle.std.specs.Prelude.{◌≡◌, ◌<◌, ◌∷◌, [], IfOk, OnOk, length, replicate};
 ghost use Rattle.sky_vector.specs.Points.{IsAdmissible};

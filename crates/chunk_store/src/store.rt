@@ -161,7 +161,7 @@ impl Store {
     }
 
     /// Returns the row numbers of the rows of each of a chunk's subchunks, ascending, by the subchunks' numbers: in one
-    /// pass over the chunk's rows. Allocates memory for a list a subchunk, and for the row numbers.
+    /// traversal of the chunk's rows. Allocates memory for a list a subchunk, and for the row numbers.
     pub fn subs(&self, alloc: Global, chunk: u32) -> Result<Lists, Memory>
         requires { chunk < chunk_count self.now.plan }
         ensures value { IfOk result (λ subs.
@@ -185,8 +185,8 @@ impl Store {
         self.plan.sub_of(&self.rows.position(place))
     }
 
-    /// Returns the row numbers, ascending, of those rows of a subchunk's chunk and of the chunk's full overlap that are
-    /// in the subchunk's near region and not in the subchunk. Allocates memory for them.
+    /// Returns the row numbers of a subchunk's overlap, ascending. Its rows are in the subchunk's chunk or in that
+    /// chunk's full overlap, and in the subchunk's near region but not in the subchunk. Allocates memory for them.
     pub fn sub_overlap(&self, alloc: Global, chunk: u32, sub: u32) -> Result<Vec<u32>, Memory>
         requires chunk { chunk < chunk_count self.now.plan }
         requires sub { sub < sub_count self.now.plan chunk }

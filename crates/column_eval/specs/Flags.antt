@@ -28,7 +28,7 @@ pub record AreKnown (known truth : List Bool) (flags : Flags) : Type 0 where
   pub true_on : IsMask (length known) (λ k. get_or known k false && get_or truth k false) flags.true_on.items
   pub false_on : IsMask (length known) (λ k. get_or known k false && not (get_or truth k false)) flags.false_on.items
 
--- the same flags, or with `negated` the two masks exchanged
+-- the old flags, or with `negated` the old ones with their two masks exchanged
 pub record AreNegated (negated : Bool) (old new : Flags) : Type 0 where
   pub true_on : new.true_on.items ≡ (if negated then old.false_on.items else old.true_on.items)
   pub false_on : new.false_on.items ≡ (if negated then old.true_on.items else old.false_on.items)

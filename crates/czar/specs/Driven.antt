@@ -14,8 +14,8 @@ use Rattle.scan_session.specs.declared.end.End.{End as BoardEnd}
 use Rattle.scan_session.specs.declared.end.Planned.{Planned as Attachable}
 use Rattle.czar.specs.Attached.{base_of}
 
--- In a session with the given number of workers, some journal of the board justifies these ends of the queries with
--- these chunk queries, for which this is attached.
+-- Some journal of the board justifies these ends, in a session with the given number of workers. Its queries have these
+-- chunk queries, and this is attached for them.
 pub record IsDriven (workers : ℕ) (g : Partition) (c : Catalogue) (steps : List Step) (queries : List (Option ChunkQuery))
     (planned : List (Option (Attachable PieceView))) (ends : List (BoardEnd PieceView)) : Type 0 where
   pub seen : Journal

@@ -2,8 +2,8 @@
 
 ghost use Rattle.overlap_tables.specs.Laws.{OthersAscend, OthersNeedIt, OverlapIsEnough};
 
-/// Overlap is sufficient: a position that is no farther than the overlap radius from a position of a subchunk is in the
-/// near region of the subchunk, and in its chunk or the full overlap of that.
+/// Overlap is sufficient. A position that is no farther than the overlap radius from a position of a subchunk is in the
+/// near region of the subchunk. It is in the subchunk's chunk, or in the full overlap of that.
 pub fn overlap_is_enough()
     ensures { OverlapIsEnough }
 {}

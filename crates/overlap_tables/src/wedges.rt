@@ -61,8 +61,8 @@ fn all(wedges: u32) -> Runs
     }
 }
 
-/// Returns a single wedge of an even number: the one opposite to it has its sides on the same two lines, so that a
-/// position between these that is far from both is not near it.
+/// Returns a single wedge of an even number. The wedge opposite has its sides on the same two lines. So a position
+/// between these that is far from both is not near the opposite wedge.
 #[tactic(auto, using(crate::proofs::Runs::alone_cover))]
 fn alone(wedges: u32, wedge: u32) -> Runs
     requires few { wedges ≤ STRIPE_CHUNKS_MOST }

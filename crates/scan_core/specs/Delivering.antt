@@ -18,7 +18,7 @@ pub record InFlight (past : Journal) (seat : ℕ) (task : TaskState) : Type 0 wh
   pub taken : Contains past (Take seat task.ticket task.chunk task.queries)
   pub undelivered : is_delivered past task.ticket ≡ false
 
--- there are at most as many entries as queries, and each piece stands for the chunk and the query at its position
+-- there are at most as many entries as queries, and each piece represents the chunk and the query at its position
 pub record PiecesFit {P : Type 0} (stands : ℕ → List ℕ → P → Type 0) (chunk : ℕ) (queries : List ℕ)
     (entries : List (Option P)) : Type 0 where
   pub few : length entries ≤ length queries

@@ -173,7 +173,7 @@ where
     (outcome, ends, seat)
 }
 
-/// Runs the czar with the given number of workers beside it, each of which makes pieces of the tasks of the others when
+/// Runs the czar with the given number of workers beside it. Each of them makes pieces of the tasks of the others when
 /// there is nothing to take.
 pub fn teamed<
     R: Threads + Wait + Sync,

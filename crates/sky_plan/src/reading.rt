@@ -1,4 +1,4 @@
-//! Reads the plan of the sky from its text, in one pass over the lines.
+//! Reads the plan of the sky from its text, in one traversal of the lines.
 //!
 //! Each line that is no comment line is split into its numbers (`numbers.rt`), which spell a version or a stripe
 //! (`said.rt`). A stripe is validated by itself and against those before it (`stripes.rt`), and the first fault ends

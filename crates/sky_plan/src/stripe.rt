@@ -25,8 +25,8 @@ impl Model for Stripe {
 }
 
 impl Stripe {
-    /// Creates the stripe that begins at a height, with a number of chunks, numbers of columns and rows of subchunks in
-    /// each, and an overlap radius in grid units. Does not allocate.
+    /// Creates the stripe that begins at a height, with a number of chunks, and numbers of columns and rows of
+    /// subchunks in each. The overlap radius is in grid units. Does not allocate.
     pub fn new(z_low: i64, chunks: u32, columns: u32, rows: u32, overlap: u32) -> Stripe
         ensures { result ≡ record {
           z_low = z_low;

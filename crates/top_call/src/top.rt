@@ -16,8 +16,8 @@ use std::alloc::Global;
 use std::sync::Wait;
 use std::thread::Threads;
 
-/// Executes the command that the arguments give. It fetches the texts from the shelf, reports how the rows are
-/// distributed over the chunks, or answers or explains the queries of the script, and writes to the sink. All texts are
+/// Executes the command that the arguments give. It fetches the texts from the shelf. It reports how the rows are
+/// distributed over the chunks, or answers or explains the queries of the script. It writes to the sink. All texts are
 /// accepted and all answers computed before the first byte is written, and writing does not allocate. Allocates memory
 /// for the texts, the rows and their chunks, and the answers. Queries are answered by as many threads beside this one
 /// as the arguments ask for; a thread that takes a chunk passes the gate before the work on it. Waits for the threads.

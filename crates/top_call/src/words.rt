@@ -27,8 +27,8 @@ pub enum Form<'a> {
         catalogue: &'a str,
         script: &'a str,
     },
-    /// To answer the queries of the demo's script over its sky plan and the given number of objects, drawn from a seed,
-    /// with the given number of workers.
+    /// To answer the queries of the demo's script, with the given number of workers. They range over the demo's sky
+    /// plan and the given number of objects, drawn from a seed.
     Demo {
         count: u32,
         seed: u32,

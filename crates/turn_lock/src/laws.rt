@@ -3,8 +3,8 @@ ghost use Rattle.turn_lock.specs.Ends.{EntriesAreKept};
 
 use sky_io::Lineage;
 
-/// Once every other participant has ended in participant 0, each entry that it has seen is its own, or is stored with
-/// the number of the participant that made it.
+/// Let every other participant have ended in participant 0. Then each entry that it has seen is its own, or is stored
+/// with the number of the participant that made it.
 pub fn every_entry_is_kept_once_all_seats_have_ended<T: Lineage>()
     ensures { EntriesAreKept T.Root T.seat_of }
 {}
