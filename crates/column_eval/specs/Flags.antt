@@ -33,12 +33,12 @@ pub record AreNegated (negated : Bool) (old new : Flags) : Type 0 where
   pub true_on : new.true_on.items ≡ (if negated then old.false_on.items else old.true_on.items)
   pub false_on : new.false_on.items ≡ (if negated then old.true_on.items else old.false_on.items)
 
--- true where both are, and false where one is
+-- the flags of AND: true at each row at which both are true, and false at each row at which one is false
 pub record AreAnd (left right joined : Flags) : Type 0 where
   pub true_on : IsMask (length left.true_on.items) (λ k. get_or left.true_on.items k false && get_or right.true_on.items k false) joined.true_on.items
   pub false_on : IsMask (length left.false_on.items) (λ k. get_or left.false_on.items k false || get_or right.false_on.items k false) joined.false_on.items
 
--- true where one is, and false where both are
+-- the flags of OR: true at each row at which one is true, and false at each row at which both are false
 pub record AreOr (left right joined : Flags) : Type 0 where
   pub true_on : IsMask (length left.true_on.items) (λ k. get_or left.true_on.items k false || get_or right.true_on.items k false) joined.true_on.items
   pub false_on : IsMask (length left.false_on.items) (λ k. get_or left.false_on.items k false && get_or right.false_on.items k false) joined.false_on.items
@@ -51,8 +51,8 @@ truth_by true_on false_on = if true_on then Some true else if false_on then Some
 abbrev pub truths_in : List Bool → List Bool → List (Option Bool)
 truths_in true_on false_on = map (λ k. truth_by (get_or true_on k false) (get_or false_on k false)) (range_with_len 0 (length true_on))
 
--- true at each row at which both are valid and the comparison of their numbers is true, and false where both are valid
--- and it is not
+-- the flags of a comparison: true at each row at which both are valid and the comparison of their numbers is true, and
+-- false at each row at which both are valid and it is not
 pub record AreCompared (op : Cmp) (left right : Lane) (flags : Flags) : Type 0 where
   pub true_on : IsMask (length left.known.items) (λ k. (get_or left.known.items k false && get_or right.known.items k false)
       && compares op (get_or (numbers_of left.numbers) k (pos 0)) (get_or (numbers_of right.numbers) k (pos 0))) flags.true_on.items

@@ -33,7 +33,7 @@ pub fn keep_near(xs: &[i32], ys: &[i32], zs: &[i32], centre: &Pos, n: u64, mask:
     );
 }
 
-/// Keeps the positions whose squared chord to the point (a, b, c) is at most the limit.
+/// Clears the mask at each row whose squared chord to the point (a, b, c) is above the limit.
 #[inline(always)]
 fn keep_in(
     xs: &[i32],

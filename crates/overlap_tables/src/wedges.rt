@@ -4,8 +4,9 @@
 //! walk goes both ways from the wedge that contains the position, each way up to the first side whose line the position
 //! is far from. If the arc between these two sides is less than half a turn, the position is far from each line that
 //! does not pass through the arc. So it can be near the wedges of that arc, and those opposite to it, whose sides are
-//! on the same lines. If the arc is one wedge of an even number, the wedge opposite has no line inside of it, and is
-//! left out. A longer arc results from few wedges, or from a position near the axis: then all wedges are candidates.
+//! on the same lines. If the arc is a single wedge and the number of wedges is even, the wedge opposite has no line
+//! inside of it, and is left out. A longer arc results from few wedges, or from a position near the axis: then all
+//! wedges are candidates.
 
 ghost use Rattle.std.specs.Prelude.{◌≡◌, ◌+◌, ◌*◌, ◌-◌, ◌/◌, ◌%◌, ◌<◌, ◌≤◌, IfSome, false, min};
 ghost use Rattle.sky_vector.specs.Pos.{point};
@@ -61,8 +62,8 @@ fn all(wedges: u32) -> Runs
     }
 }
 
-/// Returns a single wedge of an even number. The wedge opposite has its sides on the same two lines. So a position
-/// between these that is far from both is not near the opposite wedge.
+/// Returns a single wedge, for an even number of wedges. The wedge opposite has its sides on the same two lines. So
+/// a position between these that is far from both is not near the opposite wedge.
 #[tactic(auto, using(crate::proofs::Runs::alone_cover))]
 fn alone(wedges: u32, wedge: u32) -> Runs
     requires few { wedges ≤ STRIPE_CHUNKS_MOST }

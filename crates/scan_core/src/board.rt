@@ -102,8 +102,8 @@ impl<P: Work> Board<P> {
         self.ring
     }
 
-    /// Attaches a query with the chunks that it wants and an empty piece. Allocates memory, also for all calls that
-    /// follow.
+    /// Attaches a query with the chunks that it wants and an empty piece. Allocates memory, also for the lines of later
+    /// calls.
     pub fn attach(&mut self, seat: u32, q: u32, chunks: ChunkSet, empty: P) -> Attach<P>
         requires from_1 { 1 ≤ q }
         requires to_255 { q ≤ QUERY_MOST }

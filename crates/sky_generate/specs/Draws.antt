@@ -7,7 +7,7 @@ use Rattle.sky_generate.specs.declared.draws.Draws.{Draws}
 abbrev pub next_draw : ℕ → ℕ
 next_draw before = before * MULTIPLIER % MODULUS
 
--- Five draws, the first after this one. The draws that make it lean and its kind are below the modulus.
+-- Five draws, the first after this one, and each below the modulus.
 pub record AreDrawnFrom (before : ℕ) (d : Draws) : Type 0 where
   pub height : d.height ≡ next_draw before
   pub lean_x : d.lean_x ≡ next_draw d.height

@@ -85,7 +85,7 @@ fn publish_said<T: Lineage, W: Said<T::Entry>>(
     turn.table.shared.store::<Adds<W>>(inner, 0, word);
 }
 
-// The store that makes part of the history the entries of the value that the participant had not seen.
+// The store that adds to the history those entries of the value that the participant had not seen.
 fn publish<T: Lineage>(turn: &Turn<T>, inner: &mut Inner<T>, value: &T, word: u64)
     requires own { inner.old.table_id ≡ turn.now }
     requires holder { (inner.old.me.0.live ≡ true) × (inner.old.me.0.holds_turn ≡ true) }
