@@ -11,8 +11,8 @@ indented lines behind it are its block; lines with a # at their head say why it 
 it is answered with 0, 1, 4 and 16 workers, and explained. A few texts are too long to be written down, and are made here.
 Runs of other kinds stand in scripts/worked_runs.py: sky plans and catalogues with their reports or their first faults, scripts
 that wait and cancel, the demo, words of no form, and an outcome of each status that a run can be brought to. A larger sky, whose
-rows are drawn, stands in scripts/worked_world.py, catalogues of certain lengths in scripts/worked_lanes.py, and what the demo of
-20,000 objects has to write in scripts/worked_demo.py.
+rows are drawn, stands in scripts/worked_world.py, catalogues of certain lengths in scripts/worked_lanes.py, as many queries and
+chunks as there may be in scripts/worked_laps.py, and what the demo of 20,000 objects has to write in scripts/worked_demo.py.
 
 It prints a line for each run that ended otherwise, with the row and with what is wanted, and then how many rows it has
 compared. The status is 0 where none differs, and 1 else, also where there is no program.
@@ -79,8 +79,17 @@ def long_parts():
     return [Part(["query"], *texts, answered), Part(["query", "explain"], *texts, others), Part(["query"], *texts, counts)]
 
 
+# Over 4,097 heights of -1 and 4,096 of 1. A quotient of less than one has a zero before the point, one of less than a tenth has
+# zeros behind it, and -10000 / 8193, 0 / 2 and 41000000 / 4098 are nearest to -1, 0 and 10005 ten-thousandths.
+AVERAGES = [
+    ("SELECT AVG(z) FROM Object", ["AVG(z)", "-0.0001", "1 rows, 2 chunks"]),
+    ("SELECT AVG(z) FROM Object WHERE objectId IN (10,13)", ["AVG(z)", "0.0000", "1 rows, 2 chunks"]),
+    ("SELECT AVG(z+2) FROM Object WHERE z=-1 OR objectId=13", ["AVG(z+2)", "1.0005", "1 rows, 2 chunks"]),
+]
+
+
 def made_parts():
-    """The ids of a catalogue of two granules and one row, the close pairs of the drawn world, and tests of columns; and the
+    """The ids and averages of a catalogue of two granules and one row, the close pairs of the drawn world, and tests of columns; and the
     texts that they are over, by their names."""
     rows = [(10 + 3 * number, -1 if number % 2 == 0 else 1) for number in range(8193)]
     granules = "objectId,x,y,z\n" + "".join(f"{number},268435456,0,{z}\n" for number, z in rows)
@@ -89,6 +98,7 @@ def made_parts():
     ids = [Row("held ids", one_id(number), ["objectId,z", f"{number},{z}", "1 rows, 1 chunks"]) for number, z in held]
     others = [9, 11, 12296, 12297, 12299, 24585, 24587, 24589]
     ids += [Row("other ids", one_id(number), ["objectId,z", "0 rows, 0 chunks"]) for number in others]
+    ids += [Row("averages", *query) for query in AVERAGES]
     pairs = [Row("drawn pairs", *query) for query in worked_world.QUERIES]
     texts = {"granules.csv": granules, "drawn.txt": worked_world.SKY, "drawn.csv": worked_world.CSV}
     found = [Part(["query"], "sky.txt", "granules.csv", ids), Part(["query"], "drawn.txt", "drawn.csv", pairs)]

@@ -8,6 +8,7 @@ import collections
 import itertools
 
 import worked_demo
+import worked_laps
 import worked_world
 
 # the words of a run, and the texts that it reads, by their names and in pieces, or as how many zeros one is; its status, its
@@ -84,6 +85,8 @@ SKIES += [fault(LOAD_SKY, 3, "sky line " + line, sky=text) for text, line in SKY
 
 LOAD_CSV = ["load", "sky.txt", "csv"]
 FOUR, MOST_ID = "objectId,x,y,z\n", "9223372036854775807"
+# a row up to its further value
+FLUX = "objectId,x,y,z,flux\n1,268435456,0,0,"
 NONE = "0 rows, 0 of 8 chunks\n"
 
 
@@ -135,6 +138,11 @@ CSV_FAULTS = [
     (FOUR + "1,+5,0,0\n", "row 1: field 2 is not a number"),
     ("objectId,x,y,z,flux\n1,268435456,,0,10\n", "row 1: field 3 is not a number"),
     (FOUR + "1,268435456,0,\0\n", "row 1: field 4 is not a number"),
+    # a number is an optional minus and 1 to 19 digits: 20 digits, no digit, two minuses, a blank, a point
+    (FLUX + "00000000000000000000", "row 1: field 5 is not a number"),
+    *((FLUX + text, "row 1: field 5 is not a number") for text in ["-", "--1", "+5", " 5", "1.0"]),
+    (FLUX + "9999999999999999999", "row 1: field 5 out of range: 9999999999999999999"),
+    (FLUX + "-9999999999999999999", "row 1: field 5 out of range: -9999999999999999999"),
     (FOUR + "-1,268435456,0,0", "row 1: field 1 out of range: -1"),
     (FOUR + "-7,268435456,0,0\n", "row 1: field 1 out of range: -7"),
     (FOUR + "9223372036854775808,268435456,0,0", "row 1: field 1 out of range: 9223372036854775808"),
@@ -198,6 +206,7 @@ NO_CHUNK = "SELECT objectId FROM Object WHERE objectId IN (99)\n"
 THREE = "SELECT objectId FROM Object\n" + COUNT + "SELECT MAX(flux) FROM Object\n"
 NO_NAME = "query 1\nrefused: unknown name mag\n"
 LARGEST = "query 3\nMAX(flux)\n60\n1 rows, 3 chunks\n"
+COUNTED_FIRST = "query 1\nCOUNT(*)\n6\n1 rows, 3 chunks\n"
 
 
 def ends(second):
@@ -213,7 +222,7 @@ SCRIPTS = [
     (
         "0",
         COUNT + "SELECT x FROM Galaxy\nSELECT MAX(flux) FROM Object\n",
-        "query 1\nCOUNT(*)\n6\n1 rows, 3 chunks\nquery 2\nrefused: unknown name Galaxy\n" + LARGEST,
+        COUNTED_FIRST + "query 2\nrefused: unknown name Galaxy\n" + LARGEST,
     ),
     # a cancel of a query that is refused, and of one that needs no chunk, is passed over
     ("0 1 4 16", "SELECT mag FROM Object\ncancel 1\nwait 1\n", NO_NAME),
@@ -238,21 +247,46 @@ SCRIPTS = [
         "query 1\nobjectId\n0 rows, 0 chunks\nquery 2\nrefused: unknown name mag\nquery 3\nCOUNT(*)\n6\n1 rows, 3 chunks\n"
         "query 4\nrefused: unknown name mag\n",
     ),
+    # a number on a line has up to 9 digits
+    ("0", NO_CHUNK + "wait 000000001\nwait 0000000001\n", "query 1\nobjectId\n0 rows, 0 chunks\nquery 2\nrefused: not a query\n"),
+    # a carriage return before a line feed is no part of a line, and one at the very end is
+    ("0", "SELECT COUNT(*) FROM Object\r\n# a note\nwait 1\r\nwait 1", COUNTED_FIRST),
+    ("0", COUNT + "wait 1\r", COUNTED_FIRST + "query 2\nrefused: not a query\n"),
+    # a line of as many bytes as there may be, and as many queries
+    ("0", "q" * 16384, "query 1\nrefused: not a query\n"),
+    ("0", "q\n" * 255, "".join(f"query {number}\nrefused: not a query\n" for number in range(1, 256))),
     # a cancel behind a wait for its query comes too late
     ("0 4", THREE + "wait 2\ncancel 2\nwait 2\n", COUNTED),
 ]
 STEPS = [
     done([*QUERY, workers], *outs, script=text) for numbers, text, *outs in SCRIPTS for workers in numbers.split()
 ]
+# a cancel and a wait have no block
+OF_THREE = """query 1
+chunk: SELECT objectId,objectId FROM Object_c
+merge: SELECT c1 FROM pieces ORDER BY c2
+chunks: 0 4 7
+query 2
+chunk: SELECT COUNT(*) FROM Object_c
+merge: SELECT SUM(c1) FROM pieces
+chunks: 0 4 7
+query 3
+chunk: SELECT MAX(flux) FROM Object_c
+merge: SELECT MAX(c1) FROM pieces
+chunks: 0 4 7
+"""
 STEPS += [done(EXPLAIN, NO_NAME, script="SELECT mag FROM Object\nwait 1\ncancel 1\n")]
+STEPS += [done(EXPLAIN, OF_THREE, script=THREE + "cancel 2\nwait 1\n")]
 # the first fault of a script and its line
 SCRIPT_FAULTS = [
     (THREE + "cancel 2\nwait 1\ncancel 9\n", "6: unknown query 9"),
     ("# none\nwait 1\n", "2: unknown query 1"),
     ("SELECT x FROM Object\nwait 2\n", "2: unknown query 2"),
+    ("cancel 256\n", "1: unknown query 256"),
     (COUNT * 256, "256: too many queries"),
-    # 16,400 bytes
-    ("SELECT          " * 1025, "1: too long"),
+    # one byte more than there may be, in a query and in a note
+    ("q" * 16385, "1: too long"),
+    ("#" * 16385, "1: too long"),
 ]
 STEPS += [
     fault(words, 5, "script line " + line, script=text)
@@ -337,15 +371,9 @@ STATUSES += [
 
 # ---- limits
 
-
-def sky_of_most_chunks():
-    """A sky plan of 16 stripes of 1,024 chunks: the lowest is half of the sky, and the others are 64 high but for the last."""
-    lows = [-268435472, *range(0, 960, 64)]
-    return "overlap 0\n" + "".join(f"stripe {low} 1024 1 1\n" for low in lows)
-
-
-# Row 5 is in the lowest stripe, and rows 1 to 4 in the next one. Rows 1 and 3, with y = 0, lie on the border of the last
-# wedge of their stripe, which holds row 4. Row 6, at the pole, is in the first chunk of the last stripe.
+# With as many chunks as there may be, row 5 is in the lowest stripe, and rows 1 to 4 in the next one. Rows 1 and 3, with y = 0,
+# lie on the border of the last wedge of their stripe, which holds row 4. Row 6, at the pole, is in the first chunk of the last
+# stripe.
 REPORT_OF_MOST_CHUNKS = """6 rows, 4 of 16384 chunks
 chunk 0: 1 rows, 0 overlap
 chunk 1024: 3 rows, 0 overlap
@@ -363,10 +391,13 @@ def more_rows():
     return itertools.chain([FOUR], map("%d,268435456,0,0\n".__mod__, range(4194305)))
 
 
+LAPS = {"sky": worked_laps.SKY, "csv": worked_laps.CSV, "script": worked_laps.SCRIPT}
 LIMITS = [
-    done(LOAD_SKY, REPORT_OF_MOST_CHUNKS, sky=sky_of_most_chunks()),
+    done(LOAD_SKY, REPORT_OF_MOST_CHUNKS, sky=worked_laps.SKY),
     # a chunk more, on the line behind the 17 there are
-    fault(LOAD_SKY, 3, "sky line 18: too many", sky=sky_of_most_chunks() + "stripe 960 1 1 1\n"),
+    fault(LOAD_SKY, 3, "sky line 18: too many", sky=worked_laps.SKY + "stripe 960 1 1 1\n"),
+    # as many queries as there may be, over a row in each chunk
+    *(done(["query", "sky", "csv", "script", workers], worked_laps.TRANSCRIPT, **LAPS) for workers in ["0", "4"]),
     # the row is told without its number
     fault(LOAD_CSV, 4, "catalogue: too many rows", csv=more_rows()),
     # a text of as many bytes as there may be is read: notes ask nothing, and zeros are no header
