@@ -7,7 +7,7 @@ use Rattle.sky_rules.specs.Chunks.{all_chunks}
 use Rattle.sky_rules.specs.Partition.{overlap_at}
 use Rattle.answer_rules.specs.Plans.{above_radius, is_needed, overlap_of, plan_of, radius_refusal}
 use Rattle.answer_rules.proofs.Apart.{each_filter}
-use Rattle.demo_laws.specs.DemoInput.{demo_plan}
+use Rattle.demo_answers.specs.DemoInput.{demo_plan}
 use Rattle.demo_answers.proofs.DemoQueries.{demo_totals, demo_kinds, demo_belt, demo_pairs}
 
 -- ---- the overlap radius of each chunk

@@ -15,7 +15,7 @@ use Rattle.answer_rules.specs.Plans.{radius_refusal}
 use Rattle.session_script.specs.Views.{query_lines}
 use Rattle.transcript_rules.specs.Refusals.{refusal_of, total_by, total_refusal, total_refusal_by, understood}
 use Rattle.transcript_rules.proofs.Steps.{early_known, understood_by}
-use Rattle.demo_laws.specs.DemoInput.{demo_plan}
+use Rattle.demo_answers.specs.DemoInput.{demo_plan}
 use Rattle.demo_answers.proofs.DemoQueries.{demo_totals, demo_kinds, demo_belt, demo_pairs}
 use Rattle.demo_answers.proofs.DemoReads.{demo_names, text_totals, tree_totals, read_totals, bound_totals}
 use Rattle.demo_answers.proofs.DemoReads.{text_kinds, tree_kinds, read_kinds, bound_kinds}

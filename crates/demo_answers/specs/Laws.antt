@@ -6,7 +6,7 @@ use Rattle.session_script.specs.Views.{ScriptView, query_lines}
 use Rattle.transcript_rules.specs.Refusals.{refusal_of}
 use Rattle.demo_rules.specs.DemoRows.{IsDemoCatalogue}
 use Rattle.demo_rules.specs.DemoTexts.{demo_script}
-use Rattle.demo_laws.specs.DemoInput.{demo_plan, demo_steps}
+use Rattle.demo_answers.specs.DemoInput.{demo_plan, demo_steps}
 
 -- the demo's script as it is read
 abbrev pub demo_read : ScriptView

@@ -1,1 +1,2 @@
+pub mod DemoInput
 pub mod Laws

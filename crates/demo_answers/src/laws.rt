@@ -1,4 +1,4 @@
-//! Laws of the demo's queries, as a function that does nothing: a caller has what it ensures.
+//! Lemmas on the demo's queries, as a function that does nothing: a caller has what it ensures.
 
 ghost use Rattle.std.specs.Prelude.{◌≡◌, [], ◌∷◌, ◌++◌, codes};
 ghost use Rattle.session_script.specs.Views.{query_lines};

@@ -1,9 +1,11 @@
-//! That none of the demo's queries is refused, over its catalogue of any seed.
+//! That the demo's sky plan and script are accepted, and none of its queries is refused, over its catalogue of any seed.
 //!
-//! Callers see it as a law on `transcript_rules`' word for a refusal (`specs/Laws.antt`).
-//! Below: `demo_rules` for the catalogue and the script, `demo_laws` for what the sky and the script say. How the script's
-//! queries are read and bound is worked out here. Above: the program, and `transcript_examples`, for the demo's blocks.
-//! No code: a function that carries the law.
+//! Callers see the two texts as the partition and the steps of `specs/DemoInput.antt`, and the rest as a lemma on the refusal
+//! that `transcript_rules` defines (`specs/Laws.antt`).
+//! Below: `demo_rules` for the catalogue and the two texts, `sky_rules` and `session_script` for what the texts say. How the
+//! script's queries are read and bound is worked out here. Above: the program.
+//! No code: functions that carry the lemmas.
 #![tactic(auto)]
 
 pub mod laws;
+pub mod texts;

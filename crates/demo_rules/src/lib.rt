@@ -2,7 +2,7 @@
 //!
 //! Callers see the catalogue as the rows of `specs/DemoRows.antt`, and the two texts as bytes (`specs/DemoTexts.antt`).
 //! Below: `table_rules` for rows, `sky_vector` for points. Above: `sky_generate`, which makes the three, and
-//! `demo_laws`, for the meaning of the two texts. This crate has no algorithms: definitions, lemmas, and worked
+//! `demo_answers`, for the meaning of the two texts. This crate has no algorithms: definitions, lemmas, and worked
 //! examples that the checker evaluates.
 #![tactic(auto)]
 

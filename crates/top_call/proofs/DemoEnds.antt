@@ -7,7 +7,7 @@ use Rattle.table_rules.specs.declared.limits.TheConstants.{ROWS_MOST}
 use Rattle.sky_rules.specs.Partition.{Partition}
 use Rattle.sky_rules.specs.SkyText.{sky_of}
 use Rattle.demo_rules.specs.DemoTexts.{demo_script, demo_sky}
-use Rattle.demo_laws.specs.DemoInput.{demo_plan, demo_steps}
+use Rattle.demo_answers.specs.DemoInput.{demo_plan, demo_steps}
 use Rattle.demo_answers.specs.Laws.{DemoIsAnswered, demo_read}
 use Rattle.chunk_store.specs.Survey.{Survey}
 use Rattle.session_script.specs.declared.step.Step.{Step}

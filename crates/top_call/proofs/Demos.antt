@@ -4,7 +4,7 @@ use Rattle.text_rules.specs.declared.limits.TheConstants.{SCRIPT_TEXT_MOST}
 use Rattle.table_rules.specs.declared.limits.TheConstants.{ROWS_MOST}
 use Rattle.sky_rules.specs.SkyText.{sky_of}
 use Rattle.demo_rules.specs.DemoTexts.{demo_script, demo_sky}
-use Rattle.demo_laws.specs.DemoInput.{demo_plan, demo_steps}
+use Rattle.demo_answers.specs.DemoInput.{demo_plan, demo_steps}
 use Rattle.demo_answers.specs.Laws.{DemoIsAnswered}
 use Rattle.session_script.specs.Scripts.{script_of}
 use Rattle.session_script.specs.Views.{ScriptView}

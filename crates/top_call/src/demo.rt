@@ -12,7 +12,7 @@ use crate::inputs::Inputs;
 use crate::outcome::Outcome;
 use crate::work::answer_queries;
 use demo_answers::laws::demo_is_answered;
-use demo_laws::texts::{demo_script_is_accepted, demo_sky_is_accepted};
+use demo_answers::texts::{demo_script_is_accepted, demo_sky_is_accepted};
 use session_script::Script;
 use sky_generate::{demo_script, demo_sky, rows_of};
 use sky_io::{Gate, Memory, Sink};

@@ -2,18 +2,18 @@
 use Rattle.sql_tree.specs.declared.expr.Atom.TheFolds.{fold-roll-Factor, fold-roll-Prod, fold-roll-Signed}
 use Rattle.sql_tree.specs.declared.expr.Atom.TheFolds.{fold-roll-Expr}
 use Rattle.sql_tree.specs.declared.cond.Pred.TheFolds.{fold-roll-Neg, fold-roll-Conj, fold-roll-Cond}
-use Rattle.bind_rules.proofs.Folds.{fold_int, fold_col, fold_bracket, fold_group, fold_compare, fold_between}
-use Rattle.bind_rules.proofs.Folds.{fold_among, fold_null, fold_area, fold_chord}
-use Rattle.bind_rules.proofs.Apart.{group_apart, compare_apart, between_apart, among_apart, null_apart, area_apart}
+use Rattle.bind_rules.proofs.Folds.{fold_int, fold_col, fold_bracket, fold_compare}
+use Rattle.bind_rules.proofs.Folds.{fold_area, fold_chord}
+use Rattle.bind_rules.proofs.Apart.{compare_apart, area_apart}
 use Rattle.bind_rules.proofs.Apart.{chord_apart, neg_apart, conj_apart, cond_apart}
-use Rattle.bind_rules.proofs.Found.{found_negated, found_group, found_compare, found_between, found_among}
-use Rattle.bind_rules.proofs.Found.{found_null, found_area, found_chord}
-use Rattle.bind_rules.proofs.Views.{negated_test, group_test, compare_test, between_test, among_test, null_test}
+use Rattle.bind_rules.proofs.Found.{found_negated, found_compare}
+use Rattle.bind_rules.proofs.Found.{found_area, found_chord}
+use Rattle.bind_rules.proofs.Views.{negated_test, compare_test}
 use Rattle.bind_rules.proofs.Views.{area_test_of, chord_test}
-use Rattle.bind_rules.proofs.Wholes.{bound_group, bound_compare, bound_between, bound_among, bound_null, bound_area}
+use Rattle.bind_rules.proofs.Wholes.{bound_compare, bound_area}
 use Rattle.bind_rules.proofs.Wholes.{bound_chord, bound_neg_roll, bound_conj_roll, bound_cond_roll}
-use Rattle.sql_rules.proofs.PrintOpened.{print_int_atom, print_col_atom, print_bracket_atom, print_factor_roll}
-use Rattle.sql_rules.proofs.PrintOpened.{print_prod_roll, print_signed_roll, print_expr_roll, print_bracket_pred}
+use Rattle.sql_rules.proofs.PrintOpened.{print_col_atom, print_factor_roll}
+use Rattle.sql_rules.proofs.PrintOpened.{print_prod_roll, print_expr_roll, print_bracket_pred}
 use Rattle.sql_rules.proofs.PrintOpened.{print_compare_pred, print_between_pred, print_among_pred, print_null_pred}
 use Rattle.sql_rules.proofs.PrintOpened.{print_area_pred, print_chord_pred, print_neg_roll, print_conj_roll}
 use Rattle.sql_rules.proofs.PrintOpened.{print_cond_roll}
@@ -40,15 +40,7 @@ pub ruleset conditions = (
 )
 
 -- each predicate
-pub ruleset by_group = (fold_group, group_apart, group_test, found_group, bound_group)
-
 pub ruleset by_compare = (fold_compare, compare_apart, compare_test, found_compare, bound_compare)
-
-pub ruleset by_between = (fold_between, between_apart, between_test, found_between, bound_between)
-
-pub ruleset by_among = (fold_among, among_apart, among_test, found_among, bound_among)
-
-pub ruleset by_null = (fold_null, null_apart, null_test, found_null, bound_null)
 
 pub ruleset by_area = (fold_area, area_apart, area_test_of, found_area, bound_area)
 
@@ -56,9 +48,6 @@ pub ruleset by_chord = (fold_chord, chord_apart, chord_test, found_chord, bound_
 
 -- how columns alone are printed
 pub ruleset printed_columns = (print_col_atom, print_factor_roll, print_prod_roll, print_expr_roll)
-
--- how sums, ints and brackets are printed
-pub ruleset printed_sums = (print_signed_roll, print_int_atom, print_bracket_atom)
 
 -- how conditions are printed
 pub ruleset printed_conditions = (

@@ -1,34 +1,29 @@
 -- The block of a query, step by step: its tree, what it is bound to, its refusal or its answer, and its plan.
-use Rattle.std.proofs.Common.{◌≡◌, ℕ, ℤ, List, Result, Ok, Err, Option, None, Some, ◌++◌, length, ap, ◌∙◌, option_map}
-use Rattle.std.proofs.Common.{refl, sym, codes, true, false, not, ◌&&◌, [], ◌∷◌}
+use Rattle.std.proofs.Common.{◌≡◌, ℕ, List, Ok, Option, None, Some, ◌++◌, length, ap, ◌∙◌, option_map}
+use Rattle.std.proofs.Common.{refl, sym, codes, false, not, ◌&&◌, ◌∷◌}
 use Rattle.std.specs.Option.{is_some, option_or}
 use Rattle.table_rules.specs.Objects.{Catalogue}
 use Rattle.sky_rules.specs.Partition.{Partition}
 use Rattle.sql_tree.specs.declared.query.Query.{Query}
 use Rattle.sql_rules.specs.PrintedExprs.{Bytes}
 use Rattle.sql_rules.specs.Trees.{tree_of}
-use Rattle.bind_rules.specs.declared.fault.BindFault.{BindFault}
-use Rattle.sql_rules.specs.declared.fault.SqlFault.{SqlFault}
 use Rattle.sql_bound.specs.declared.query.Bound.{Bound}
 use Rattle.bind_rules.specs.Binding.{bound_of}
-use Rattle.answer_rules.specs.Answers.{Answer, flat_answer}
+use Rattle.answer_rules.specs.Answers.{flat_answer}
 use Rattle.answer_rules.specs.Plans.{plan_of, radius_refusal}
-use Rattle.answer_rules.specs.Rewriting.{chunk_query_of, merge_plan_of}
 use Rattle.answer_rules.specs.declared.refusal.Radius.{Radius}
 use Rattle.answer_rules.specs.declared.value.Value.{Value}
-use Rattle.session_rules.specs.declared.end.EndKind.TheVariants.{Answered, Refused, Cancelled, Spent}
+use Rattle.session_rules.specs.declared.end.EndKind.TheVariants.{Answered, Refused, Cancelled}
 use Rattle.transcript_rules.specs.declared.refusal.Refusal.{Refusal}
 use Rattle.transcript_rules.specs.declared.refusal.Refusal.TheVariants as refusal
 use Rattle.transcript_rules.specs.Refusals.{Understood, understood, with_tree, with_bound, early_by, early_refusal}
-use Rattle.transcript_rules.specs.Refusals.{total_by as total_by_answer, total_refusal_by, total_refusal}
+use Rattle.transcript_rules.specs.Refusals.{total_refusal}
 use Rattle.transcript_rules.specs.Refusals.{refusal_of}
 use Rattle.transcript_rules.specs.RefusalLines.{line, refusal_line}
 use Rattle.transcript_rules.specs.Tables.{headings, table_lines}
 use Rattle.transcript_rules.specs.Blocks.{number_line, answer_lines, answered_lines, refused_lines, block}
 use Rattle.transcript_rules.specs.Transcripts.{is_none_of, is_idle, judged_of}
-use Rattle.transcript_rules.specs.ChunkLines.{chunk_line}
-use Rattle.transcript_rules.specs.MergeLines.{merge_line}
-use Rattle.transcript_rules.specs.Explained.{chunks_line, plan_lines, explain_lines, explain_block}
+use Rattle.transcript_rules.specs.Explained.{plan_lines, explain_lines, explain_block}
 use Rattle.transcript_rules.specs.BlockLaws.{AnsweredIsItsTable, ExplainedIsItsPlan, SpentIsItsLine}
 use Rattle.transcript_rules.specs.BlockLaws.{WorkIsAPlan}
 use Rattle.session_rules.specs.Ends.{has_work}
@@ -66,12 +61,6 @@ pub refused_by : (g : Partition) (c : Catalogue) (k : ℕ) (text : Bytes) (why :
 unfolding block
 refused_by g c k text why is = ap (λ r. number_line k ++ refused_lines text r) is
 
--- the early refusal of what is not understood
-pub early_unknown : (g : Partition) (c : Catalogue) (text : Bytes) (why : Refusal)
-    → understood c.names text ≡ Err why → early_refusal g c text ≡ Some why
-unfolding early_refusal
-early_unknown g c text why unknown = ap (early_by g c.objects) unknown
-
 -- the early refusal of what is understood
 pub early_known : (g : Partition) (c : Catalogue) (text : Bytes) (q : Query) (b : Bound) (why : Option Radius)
     → understood c.names text ≡ Ok (record { tree = q; bound = b }) → radius_refusal g c.objects b ≡ why
@@ -80,138 +69,17 @@ unfolding early_refusal
 early_known g c text q b why known is =
     ap (early_by g c.objects) known ∙ ap (option_map refusal.Radius) is
 
--- the block of a line that is no query
-pub sql_by : (g : Partition) (c : Catalogue) (k : ℕ) (text : Bytes) (fault : SqlFault) → tree_of text ≡ Err fault
-    → block g c k text Refused ≡ number_line k ++ refusal_line text (refusal.Sql fault)
-unfolding understood
-sql_by g c k text fault read =
-    refused_by g c k text (refusal.Sql fault) (refused_early g c text (refusal.Sql fault)
-    (early_unknown g c text (refusal.Sql fault) (ap (with_tree c.names) read)))
-
--- the block of a query that does not fit the schema
-pub bind_by : (g : Partition) (c : Catalogue) (k : ℕ) (text : Bytes) (q : Query) (fault : BindFault)
-    → tree_of text ≡ Ok q → bound_of c.names q ≡ Err fault
-    → block g c k text Refused ≡ number_line k ++ refusal_line text (refusal.Bind fault)
-unfolding understood
-bind_by g c k text q fault read bound =
-    refused_by g c k text (refusal.Bind fault) (refused_early g c text (refusal.Bind fault)
-    (early_unknown g c text (refusal.Bind fault) (ap (with_tree c.names) read ∙ ap (with_bound q) bound)))
-
--- the block of a join whose limit is above the radius
-pub radius_by : (g : Partition) (c : Catalogue) (k : ℕ) (text : Bytes) (q : Query) (b : Bound) (why : Radius)
-    → understood c.names text ≡ Ok (record { tree = q; bound = b }) → radius_refusal g c.objects b ≡ Some why
-    → block g c k text Refused ≡ number_line k ++ refusal_line text (refusal.Radius why)
-radius_by g c k text q b why known far =
-    refused_by g c k text (refusal.Radius why) (refused_early g c text (refusal.Radius why)
-    (early_known g c text q b (Some why) known far))
-
--- the block of a query with a total out of range
-pub total_by : (g : Partition) (c : Catalogue) (k : ℕ) (text : Bytes) (q : Query) (b : Bound) (t : ℤ)
-    → understood c.names text ≡ Ok (record { tree = q; bound = b }) → radius_refusal g c.objects b ≡ None
-    → flat_answer c.objects b ≡ Err t
-    → block g c k text Refused ≡ number_line k ++ refusal_line text (refusal.Total (record { total = t }))
-unfolding refusal_of total_refusal
-total_by g c k text q b t known near answered =
-    refused_by g c k text (refusal.Total (record { total = t }))
-    (ap (λ r. option_or r (total_refusal c text)) (early_known g c text q b None known near)
-    ∙ ap (total_refusal_by c.objects) known ∙ ap total_by_answer answered)
-
--- the block that explains a query which is not refused before it is run, of its three lines
-pub explained_by : (g : Partition) (c : Catalogue) (k : ℕ) (text : Bytes) (q : Query) (b : Bound) (chunks : List ℕ)
-    (printed merged : Bytes)
-    → understood c.names text ≡ Ok (record { tree = q; bound = b }) → radius_refusal g c.objects b ≡ None
-    → plan_of g c.objects b ≡ chunks
-    → chunk_line c.names q (chunk_query_of b) ≡ printed → merge_line (merge_plan_of b) ≡ merged
-    → explain_block g c k text ≡ number_line k ++ (printed ++ (merged ++ chunks_line chunks))
-unfolding explain_block
-explained_by g c k text q b chunks printed merged known near planned is joins =
-    ap (λ r. number_line k ++ explain_lines g c text r) (early_known g c text q b None known near)
-    ∙ ap (λ u. number_line k ++ plan_lines g c u) known
-    ∙ ap (λ cs. number_line k ++ (chunk_line c.names q (chunk_query_of b)
-    ++ (merge_line (merge_plan_of b) ++ chunks_line cs))) planned
-    ∙ ap (λ x. number_line k ++ (x ++ (merge_line (merge_plan_of b) ++ chunks_line chunks))) is
-    ∙ ap (λ x. number_line k ++ (printed ++ (x ++ chunks_line chunks))) joins
-
 -- the block of a query that is cancelled
 pub cancelled_by : (g : Partition) (c : Catalogue) (k : ℕ) (text : Bytes)
     → block g c k text Cancelled ≡ number_line k ++ line (codes "cancelled")
 unfolding block
 cancelled_by g c k text = refl
 
--- what holds of a query that is understood
-pub judged_by : (g : Partition) (c : Catalogue) (text : Bytes) (q : Query) (b : Bound) (why : Option Radius)
-    (a : Answer)
-    (chunks : List ℕ)
-    → understood c.names text ≡ Ok (record { tree = q; bound = b }) → radius_refusal g c.objects b ≡ why
-    → flat_answer c.objects b ≡ a → plan_of g c.objects b ≡ chunks
-    → judged_of g c text ≡ record {
-      early = is_some (option_map refusal.Radius why);
-      total = is_some (total_by_answer a);
-      idle = is_none_of chunks;
-    }
-unfolding judged_of total_refusal
-judged_by g c text q b why a chunks known near answered planned =
-    ap (λ r. record {
-      early = is_some r;
-      total = is_some (total_refusal c text);
-      idle = is_idle g c.objects (understood c.names text);
-    }) (early_known g c text q b why known near)
-    ∙ ap (λ u. record {
-      early = is_some (option_map refusal.Radius why);
-      total = is_some (total_refusal_by c.objects u);
-      idle = is_idle g c.objects u;
-    }) known
-    ∙ ap (λ x. record {
-      early = is_some (option_map refusal.Radius why);
-      total = is_some (total_by_answer x);
-      idle = is_none_of (plan_of g c.objects b);
-    }) answered
-    ∙ ap (λ cs. record {
-      early = is_some (option_map refusal.Radius why);
-      total = is_some (total_by_answer a);
-      idle = is_none_of cs;
-    }) planned
-
--- what holds of a line that is no query
-pub judged_no_query : (g : Partition) (c : Catalogue) (text : Bytes) (fault : SqlFault) → tree_of text ≡ Err fault
-    → judged_of g c text ≡ record { early = true; total = false; idle = true }
-unfolding judged_of early_refusal total_refusal understood
-judged_no_query g c text fault read =
-    ap (λ u. record {
-      early = is_some (early_by g c.objects u);
-      total = is_some (total_refusal_by c.objects u);
-      idle = is_idle g c.objects u;
-    }) (ap (with_tree c.names) read)
-
 -- the block that explains a query which is refused before it is run
 pub told_by : (g : Partition) (c : Catalogue) (k : ℕ) (text : Bytes) (why : Refusal)
     → early_refusal g c text ≡ Some why → explain_block g c k text ≡ number_line k ++ refusal_line text why
 unfolding explain_block
 told_by g c k text why early = ap (λ r. number_line k ++ explain_lines g c text r) early
-
--- the same of a line that is no query
-pub sql_told_by : (g : Partition) (c : Catalogue) (k : ℕ) (text : Bytes) (fault : SqlFault) → tree_of text ≡ Err fault
-    → explain_block g c k text ≡ number_line k ++ refusal_line text (refusal.Sql fault)
-unfolding understood
-sql_told_by g c k text fault read =
-    told_by g c k text (refusal.Sql fault)
-    (early_unknown g c text (refusal.Sql fault) (ap (with_tree c.names) read))
-
--- the same of a query that does not fit the schema
-pub bind_told_by : (g : Partition) (c : Catalogue) (k : ℕ) (text : Bytes) (q : Query) (fault : BindFault)
-    → tree_of text ≡ Ok q → bound_of c.names q ≡ Err fault
-    → explain_block g c k text ≡ number_line k ++ refusal_line text (refusal.Bind fault)
-unfolding understood
-bind_told_by g c k text q fault read bound =
-    told_by g c k text (refusal.Bind fault)
-    (early_unknown g c text (refusal.Bind fault) (ap (with_tree c.names) read ∙ ap (with_bound q) bound))
-
--- the same of a join whose limit is above the radius
-pub radius_told_by : (g : Partition) (c : Catalogue) (k : ℕ) (text : Bytes) (q : Query) (b : Bound) (why : Radius)
-    → understood c.names text ≡ Ok (record { tree = q; bound = b }) → radius_refusal g c.objects b ≡ Some why
-    → explain_block g c k text ≡ number_line k ++ refusal_line text (refusal.Radius why)
-radius_told_by g c k text q b why known far =
-    told_by g c k text (refusal.Radius why) (early_known g c text q b (Some why) known far)
 
 -- the block of a query that is out of memory
 pub spent_by : SpentIsItsLine

@@ -33,10 +33,6 @@ own t n = record { table = Some t; name = n }
 abbrev pub one : Atom → Factor
 one a = roll-Factor (record { minus = false; atom = a })
 
--- a factor after a minus
-abbrev pub minus_of : Atom → Factor
-minus_of a = roll-Factor (record { minus = true; atom = a })
-
 -- a product
 abbrev pub times : Factor → List Factor → Prod
 times f fs = roll-Prod (record { first = f; rest = fs })
@@ -76,10 +72,6 @@ called n a = record { name = n; alias = Some a }
 -- a predicate
 abbrev pub says : Pred → Neg
 says p = roll-Neg (record { not = false; pred = p })
-
--- a predicate after NOT
-abbrev pub denies : Pred → Neg
-denies p = roll-Neg (record { not = true; pred = p })
 
 -- a conjunction
 abbrev pub each : Neg → List Neg → Conj

@@ -1,5 +1,5 @@
-//! Short examples of single lines, of inputs made by hand, evaluated by the checker. Whole queries are worked out in
-//! `transcript_examples`.
+//! Short examples of single lines, of inputs made by hand, evaluated by the checker. Whole queries are worked rows of
+//! the program.
 
 ghost use Rattle.std.specs.Prelude.{◌≡◌, ◌++◌, [], ◌∷◌, None, Some, codes, pos};
 ghost use Rattle.bind_rules.specs.declared.fault.BindFault.TheVariants.{UnknownName};

@@ -4,7 +4,7 @@
 //! table (`specs/Transcripts.antt`). Below: `sql_rules`, `bind_rules` and `answer_rules` for a query's tree, meaning
 //! and answer, `session_rules` for how queries may end. Above: the printers of blocks, the czar and the top call. This
 //! crate has no algorithms: a type that more than one crate names, definitions, lemmas, and short examples of single
-//! lines. Whole queries are worked out in `transcript_examples`.
+//! lines. Whole queries are worked rows of the program.
 #![tactic(auto)]
 
 pub mod examples;

@@ -1,4 +1,0 @@
-pub mod Deep
-pub mod DemoHeadings
-pub mod GroupQueries
-pub mod RowQueries
