@@ -1,16 +1,12 @@
 //! Answers or explains a script of queries over a sky plan and a catalogue, by the words of its command line.
 //!
 //! The words, the files of the current folder and the standard streams are handed to the top call, `top_call::qserv`, and
-//! what is told of its outcome goes to standard error.
+//! what its outcome says goes to standard error.
 //! Below: `top_call`, and the adapters of `sky_io`. Above: nothing, this is the program.
 #![tactic(auto)]
 
 #[cfg(test)]
 mod tests;
-#[cfg(test)]
-mod worked;
-#[cfg(test)]
-mod worker_tests;
 
 use sky_io::{ErrSink, FolderShelf, OpenGate, OutSink, Sink};
 use std::io::ErrorKind;

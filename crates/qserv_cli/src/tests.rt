@@ -1,87 +1,117 @@
-//! What no clause says: what an output that fails comes to, at whichever call, and what is told of an outcome.
-use crate::worked::{CATALOGUE, QUERY, SKY, line_of, texts_of, words_of};
-use session_rules::Ends;
-use session_script::ScriptFault;
-use sky_io::{MemSink, OpenGate, PlainShelf};
+//! What no clause says: that an output that fails at any call has a prefix of the answer, that threads meet, and that queries
+//! which run together share a chunk's scan.
+use sky_io::{Gate, MemSink, NoteGate, OpenGate, PlainShelf, StepGate};
 use std::alloc::Global;
+use std::sync::Wait;
 use std::test::Fail;
-use top_call::{Outcome, Which, qserv, status};
+use std::thread::Threads;
+use top_call::{qserv, status};
 
-const SCRIPT: &str = "SELECT objectId FROM Object\n";
+const SKY: &[u8] = b"overlap 5\nstripe -268435472 4 2 2\nstripe 0 4 2 2\n";
 
-const ANSWER: &str = "query 1\nobjectId\n1\n2\n3\n4\n5\n6\n6 rows, 3 chunks\n";
+const CATALOGUE: &[u8] =
+    b"objectId,x,y,z,flux\n1,268435456,0,0,10\n2,268435456,3,0,20\n3,268435456,0,4,30\n4,268435456,-3,0,40\n5,268435456,0,-1,50\n6,0,0,268435456,60\n";
 
-const USAGE: &str =
-    "usage: qserv load SKY CSV; query SKY CSV SCRIPT WORKERS; explain SKY CSV SCRIPT; demo COUNT SEED WORKERS\n";
+const SCRIPT: &[u8] = b"SELECT objectId FROM Object\n";
 
-// The worked sky plan and catalogue, and a script of one query.
-fn texts(alloc: Global) -> Result<Vec<(String, Vec<u8>)>, Fail> {
-    texts_of(alloc, SKY, CATALOGUE, SCRIPT.as_bytes())
+const ANSWER: &[u8] = b"query 1\nobjectId\n1\n2\n3\n4\n5\n6\n6 rows, 3 chunks\n";
+
+// The words that ask for the answers of the script with the given number of workers.
+fn words_of(alloc: Global, workers: &str) -> Result<Vec<String>, Fail> {
+    let mut words = Vec::new(alloc);
+    for word in ["query", "sky", "csv", "script", workers] {
+        words.push(String::from_str(alloc, word)?)?;
+    }
+    Ok(words)
+}
+
+// The sky plan, the catalogue and a script by their names.
+fn texts_of(alloc: Global, script: &[u8]) -> Result<Vec<(String, Vec<u8>)>, Fail> {
+    let mut texts = Vec::new(alloc);
+    for (name, text) in [("sky", SKY), ("csv", CATALOGUE), ("script", script)] {
+        texts.push((String::from_str(alloc, name)?, text.to_vec(alloc)?))?;
+    }
+    Ok(texts)
+}
+
+// The status of the top call over the texts, past a gate.
+fn status_past<R: Threads + Wait + Sync, G: Gate + Sync>(
+    rt: &R,
+    alloc: Global,
+    words: &[String],
+    texts: Vec<(String, Vec<u8>)>,
+    sink: &mut MemSink,
+    gate: &G,
+) -> u8 {
+    let mut shelf = PlainShelf::new(texts);
+    let outcome = qserv(rt, alloc, words, &mut shelf, sink, gate);
+    status(&outcome)
+}
+
+// The status of the top call over a script, past a gate.
+fn run_past<R: Threads + Wait + Sync, G: Gate + Sync>(
+    rt: &R,
+    alloc: Global,
+    workers: &str,
+    script: &[u8],
+    sink: &mut MemSink,
+    gate: &G,
+) -> Result<u8, Fail> {
+    let words = words_of(alloc, workers)?;
+    let texts = texts_of(alloc, script)?;
+    Ok(status_past(rt, alloc, words.as_slice(), texts, sink, gate))
 }
 
 #[test]
-fn a_sink_that_fails_at_any_call_holds_a_front_of_the_answer(rt: HostRuntime) -> Result<(), Fail> {
+fn a_sink_that_fails_at_any_call_has_a_prefix_of_the_answer(rt: HostRuntime) -> Result<(), Fail> {
     let alloc = rt.alloc();
-    let words = words_of(alloc, &QUERY)?;
     for call in 1..1000 {
-        let mut shelf = PlainShelf::new(texts(alloc)?);
         let mut sink = MemSink::new(alloc, 1000, vec![in alloc; call]?)?;
-        let outcome = qserv(
-            &rt,
-            alloc,
-            words.as_slice(),
-            &mut shelf,
-            &mut sink,
-            &OpenGate,
-        );
-        assert!(rt;
-            ANSWER.as_bytes().starts_with(sink.bytes()),
-            "at call {call}"
-        );
-        if status(&outcome) == 0 {
-            assert_eq!(rt; sink.bytes(), ANSWER.as_bytes(), "before call {call}");
+        let found = run_past(&rt, alloc, "0", SCRIPT, &mut sink, &OpenGate)?;
+        assert!(rt; ANSWER.starts_with(sink.bytes()), "at call {call}");
+        if found == 0 {
+            assert_eq!(rt; sink.bytes(), ANSWER, "before call {call}");
             assert!(rt; call > 2, "a put and a flush at least");
             return Ok(());
         }
-        assert_eq!(rt; status(&outcome), 8, "at call {call}");
+        assert_eq!(rt; found, 8, "at call {call}");
     }
     assert!(rt; false, "no call is the last");
     Ok(())
 }
 
 #[test]
-fn each_outcome_has_its_line(rt: HostRuntime) -> Result<(), Fail> {
+fn two_work_on_chunks_at_one_time(rt: HostRuntime) -> Result<(), Fail> {
     let alloc = rt.alloc();
-    let words = words_of(alloc, &["query", "north", "stars", "two ranges", "0"])?;
-    let done = Outcome::Done {
-        ends: Ends::from_vec(Vec::new(alloc)),
-    };
-    let torn = Outcome::SinkFault {
-        ends: Ends::from_vec(Vec::new(alloc)),
-    };
-    let unknown = Outcome::BadScript {
-        fault: ScriptFault::UnknownQuery { line: 6, number: 9 },
-    };
-    for (outcome, line) in [
-        (done, ""),
-        (Outcome::Usage, USAGE),
-        (unknown, "script line 6: unknown query 9\n"),
-        (too_long(Which::Catalogue), "stars: too long\n"),
-        (unread(Which::Sky), "north: cannot be read\n"),
-        (unread(Which::Script), "two ranges: cannot be read\n"),
-        (torn, "output failed\n"),
-        (Outcome::Memory, "out of memory\n"),
-    ] {
-        let told = line_of(alloc, &outcome, words.as_slice())?;
-        assert_eq!(rt; told.bytes(), line.as_bytes());
-    }
+    let gate = StepGate::new(2, 10000000);
+    let mut sink = MemSink::new(alloc, 1000, Vec::new(alloc))?;
+    run_past(&rt, alloc, "2", SCRIPT, &mut sink, &gate)?;
+    assert_eq!(rt; sink.bytes(), ANSWER);
+    assert!(rt; gate.met());
+    assert!(rt; !gate.given_up());
     Ok(())
 }
 
-fn too_long(which: Which) -> Outcome {
-    Outcome::TooLong { which }
+// The given number of lines, each of which counts all rows.
+fn counting(alloc: Global, times: usize) -> Result<Vec<u8>, Fail> {
+    let mut text = Vec::new(alloc);
+    for _ in 0..times {
+        text.extend_from_slice(b"SELECT COUNT(*) FROM Object\n")?;
+    }
+    Ok(text)
 }
 
-fn unread(which: Which) -> Outcome {
-    Outcome::ShelfFault { which }
+#[test]
+fn a_chunk_is_passed_once_for_all_queries_that_run(rt: HostRuntime) -> Result<(), Fail> {
+    let alloc = rt.alloc();
+    let script = counting(alloc, 65)?;
+    let mut gate = NoteGate::new();
+    let mut sink = MemSink::new(alloc, 10000, Vec::new(alloc))?;
+    let found = run_past(&rt, alloc, "0", script.as_slice(), &mut sink, &gate)?;
+    assert_eq!(rt; found, 0);
+    for (pass, chunk) in [(0, 0), (1, 4), (2, 7), (3, 0), (4, 4), (5, 7)] {
+        assert_eq!(rt; gate.noted(pass), Some((0, chunk)), "pass {pass}");
+    }
+    assert_eq!(rt; gate.noted(6), None);
+    Ok(())
 }

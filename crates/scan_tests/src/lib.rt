@@ -1,23 +1,15 @@
-//! Tests of the shared scan: its sets, its board, its turn, its workers and whole sessions, by public calls alone.
+//! Tests of the shared scan by public calls alone, of what no output of the program shows: the board's answers, seats at one
+//! board, threads that meet, and a query whose work fails.
 //!
-//! Callers: none. Nothing stands on this crate, so that a crate of the scan is proved once, and its tests over what it
-//! promises. Below: `scan_rules` (`sets`), `scan_core` (`machine`, `laps`), `turn_lock`, `scan_board`, `scan_worker` and
-//! `scan_session` (`sessions`, `teams`).
+//! Callers: none. No crate depends on this one, so that a crate of the scan is proved once, and its tests over what it promises.
+//! Below: `scan_core` (`machine`), `scan_board` (`boards`), and `scan_session` over `scan_worker` (`sessions`, `teams`).
 #![tactic(auto)]
 
 #[cfg(test)]
 mod boards;
 #[cfg(test)]
-mod laps;
-#[cfg(test)]
 mod machine;
 #[cfg(test)]
 mod sessions;
 #[cfg(test)]
-mod sets;
-#[cfg(test)]
 mod teams;
-#[cfg(test)]
-mod turns;
-#[cfg(test)]
-mod workers;

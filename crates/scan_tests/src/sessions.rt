@@ -1,5 +1,5 @@
-//! Whole sessions over short scripts: that queries share laps, that workers run at one time, and that a query which finds no
-//! memory is spent alone. A query's work on a chunk is a mark of both, so each piece shows whose it is and what it was made of.
+//! Whole sessions over short scripts: that workers run at one time, and that a query that is out of memory is spent alone.
+//! A query's work on a chunk is a mark of both, so each piece shows whose it is and what it was made of.
 ghost use Rattle.std.specs.Prelude.{◌≡◌, ◌<◌, ◌≤◌, [], All, IfOk, IfSome, length, vec_len};
 ghost use Rattle.session_rules.specs.declared.limits.TheConstants.{WORKERS_MOST};
 
@@ -8,7 +8,7 @@ use scan_core::{Board, ChunkSet, Work};
 use scan_session::{End, Planned, drive};
 use scan_worker::Engine;
 use session_script::Script;
-use sky_io::{Gate, Memory, NoteGate, OpenGate, StepGate};
+use sky_io::{Gate, Memory, OpenGate, StepGate};
 use std::alloc::Global;
 use std::marker::Model;
 use std::sync::Wait;
@@ -202,25 +202,6 @@ pub(crate) fn marker_of(alloc: Global, starved: u32) -> Marker
         root: 7,
         starved,
     }
-}
-
-#[test]
-fn queries_over_the_same_chunks_share_a_lap(rt: HostRuntime) -> Result<(), Fail> {
-    let alloc = rt.alloc();
-    let marker = marker_of(alloc, 0);
-    let wants = [Some((1, 4)), Some((1, 4))];
-    let mut gate = NoteGate::new();
-    let ends = session(alloc, &rt, &marker, &gate, b"q\nq\n", &wants, 0)?;
-    assert_eq!(rt; ends.as_slice(), b"AA".as_slice());
-    for (pass, want) in [
-        (0, Some((0, 1))),
-        (1, Some((0, 2))),
-        (2, Some((0, 3))),
-        (3, None),
-    ] {
-        assert_eq!(rt; gate.noted(pass), want);
-    }
-    Ok(())
 }
 
 /// A gate in front of chunks 0 to 3 and another in front of those behind: of three who stand in one at one time, one at

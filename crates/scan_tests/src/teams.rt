@@ -1,5 +1,5 @@
-//! That one who finds nothing to take makes pieces of another's task: two pieces of one task are made at one time. A session
-//! in which the queries on the chunk were taken apart, so that two tasks may have met, tells nothing and is run again.
+//! That a worker that finds nothing to take makes pieces of another's task: two pieces of one task are made at one time. If the
+//! queries on the chunk were taken apart, two tasks may have met: such a session shows nothing and is run again.
 ghost use Rattle.std.specs.Prelude.{◌≡◌};
 
 use crate::sessions::{Marker, Marks, marker_of, session};
