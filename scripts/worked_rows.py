@@ -12,7 +12,8 @@ it is answered with 0, 1, 4 and 16 workers, and explained. A few texts are too l
 Runs of other kinds stand in scripts/worked_runs.py: sky plans and catalogues with their reports or their first faults, scripts
 that wait and cancel, the demo, words of no form, and an outcome of each status that a run can be brought to. A larger sky, whose
 rows are drawn, stands in scripts/worked_world.py, catalogues of certain lengths in scripts/worked_lanes.py, as many queries and
-chunks as there may be in scripts/worked_laps.py, and what the demo of 20,000 objects has to write in scripts/worked_demo.py.
+chunks as there may be in scripts/worked_laps.py, runs over pipes in scripts/worked_streams.py, and what the demo of 20,000 objects
+has to write in scripts/worked_demo.py.
 
 It prints a line for each run that ended otherwise, with the row and with what is wanted, and then how many rows it has
 compared. The status is 0 where none differs, and 1 else, also where there is no program.
@@ -29,6 +30,7 @@ import tempfile
 
 import worked_lanes
 import worked_runs
+import worked_streams
 import worked_world
 
 HERE = os.path.dirname(os.path.abspath(__file__))
@@ -205,13 +207,21 @@ def is_full_told(program, folder):
         return is_told(program, folder, worked_runs.OUTPUT_FAILED, out=full)
 
 
+def are_streams_told(program, folder):
+    """Whether a text in pieces is read, and an output that takes a part of each write is whole."""
+    wrong = list(worked_streams.wrong(program, folder, worked_runs.SKY, worked_runs.OF_SKY))
+    for line in wrong:
+        print(f"worked_rows: {line}")
+    return not wrong
+
+
 def compare(program, folder):
     """How many rows there are, and whether all are told."""
     shutil.copytree(WORKED, folder, dirs_exist_ok=True)
     made, texts = made_parts()
     for name, text in texts.items():
         write(folder, name, text)
-    found, rows = [is_full_told(program, folder)], len(worked_runs.RUNS) + 1
+    found, rows = [is_full_told(program, folder), are_streams_told(program, folder)], len(worked_runs.RUNS) + 3
     for run in worked_runs.RUNS:
         found.append(is_told(program, folder, run))
     for part in parts() + made:

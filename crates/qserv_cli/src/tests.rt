@@ -1,6 +1,6 @@
-//! What no clause says: that an output that fails at any call has a prefix of the answer, that threads meet, and that queries
-//! which run together share a chunk's scan.
-use sky_io::{Gate, MemSink, NoteGate, OpenGate, PlainShelf, StepGate};
+//! What no clause says: that an output or an input that fails is a fault, that threads meet, and that queries which run together
+//! share a chunk's scan.
+use sky_io::{Gate, MemShelf, MemSink, NoteGate, OpenGate, PlainShelf, Shelf, StepGate};
 use std::alloc::Global;
 use std::sync::Wait;
 use std::test::Fail;
@@ -34,17 +34,16 @@ fn texts_of(alloc: Global, script: &[u8]) -> Result<Vec<(String, Vec<u8>)>, Fail
     Ok(texts)
 }
 
-// The status of the top call over the texts, past a gate.
-fn status_past<R: Threads + Wait + Sync, G: Gate + Sync>(
+// The status of the top call over a shelf, past a gate.
+fn status_past<R: Threads + Wait + Sync, S: Shelf, G: Gate + Sync>(
     rt: &R,
     alloc: Global,
     words: &[String],
-    texts: Vec<(String, Vec<u8>)>,
+    shelf: &mut S,
     sink: &mut MemSink,
     gate: &G,
 ) -> u8 {
-    let mut shelf = PlainShelf::new(texts);
-    let outcome = qserv(rt, alloc, words, &mut shelf, sink, gate);
+    let outcome = qserv(rt, alloc, words, shelf, sink, gate);
     status(&outcome)
 }
 
@@ -58,13 +57,16 @@ fn run_past<R: Threads + Wait + Sync, G: Gate + Sync>(
     gate: &G,
 ) -> Result<u8, Fail> {
     let words = words_of(alloc, workers)?;
-    let texts = texts_of(alloc, script)?;
-    Ok(status_past(rt, alloc, words.as_slice(), texts, sink, gate))
+    let mut shelf = PlainShelf::new(texts_of(alloc, script)?);
+    Ok(status_past(rt, alloc, words.as_slice(), &mut shelf, sink, gate))
 }
 
 #[test]
 fn a_sink_that_fails_at_any_call_has_a_prefix_of_the_answer(rt: HostRuntime) -> Result<(), Fail> {
     let alloc = rt.alloc();
+    let mut full = MemSink::new(alloc, 0, Vec::new(alloc))?;
+    let found = run_past(&rt, alloc, "0", SCRIPT, &mut full, &OpenGate)?;
+    assert_eq!(rt; (found, full.bytes().len()), (8, 0), "no room");
     for call in 1..1000 {
         let mut sink = MemSink::new(alloc, 1000, vec![in alloc; call]?)?;
         let found = run_past(&rt, alloc, "0", SCRIPT, &mut sink, &OpenGate)?;
@@ -77,6 +79,24 @@ fn a_sink_that_fails_at_any_call_has_a_prefix_of_the_answer(rt: HostRuntime) -> 
         assert_eq!(rt; found, 8, "at call {call}");
     }
     assert!(rt; false, "no call is the last");
+    Ok(())
+}
+
+#[test]
+fn a_shelf_that_fails_at_its_second_fetch_is_a_fault(rt: HostRuntime) -> Result<(), Fail> {
+    let alloc = rt.alloc();
+    let mut sink = MemSink::new(alloc, 1000, Vec::new(alloc))?;
+    let words = words_of(alloc, "0")?;
+    let mut shelf = MemShelf::new(alloc, texts_of(alloc, SCRIPT)?, vec![in alloc; 2]?);
+    let found = status_past(
+        &rt,
+        alloc,
+        words.as_slice(),
+        &mut shelf,
+        &mut sink,
+        &OpenGate,
+    );
+    assert_eq!(rt; (found, sink.bytes().len()), (7, 0));
     Ok(())
 }
 

@@ -223,6 +223,14 @@ impl Gate for TwoGates {
 }
 
 #[test]
+fn a_pass_that_is_alone_opens_the_gate_when_its_turns_run_out(rt: HostRuntime) {
+    let gate = StepGate::new(2, 10);
+    gate.pass(&rt, 0, 5);
+    gate.pass(&rt, 0, 6);
+    assert_eq!(rt; (gate.met(), gate.given_up()), (false, true));
+}
+
+#[test]
 fn two_workers_work_at_one_time_on_each_of_two_queries(rt: HostRuntime) -> Result<(), Fail> {
     let alloc = rt.alloc();
     let marker = marker_of(alloc, 0);

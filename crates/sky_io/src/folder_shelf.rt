@@ -80,7 +80,7 @@ fn read_file<R: Files>(rt: &R, name: &str, limit: usize, into: &mut Vec<u8>) -> 
 }
 
 // Reads the first `limit + 1` bytes, or all if there are fewer. A read that gives nothing is the end.
-pub(crate) fn read_some<F: Read>(file: &mut F, limit: usize, into: &mut Vec<u8>) -> Fetch
+fn read_some<F: Read>(file: &mut F, limit: usize, into: &mut Vec<u8>) -> Fetch
     requires { into.old.items ≡ [] }
     ensures { result ≡ Fetch.Done → length into.new.items ≤ limit + 1 }
 {

@@ -24,8 +24,6 @@ pub mod print_sink;
 pub mod shelf;
 pub mod sink;
 pub mod step_gate;
-#[cfg(test)]
-mod tests;
 
 pub use folder_shelf::FolderShelf;
 pub use gate::{Gate, OpenGate};

@@ -105,7 +105,7 @@ impl<P: Print> Sink for PrintSink<P> {
 }
 
 // Writes all of the bytes and reports whether it could. A write that accepts none of them is an error.
-pub(crate) fn send<P: Print>(out: &P, bytes: &[u8]) -> bool {
+fn send<P: Print>(out: &P, bytes: &[u8]) -> bool {
     let mut rest = bytes;
     while !rest.is_empty() {
         match out.write_some(rest) {
