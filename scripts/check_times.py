@@ -4,7 +4,8 @@ must-fail edits.
 
     scripts/check_times.py [--every SECONDS]
 
-It runs `rt ci --anew` at the top of the repository: what an earlier run has kept counts for nothing. Every half second it
+It runs `rt ci` at the top of the repository, with `--anew` if the toolchain has that flag: what an earlier run has kept counts
+for nothing. Every half second it
 looks at the provers that run below it, each with the processes that help it, which are called by the same words; a prover's
 last reading counts, so that a run shorter than that is missed. Whatever else runs meanwhile is not counted, but makes all
 slower. The check's own lines go to standard error, the table to standard output, dearest crate first. It ends with the
@@ -90,6 +91,12 @@ def watch(check, pause):
     return seen
 
 
+def anew():
+    """The flag that has everything proved again; a toolchain that keeps nothing has none."""
+    shown = subprocess.run(["rt", "help"], capture_output=True, text=True, check=False)
+    return ["--anew"] if "--anew" in shown.stdout + shown.stderr else []
+
+
 def table(seen):
     """The lines of the table."""
     cost = collections.defaultdict(lambda: dict.fromkeys(KINDS, 0.0))
@@ -108,7 +115,7 @@ def main():
     every = words.parse_args().every
     os.chdir(os.path.join(os.path.dirname(os.path.abspath(__file__)), ".."))
     began = time.time()
-    check = subprocess.Popen(["rt", "ci", "--anew"], stdout=sys.stderr)
+    check = subprocess.Popen(["rt", "ci", *anew()], stdout=sys.stderr)
     for line in table(watch(check, every)):
         print(line)
     print(f"{(time.time() - began) / 60:.1f} minutes by the clock")
