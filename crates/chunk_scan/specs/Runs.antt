@@ -1,4 +1,4 @@
--- Where runs begin: rows whose key may differ from that of the row before.
+-- Where runs begin among adjacent rows: at each row whose key may differ from that of the row before.
 use Rattle.std.specs.Prelude.{◌≡◌, ℕ, ◌+◌, ◌<◌, ℤ, Bool, false, List, length, get_or, Option, None}
 use Rattle.table_rules.specs.Objects.{Obj}
 use Rattle.sky_row.specs.Columns.{no_row}
@@ -12,8 +12,7 @@ AreStarts keys objects starts =
     (j : ℕ) → j + 1 < length objects → get_or starts (j + 1) false ≡ false
     → key_of keys (row (get_or objects (j + 1) no_row)) ≡ key_of keys (row (get_or objects j no_row))
 
--- no mark is removed, and a row that is not marked has the same value as the row before it, by a function of row
--- numbers
+-- no mark is removed, and a row that is not marked has the value of the row before it, by a function of row numbers
 abbrev pub IsMarkedBy : {X : Type 0} → (ℕ → X) → List ℕ → List Bool → List Bool → Type 0
 IsMarkedBy value places old new =
     (j : ℕ) → j + 1 < length places → get_or new (j + 1) false ≡ false

@@ -21,8 +21,8 @@ use sky_io::Memory;
 use sky_vector::Num;
 use std::alloc::Global;
 
-/// Returns the piece of the selected rows, which have these order keys. Allocates memory for what the piece keeps, for
-/// a few machine words an item, and for each vector that the scratch does not have with enough room.
+/// Returns the piece of the selected rows, which have these order keys. Allocates memory for what the piece keeps, and
+/// for a few machine words an item. Allocates each vector that the scratch does not have with enough room.
 pub(crate) fn all_rows<'w>(
     alloc: Global,
     block: &Block,

@@ -26,8 +26,8 @@ use sql_bound::Shape;
 use std::alloc::Global;
 
 /// Returns what the query finds in the chunk alone, whatever the scratch was used for before. Allocates memory for what
-/// the piece keeps, for a few machine words a key and item, and for each vector that the scratch does not have with
-/// enough room.
+/// the piece keeps, and for a few machine words a key and item. Allocates each vector that the scratch does not have
+/// with enough room.
 pub fn scan<'w>(
     alloc: Global,
     store: &'w Store,
@@ -51,8 +51,8 @@ pub fn scan<'w>(
     Ok(piece)
 }
 
-/// Makes invariants of a store visible to contracts: its plan is within the limits, its rows are in the sky, and they
-/// are at most `ROWS_MOST`. Does not allocate.
+/// Makes invariants of a store visible to contracts: its plan is within the limits, and its rows are in the sky and at
+/// most `ROWS_MOST`. Does not allocate.
 fn know(store: &Store)
     ensures plan { IsSky store.now.plan }
     ensures rows { AreInTheSky store.now.rows.objects }

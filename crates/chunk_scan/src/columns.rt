@@ -20,8 +20,8 @@ use sky_io::Memory;
 use sky_vector::Num;
 use std::alloc::Global;
 
-/// Returns the order keys of the selected rows, if there is an order. Allocates memory for each vector that the scratch
-/// does not have with enough room.
+/// Returns the order keys of the selected rows, if there is an order. Allocates each vector that the scratch does not
+/// have with enough room.
 pub(crate) fn keys<'a>(
     block: &'a Block,
     order: &Option<ChunkOrder>,
@@ -56,7 +56,7 @@ fn keys_by<'a>(
     Ok(Some(values(block, &order.key, places, &mut scratch.columns)?))
 }
 
-/// Returns the values of each of these items on the selected rows. Allocates memory for a list of them, and for each
+/// Returns the values of each of these items on the selected rows. Allocates memory for a list of them. Allocates each
 /// vector that the scratch does not have with enough room.
 pub(crate) fn columns<'a>(
     alloc: Global,

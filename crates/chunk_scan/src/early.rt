@@ -1,5 +1,5 @@
-//! The vectorizable predicates: a column compared with a number, on either side, a column BETWEEN two numbers, IS NULL
-//! and IS NOT NULL of a column, and areas.
+//! The vectorizable predicates: a column compared with a number, on either side; a column BETWEEN two numbers; IS NULL
+//! and IS NOT NULL of a column; and areas.
 //!
 //! A number is an integer, or an integer after a minus. A condition in brackets, after NOT or in OR is left to the
 //! evaluator.

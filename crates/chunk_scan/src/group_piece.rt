@@ -33,8 +33,8 @@ use sky_io::Memory;
 use sql_bound::BoundCol;
 use std::alloc::Global;
 
-/// Returns the piece of the groups of the selected rows. Allocates memory for what the piece keeps, for a few machine
-/// words a key and item, and for each vector that the scratch does not have with enough room.
+/// Returns the piece of the groups of the selected rows. Allocates memory for what the piece keeps, and for a few
+/// machine words a key and item. Allocates each vector that the scratch does not have with enough room.
 pub(crate) fn piece_of_groups<'w>(
     alloc: Global,
     block: &Block,

@@ -1,8 +1,8 @@
 //! The prefetched key column: the values of the first key column, in the order of the rows.
 //!
 //! A key is read once for each run of rows. In the column these rows are anywhere, and much work is done between two
-//! keys, so that each read would be a cache miss that is waited for. A short loop over all rows has many reads in
-//! flight at one time.
+//! keys. So each read would be a cache miss that is waited for. A short loop over all rows has many reads in flight at
+//! one time.
 
 ghost use Rattle.std.specs.Prelude.{◌≡◌, ◌+◌, ◌++◌, ◌<◌, ◌≤◌, [], All, IfOk, IsTrue, None, false, get_or, length, map, vec_capacity, vec_len};
 ghost use Rattle.std.specs.List.{list_all};
@@ -20,8 +20,8 @@ use sql_bound::BoundCol;
 /// The values are listed only if runs have at most this number of rows on average: in longer runs few keys are read.
 const LONG: usize = 8;
 
-/// Returns the values of the first key column on the selected rows, if runs are short, and otherwise an empty list, in
-/// a vector of the scratch. `starts` is true for each row that begins a run.
+/// Returns the values of the first key column on the selected rows if runs are short, and otherwise an empty list. The
+/// list is a vector of the scratch. `starts` is true for each row that begins a run.
 #[tactic(auto, using(crate::proofs::Leads::full_leads, crate::proofs::Leads::none_leads))]
 pub(crate) fn lead(
     block: &Block,

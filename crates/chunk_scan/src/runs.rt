@@ -1,4 +1,4 @@
-//! Where runs begin: rows whose key differs from that of the row before.
+//! Where runs begin among adjacent rows: at each row whose key differs from that of the row before.
 
 ghost use Rattle.std.specs.Prelude.{◌≡◌, ◌+◌, ◌<◌, ◌≤◌, ℕ, All, IfOk, IsTrue, false, get_or, length, map, pos};
 ghost use Rattle.std.specs.List.{list_all};

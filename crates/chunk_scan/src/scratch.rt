@@ -3,8 +3,8 @@
 use column_eval::{Pool, Scratch as Columns};
 use std::alloc::Global;
 
-/// What scans reuse from one chunk and one query to the next. It begins with no vectors. It grows to hold as many
-/// vectors of each kind as a scan used at one time, each with room for the most rows that it was used for.
+/// What scans reuse from one chunk and one query to the next. It begins with no vectors. It comes to hold as many
+/// vectors of each kind as a scan used at one time. Each has room for the most rows that it was used for.
 #[derive(Drop)]
 pub struct Scratch {
     /// The vectors of the evaluator.

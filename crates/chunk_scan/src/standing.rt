@@ -175,8 +175,8 @@ fn keep_true(places: &mut Vec<u32>, mask: &[bool])
     places.truncate(count);
 }
 
-/// Moves the row numbers at the positions at which the mask is true to the beginning, in their order, and returns how
-/// many there are.
+/// Moves the row numbers at the positions at which the mask is true to the beginning, in their order. Returns how many
+/// there are.
 fn to_front(places: &mut [u32], mask: &[bool]) -> usize
     requires { length mask.now ≡ length places.old }
     ensures value { (test : ℕ → Bool) → mask.now ≡ map test places.old

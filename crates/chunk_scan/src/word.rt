@@ -1,7 +1,7 @@
 //! Numbers made of keys, and packed keys: a number followed by a row number.
 //!
-//! Rows with the same key have the same number. Rows with two keys may have the same number, too, so that the end of a
-//! run is found by comparing the values of keys.
+//! Rows with the same key have the same number. Rows with different keys may have the same number too, so that a run
+//! ends where the values of keys differ.
 
 ghost use Rattle.std.specs.Prelude.{◌≡◌, ◌<◌, All, length, map};
 ghost use Rattle.sky_row.specs.Keys.{place_in};

@@ -16,9 +16,9 @@ use sky_io::Memory;
 use sql_bound::BoundExpr;
 use std::alloc::Global;
 
-/// Returns for each of these aggregates the values of its expression on the selected rows, which are `listed` if they
-/// are read run by run. COUNT(*) has none. Allocates memory for a list of them, and for each vector that the scratch
-/// does not have with enough room.
+/// Returns for each of these aggregates the values of its expression on the selected rows. The values are `listed` if
+/// they are read run by run. COUNT(*) has none. Allocates memory for a list of them. Allocates each vector that the
+/// scratch does not have with enough room.
 pub(crate) fn worths<'a>(
     alloc: Global,
     block: &'a Block,

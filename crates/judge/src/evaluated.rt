@@ -43,8 +43,8 @@ fn bound_by(alloc: Global, schema: &Schema, text: &[u8]) -> Option<Bound>
     bound
 }
 
-// Evaluates the condition on the selected rows, and returns whether it is true on the one whose index is the run's
-// number modulo 4,096.
+// Evaluates the condition on the selected rows. Returns whether it is true on the one whose index is the run's number
+// modulo 4,096.
 fn is_true_in(
     block: &Block,
     c: &BoundCond,

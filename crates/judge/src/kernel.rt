@@ -1,7 +1,7 @@
-//! A kernel that is run over the same rows as many times as a line says, so that another program can measure one run as
-//! the difference of two counts.
+//! Kernels that are run many times over the same rows, as often as a line says. So another program can measure one run
+//! as the difference of two measurements.
 //!
-//! The rows are the first 4,096 that the demo draws from the seed 1. Each run starts anew, and a part of its result is
+//! The rows are the first 4,096 that the demo draws from the seed 1. Each run starts anew. A part of its result is
 //! added to the number that is written, so that no run can be left out.
 ghost use Rattle.std.specs.Prelude.{◌≡◌, ◌<◌, ◌^◌, All, IfOk, length};
 

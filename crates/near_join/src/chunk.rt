@@ -41,8 +41,8 @@ struct Joined<'a> {
 }
 
 /// Returns what the chunk query finds over the pairs whose first row is in the chunk. Allocates memory for the piece,
-/// for the sweep window of the chunk's rows and its full overlap, and for that of one subchunk at a time. Allocates
-/// nothing for a single row or pair.
+/// and for the sweep window of the chunk's rows and its full overlap. It also allocates the sweep window of one
+/// subchunk at a time, and nothing for a single row or pair.
 pub fn join<'w>(
     alloc: Global,
     store: &'w Store,

@@ -5,8 +5,9 @@ ghost use Rattle.std.specs.Prelude.{◌≡◌, ◌<◌, ◌≤ℤ◌, ◌^◌, �
 ghost use Rattle.sky_vector.specs.Points.{IsWithin};
 ghost use Rattle.near_join.specs.Windows.{Ascend, IsBetween, IsRoot, IsWindow};
 
-/// Returns the range of positions, up to before the second, of the ascending heights whose squared difference from z is
-/// at most the limit, in squared grid units. Returns (0, 0) if there are none. Does not allocate.
+/// Returns the range of positions of the heights whose squared difference from z is at most the limit, in squared grid
+/// units. The heights ascend. The second position is after the last, and the range is (0, 0) if there are none. Does
+/// not allocate.
 pub fn window(zs: &[i64], z: i64, limit: i64) -> (usize, usize)
     requires ascend { Ascend zs.now }
     requires z_within { IsWithin z }
@@ -37,7 +38,7 @@ pub(crate) fn within(zs: &[i64], z: i64, root: i64) -> (usize, usize)
     between(zs, z - root, z + root)
 }
 
-/// Returns the range of positions of the heights from low to high, and (0, 0) if there are none.
+/// Returns the range of positions of the heights from low to high, or (0, 0) if there are none.
 pub(crate) fn between(zs: &[i64], low: i64, high: i64) -> (usize, usize)
     requires { Ascend zs.now }
     ensures { IsBetween zs.now low high result.0 result.1 }
@@ -55,7 +56,7 @@ pub(crate) fn is_above(zs: &[i32], k: usize, high: i64) -> bool
     i64::from(zs[k]) > high
 }
 
-/// Returns the range of positions of the heights, which have 32 bits, from low to high, and (0, 0) if there are none.
+/// Returns the range of positions of the heights, which have 32 bits, from low to high, or (0, 0) if there are none.
 pub(crate) fn between_narrow(zs: &[i32], low: i64, high: i64) -> (usize, usize)
     requires { Ascend zs.now }
     ensures { IsBetween zs.now low high result.0 result.1 }

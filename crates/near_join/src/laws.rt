@@ -2,8 +2,8 @@
 
 ghost use Rattle.near_join.specs.Laws.{PairsOfSubs, WalkFindsAll};
 
-/// The pairs whose first row is in a chunk are those of its subchunks' rows with the rows of the same subchunk and of
-/// its overlap, each exactly once.
+/// The pairs whose first row is in a chunk are those that its subchunks find, each exactly once. A subchunk finds the
+/// pairs of its rows with its rows and those of its overlap.
 #[tactic(auto, using(crate::proofs::Listing::pairs_of_subs))]
 pub fn pairs_of_subs()
     ensures { PairsOfSubs }

@@ -27,8 +27,8 @@ use sky_plan::Region;
 use sky_row::Rows;
 use sky_vector::{Num, Pos, chord2};
 
-/// Pushes the pairs of those rows of the sweep window that the region holds, with the rows of the sweep window that
-/// they join, into the piece. `values` and `found` are buffers that are reused for each row.
+/// Pushes pairs into the piece: those of the rows that the region holds with the rows that they join, all in the sweep
+/// window. `values` and `found` are buffers that are reused for each row.
 pub(crate) fn push_swept(
     piece: &mut Piece<'_>,
     values: &mut Vec<Option<Num>>,

@@ -48,8 +48,8 @@ fn is_upwards(left: &BoundExpr, op: Cmp, right: &BoundExpr) -> bool
     }
 }
 
-/// Returns true only if the expression is the id of the second row of a pair, or without `second` that of the first,
-/// and nothing else.
+/// Returns true only if the expression is the id of one row of a pair and nothing else: with `second` of the second
+/// row, otherwise of the first.
 pub(crate) fn is_id(e: &BoundExpr, second: bool) -> bool
     ensures { IsTrue result → term_of e.now ≡ Column (id_of second) }
 {

@@ -108,9 +108,9 @@ fn near_numbers(
     Ok(numbers)
 }
 
-/// Writes the positions, from one to before another, of the rows that are near these sides to the beginning of a list,
-/// and returns how many there are. Each position is written, and is overwritten by the next one if its row is not near,
-/// so that there is no branch.
+/// Writes the positions, from one to before another, of the rows that are near these sides to the beginning of a list.
+/// Returns how many there are. Each position is written, and is overwritten by the next one if its row is not near, so
+/// that there is no branch.
 fn put_near(
     strip: &Strip,
     from: usize,

@@ -47,8 +47,8 @@ TakesRow old row new = ⊥
 abbrev pub IsNoneOfFirst : PieceView → Rank → Type 0
 IsNoneOfFirst view rank = (values : List (Option ℤ)) → TakesRow view (out_row rank values) view
 
--- if at least as many rows as the limit are held and none of them comes after a row with this sort key, the answer is
--- true
+-- the answer is true if at least as many rows as the limit are held and none of them comes after a row with this sort
+-- key
 abbrev pub IsToldLate : PieceView → Rank → Bool → Type 0
 IsToldLate (OfRows pushed rows) rank told =
     IfSome pushed (λ n. n ≤ length rows → ComesBeforeNone rank rows → told ≡ true)

@@ -57,8 +57,8 @@ impl Model for Bag {
     ghost invariant = { λ b. IsBag (length b.cells.items) b.kept b.ids.items };
 }
 
-/// Returns the pair with this sort key and these values, if all rows are kept and the pair's ids are all that has to be
-/// stored of it.
+/// Returns the pair with this sort key and these values, if all rows are kept and only the pair's ids have to be
+/// stored.
 #[inline]
 fn ids_alone(kept: &Kept, rank: &Rank, values: &[Option<Num>]) -> Option<IdPair>
     ensures all { IfSome result (λ pair. pushed_in kept.now ≡ None) }

@@ -28,8 +28,8 @@ pub(crate) struct Hints {
     places: Vec<u32>,
 }
 
-/// Returns the hash of a key. If the key is one value from 0 and below 2^29, the hash is the value, so that such keys
-/// are in the cache in their order.
+/// Returns the hash of a key. If the key is one value from 0 and below 2^29, the hash is that value. So such keys are
+/// in the cache in their order.
 fn number(key: &Key) -> u64 {
     let number = match key.lone() {
         Some(value) => value.cast_unsigned(),

@@ -61,9 +61,9 @@ impl<'w> Piece<'w> {
         }
     }
 
-    /// Returns true only if a row with this sort key is none of the first n of a chunk query with LIMIT n, whatever its
-    /// values. Returns true as soon as n rows are held and none of them comes after such a row. Such a row need not be
-    /// pushed, nor its values be computed. Does not allocate.
+    /// Returns true only if a row with this sort key is none of the first n rows of a LIMIT n, whatever its values.
+    /// Returns true as soon as n rows are held and none of them comes after such a row. Such a row need not be pushed,
+    /// nor its values be computed. Does not allocate.
     pub fn is_too_late(&self, rank: &Rank) -> bool
         ensures late { OnTrue result (IsNoneOfFirst self.now rank.now) }
         ensures told { IsToldLate self.now rank.now result }
@@ -90,8 +90,8 @@ impl<'w> Piece<'w> {
         push_group(&mut self.held, key, rows, parts)
     }
 
-    /// Returns the number of rows, which is at most n for a chunk query with LIMIT n, or the number of groups, where
-    /// one key may count more than once. Does not allocate.
+    /// Returns the number of rows, which is at most n for a chunk query with LIMIT n. For groups it returns their
+    /// number, where one key may count more than once. Does not allocate.
     pub fn held(&self) -> usize
         ensures held { IsOfRows self.now → result ≡ size_of self.now }
         ensures most { size_of self.now ≤ result }

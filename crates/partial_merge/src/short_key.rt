@@ -1,5 +1,5 @@
-//! The values of a key as one slice, in which keys are compared (`key`), hashed (`hints`), and read for a line of the
-//! table (`lines`, `merged`).
+//! The values of a key as one slice. So they are compared (`key`), hashed (`hints`), and read for a line of the table
+//! (`lines`, `merged`).
 
 ghost use Rattle.std.specs.Prelude.{◌≡◌, ◌≤◌, min};
 ghost use Rattle.partial_merge.specs.declared.limits.TheConstants.{SHORT_KEY_MOST};
