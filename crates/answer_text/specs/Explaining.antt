@@ -1,4 +1,4 @@
--- The lines that explain a query from one of their parts on, and what an item gives to them.
+-- The lines that explain a query, each from one of its parts on, and what an item adds to them.
 use Rattle.std.specs.Prelude.{ℕ, ◌+◌, List, ◌++◌, length, codes}
 use Rattle.std.specs.Fmt.{decimal}
 use Rattle.sql_bound.specs.declared.expr.BoundAtom.{BoundAtom}
@@ -30,42 +30,42 @@ use Rattle.transcript_rules.specs.Tables.{by_commas}
 abbrev pub kind_text : Item → Bytes
 kind_text i = print_kind i.what
 
--- what an item of a grouped query gives to the chunk query
+-- what an item of a grouped query adds to the chunk query
 abbrev pub parts_of : Item → List Bytes
 parts_of i = part_texts i.what
 
--- what is from the tables on
+-- the rest of the line of the chunk query from the tables on
 abbrev pub from_tables : Query → ChunkQuery → Bytes
 from_tables q cq =
     chunk_tables q.first q.second ++ (print_where q.cond ++ (print_group q.group ++ chunk_limit cq cq.limit))
 
--- what is from the items on
+-- the rest of the line of the chunk query from the items on
 abbrev pub from_items : List Bytes → Query → ChunkQuery → Bytes
 from_items names q cq = by_commas (chunk_texts names q cq.shape) ++ (codes " FROM " ++ from_tables q cq)
 
 -- ---- the merge
 
--- of the given number of merged items, the place where the columns begin that ties are ordered by
+-- for the given number of merged items, the position of the first of the columns that ties are ordered by
 abbrev pub tie_start : ℕ → Shape → ℕ
 tie_start items Rows = items
 tie_start items (Pairs limit) = items
 tie_start items (Groups keys) = 0
 
--- the place where they end
+-- the position after the last of the columns that ties are ordered by
 abbrev pub tie_end : ℕ → Shape → ℕ
 tie_end items Rows = items + 1
 tie_end items (Pairs limit) = items + 2
 tie_end items (Groups keys) = length keys
 
--- what is from the order on
+-- the rest of the line of the merge from the order on
 abbrev pub from_order : MergePlan → Bytes
 from_order m = clause (codes " ORDER BY ") (order_key_texts m m.order ++ tie_names m m.shape) ++ print_limit m.limit
 
--- what follows the pieces
+-- the rest of the line of the merge after the pieces
 abbrev pub from_keys : MergePlan → Bytes
 from_keys m = clause (codes " GROUP BY ") (place_names 0 (length (keys_by m.shape))) ++ from_order m
 
--- what is from the merged items on
+-- the rest of the line of the merge from the merged items on
 abbrev pub from_merged : MergePlan → Bytes
 from_merged m = by_commas (merged_texts m) ++ (codes " FROM pieces" ++ from_keys m)
 
@@ -84,7 +84,7 @@ key_factor_text keys =
 unfoldable pub key_prod_text : List BoundCol → BoundProd → Bytes
 key_prod_text keys = fold-BoundProd Bytes Bytes Bytes Bytes Bytes (key_atom keys) sum_text factor_text product_text signed_text
 
--- a further product of a sum
+-- a product of a sum after the first, with its sign
 unfoldable pub key_signed_text : List BoundCol → BoundSigned → Bytes
 key_signed_text keys =
     fold-BoundSigned Bytes Bytes Bytes Bytes Bytes (key_atom keys) sum_text factor_text product_text signed_text

@@ -1,4 +1,4 @@
-//! The items of a chunk query as they are explained. One function writes one rule of the syntax.
+//! The items of a chunk query in an explain text. One function writes one rule of the syntax.
 ghost use Rattle.std.specs.Prelude.{◌≡◌, ◌∷◌, ◌++◌, Some, codes, map, slice_get};
 ghost use Rattle.sky_io.specs.Sinks.{Wrote};
 ghost use Rattle.sql_rules.specs.PrintedExprs.{behind_each};
@@ -37,7 +37,7 @@ pub(crate) fn put_chunk_items<K: Sink>(
     }
 }
 
-// The items, the ids and the order key.
+// Writes the items, the ids and the order key.
 fn put_row_items<K: Sink>(sink: &mut K, schema: &Schema, head: &Query) -> Put
     ensures { Wrote (K.state sink.old) (K.state sink.new)
         (by_commas (row_texts schema.now head.now))
@@ -49,7 +49,7 @@ fn put_row_items<K: Sink>(sink: &mut K, schema: &Schema, head: &Query) -> Put
     }
 }
 
-// The items without their aliases.
+// Writes the items without their aliases.
 fn put_selected<K: Sink>(sink: &mut K, schema: &Schema, head: &Query) -> Put
     ensures { Wrote (K.state sink.old) (K.state sink.new)
         (by_commas (item_texts schema.now head.now head.now.items)) result }
@@ -60,7 +60,7 @@ fn put_selected<K: Sink>(sink: &mut K, schema: &Schema, head: &Query) -> Put
     }
 }
 
-// One item or more.
+// Writes one item or more.
 fn put_kinds<K: Sink>(sink: &mut K, list: &ItemList) -> Put
     ensures { Wrote (K.state sink.old) (K.state sink.new)
         (by_commas (map kind_text (list.now.first ∷ list.now.rest))) result }
@@ -71,7 +71,7 @@ fn put_kinds<K: Sink>(sink: &mut K, list: &ItemList) -> Put
     }
 }
 
-// The items after the first.
+// Writes the items after the first.
 fn put_further_kinds<K: Sink>(sink: &mut K, rest: &[Item]) -> Put
     ensures { Wrote (K.state sink.old) (K.state sink.new)
         (behind_each (codes ",") (map kind_text rest.now)) result }
@@ -85,7 +85,7 @@ fn put_further_kinds<K: Sink>(sink: &mut K, rest: &[Item]) -> Put
     Put::Done
 }
 
-// An item, and the comma before it.
+// Writes an item, and the comma before it.
 fn put_further_kind<K: Sink>(sink: &mut K, item: &Item) -> Put
     ensures { Wrote (K.state sink.old) (K.state sink.new) (codes "," ++ kind_text item.now) result }
 {
@@ -95,7 +95,7 @@ fn put_further_kind<K: Sink>(sink: &mut K, item: &Item) -> Put
     }
 }
 
-// The ids and the order key, each after a comma.
+// Writes the ids and the order key, each after a comma.
 fn put_ids_and_key<K: Sink>(sink: &mut K, head: &Query) -> Put
     ensures { Wrote (K.state sink.old) (K.state sink.new)
         (behind_each (codes ",") (id_texts head.now.first head.now.second)
@@ -107,7 +107,7 @@ fn put_ids_and_key<K: Sink>(sink: &mut K, head: &Query) -> Put
     }
 }
 
-// The id, or both ids of a pair.
+// Writes the id, or both ids of a pair.
 fn put_ids<K: Sink>(sink: &mut K, first: &TableRef, second: &Option<TableRef>) -> Put
     ensures { Wrote (K.state sink.old) (K.state sink.new)
         (behind_each (codes ",") (id_texts first.now second.now)) result }
@@ -118,7 +118,7 @@ fn put_ids<K: Sink>(sink: &mut K, first: &TableRef, second: &Option<TableRef>) -
     }
 }
 
-// The id of a row of a table, and the comma before it.
+// Writes the id of a row of a table, and the comma before it.
 fn put_further_id<K: Sink>(sink: &mut K, table: &TableRef) -> Put
     ensures { Wrote (K.state sink.old) (K.state sink.new)
         (codes "," ++ dotted (qualifier table.now) (codes ".") (codes "objectId")) result }
@@ -126,7 +126,7 @@ fn put_further_id<K: Sink>(sink: &mut K, table: &TableRef) -> Put
     put_further_column(sink, qualifier(table), b".", b"objectId")
 }
 
-// Both ids of a pair.
+// Writes both ids of a pair.
 fn put_two_ids<K: Sink>(sink: &mut K, first: &TableRef, second: &TableRef) -> Put
     ensures { Wrote (K.state sink.old) (K.state sink.new)
         (behind_each (codes ",") (id_texts first.now (Some second.now))) result }
@@ -137,7 +137,7 @@ fn put_two_ids<K: Sink>(sink: &mut K, first: &TableRef, second: &TableRef) -> Pu
     }
 }
 
-// The order key, if there is one.
+// Writes the order key, if there is one.
 fn put_order_key<K: Sink>(sink: &mut K, head: &Query) -> Put
     ensures { Wrote (K.state sink.old) (K.state sink.new)
         (behind_each (codes ",") (order_texts head.now head.now.order)) result }
@@ -148,7 +148,7 @@ fn put_order_key<K: Sink>(sink: &mut K, head: &Query) -> Put
     }
 }
 
-// An order key, and the comma before it.
+// Writes an order key, and the comma before it.
 fn put_further_key<K: Sink>(sink: &mut K, head: &Query, key: &Col) -> Put
     ensures { Wrote (K.state sink.old) (K.state sink.new)
         (codes "," ++ key_text_by head.now key.now (alias_place head.now key.now)) result }
@@ -159,7 +159,7 @@ fn put_further_key<K: Sink>(sink: &mut K, head: &Query, key: &Col) -> Put
     }
 }
 
-// What an order key is: the item whose alias it is, or a column.
+// Writes an order key: the item whose alias it is, or a column.
 fn put_key<K: Sink>(sink: &mut K, head: &Query, key: &Col) -> Put
     ensures { Wrote (K.state sink.old) (K.state sink.new)
         (key_text_by head.now key.now (alias_place head.now key.now)) result }
@@ -170,7 +170,7 @@ fn put_key<K: Sink>(sink: &mut K, head: &Query, key: &Col) -> Put
     }
 }
 
-// The item at a place.
+// Writes the item at an index.
 fn put_item_at<K: Sink>(sink: &mut K, items: &Selection, place: usize) -> Put
     ensures { Wrote (K.state sink.old) (K.state sink.new)
         (text_of_item (slice_get (items_of items.now) place)) result }
@@ -181,7 +181,7 @@ fn put_item_at<K: Sink>(sink: &mut K, items: &Selection, place: usize) -> Put
     }
 }
 
-// Writes a list of one item or more.
+// Writes the item at an index of a list of one item or more.
 fn put_listed<K: Sink>(sink: &mut K, list: &ItemList, place: usize) -> Put
     ensures { Wrote (K.state sink.old) (K.state sink.new)
         (text_of_item (slice_get (list.now.first ∷ list.now.rest) place)) result }
@@ -193,7 +193,7 @@ fn put_listed<K: Sink>(sink: &mut K, list: &ItemList, place: usize) -> Put
     }
 }
 
-// Writes the items after the first.
+// Writes the item at an index of the items after the first.
 fn put_rest_at<K: Sink>(sink: &mut K, rest: &[Item], place: usize) -> Put
     ensures { Wrote (K.state sink.old) (K.state sink.new)
         (text_of_item (slice_get rest.now place)) result }

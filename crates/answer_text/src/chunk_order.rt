@@ -1,4 +1,4 @@
-//! The order and the LIMIT of a chunk query, as they are explained. One function writes one rule of the syntax.
+//! The order and the LIMIT of a chunk query in an explain text. One function writes one rule of the syntax.
 ghost use Rattle.std.specs.Prelude.{◌≡◌, ◌++◌, ◌+◌, ◌≤◌, ◌^◌, Some, codes, length};
 ghost use Rattle.sky_io.specs.Sinks.{Wrote};
 ghost use Rattle.sql_rules.specs.Printed.{print_limit};
@@ -23,7 +23,7 @@ pub(crate) fn put_chunk_limit<K: Sink>(sink: &mut K, chunk: &ChunkQuery) -> Put
     }
 }
 
-// The order, and the LIMIT after it.
+// Writes the order, and the LIMIT after it.
 fn put_limited<K: Sink>(sink: &mut K, chunk: &ChunkQuery, n: &Int) -> Put
     ensures { Wrote (K.state sink.old) (K.state sink.new)
         (clause (codes " ORDER BY ") (chunk_order_names chunk.now) ++ print_limit (Some n.now)) result }
@@ -34,7 +34,7 @@ fn put_limited<K: Sink>(sink: &mut K, chunk: &ChunkQuery, n: &Int) -> Put
     }
 }
 
-// How many items the chunk query has.
+// Returns the number of items of the chunk query.
 fn item_count(chunk: &ChunkQuery) -> u64
     ensures count { result ≡ length chunk.now.items }
     ensures few { result ≤ 2 ^ 63 }
@@ -42,14 +42,14 @@ fn item_count(chunk: &ChunkQuery) -> u64
     chunk.items.as_slice().len() as u64
 }
 
-// The place after the ids, which is that of the order's key.
+// Returns the position after the ids, which is that of the order key.
 fn id_end(chunk: &ChunkQuery) -> u64
     ensures { result ≡ length chunk.now.items + id_count chunk.now.shape }
 {
     item_count(chunk) + id_count(&chunk.shape)
 }
 
-// ORDER BY: the key where there is one, and then the ids.
+// Writes ORDER BY: the key if there is one, and then the ids.
 fn put_order<K: Sink>(sink: &mut K, chunk: &ChunkQuery) -> Put
     ensures { Wrote (K.state sink.old) (K.state sink.new)
         (clause (codes " ORDER BY ") (chunk_order_names chunk.now)) result }
@@ -60,7 +60,7 @@ fn put_order<K: Sink>(sink: &mut K, chunk: &ChunkQuery) -> Put
     }
 }
 
-// ORDER BY without a key.
+// Writes ORDER BY without a key.
 fn put_id_clause<K: Sink>(sink: &mut K, chunk: &ChunkQuery) -> Put
     ensures { Wrote (K.state sink.old) (K.state sink.new)
         (clause (codes " ORDER BY ") (id_names (length chunk.now.items) chunk.now.shape)) result }
@@ -68,7 +68,7 @@ fn put_id_clause<K: Sink>(sink: &mut K, chunk: &ChunkQuery) -> Put
     put_places_clause(sink, b" ORDER BY ", item_count(chunk), id_end(chunk))
 }
 
-// ORDER BY with a key.
+// Writes ORDER BY with a key.
 fn put_ordered<K: Sink>(sink: &mut K, chunk: &ChunkQuery, order: &ChunkOrder) -> Put
     ensures { Wrote (K.state sink.old) (K.state sink.new)
         (codes " ORDER BY "
@@ -82,7 +82,7 @@ fn put_ordered<K: Sink>(sink: &mut K, chunk: &ChunkQuery, order: &ChunkOrder) ->
     }
 }
 
-// The key with its way, and the ids.
+// Writes the key with its direction, and the ids.
 fn put_key_and_ids<K: Sink>(sink: &mut K, chunk: &ChunkQuery, order: &ChunkOrder) -> Put
     ensures { Wrote (K.state sink.old) (K.state sink.new)
         ((column_name (length chunk.now.items + id_count chunk.now.shape)
@@ -95,7 +95,7 @@ fn put_key_and_ids<K: Sink>(sink: &mut K, chunk: &ChunkQuery, order: &ChunkOrder
     }
 }
 
-// The key, and its way.
+// Writes the key and its direction.
 fn put_key<K: Sink>(sink: &mut K, chunk: &ChunkQuery, order: &ChunkOrder) -> Put
     ensures { Wrote (K.state sink.old) (K.state sink.new)
         (column_name (length chunk.now.items + id_count chunk.now.shape)
@@ -107,7 +107,7 @@ fn put_key<K: Sink>(sink: &mut K, chunk: &ChunkQuery, order: &ChunkOrder) -> Put
     }
 }
 
-// The name of the key's column.
+// Writes the name of the key's column.
 fn put_key_name<K: Sink>(sink: &mut K, chunk: &ChunkQuery) -> Put
     ensures { Wrote (K.state sink.old) (K.state sink.new)
         (column_name (length chunk.now.items + id_count chunk.now.shape)) result }
@@ -115,7 +115,7 @@ fn put_key_name<K: Sink>(sink: &mut K, chunk: &ChunkQuery) -> Put
     put_column_name(sink, id_end(chunk) as u128)
 }
 
-// The ids, each after a comma.
+// Writes the ids, each after a comma.
 fn put_ids<K: Sink>(sink: &mut K, chunk: &ChunkQuery) -> Put
     ensures { Wrote (K.state sink.old) (K.state sink.new)
         (behind_each (codes ",") (id_names (length chunk.now.items) chunk.now.shape)) result }

@@ -1,4 +1,4 @@
-//! The chunk query as it is explained. One function writes one rule of the syntax.
+//! The chunk query in an explain text. One function writes one rule of the syntax.
 ghost use Rattle.std.specs.Prelude.{◌≡◌, ◌++◌, codes};
 ghost use Rattle.sky_io.specs.Sinks.{Wrote};
 ghost use Rattle.sql_rules.specs.Printed.{print_alias, print_group, print_where};
@@ -29,7 +29,7 @@ pub(crate) fn put_chunk_line<K: Sink>(
     }
 }
 
-// The line without its end.
+// Writes the line without its end.
 fn put_chunk_query<K: Sink>(sink: &mut K, schema: &Schema, head: &Query, chunk: &ChunkQuery) -> Put
     ensures { Wrote (K.state sink.old) (K.state sink.new)
         (codes "chunk: SELECT " ++ from_items schema.now head.now chunk.now) result }
@@ -40,7 +40,7 @@ fn put_chunk_query<K: Sink>(sink: &mut K, schema: &Schema, head: &Query, chunk: 
     }
 }
 
-// What is from the items on.
+// Writes the rest of the line from the items on.
 fn put_from_items<K: Sink>(sink: &mut K, schema: &Schema, head: &Query, chunk: &ChunkQuery) -> Put
     ensures { Wrote (K.state sink.old) (K.state sink.new) (from_items schema.now head.now chunk.now)
         result }
@@ -51,7 +51,7 @@ fn put_from_items<K: Sink>(sink: &mut K, schema: &Schema, head: &Query, chunk: &
     }
 }
 
-// What is from FROM on.
+// Writes the rest of the line from FROM on.
 fn put_from<K: Sink>(sink: &mut K, head: &Query, chunk: &ChunkQuery) -> Put
     ensures { Wrote (K.state sink.old) (K.state sink.new)
         (codes " FROM " ++ from_tables head.now chunk.now) result }
@@ -62,7 +62,7 @@ fn put_from<K: Sink>(sink: &mut K, head: &Query, chunk: &ChunkQuery) -> Put
     }
 }
 
-// What is from the tables on.
+// Writes the rest of the line from the tables on.
 fn put_from_tables<K: Sink>(sink: &mut K, head: &Query, chunk: &ChunkQuery) -> Put
     ensures { Wrote (K.state sink.old) (K.state sink.new) (from_tables head.now chunk.now) result }
 {
@@ -72,7 +72,7 @@ fn put_from_tables<K: Sink>(sink: &mut K, head: &Query, chunk: &ChunkQuery) -> P
     }
 }
 
-// WHERE, if there is one, and what follows it.
+// Writes WHERE, if there is one, and the rest of the line.
 fn put_from_where<K: Sink>(sink: &mut K, head: &Query, chunk: &ChunkQuery) -> Put
     ensures { Wrote (K.state sink.old) (K.state sink.new)
         (print_where head.now.cond
@@ -84,7 +84,7 @@ fn put_from_where<K: Sink>(sink: &mut K, head: &Query, chunk: &ChunkQuery) -> Pu
     }
 }
 
-// GROUP BY, if there is one, and the order and the LIMIT.
+// Writes GROUP BY, if there is one, and the order and the LIMIT.
 fn put_from_group<K: Sink>(sink: &mut K, group: &[Col], chunk: &ChunkQuery) -> Put
     ensures { Wrote (K.state sink.old) (K.state sink.new)
         (print_group group.now ++ chunk_limit chunk.now chunk.now.limit) result }
@@ -95,7 +95,7 @@ fn put_from_group<K: Sink>(sink: &mut K, group: &[Col], chunk: &ChunkQuery) -> P
     }
 }
 
-// The chunk, or a subchunk and what is near it.
+// Writes the tables: the chunk, or a subchunk and what is near it.
 fn put_tables<K: Sink>(sink: &mut K, first: &TableRef, second: &Option<TableRef>) -> Put
     ensures { Wrote (K.state sink.old) (K.state sink.new)
         (chunk_tables first.now second.now) result }
@@ -106,7 +106,7 @@ fn put_tables<K: Sink>(sink: &mut K, first: &TableRef, second: &Option<TableRef>
     }
 }
 
-// A subchunk and what is near it, each with its alias.
+// Writes a subchunk and what is near it, each with its alias.
 fn put_sub_tables<K: Sink>(sink: &mut K, first: &Option<Name>, second: &Option<Name>) -> Put
     ensures { Wrote (K.state sink.old) (K.state sink.new)
         (codes "Object_c_s"
@@ -118,7 +118,7 @@ fn put_sub_tables<K: Sink>(sink: &mut K, first: &Option<Name>, second: &Option<N
     }
 }
 
-// The alias of the subchunk, and what is near it.
+// Writes the alias of the subchunk, and what is near it.
 fn put_two_aliases<K: Sink>(sink: &mut K, first: &Option<Name>, second: &Option<Name>) -> Put
     ensures { Wrote (K.state sink.old) (K.state sink.new)
         (print_alias first.now ++ (codes ",Object_c_s_near" ++ print_alias second.now)) result }
@@ -129,7 +129,7 @@ fn put_two_aliases<K: Sink>(sink: &mut K, first: &Option<Name>, second: &Option<
     }
 }
 
-// Words, and an alias after them.
+// Writes words, and an alias after them.
 fn put_led_alias<K: Sink>(sink: &mut K, words: &[u8], alias: &Option<Name>) -> Put
     ensures { Wrote (K.state sink.old) (K.state sink.new)
         (words.now ++ print_alias alias.now) result }

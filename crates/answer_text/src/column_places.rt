@@ -1,4 +1,4 @@
-//! The columns of a chunk query by their places: c1, c2 and so on. One function writes one rule of the syntax.
+//! The columns of a chunk query by their positions: c1, c2 and so on. One function writes one rule of the syntax.
 ghost use Rattle.std.specs.Prelude.{◌≡◌, ◌++◌, ◌+◌, ◌-◌, ◌<◌, ◌≤◌, ◌^◌, codes};
 ghost use Rattle.sky_io.specs.Sinks.{Wrote};
 ghost use Rattle.sql_rules.specs.PrintedExprs.{behind_each};
@@ -8,8 +8,8 @@ use sky_io::{Put, Sink};
 use sky_text::put_natural;
 use sql_bound::Shape;
 
-/// Writes the name of the column at a place, from 0. The places of a merge may be any of a machine word, and an item's
-/// is added to the number of keys.
+/// Writes the name of the column at a position, from 0. The positions in a merge may be any number of a machine word,
+/// and the number of keys is added to that of an item.
 pub(crate) fn put_column_name<K: Sink>(sink: &mut K, place: u128) -> Put
     requires { place < 2 ^ 128 - 1 }
     ensures { Wrote (K.state sink.old) (K.state sink.new) (column_name place) result }
@@ -20,7 +20,7 @@ pub(crate) fn put_column_name<K: Sink>(sink: &mut K, place: u128) -> Put
     }
 }
 
-/// Writes the names of the columns from a place to another, each after a comma.
+/// Writes the names of the columns from one position to before another, each after a comma.
 pub(crate) fn put_places<K: Sink>(sink: &mut K, from: u64, to: u64) -> Put
     requires { from ≤ to }
     ensures { Wrote (K.state sink.old) (K.state sink.new)
@@ -35,7 +35,7 @@ pub(crate) fn put_places<K: Sink>(sink: &mut K, from: u64, to: u64) -> Put
     Put::Done
 }
 
-// The name of a column, and the comma before it.
+// Writes the name of a column, and the comma before it.
 fn put_further_place<K: Sink>(sink: &mut K, place: u64) -> Put
     ensures { Wrote (K.state sink.old) (K.state sink.new) (codes "," ++ column_name place) result }
 {
@@ -45,7 +45,7 @@ fn put_further_place<K: Sink>(sink: &mut K, place: u64) -> Put
     }
 }
 
-/// Writes words, and after them the names of the columns from a place to another, if there are any.
+/// Writes words, and after them the names of the columns from one position to before another, if there are any.
 pub(crate) fn put_places_clause<K: Sink>(sink: &mut K, words: &[u8], from: u64, to: u64) -> Put
     requires { from ≤ to }
     ensures { Wrote (K.state sink.old) (K.state sink.new)
@@ -58,7 +58,7 @@ pub(crate) fn put_places_clause<K: Sink>(sink: &mut K, words: &[u8], from: u64, 
     }
 }
 
-// Words, and after them the names of one column or more.
+// Writes words, and after them the names of one column or more.
 fn put_led_places<K: Sink>(sink: &mut K, words: &[u8], from: u64, to: u64) -> Put
     requires { from < to }
     ensures { Wrote (K.state sink.old) (K.state sink.new)
@@ -72,7 +72,7 @@ fn put_led_places<K: Sink>(sink: &mut K, words: &[u8], from: u64, to: u64) -> Pu
     }
 }
 
-// The names of one column or more.
+// Writes the names of one column or more.
 fn put_some_places<K: Sink>(sink: &mut K, from: u64, to: u64) -> Put
     requires { from < to }
     ensures { Wrote (K.state sink.old) (K.state sink.new)
@@ -85,7 +85,7 @@ fn put_some_places<K: Sink>(sink: &mut K, from: u64, to: u64) -> Put
     }
 }
 
-/// How many ids follow the items of a chunk query.
+/// Returns how many ids follow the items of a chunk query.
 pub(crate) fn id_count(shape: &Shape) -> u64
     ensures count { result ≡ id_count shape.now }
     ensures few { result ≤ 2 }

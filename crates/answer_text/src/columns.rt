@@ -13,7 +13,7 @@ use sky_io::{Put, Sink};
 use sky_row::Schema;
 use sql_tree::TableRef;
 
-// Two pieces.
+// Writes two texts.
 fn put_two<K: Sink>(sink: &mut K, first: &[u8], second: &[u8]) -> Put
     ensures { Wrote (K.state sink.old) (K.state sink.new) (first.now ++ second.now) result }
 {
@@ -23,7 +23,7 @@ fn put_two<K: Sink>(sink: &mut K, first: &[u8], second: &[u8]) -> Put
     }
 }
 
-// A name after its qualifier and a dot, both of which may be empty.
+// Writes a name after its qualifier and a dot, both of which may be empty.
 fn put_dotted<K: Sink>(sink: &mut K, side: &[u8], dot: &[u8], name: &[u8]) -> Put
     ensures { Wrote (K.state sink.old) (K.state sink.new)
         (dotted side.now dot.now name.now) result }
@@ -45,7 +45,7 @@ pub(crate) fn put_further_column<K: Sink>(sink: &mut K, side: &[u8], dot: &[u8],
     }
 }
 
-// The columns from a place on, each after a comma.
+// Writes the columns from a position on, each after a comma.
 fn put_columns_from<K: Sink>(
     sink: &mut K,
     schema: &Schema,
@@ -66,7 +66,7 @@ fn put_columns_from<K: Sink>(
     Put::Done
 }
 
-// All columns, with commas between them.
+// Writes all columns, with commas between them.
 fn put_columns<K: Sink>(sink: &mut K, schema: &Schema, side: &[u8], dot: &[u8]) -> Put
     ensures { Wrote (K.state sink.old) (K.state sink.new)
         (by_commas (columns_from side.now dot.now schema.now 0)) result }
@@ -77,7 +77,7 @@ fn put_columns<K: Sink>(sink: &mut K, schema: &Schema, side: &[u8], dot: &[u8]) 
     }
 }
 
-// All columns of a table, qualified.
+// Writes all columns of a table, qualified.
 fn put_qualified<K: Sink>(sink: &mut K, schema: &Schema, table: &TableRef) -> Put
     ensures { Wrote (K.state sink.old) (K.state sink.new)
         (by_commas (columns_from (qualifier table.now) (codes ".") schema.now 0)) result }
@@ -85,7 +85,7 @@ fn put_qualified<K: Sink>(sink: &mut K, schema: &Schema, table: &TableRef) -> Pu
     put_columns(sink, schema, qualifier(table), b".")
 }
 
-// Writes these columns, each after a comma.
+// Writes all columns of a table, qualified, each after a comma.
 fn put_further_qualified<K: Sink>(sink: &mut K, schema: &Schema, table: &TableRef) -> Put
     ensures { Wrote (K.state sink.old) (K.state sink.new)
         (behind_each (codes ",") (columns_from (qualifier table.now) (codes ".") schema.now 0))
@@ -94,7 +94,7 @@ fn put_further_qualified<K: Sink>(sink: &mut K, schema: &Schema, table: &TableRe
     put_columns_from(sink, schema, qualifier(table), b".", 0)
 }
 
-// The columns of both tables of a join.
+// Writes the columns of both tables of a join.
 fn put_both<K: Sink>(sink: &mut K, schema: &Schema, first: &TableRef, second: &TableRef) -> Put
     ensures { Wrote (K.state sink.old) (K.state sink.new)
         (by_commas (star_columns schema.now first.now (Some second.now))) result }

@@ -18,7 +18,7 @@ pub fn put_cancelled<K: Sink>(sink: &mut K, number: u32) -> Put
     }
 }
 
-/// Writes the block of query `number`, for whose answer there was no memory. Takes none itself.
+/// Writes the block of query `number`, whose answer was lost because an allocation failed. Does not allocate itself.
 pub fn put_spent<K: Sink>(sink: &mut K, number: u32) -> Put
     ensures { Wrote (K.state sink.old) (K.state sink.new)
         (number_line number ++ line (codes "out of memory")) result }

@@ -17,7 +17,7 @@ use sky_io::{Put, Sink};
 use sky_row::Schema;
 use sql_tree::Query;
 
-/// What explains a query: its tree, the columns, what it is cut into, and the chunks of its plan.
+/// What explains a query: its tree, the columns, what it is rewritten into, and the chunks of its plan.
 #[derive(Drop)]
 pub struct Explained<'a> {
     pub head: &'a Query,
@@ -39,7 +39,7 @@ pub fn put_explain<K: Sink>(sink: &mut K, number: u32, what: &Explained<'_>) -> 
     }
 }
 
-// The three lines of a query.
+// Writes the three lines of a query.
 fn put_plan<K: Sink>(
     sink: &mut K,
     schema: &Schema,
@@ -57,7 +57,7 @@ fn put_plan<K: Sink>(
     }
 }
 
-// The line of the merge, and that of the chunks.
+// Writes the line of the merge, and that of the chunks.
 fn put_merge_and_chunks<K: Sink>(sink: &mut K, query: &Rewritten, chunks: &ChunkSet) -> Put
     ensures { Wrote (K.state sink.old) (K.state sink.new)
         (merge_line query.now.merge ++ chunks_line chunks.now) result }
@@ -68,7 +68,7 @@ fn put_merge_and_chunks<K: Sink>(sink: &mut K, query: &Rewritten, chunks: &Chunk
     }
 }
 
-// The line of the chunks.
+// Writes the line of the chunks.
 fn put_chunks_line<K: Sink>(sink: &mut K, chunks: &ChunkSet) -> Put
     ensures { Wrote (K.state sink.old) (K.state sink.new) (chunks_line chunks.now) result }
 {
@@ -78,7 +78,7 @@ fn put_chunks_line<K: Sink>(sink: &mut K, chunks: &ChunkSet) -> Put
     }
 }
 
-// The line without its end.
+// Writes the line without its end.
 fn put_chunks<K: Sink>(sink: &mut K, chunks: &ChunkSet) -> Put
     ensures { Wrote (K.state sink.old) (K.state sink.new)
         (codes "chunks:" ++ flat_map spaced_number chunks.now) result }
@@ -89,7 +89,7 @@ fn put_chunks<K: Sink>(sink: &mut K, chunks: &ChunkSet) -> Put
     }
 }
 
-// The chunks, each after a space.
+// Writes the chunks, each after a space.
 fn put_each_chunk<K: Sink>(sink: &mut K, chunks: &[u32]) -> Put
     ensures { Wrote (K.state sink.old) (K.state sink.new)
         (flat_map spaced_number chunks.now) result }
@@ -103,7 +103,7 @@ fn put_each_chunk<K: Sink>(sink: &mut K, chunks: &[u32]) -> Put
     Put::Done
 }
 
-// A chunk after a space.
+// Writes a chunk after a space.
 fn put_spaced<K: Sink>(sink: &mut K, chunk: &u32) -> Put
     ensures { Wrote (K.state sink.old) (K.state sink.new) (spaced_number chunk.now) result }
 {

@@ -1,4 +1,4 @@
-//! What a grouped query gives to its chunk query, as it is explained. One function writes one rule of the syntax.
+//! What a grouped query adds to its chunk query, in an explain text. One function writes one rule of the syntax.
 ghost use Rattle.std.specs.Prelude.{◌≡◌, [], ◌∷◌, ◌++◌, ◌||◌, codes, map};
 ghost use Rattle.std.specs.List.{flat_map};
 ghost use Rattle.sky_io.specs.Sinks.{Wrote};
@@ -14,7 +14,7 @@ use sky_io::{Put, Sink};
 use sql_print::{put_call, put_cols, put_if, put_kind};
 use sql_tree::{Col, Expr, Item, ItemKind, ItemList, Query, Selection};
 
-/// Writes the keys, and what each item gives.
+/// Writes the keys, and what each item adds.
 pub(crate) fn put_group_items<K: Sink>(sink: &mut K, head: &Query) -> Put
     ensures { Wrote (K.state sink.old) (K.state sink.new)
         (by_commas (group_texts head.now)) result }
@@ -25,7 +25,7 @@ pub(crate) fn put_group_items<K: Sink>(sink: &mut K, head: &Query) -> Put
     }
 }
 
-// One key or more, and what each item gives.
+// Writes one key or more, and what each item adds.
 fn put_keys_and_parts<K: Sink>(sink: &mut K, first: &Col, rest: &[Col], items: &Selection) -> Put
     ensures { Wrote (K.state sink.old) (K.state sink.new)
         (by_commas (map print_col (first.now ∷ rest.now) ++ flat_map parts_of (items_of items.now)))
@@ -37,7 +37,7 @@ fn put_keys_and_parts<K: Sink>(sink: &mut K, first: &Col, rest: &[Col], items: &
     }
 }
 
-// What each item gives; `begun` is whether others have gone before.
+// Writes what each item adds. `begun` is whether others precede it.
 fn put_parts<K: Sink>(sink: &mut K, begun: bool, items: &Selection) -> Put
     ensures { Wrote (K.state sink.old) (K.state sink.new)
         (parted begun (flat_map parts_of (items_of items.now))) result }
@@ -48,7 +48,7 @@ fn put_parts<K: Sink>(sink: &mut K, begun: bool, items: &Selection) -> Put
     }
 }
 
-// Writes a list of one item or more.
+// Writes what each item of a list of one item or more adds.
 fn put_list_parts<K: Sink>(sink: &mut K, begun: bool, list: &ItemList) -> Put
     ensures { Wrote (K.state sink.old) (K.state sink.new)
         (parted begun (flat_map parts_of (list.now.first ∷ list.now.rest))) result }
@@ -61,7 +61,7 @@ fn put_list_parts<K: Sink>(sink: &mut K, begun: bool, list: &ItemList) -> Put
     }
 }
 
-// What each of the further items gives.
+// Writes what each of the items after the first adds.
 fn put_further_parts<K: Sink>(sink: &mut K, begun: bool, rest: &[Item]) -> Put
     ensures { Wrote (K.state sink.old) (K.state sink.new)
         (parted begun (flat_map parts_of rest.now)) result }
@@ -77,7 +77,7 @@ fn put_further_parts<K: Sink>(sink: &mut K, begun: bool, rest: &[Item]) -> Put
     Put::Done
 }
 
-// Whether an item gives anything.
+// Returns whether an item adds anything.
 fn gives(what: &ItemKind) -> bool
     ensures { result ≡ has_any (part_texts what.now) }
 {
@@ -92,14 +92,14 @@ fn gives(what: &ItemKind) -> bool
     }
 }
 
-// Whether others have gone before what follows an item.
+// Returns whether others precede what follows an item.
 fn goes_on(begun: bool, what: &ItemKind) -> bool
     ensures { result ≡ (begun || has_any (part_texts what.now)) }
 {
     begun || gives(what)
 }
 
-// What an item gives.
+// Writes what an item adds.
 fn put_part<K: Sink>(sink: &mut K, begun: bool, what: &ItemKind) -> Put
     ensures { Wrote (K.state sink.old) (K.state sink.new)
         (parted begun (part_texts what.now)) result }
@@ -115,7 +115,7 @@ fn put_part<K: Sink>(sink: &mut K, begun: bool, what: &ItemKind) -> Put
     }
 }
 
-// An aggregate that gives itself, and the comma before it.
+// Writes an aggregate that adds itself, after a comma if others precede it.
 fn put_itself<K: Sink>(sink: &mut K, begun: bool, what: &ItemKind) -> Put
     ensures { Wrote (K.state sink.old) (K.state sink.new)
         (parted begun (print_kind what.now ∷ [])) result }
@@ -126,7 +126,7 @@ fn put_itself<K: Sink>(sink: &mut K, begun: bool, what: &ItemKind) -> Put
     }
 }
 
-// An average: a total and a count.
+// Writes what an average adds: a total and a count.
 fn put_average<K: Sink>(sink: &mut K, begun: bool, e: &Expr) -> Put
     ensures { Wrote (K.state sink.old) (K.state sink.new)
         (parted begun ((codes "SUM" ++ in_brackets (print_expr e.now))
@@ -138,7 +138,7 @@ fn put_average<K: Sink>(sink: &mut K, begun: bool, e: &Expr) -> Put
     }
 }
 
-// A total, and the comma before it.
+// Writes a total, after a comma if others precede it.
 fn put_total<K: Sink>(sink: &mut K, begun: bool, e: &Expr) -> Put
     ensures { Wrote (K.state sink.old) (K.state sink.new)
         (text_if begun (codes ",") ++ (codes "SUM" ++ in_brackets (print_expr e.now))) result }
@@ -149,7 +149,7 @@ fn put_total<K: Sink>(sink: &mut K, begun: bool, e: &Expr) -> Put
     }
 }
 
-// A count, and the comma before it.
+// Writes a count, and the comma before it.
 fn put_further_count<K: Sink>(sink: &mut K, e: &Expr) -> Put
     ensures { Wrote (K.state sink.old) (K.state sink.new)
         (codes "," ++ (codes "COUNT" ++ in_brackets (print_expr e.now))) result }

@@ -1,4 +1,5 @@
-//! Plain items of a grouped query as the merge has them: each column is that of its key. One function writes one rule.
+//! Plain items of a grouped query, as the merge has them: each column is that of its key. One function writes one rule
+//! of the syntax.
 ghost use Rattle.std.specs.Prelude.{◌≡◌, ◌++◌, ◌+◌, ◌-◌, ◌<◌, ◌≤◌, ◌^◌, [], codes, if◌then◌else◌, length, map};
 ghost use Rattle.std.specs.List.{position};
 ghost use Rattle.sky_io.specs.Sinks.{Wrote};
@@ -14,21 +15,21 @@ use sky_io::{Put, Sink};
 use sql_bound::{BoundAtom, BoundCol, BoundExpr, BoundFactor, BoundProd, BoundSigned};
 use sql_print::{put_if, put_size};
 
-// Whether the two are one column.
+// Returns whether the two are the same column.
 fn is_same(a: BoundCol, b: BoundCol) -> bool
     ensures { result ≡ same_col a b }
 {
     a.second == b.second && a.col == b.col
 }
 
-// The place of the first key that is this column, if one is.
+// Returns the position of the first key that is this column, if there is one.
 fn position_of(keys: &[BoundCol], col: BoundCol) -> Option<usize>
     ensures { result ≡ position (λ k. same_col k col) keys.now }
 {
     keys.iter().position(|key| is_same(*key, col))
 }
 
-// The place of the first key that is this column; the number of keys if none is.
+// Returns the position of the first key that is this column, or the number of keys if there is none.
 #[tactic(auto, using(crate::proofs::KeyPlaces::place_within))]
 fn key_place(keys: &[BoundCol], col: BoundCol) -> usize
     ensures place { result ≡ key_place keys.now col }
@@ -40,7 +41,7 @@ fn key_place(keys: &[BoundCol], col: BoundCol) -> usize
     }
 }
 
-// The column of a key.
+// Writes the column of a key.
 fn put_key_column<K: Sink>(sink: &mut K, keys: &[BoundCol], col: BoundCol) -> Put
     ensures { Wrote (K.state sink.old) (K.state sink.new) (column_name (key_place keys.now col))
         result }
@@ -59,7 +60,7 @@ pub(crate) fn put_key_expr<K: Sink>(sink: &mut K, keys: &[BoundCol], e: &BoundEx
     }
 }
 
-// The further products of a sum.
+// Writes the products of a sum after the first.
 #[cycle(put)]
 fn put_signeds<K: Sink>(sink: &mut K, keys: &[BoundCol], rest: &[BoundSigned]) -> Put
     ensures { Wrote (K.state sink.old) (K.state sink.new)
@@ -74,7 +75,7 @@ fn put_signeds<K: Sink>(sink: &mut K, keys: &[BoundCol], rest: &[BoundSigned]) -
     Put::Done
 }
 
-// A further product of a sum.
+// Writes a product of a sum after the first, and its sign before it.
 #[cycle(put)]
 fn put_signed<K: Sink>(sink: &mut K, keys: &[BoundCol], signed: &BoundSigned) -> Put
     ensures { Wrote (K.state sink.old) (K.state sink.new) (key_signed_text keys.now signed.now)
@@ -86,7 +87,7 @@ fn put_signed<K: Sink>(sink: &mut K, keys: &[BoundCol], signed: &BoundSigned) ->
     }
 }
 
-// The sign of a further product.
+// Writes the sign of a product after the first.
 fn put_plus_or_minus<K: Sink>(sink: &mut K, minus: bool) -> Put
     ensures { Wrote (K.state sink.old) (K.state sink.new)
         (if minus then codes "-" else codes "+") result }
@@ -98,7 +99,7 @@ fn put_plus_or_minus<K: Sink>(sink: &mut K, minus: bool) -> Put
     }
 }
 
-// A product.
+// Writes a product.
 #[cycle(put)]
 fn put_prod<K: Sink>(sink: &mut K, keys: &[BoundCol], prod: &BoundProd) -> Put
     ensures { Wrote (K.state sink.old) (K.state sink.new) (key_prod_text keys.now prod.now) result }
@@ -109,7 +110,7 @@ fn put_prod<K: Sink>(sink: &mut K, keys: &[BoundCol], prod: &BoundProd) -> Put
     }
 }
 
-// The further factors of a product.
+// Writes the factors of a product after the first.
 #[cycle(put)]
 fn put_factors<K: Sink>(sink: &mut K, keys: &[BoundCol], rest: &[BoundFactor]) -> Put
     ensures { Wrote (K.state sink.old) (K.state sink.new)
@@ -124,7 +125,7 @@ fn put_factors<K: Sink>(sink: &mut K, keys: &[BoundCol], rest: &[BoundFactor]) -
     Put::Done
 }
 
-// A further factor, and the star before it.
+// Writes a factor, and the star before it.
 #[cycle(put)]
 fn put_times<K: Sink>(sink: &mut K, keys: &[BoundCol], factor: &BoundFactor) -> Put
     ensures { Wrote (K.state sink.old) (K.state sink.new)
@@ -136,7 +137,7 @@ fn put_times<K: Sink>(sink: &mut K, keys: &[BoundCol], factor: &BoundFactor) -> 
     }
 }
 
-// A factor.
+// Writes a factor.
 #[cycle(put)]
 fn put_factor<K: Sink>(sink: &mut K, keys: &[BoundCol], factor: &BoundFactor) -> Put
     ensures { Wrote (K.state sink.old) (K.state sink.new) (key_factor_text keys.now factor.now)
@@ -148,7 +149,7 @@ fn put_factor<K: Sink>(sink: &mut K, keys: &[BoundCol], factor: &BoundFactor) ->
     }
 }
 
-// An atom.
+// Writes an atom.
 #[cycle(put)]
 fn put_atom<K: Sink>(sink: &mut K, keys: &[BoundCol], atom: &BoundAtom) -> Put
     ensures { Wrote (K.state sink.old) (K.state sink.new) (key_atom_text keys.now atom.now) result }
@@ -160,7 +161,7 @@ fn put_atom<K: Sink>(sink: &mut K, keys: &[BoundCol], atom: &BoundAtom) -> Put
     }
 }
 
-// An expression in brackets.
+// Writes an expression in brackets.
 #[cycle(put)]
 fn put_bracket<K: Sink>(sink: &mut K, keys: &[BoundCol], e: &BoundExpr) -> Put
     ensures { Wrote (K.state sink.old) (K.state sink.new)
@@ -172,7 +173,7 @@ fn put_bracket<K: Sink>(sink: &mut K, keys: &[BoundCol], e: &BoundExpr) -> Put
     }
 }
 
-// An expression, and the closing bracket.
+// Writes an expression, and the closing bracket.
 #[cycle(put)]
 fn put_closed<K: Sink>(sink: &mut K, keys: &[BoundCol], e: &BoundExpr) -> Put
     ensures { Wrote (K.state sink.old) (K.state sink.new)

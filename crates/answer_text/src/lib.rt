@@ -1,10 +1,11 @@
 //! The texts that the program writes: the load report, and the blocks of queries in a transcript and in an explain
 //! text.
 //!
-//! Callers see what a call writes as its text, appended to the sink: the report's in `specs/Report.antt`, the others'
-//! in `transcript_rules`. Below: `transcript_rules` for the texts, `sql_print` for parts of queries, `partial_merge`
-//! for the table of an answer, `chunk_store` for the rows of each chunk, `sky_text` for numbers, `sky_io` for the sink.
-//! Above: the czar and the top call. Nothing is computed here but lengths and places, and nothing is allocated.
+//! Callers see what a call writes as its text, appended to the sink. `specs/Report.antt` defines the text of the
+//! report, and `transcript_rules` the others. Below: `transcript_rules` for the texts, `sql_print` for parts of
+//! queries, `partial_merge` for the table of an answer, `chunk_store` for the rows of each chunk, `sky_text` for
+//! numbers, `sky_io` for the sink. Above: the czar and the top call. This crate computes nothing but lengths and
+//! positions, and allocates nothing.
 #![tactic(auto)]
 
 mod chunk_items;

@@ -1,4 +1,4 @@
-//! What the merge groups and orders by, as it is explained. One function writes one rule of the syntax.
+//! What the merge groups and orders by, in an explain text. One function writes one rule of the syntax.
 ghost use Rattle.std.specs.Prelude.{◌≡◌, [], ◌++◌, ◌+◌, ◌≤◌, ◌^◌, codes, length, map, slice_get, unwrap_or};
 ghost use Rattle.sky_io.specs.Sinks.{Wrote};
 ghost use Rattle.sql_rules.specs.PrintedExprs.{behind_each, text_if};
@@ -23,7 +23,7 @@ pub(crate) fn put_group_by<K: Sink>(sink: &mut K, merge: &MergePlan) -> Put
     put_places_clause(sink, b" GROUP BY ", 0, keys_by(&merge.shape).len() as u64)
 }
 
-// How many merged items there are.
+// Returns the number of merged items.
 fn item_count(merge: &MergePlan) -> u64
     ensures count { result ≡ length merge.now.items }
     ensures few { result ≤ 2 ^ 63 }
@@ -31,14 +31,14 @@ fn item_count(merge: &MergePlan) -> u64
     merge.items.as_slice().len() as u64
 }
 
-// The place after the ids, which is that of the chunk query's order key.
+// Returns the position after the ids, which is that of the chunk query's order key.
 fn behind_ids(merge: &MergePlan) -> u64
     ensures { result ≡ length merge.now.items + id_count merge.now.shape }
 {
     item_count(merge) + id_count(&merge.shape)
 }
 
-// Where the columns begin that ties are ordered by.
+// Returns the position of the first of the columns that ties are ordered by.
 fn tie_start(merge: &MergePlan) -> u64
     ensures { result ≡ tie_start (length merge.now.items) merge.now.shape }
 {
@@ -49,7 +49,7 @@ fn tie_start(merge: &MergePlan) -> u64
     }
 }
 
-// Where they end.
+// Returns the position after the last of the columns that ties are ordered by.
 fn tie_end(merge: &MergePlan) -> u64
     ensures { result ≡ tie_end (length merge.now.items) merge.now.shape }
 {
@@ -60,7 +60,7 @@ fn tie_end(merge: &MergePlan) -> u64
     }
 }
 
-/// Writes ORDER BY, where anything is ordered by.
+/// Writes ORDER BY, if anything is ordered by.
 pub(crate) fn put_order<K: Sink>(sink: &mut K, merge: &MergePlan) -> Put
     ensures { Wrote (K.state sink.old) (K.state sink.new)
         (clause (codes " ORDER BY ")
@@ -72,7 +72,7 @@ pub(crate) fn put_order<K: Sink>(sink: &mut K, merge: &MergePlan) -> Put
     }
 }
 
-// ORDER BY without a key.
+// Writes ORDER BY without a key.
 fn put_tie_clause<K: Sink>(sink: &mut K, merge: &MergePlan) -> Put
     ensures { Wrote (K.state sink.old) (K.state sink.new)
         (clause (codes " ORDER BY ") (tie_names merge.now merge.now.shape)) result }
@@ -80,7 +80,7 @@ fn put_tie_clause<K: Sink>(sink: &mut K, merge: &MergePlan) -> Put
     put_places_clause(sink, b" ORDER BY ", tie_start(merge), tie_end(merge))
 }
 
-// ORDER BY with a key.
+// Writes ORDER BY with a key.
 fn put_ordered<K: Sink>(sink: &mut K, merge: &MergePlan, order: &MergeOrder) -> Put
     ensures { Wrote (K.state sink.old) (K.state sink.new)
         (codes " ORDER BY "
@@ -93,7 +93,7 @@ fn put_ordered<K: Sink>(sink: &mut K, merge: &MergePlan, order: &MergeOrder) -> 
     }
 }
 
-// The key with its way, and the columns that ties are ordered by.
+// Writes the key with its direction, and the columns that ties are ordered by.
 fn put_key_and_ties<K: Sink>(sink: &mut K, merge: &MergePlan, order: &MergeOrder) -> Put
     ensures { Wrote (K.state sink.old) (K.state sink.new)
         ((order_key_text merge.now order.now.key ++ text_if order.now.down (codes " DESC"))
@@ -105,7 +105,7 @@ fn put_key_and_ties<K: Sink>(sink: &mut K, merge: &MergePlan, order: &MergeOrder
     }
 }
 
-// The key, and its way.
+// Writes the key and its direction.
 fn put_key_and_way<K: Sink>(sink: &mut K, merge: &MergePlan, order: &MergeOrder) -> Put
     ensures { Wrote (K.state sink.old) (K.state sink.new)
         (order_key_text merge.now order.now.key ++ text_if order.now.down (codes " DESC")) result }
@@ -116,7 +116,7 @@ fn put_key_and_way<K: Sink>(sink: &mut K, merge: &MergePlan, order: &MergeOrder)
     }
 }
 
-// The columns that ties are ordered by, each after a comma.
+// Writes the columns that ties are ordered by, each after a comma.
 fn put_ties<K: Sink>(sink: &mut K, merge: &MergePlan) -> Put
     ensures { Wrote (K.state sink.old) (K.state sink.new)
         (behind_each (codes ",") (tie_names merge.now merge.now.shape)) result }
@@ -124,7 +124,7 @@ fn put_ties<K: Sink>(sink: &mut K, merge: &MergePlan) -> Put
     put_places(sink, tie_start(merge), tie_end(merge))
 }
 
-// The key: the column after the ids, a merged item, or the column of a grouped query's key.
+// Writes the key: the column after the ids, a merged item, or the column of a grouped query's key.
 fn put_key<K: Sink>(sink: &mut K, merge: &MergePlan, key: &MergeKey) -> Put
     ensures { Wrote (K.state sink.old) (K.state sink.new)
         (order_key_text merge.now key.now) result }
@@ -136,7 +136,7 @@ fn put_key<K: Sink>(sink: &mut K, merge: &MergePlan, key: &MergeKey) -> Put
     }
 }
 
-// The merged item at a place.
+// Writes the merged item at an index.
 fn put_merged_at<K: Sink>(sink: &mut K, merge: &MergePlan, place: usize) -> Put
     ensures { Wrote (K.state sink.old) (K.state sink.new)
         (unwrap_or (slice_get (merged_texts merge.now) place) []) result }
@@ -144,7 +144,7 @@ fn put_merged_at<K: Sink>(sink: &mut K, merge: &MergePlan, place: usize) -> Put
     put_listed(sink, keys_by(&merge.shape), merge.items.as_slice(), place)
 }
 
-// Writes the merged item at a place of these items, over these keys.
+// Writes the merged item at an index of these items, over these keys.
 fn put_listed<K: Sink>(sink: &mut K, keys: &[BoundCol], items: &[MergeItem], place: usize) -> Put
     ensures { Wrote (K.state sink.old) (K.state sink.new)
         (unwrap_or (slice_get (map (merged_over keys.now) items.now) place) []) result }

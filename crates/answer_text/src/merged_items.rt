@@ -1,4 +1,4 @@
-//! Merged items as they are explained. One function writes one rule of the syntax.
+//! Merged items in an explain text. One function writes one rule of the syntax.
 ghost use Rattle.std.specs.Prelude.{◌≡◌, ◌++◌, ◌+◌, ◌-◌, ◌<◌, ◌^◌, codes, length, map};
 ghost use Rattle.sky_io.specs.Sinks.{Wrote};
 ghost use Rattle.sql_rules.specs.PrintedExprs.{behind_each, in_brackets};
@@ -13,7 +13,7 @@ use answer_rules::MergeItem;
 use sky_io::{Put, Sink};
 use sql_bound::{BoundCol, Shape};
 
-/// The keys of a grouped query.
+/// Returns the keys of a grouped query.
 pub(crate) fn keys_by(shape: &Shape) -> &[BoundCol]
     ensures { result.now ≡ keys_by shape.now }
 {
@@ -35,7 +35,7 @@ pub(crate) fn put_merged_items<K: Sink>(sink: &mut K, keys: &[BoundCol], items: 
     }
 }
 
-// One merged item or more.
+// Writes one merged item or more.
 fn put_some_merged<K: Sink>(
     sink: &mut K,
     keys: &[BoundCol],
@@ -52,7 +52,7 @@ fn put_some_merged<K: Sink>(
     }
 }
 
-// The merged items after the first.
+// Writes the merged items after the first.
 fn put_further_merged<K: Sink>(sink: &mut K, keys: &[BoundCol], rest: &[MergeItem]) -> Put
     ensures { Wrote (K.state sink.old) (K.state sink.new)
         (behind_each (codes ",") (map (merged_over keys.now) rest.now)) result }
@@ -66,7 +66,7 @@ fn put_further_merged<K: Sink>(sink: &mut K, keys: &[BoundCol], rest: &[MergeIte
     Put::Done
 }
 
-// A merged item, and the comma before it.
+// Writes a merged item, and the comma before it.
 fn put_comma_merged<K: Sink>(sink: &mut K, keys: &[BoundCol], item: &MergeItem) -> Put
     ensures { Wrote (K.state sink.old) (K.state sink.new)
         (codes "," ++ merged_over keys.now item.now) result }
@@ -92,7 +92,7 @@ pub(crate) fn put_merged<K: Sink>(sink: &mut K, keys: &[BoundCol], item: &MergeI
     }
 }
 
-// A word, and in brackets the column of an item of the chunk query, which follows the keys.
+// Writes a word, and in brackets the column of an item of the chunk query, which follows the keys.
 fn put_call<K: Sink>(sink: &mut K, word: &[u8], keys: &[BoundCol], n: usize) -> Put
     ensures { Wrote (K.state sink.old) (K.state sink.new)
         (call word.now (length keys.now + n)) result }
@@ -103,7 +103,7 @@ fn put_call<K: Sink>(sink: &mut K, word: &[u8], keys: &[BoundCol], n: usize) -> 
     }
 }
 
-// A column in brackets.
+// Writes a column in brackets.
 fn put_bracket<K: Sink>(sink: &mut K, place: u128) -> Put
     requires { place < 2 ^ 128 - 1 }
     ensures { Wrote (K.state sink.old) (K.state sink.new) (in_brackets (column_name place)) result }
@@ -114,7 +114,7 @@ fn put_bracket<K: Sink>(sink: &mut K, place: u128) -> Put
     }
 }
 
-// A column, and the closing bracket.
+// Writes a column, and the closing bracket.
 fn put_closed<K: Sink>(sink: &mut K, place: u128) -> Put
     requires { place < 2 ^ 128 - 1 }
     ensures { Wrote (K.state sink.old) (K.state sink.new) (column_name place ++ codes ")") result }
@@ -125,7 +125,7 @@ fn put_closed<K: Sink>(sink: &mut K, place: u128) -> Put
     }
 }
 
-// A total divided by a count.
+// Writes a total divided by a count.
 fn put_quotient<K: Sink>(sink: &mut K, keys: &[BoundCol], sum: usize, count: usize) -> Put
     ensures { Wrote (K.state sink.old) (K.state sink.new)
         (call (codes "SUM") (length keys.now + sum)
@@ -137,7 +137,7 @@ fn put_quotient<K: Sink>(sink: &mut K, keys: &[BoundCol], sum: usize, count: usi
     }
 }
 
-// The count that a total is divided by.
+// Writes the count that a total is divided by.
 fn put_divisor<K: Sink>(sink: &mut K, keys: &[BoundCol], count: usize) -> Put
     ensures { Wrote (K.state sink.old) (K.state sink.new)
         (codes "/" ++ call (codes "SUM") (length keys.now + count)) result }

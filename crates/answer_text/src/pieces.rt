@@ -1,4 +1,4 @@
-//! Small pieces of texts: numbers with words before or after them, and the line that numbers a block.
+//! Small parts of texts: numbers with words before or after them, and the line that numbers a block.
 ghost use Rattle.std.specs.Prelude.{◌≡◌, ◌++◌, codes};
 ghost use Rattle.std.specs.Fmt.{decimal};
 ghost use Rattle.sky_io.specs.Sinks.{Wrote};

@@ -26,7 +26,7 @@ pub fn put_refusal<K: Sink>(sink: &mut K, number: u32, what: &Refusal, text: &[u
     }
 }
 
-// The line of a refusal.
+// Writes the line of a refusal.
 fn put_refusal_line<K: Sink>(sink: &mut K, what: &Refusal, text: &[u8]) -> Put
     ensures { Wrote (K.state sink.old) (K.state sink.new) (refusal_line text.now what.now) result }
 {
@@ -36,7 +36,7 @@ fn put_refusal_line<K: Sink>(sink: &mut K, what: &Refusal, text: &[u8]) -> Put
     }
 }
 
-// The line without its end.
+// Writes the line without its end.
 fn put_refused<K: Sink>(sink: &mut K, what: &Refusal, text: &[u8]) -> Put
     ensures { Wrote (K.state sink.old) (K.state sink.new)
         (codes "refused: " ++ refusal_words text.now what.now) result }
@@ -47,7 +47,7 @@ fn put_refused<K: Sink>(sink: &mut K, what: &Refusal, text: &[u8]) -> Put
     }
 }
 
-// Why the query is refused.
+// Writes why the query is refused.
 fn put_words<K: Sink>(sink: &mut K, what: &Refusal, text: &[u8]) -> Put
     ensures { Wrote (K.state sink.old) (K.state sink.new) (refusal_words text.now what.now) result }
 {
@@ -59,7 +59,7 @@ fn put_words<K: Sink>(sink: &mut K, what: &Refusal, text: &[u8]) -> Put
     }
 }
 
-// What is wrong with a text that is no query.
+// Writes the fault of a text that is no query.
 fn put_sql_words<K: Sink>(sink: &mut K, fault: &SqlFault) -> Put
     ensures { Wrote (K.state sink.old) (K.state sink.new) (sql_words fault.now) result }
 {
@@ -78,7 +78,7 @@ fn put_sql_words<K: Sink>(sink: &mut K, fault: &SqlFault) -> Put
     }
 }
 
-// The part of a text that a span is; of a span that goes past the end, what there is.
+// Returns the part of a text that a span is. If the span goes past the end, the part ends there.
 fn part_of(text: &[u8], span: Span) -> &[u8]
     ensures { result.now ≡ quoted text.now span }
 {
@@ -87,7 +87,7 @@ fn part_of(text: &[u8], span: Span) -> &[u8]
     &text[from..to]
 }
 
-// Words, and a part of the text after them.
+// Writes words, and a part of the text after them.
 fn put_led_part<K: Sink>(sink: &mut K, words: &[u8], text: &[u8], span: Span) -> Put
     ensures { Wrote (K.state sink.old) (K.state sink.new)
         (words.now ++ quoted text.now span) result }
@@ -98,7 +98,7 @@ fn put_led_part<K: Sink>(sink: &mut K, words: &[u8], text: &[u8], span: Span) ->
     }
 }
 
-// A part of the text, and words after it.
+// Writes a part of the text, and words after it.
 fn put_part_before<K: Sink>(sink: &mut K, text: &[u8], span: Span, words: &[u8]) -> Put
     ensures { Wrote (K.state sink.old) (K.state sink.new)
         (quoted text.now span ++ words.now) result }
@@ -109,7 +109,7 @@ fn put_part_before<K: Sink>(sink: &mut K, text: &[u8], span: Span, words: &[u8])
     }
 }
 
-// What does not fit the schema.
+// Writes what does not fit the schema.
 fn put_bind_words<K: Sink>(sink: &mut K, fault: &BindFault, text: &[u8]) -> Put
     ensures { Wrote (K.state sink.old) (K.state sink.new) (bind_words text.now fault.now) result }
 {
@@ -123,14 +123,14 @@ fn put_bind_words<K: Sink>(sink: &mut K, fault: &BindFault, text: &[u8]) -> Put
     }
 }
 
-// A limit on squared chords.
+// Writes a limit on squared chords.
 fn put_limit<K: Sink>(sink: &mut K, limit: &i64) -> Put
     ensures { Wrote (K.state sink.old) (K.state sink.new) (signed_decimal limit.now) result }
 {
     put_int(sink, i128::from(*limit))
 }
 
-// Words, and a limit on squared chords after them.
+// Writes words, and a limit on squared chords after them.
 fn put_led_limit<K: Sink>(sink: &mut K, words: &[u8], limit: &i64) -> Put
     ensures { Wrote (K.state sink.old) (K.state sink.new)
         (words.now ++ signed_decimal limit.now) result }
@@ -141,7 +141,7 @@ fn put_led_limit<K: Sink>(sink: &mut K, words: &[u8], limit: &i64) -> Put
     }
 }
 
-// The radius that is asked for, and the one that is allowed, both squared.
+// Writes the radius that is asked for, and the one that is allowed, both squared.
 fn put_two_radii<K: Sink>(sink: &mut K, radius: &Radius) -> Put
     ensures { Wrote (K.state sink.old) (K.state sink.new)
         (signed_decimal radius.now.asked ++ (codes " above " ++ signed_decimal radius.now.allowed))
@@ -153,7 +153,7 @@ fn put_two_radii<K: Sink>(sink: &mut K, radius: &Radius) -> Put
     }
 }
 
-// A radius above the allowed one.
+// Writes that a radius is above the allowed one.
 fn put_radius_words<K: Sink>(sink: &mut K, radius: &Radius) -> Put
     ensures { Wrote (K.state sink.old) (K.state sink.new) (radius_words radius.now) result }
 {
@@ -163,14 +163,14 @@ fn put_radius_words<K: Sink>(sink: &mut K, radius: &Radius) -> Put
     }
 }
 
-// A whole number.
+// Writes a whole number.
 fn put_whole<K: Sink>(sink: &mut K, n: &i128) -> Put
     ensures { Wrote (K.state sink.old) (K.state sink.new) (signed_decimal n.now) result }
 {
     put_int(sink, *n)
 }
 
-// A total, and what is said of it.
+// Writes a total, and that it is out of range.
 fn put_total<K: Sink>(sink: &mut K, out: &TotalOut) -> Put
     ensures { Wrote (K.state sink.old) (K.state sink.new)
         (signed_decimal out.now.total ++ codes " out of range") result }
@@ -181,7 +181,7 @@ fn put_total<K: Sink>(sink: &mut K, out: &TotalOut) -> Put
     }
 }
 
-// A total out of range.
+// Writes that a total is out of range.
 fn put_total_words<K: Sink>(sink: &mut K, out: &TotalOut) -> Put
     ensures { Wrote (K.state sink.old) (K.state sink.new) (total_words out.now) result }
 {

@@ -16,7 +16,7 @@ use sky_row::Schema;
 use sql_print::put_heading;
 use sql_tree::{Item, ItemList, Query, Selection};
 
-/// What is shown of a query that is answered: its tree, the columns, its rows, and how many chunks its plan has.
+/// What the block of an answered query shows: its tree, the columns, its rows, and how many chunks its plan has.
 #[derive(Drop)]
 pub struct Shown<'a> {
     pub head: &'a Query,
@@ -38,7 +38,7 @@ pub fn put_table<K: Sink>(sink: &mut K, number: u32, what: &Shown<'_>) -> Put
     }
 }
 
-// The lines of an answer.
+// Writes the lines of an answer.
 fn put_table_lines<K: Sink>(
     sink: &mut K,
     head: &Query,
@@ -55,7 +55,7 @@ fn put_table_lines<K: Sink>(
     }
 }
 
-// The line of the headings.
+// Writes the line of the headings.
 fn put_heading_line<K: Sink>(sink: &mut K, head: &Query, schema: &Schema) -> Put
     ensures { Wrote (K.state sink.old) (K.state sink.new)
         (line (by_commas (headings schema.now head.now))) result }
@@ -66,7 +66,7 @@ fn put_heading_line<K: Sink>(sink: &mut K, head: &Query, schema: &Schema) -> Put
     }
 }
 
-// The headings, with commas between them.
+// Writes the headings, with commas between them.
 fn put_headings<K: Sink>(sink: &mut K, head: &Query, schema: &Schema) -> Put
     ensures { Wrote (K.state sink.old) (K.state sink.new)
         (by_commas (headings schema.now head.now)) result }
@@ -77,7 +77,7 @@ fn put_headings<K: Sink>(sink: &mut K, head: &Query, schema: &Schema) -> Put
     }
 }
 
-// The headings of one item or more.
+// Writes the headings of one item or more.
 fn put_item_headings<K: Sink>(sink: &mut K, list: &ItemList) -> Put
     ensures { Wrote (K.state sink.old) (K.state sink.new)
         (by_commas (map heading (list.now.first ∷ list.now.rest))) result }
@@ -88,7 +88,7 @@ fn put_item_headings<K: Sink>(sink: &mut K, list: &ItemList) -> Put
     }
 }
 
-// The headings after the first.
+// Writes the headings after the first.
 fn put_further_headings<K: Sink>(sink: &mut K, rest: &[Item]) -> Put
     ensures { Wrote (K.state sink.old) (K.state sink.new)
         (behind_each (codes ",") (map heading rest.now)) result }
@@ -102,7 +102,7 @@ fn put_further_headings<K: Sink>(sink: &mut K, rest: &[Item]) -> Put
     Put::Done
 }
 
-// A heading, and the comma before it.
+// Writes a heading, and the comma before it.
 fn put_further_heading<K: Sink>(sink: &mut K, item: &Item) -> Put
     ensures { Wrote (K.state sink.old) (K.state sink.new) (codes "," ++ heading item.now) result }
 {

@@ -1,4 +1,4 @@
-//! The rows of an answer as they are written. One function writes one rule of the syntax.
+//! The rows of an answer as text. One function writes one rule of the syntax.
 ghost use Rattle.std.specs.Prelude.{◌≡◌, ◌++◌, All, codes, length, map};
 ghost use Rattle.std.specs.Fmt.{decimal};
 ghost use Rattle.std.specs.List.{flat_map};
@@ -13,7 +13,7 @@ use partial_merge::Table;
 use sky_io::{Put, Sink};
 use sky_text::{put_count, put_decimal4, put_int};
 
-// A value: NULL, a whole number, or an average with four decimals.
+// Writes a value: NULL, a whole number, or an average with four decimals.
 fn put_value<K: Sink>(sink: &mut K, value: &Value) -> Put
     requires { IsShort value.now }
     ensures { Wrote (K.state sink.old) (K.state sink.new) (value_text value.now) result }
@@ -25,7 +25,7 @@ fn put_value<K: Sink>(sink: &mut K, value: &Value) -> Put
     }
 }
 
-// A value, and the comma before it.
+// Writes a value, and the comma before it.
 fn put_further_value<K: Sink>(sink: &mut K, value: &Value) -> Put
     requires { IsShort value.now }
     ensures { Wrote (K.state sink.old) (K.state sink.new)
@@ -37,7 +37,7 @@ fn put_further_value<K: Sink>(sink: &mut K, value: &Value) -> Put
     }
 }
 
-// The values after the first.
+// Writes the values after the first.
 fn put_further_values<K: Sink>(sink: &mut K, rest: &[Value]) -> Put
     requires { All IsShort rest.now }
     ensures { Wrote (K.state sink.old) (K.state sink.new)
@@ -52,7 +52,7 @@ fn put_further_values<K: Sink>(sink: &mut K, rest: &[Value]) -> Put
     Put::Done
 }
 
-// One value or more.
+// Writes one value or more.
 fn put_some_values<K: Sink>(sink: &mut K, first: &Value, rest: &[Value]) -> Put
     requires first { IsShort first.now }
     requires rest { All IsShort rest.now }
@@ -65,7 +65,7 @@ fn put_some_values<K: Sink>(sink: &mut K, first: &Value, rest: &[Value]) -> Put
     }
 }
 
-// Values, with commas between them.
+// Writes values, with commas between them.
 fn put_values<K: Sink>(sink: &mut K, values: &[Value]) -> Put
     requires { All IsShort values.now }
     ensures { Wrote (K.state sink.old) (K.state sink.new) (by_commas (map value_text values.now))
@@ -77,7 +77,7 @@ fn put_values<K: Sink>(sink: &mut K, values: &[Value]) -> Put
     }
 }
 
-// The line of a row.
+// Writes the line of a row.
 fn put_row<K: Sink>(sink: &mut K, row: &[Value]) -> Put
     requires { All IsShort row.now }
     ensures { Wrote (K.state sink.old) (K.state sink.new) (row_line row.now) result }
@@ -88,7 +88,7 @@ fn put_row<K: Sink>(sink: &mut K, row: &[Value]) -> Put
     }
 }
 
-// The lines of the rows.
+// Writes the lines of the rows.
 fn put_rows<K: Sink>(sink: &mut K, table: &Table) -> Put
     ensures { Wrote (K.state sink.old) (K.state sink.new) (flat_map row_line table.now) result }
 {
@@ -101,7 +101,7 @@ fn put_rows<K: Sink>(sink: &mut K, table: &Table) -> Put
     Put::Done
 }
 
-// What follows the count of rows.
+// Writes what follows the count of rows.
 fn put_chunk_count<K: Sink>(sink: &mut K, chunks: u32) -> Put
     ensures { Wrote (K.state sink.old) (K.state sink.new)
         (codes " rows, " ++ (decimal chunks ++ codes " chunks")) result }
@@ -112,7 +112,7 @@ fn put_chunk_count<K: Sink>(sink: &mut K, chunks: u32) -> Put
     }
 }
 
-// How many rows there are, and how many chunks.
+// Writes how many rows there are, and how many chunks.
 fn put_two_counts<K: Sink>(sink: &mut K, rows: u64, chunks: u32) -> Put
     ensures { Wrote (K.state sink.old) (K.state sink.new)
         (decimal rows ++ (codes " rows, " ++ (decimal chunks ++ codes " chunks"))) result }
@@ -123,7 +123,7 @@ fn put_two_counts<K: Sink>(sink: &mut K, rows: u64, chunks: u32) -> Put
     }
 }
 
-// The last line of an answer.
+// Writes the last line of an answer.
 fn put_count_line<K: Sink>(sink: &mut K, rows: u64, chunks: u32) -> Put
     ensures { Wrote (K.state sink.old) (K.state sink.new) (count_line rows chunks) result }
 {

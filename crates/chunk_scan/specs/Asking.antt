@@ -1,4 +1,4 @@
--- What kernels ask of a row, and which conditions they answer with it.
+-- What kernels evaluate on a row, and for which conditions.
 use Rattle.std.specs.Prelude.{◌≡◌, ℕ, ◌<◌, ◌≤◌, ℤ, Bool, true, false, IsTrue, Option, is_none, is_some}
 use Rattle.table_rules.specs.Objects.{Obj, cell}
 use Rattle.sql_tree.specs.declared.cond.Cmp.{Cmp}
@@ -13,15 +13,15 @@ use Rattle.chunk_scan.specs.declared.known.Early.{Early}
 use Rattle.chunk_scan.specs.declared.known.Known.{Known}
 use Rattle.chunk_scan.specs.declared.known.Known.TheVariants.{Compare, Range, Present, Absent, Near}
 
--- the value compares so with the number; NULL does not
+-- the value compares so with the number, and is not NULL
 abbrev pub is_compared : Cmp → ℤ → Option ℤ → Bool
 is_compared op n value = passes (record { col = record { second = false; col = 0 }; op = op; number = n }) value
 
--- the value is from the first number to the last; NULL is not
+-- the value is from the first number to the last, and is not NULL
 abbrev pub is_in_range : ℤ → ℤ → Option ℤ → Bool
 is_in_range low high value = is_within (record { col = record { second = false; col = 0 }; low = low; high = high }) value
 
--- the answer for a row
+-- the predicate's result on a row
 abbrev pub asks : Known → Obj → Bool
 asks (Compare col op n) o = is_compared op n (cell o col)
 asks (Range col low high) o = is_in_range low high (cell o col)
@@ -29,7 +29,7 @@ asks (Present col) o = is_some (cell o col)
 asks (Absent col) o = is_none (cell o col)
 asks (Near centre n) o = area_holds (Cap centre n) o.at
 
--- the table has the column that is asked
+-- the table has the predicate's column
 abbrev pub IsThere : ℕ → Known → Type 0
 IsThere columns (Compare col op n) = col < columns
 IsThere columns (Range col low high) = col < columns
@@ -41,8 +41,8 @@ IsThere columns (Near centre n) = Unit {0}
 abbrev pub holds_on : Formula → Obj → Bool
 holds_on f o = is_true (truth_at (cell_of (row o)) o.at f)
 
--- A question that is answered with yes wherever the formula holds and, if it is the whole of it, nowhere else; its
--- column is there where the formula can be computed.
+-- A predicate that holds on each row on which the formula holds and, if it is the whole formula, on no other. Its
+-- column is in the table if the formula can be computed.
 pub record IsEarly (f : Formula) (e : Early) : Type 0 where
   pub kept : (o : Obj) → holds_on f o ≡ true → asks e.test o ≡ true
   pub whole : e.whole ≡ true → (o : Obj) → asks e.test o ≡ holds_on f o

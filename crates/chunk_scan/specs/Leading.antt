@@ -4,11 +4,11 @@ use Rattle.table_rules.specs.Objects.{Obj}
 use Rattle.sql_bound.specs.declared.expr.BoundCol.{BoundCol}
 use Rattle.value_rules.specs.Values.{cell_of, row}
 
--- the values of some rows in the first of these columns; where there is no column, none
+-- the values of some rows in the first of these columns; if there is no column, there are none
 abbrev pub leading : List BoundCol → List Obj → List (Option ℤ)
 leading [] objects = []
 leading (k ∷ keys) objects = map (λ o. cell_of (row o) k) objects
 
--- as far as the list goes, these values are in it
+-- each value in the list is the value at the same position among these values; the list may be shorter
 abbrev pub IsLead : List BoundCol → List Obj → List (Option ℤ) → Type 0
 IsLead keys objects lead = (j : ℕ) → j < length lead → get_or lead j None ≡ get_or (leading keys objects) j None

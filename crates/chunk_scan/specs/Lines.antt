@@ -11,19 +11,19 @@ use Rattle.sql_bound.specs.declared.query.Shape.{Shape}
 use Rattle.sql_bound.specs.declared.query.Shape.TheVariants.{Rows, Pairs, Groups}
 use Rattle.answer_rules.specs.Rows.{limit_of, out_row}
 
--- the piece is of these rows, in any order, but for some that are none of the first n where there is a LIMIT n
+-- the piece is of these rows, in any order; with a LIMIT n it may lack rows that are none of the first n
 abbrev pub IsOfRowsOver : ChunkQuery → List Obj → PieceView → Type 0
 IsOfRowsOver cq objects (OfRows pushed rows) =
     (pushed ≡ limit_of cq.limit)
     × KeepsFirst row_order (limit_of cq.limit) (map (λ o. out_row (chunk_lines cq) (row o)) objects) rows
 IsOfRowsOver cq objects (OfGroups parts) = ⊥
 
--- the piece is of these rows: as rows, or as the parts of their groups
+-- the piece is of these rows: as rows, or as the aggregate states of their groups
 abbrev pub IsPieceBy : Shape → ChunkQuery → List Obj → PieceView → Type 0
 IsPieceBy Rows cq objects view = IsOfRowsOver cq objects view
 IsPieceBy (Pairs limit) cq objects view = ⊥
 IsPieceBy (Groups keys) cq objects view = view ≡ OfGroups (partials_of keys cq.items (map row objects))
 
--- by the shape of the chunk query
+-- the piece is of these rows, by the shape of the chunk query
 abbrev pub IsPieceOver : ChunkQuery → List Obj → PieceView → Type 0
 IsPieceOver cq objects view = IsPieceBy cq.shape cq objects view

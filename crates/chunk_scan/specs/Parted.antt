@@ -1,4 +1,4 @@
--- What the rows of a group evaluates to for an aggregate, by the values of its expression.
+-- The aggregate states of the rows of a group, by the values of the aggregates' expressions.
 use Rattle.std.specs.Prelude.{ℕ, ◌≤◌, ℤ, List, [], length, map, Option, None, Some, option_to_list, slice_range, All}
 use Rattle.std.specs.List.{flat_map}
 use Rattle.table_rules.specs.Objects.{Obj}
@@ -14,7 +14,7 @@ use Rattle.answer_rules.specs.Parts.{Part, count_part, part_by}
 abbrev pub values_on : BoundExpr → List Obj → List (Option ℤ)
 values_on e objects = map (λ o. value_of e (row o)) objects
 
--- the values that an aggregate goes over on some rows; COUNT(*) goes over none
+-- the values that are aggregated over some rows; COUNT(*) has none
 abbrev pub worth_of : List Obj → ChunkItem → Option (List (Option ℤ))
 worth_of objects (Plain e) = None
 worth_of objects Count = None
@@ -23,12 +23,12 @@ worth_of objects (Sum e) = Some (values_on e objects)
 worth_of objects (Min e) = Some (values_on e objects)
 worth_of objects (Max e) = Some (values_on e objects)
 
--- the numbers among the values from one place up to another: NULL is none
+-- the numbers among the values from one index to before another, without NULL
 abbrev pub numbers_between : Option (List (Option ℤ)) → ℕ → ℕ → List ℤ
 numbers_between None from to = []
 numbers_between (Some values) from to = flat_map option_to_list (slice_range values from to)
 
--- the part of an aggregate over the given number of rows that have these numbers
+-- the aggregate state of an aggregate over the given number of rows, whose values are these numbers
 abbrev pub part_of : ChunkItem → ℕ → List ℤ → Part
 part_of (Plain e) rows numbers = count_part 0
 part_of Count rows numbers = count_part rows
@@ -37,7 +37,7 @@ part_of (Sum e) rows numbers = part_by Added numbers
 part_of (Min e) rows numbers = part_by Least numbers
 part_of (Max e) rows numbers = part_by Greatest numbers
 
--- there are as many values, and none is too large
+-- there are enough values for the given number of rows, and none is too large
 abbrev pub IsReady : ℕ → Option (List (Option ℤ)) → Type 0
 IsReady to None = Unit {0}
 IsReady to (Some values) = (to ≤ length values) × All (IsOfSize most) values

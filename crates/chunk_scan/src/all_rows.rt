@@ -1,4 +1,4 @@
-//! The piece of a chunk query of rows without a LIMIT: each row is kept.
+//! The piece of a chunk query of rows without a LIMIT, which keeps each row.
 
 ghost use Rattle.std.specs.Prelude.{◌≡◌, ◌+◌, ◌<◌, All, IfOk, OnOk, length};
 ghost use Rattle.sky_row.specs.Columns.{cells_in, objects_at};
@@ -21,8 +21,8 @@ use sky_io::Memory;
 use sky_vector::Num;
 use std::alloc::Global;
 
-/// The piece of the rows at these places, which have these keys. Allocates memory for what the piece keeps, for a few
-/// words an item, and where the scratch has no vector with enough room.
+/// Returns the piece of the selected rows, which have these order keys. Allocates memory for what the piece keeps, and
+/// for a few machine words an item. Allocates each vector that the scratch does not have with enough room.
 pub(crate) fn all_rows<'w>(
     alloc: Global,
     block: &Block,
@@ -53,7 +53,7 @@ pub(crate) fn all_rows<'w>(
     Ok(piece)
 }
 
-/// Puts the row with this number and this sort key into the piece. `values` is room that is used again for each row.
+/// Pushes the row with this number and this sort key into the piece. `values` is a buffer that is reused for each row.
 fn push_at(
     piece: &mut Piece<'_>,
     values: &mut Vec<Option<Num>>,

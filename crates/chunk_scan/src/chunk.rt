@@ -25,8 +25,9 @@ use sky_row::Rows;
 use sql_bound::Shape;
 use std::alloc::Global;
 
-/// What the query finds in the chunk alone, whatever the scratch was used for before. Allocates memory for what the
-/// piece keeps, for a few words a key and item, and where the scratch has no vector with enough room.
+/// Returns what the query finds in the chunk alone, whatever the scratch was used for before. Allocates memory for what
+/// the piece keeps, and for a few machine words a key and item. Allocates each vector that the scratch does not have
+/// with enough room.
 pub fn scan<'w>(
     alloc: Global,
     store: &'w Store,
@@ -50,8 +51,8 @@ pub fn scan<'w>(
     Ok(piece)
 }
 
-/// What a store says of itself: its plan is within the limits, and its rows lie in the sky and are not too many. Takes
-/// no memory.
+/// Makes invariants of a store visible to contracts: its plan is within the limits, and its rows are in the sky and at
+/// most `ROWS_MOST`. Does not allocate.
 fn know(store: &Store)
     ensures plan { IsSky store.now.plan }
     ensures rows { AreInTheSky store.now.rows.objects }
@@ -61,7 +62,7 @@ fn know(store: &Store)
     let _ = store.rows().len();
 }
 
-/// The piece of the rows at these places among those of the chunk.
+/// Returns the piece of the selected rows of the chunk.
 fn piece_at<'w>(
     alloc: Global,
     block: &Block,

@@ -20,8 +20,8 @@ use sky_io::Memory;
 use sky_vector::Num;
 use std::alloc::Global;
 
-/// The values that the rows at these places are ordered by, if there is an order. Allocates memory where the scratch
-/// has no vector with enough room.
+/// Returns the order keys of the selected rows, if there is an order. Allocates each vector that the scratch does not
+/// have with enough room.
 pub(crate) fn keys<'a>(
     block: &'a Block,
     order: &Option<ChunkOrder>,
@@ -40,7 +40,7 @@ pub(crate) fn keys<'a>(
     }
 }
 
-/// The values of an order's key at these places.
+/// Returns the values of an order's key on the selected rows.
 fn keys_by<'a>(
     block: &'a Block,
     order: &ChunkOrder,
@@ -56,8 +56,8 @@ fn keys_by<'a>(
     Ok(Some(values(block, &order.key, places, &mut scratch.columns)?))
 }
 
-/// For each of these items its values on the rows at these places. Allocates memory for a list of them, and where the
-/// scratch has no vector with enough room.
+/// Returns the values of each of these items on the selected rows. Allocates memory for a list of them. Allocates each
+/// vector that the scratch does not have with enough room.
 pub(crate) fn columns<'a>(
     alloc: Global,
     block: &'a Block,
@@ -92,14 +92,14 @@ pub(crate) fn give_back(columns: Vec<ValueList<'_>>, scratch: &mut Scratch) {
     }
 }
 
-/// Gives the values that rows are ordered by back to the scratch. Does not allocate.
+/// Gives the order keys back to the scratch. Does not allocate.
 pub(crate) fn give_keys_back(keys: Option<ValueList<'_>>, scratch: &mut Scratch) {
     if let Some(keys) = keys {
         keys.give_back(&mut scratch.columns);
     }
 }
 
-/// The values of an item, which is an expression of the row.
+/// Returns the values of an item, which is an expression of the row.
 fn column<'a>(
     block: &'a Block,
     item: &ChunkItem,
@@ -117,7 +117,7 @@ fn column<'a>(
     }
 }
 
-/// The value that the row with this number is ordered by; without an order all rows are alike.
+/// Returns the order key of the row at this index. Without an order all rows have the same one.
 fn key_at(keys: &Option<ValueList<'_>>, i: usize) -> Option<Num>
     requires { IsReady (i + 1) keys.now }
     ensures { result ≡ key_in keys.now i }
@@ -128,8 +128,7 @@ fn key_at(keys: &Option<ValueList<'_>>, i: usize) -> Option<Num>
     }
 }
 
-/// The place in the order of the row with this number, which is at this place among those of the block. Does not
-/// allocate.
+/// Returns the sort key of the row at this index, whose number in the block is `place`. Does not allocate.
 pub(crate) fn rank_at(
     down: bool,
     keys: &Option<ValueList<'_>>,
@@ -144,8 +143,8 @@ pub(crate) fn rank_at(
     rank_of(down, &key_at(keys, i), ids[place as usize])
 }
 
-/// Puts the values of the items on the row with this number in place of what the list held. Allocates memory only where
-/// it held fewer.
+/// Replaces the values in the list by those of the items on the row at this index. Allocates memory only if the list
+/// held fewer.
 pub(crate) fn fill_at(
     values: &mut Vec<Option<Num>>,
     columns: &[ValueList<'_>],
@@ -161,7 +160,7 @@ pub(crate) fn fill_at(
     Ok(())
 }
 
-/// The value of the row with this number.
+/// Returns the value of the row at this index.
 fn value_at(column: &ValueList<'_>, i: usize) -> Option<Num>
     requires there { i < length column.now }
     requires sized { All (IsOfSize most) column.now }
@@ -173,7 +172,7 @@ fn value_at(column: &ValueList<'_>, i: usize) -> Option<Num>
     }
 }
 
-/// A number as one that a query computes.
+/// Returns a number as one that a query computes.
 fn number(n: i128) -> Option<Num>
     requires { nat_abs n ≤ most }
     ensures { result ≡ Some n }

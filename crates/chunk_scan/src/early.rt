@@ -1,7 +1,8 @@
-//! Which conditions a kernel knows: a column compared with a number, on either side, a column BETWEEN two numbers, IS
-//! NULL and IS NOT NULL of a column, and areas.
+//! The vectorizable predicates: a column compared with a number, on either side; a column BETWEEN two numbers; IS NULL
+//! and IS NOT NULL of a column; and areas.
 //!
-//! A number is an int, or an int after a minus. What is in brackets, after NOT or in OR is left to the evaluator.
+//! A number is an integer, or an integer after a minus. A condition in brackets, after NOT or in OR is left to the
+//! evaluator.
 ghost use Rattle.std.specs.Prelude.{◌≡◌, ◌≤ℤ◌, ℤ, IfSome, Option, Some, false, neg_ℤ, pos, true, if◌then◌else◌};
 ghost use Rattle.sql_tree.specs.declared.cond.Cmp.TheVariants.{AtMost};
 ghost use Rattle.sql_bound.specs.declared.expr.BoundCol.{BoundCol};
@@ -17,7 +18,7 @@ use column_eval::column_of;
 use sql_bound::{BoundAtom, BoundCond, BoundExpr, BoundFactor, BoundPred};
 use sql_tree::Cmp;
 
-/// What a kernel can do for the condition, if one knows it.
+/// Returns what a kernel can do for the condition, if there is one for it.
 #[tactic(auto, using(crate::proofs::KnownConds::plain_cond))]
 pub(crate) fn early(c: &BoundCond) -> Option<Early>
     ensures { IfSome result (IsEarly (formula_of c.now)) }
@@ -28,7 +29,7 @@ pub(crate) fn early(c: &BoundCond) -> Option<Early>
     of_pred(&c.pred)
 }
 
-/// The test of a condition without NOT, if a kernel has one.
+/// Returns the predicate of a condition without NOT, if a kernel has one.
 fn of_pred(pred: &BoundPred) -> Option<Early>
     ensures { IfSome result (IsEarly (formula_of_pred pred.now)) }
 {
@@ -46,14 +47,14 @@ fn of_pred(pred: &BoundPred) -> Option<Early>
     }
 }
 
-/// A question that is the whole of its condition.
+/// Returns the predicate as one that is the whole condition.
 fn whole(test: Known) -> Option<Early>
     ensures { result ≡ Some (record { test = test; whole = true }) }
 {
     Some(Early { test, whole: true })
 }
 
-/// A column compared with a number, or the mirrored comparison where the number comes first.
+/// Returns a column compared with a number, or the mirrored comparison if the number comes first.
 #[tactic(auto, using(crate::proofs::KnownConds::compare_early))]
 fn compared(left: &BoundExpr, op: Cmp, right: &BoundExpr) -> Option<Early>
     ensures { IfSome result (IsEarly (Compares op (term_of left.now) (term_of right.now))) }
@@ -64,7 +65,7 @@ fn compared(left: &BoundExpr, op: Cmp, right: &BoundExpr) -> Option<Early>
     }
 }
 
-/// A number compared with a column.
+/// Returns a number compared with a column.
 #[tactic(auto, using(crate::proofs::KnownConds::mirrored_early))]
 fn number_first(left: &BoundExpr, op: Cmp, right: &BoundExpr) -> Option<Early>
     ensures { IfSome result (IsEarly (Compares op (term_of left.now) (term_of right.now))) }
@@ -78,7 +79,7 @@ fn number_first(left: &BoundExpr, op: Cmp, right: &BoundExpr) -> Option<Early>
     })
 }
 
-/// A column BETWEEN two numbers.
+/// Returns a column BETWEEN two numbers.
 #[tactic(auto, using(crate::proofs::KnownConds::between_early))]
 fn between(not: bool, value: &BoundExpr, low: &BoundExpr, high: &BoundExpr) -> Option<Early>
     ensures { IfSome result (IsEarly (negated_if not
@@ -94,7 +95,7 @@ fn between(not: bool, value: &BoundExpr, low: &BoundExpr, high: &BoundExpr) -> O
     whole(Known::Range { col, low, high })
 }
 
-/// IS NULL of a column, or with `not` IS NOT NULL.
+/// Returns IS NULL of a column, or with `not` IS NOT NULL.
 #[tactic(auto, using(crate::proofs::KnownConds::present_early, crate::proofs::KnownConds::absent_early))]
 fn presence(not: bool, value: &BoundExpr) -> Option<Early>
     ensures { IfSome result (IsEarly (negated_if not (IsNull (term_of value.now)))) }
@@ -107,7 +108,7 @@ fn presence(not: bool, value: &BoundExpr) -> Option<Early>
     }
 }
 
-/// The comparison with its sides exchanged.
+/// Returns the comparison with its sides exchanged.
 fn mirrored(op: Cmp) -> Cmp
     ensures { result ≡ mirrored op }
 {
@@ -121,7 +122,7 @@ fn mirrored(op: Cmp) -> Cmp
     }
 }
 
-/// The one factor that the expression is.
+/// Returns the expression's only factor, if it has only one.
 fn factor_of(e: &BoundExpr) -> Option<&BoundFactor>
     ensures { IfSome result (λ factor. term_of e.now ≡ term_of_factor factor.now) }
 {
@@ -132,7 +133,7 @@ fn factor_of(e: &BoundExpr) -> Option<&BoundFactor>
     }
 }
 
-/// The number as which the expression is written.
+/// Returns the number that the expression is written as, if it is one.
 fn number_of(e: &BoundExpr) -> Option<i64>
     ensures { IfSome result (λ n. (cells : BoundCol → Option ℤ)
         → value_at cells (term_of e.now) ≡ Some n) }
@@ -144,7 +145,7 @@ fn number_of(e: &BoundExpr) -> Option<i64>
     }
 }
 
-/// The number, or with `minus` what it takes from 0.
+/// Returns the number, or with `minus` its negation.
 fn signed(minus: bool, n: i64) -> i64
     requires { pos 0 ≤ℤ n }
     ensures { result ≡ if minus then neg_ℤ n else n }

@@ -10,7 +10,8 @@ use sql_bound::AreaTest;
 /// The column of the heights.
 const HEIGHTS: u32 = 3;
 
-/// A band and a cap are a question each; of a box its heights are one, and its sides are left to the evaluator.
+/// Returns the predicate of an area test. A band and a cap are one predicate each. Of a box only the heights are, and
+/// its sides are left to the evaluator.
 #[tactic(auto, using(crate::proofs::KnownConds::band_early, crate::proofs::KnownConds::cap_early, crate::proofs::KnownConds::box_early))]
 pub(crate) fn of_area(test: &AreaTest) -> Early
     ensures { IsEarly (LiesIn test.now) result }
@@ -28,7 +29,7 @@ pub(crate) fn of_area(test: &AreaTest) -> Early
     }
 }
 
-/// The heights from `lo` to `hi`.
+/// Returns the predicate of the heights from `lo` to `hi`.
 fn heights(lo: i64, hi: i64, whole: bool) -> Early
     ensures { result ≡ record { test = Range 3 lo hi; whole = whole } }
 {

@@ -24,8 +24,8 @@ use sky_row::{Row, Rows};
 use sky_vector::Num;
 use std::alloc::Global;
 
-/// The piece of the rows at these places among those of the chunk, which have these keys. Allocates memory for the
-/// values of one row, and for what the piece keeps.
+/// Returns the piece of the selected rows of the chunk, which have these order keys. Allocates memory for the values of
+/// one row, and for what the piece keeps.
 pub(crate) fn first_rows<'w>(
     alloc: Global,
     block: &Block,
@@ -59,8 +59,8 @@ pub(crate) fn first_rows<'w>(
     Ok(piece)
 }
 
-/// Puts the row at this place, which has this sort key, into the piece, or skips it. `values` is room that is used
-/// again for each row.
+/// Pushes the row with this number and this sort key into the piece, or skips it. `values` is a buffer that is reused
+/// for each row.
 fn offer(
     piece: &mut Piece<'_>,
     values: &mut Vec<Option<Num>>,
@@ -85,7 +85,7 @@ fn offer(
     push_one(piece, values, query, rank, &row_at(rows, own, place))
 }
 
-/// Puts the row, which has this sort key, into the piece.
+/// Pushes the row, which has this sort key, into the piece.
 fn push_one(
     piece: &mut Piece<'_>,
     values: &mut Vec<Option<Num>>,

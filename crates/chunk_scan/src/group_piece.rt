@@ -1,9 +1,9 @@
 //! The piece of a chunk query of groups.
 //!
-//! The rows are put in an order in which those of one key are adjacent. Rows of one key that follow one another are a
-//! run, and a run is put into the piece as one group. Without keys all rows are one run, in any order. The values of
-//! the aggregates' expressions are computed a column at a time before; without keys those of a column alone may be read
-//! as they are added up.
+//! The rows are brought into an order in which those with the same key are adjacent. Adjacent rows with the same key
+//! are a run, and a run is pushed into the piece as one group. Without keys all rows are one run, in any order. The
+//! values of the aggregates' expressions are computed before, a column at a time. Without keys the values of a single
+//! column may be read while they are aggregated.
 
 ghost use Rattle.std.specs.Prelude.{◌≡◌, ◌+◌, ◌++◌, ◌<◌, ◌≤◌, ◌∷◌, [], All, IfOk, IsTrue, OnOk, false, get_or, length, map};
 ghost use Rattle.std.specs.List.{list_all};
@@ -33,8 +33,8 @@ use sky_io::Memory;
 use sql_bound::BoundCol;
 use std::alloc::Global;
 
-/// The piece of the groups of the rows at these places. Allocates memory for what the piece keeps, for a few words a
-/// key and item, and where the scratch has no vector with enough room.
+/// Returns the piece of the groups of the selected rows. Allocates memory for what the piece keeps, and for a few
+/// machine words a key and item. Allocates each vector that the scratch does not have with enough room.
 pub(crate) fn piece_of_groups<'w>(
     alloc: Global,
     block: &Block,
@@ -58,7 +58,7 @@ pub(crate) fn piece_of_groups<'w>(
     }
 }
 
-/// The piece of the groups of these rows, in an order in which rows of one key are adjacent.
+/// Returns the piece of the groups of the selected rows, after it has made rows with the same key adjacent.
 fn by_keys<'w>(
     alloc: Global,
     block: &Block,
@@ -81,7 +81,8 @@ fn by_keys<'w>(
     Ok(piece)
 }
 
-/// The piece of the groups of places in any order. A key has a group for each of its runs; the piece joins them.
+/// Returns the piece of the groups of the selected rows, which are in any order. A key has a group for each of its
+/// runs, and the piece adds them up.
 fn group_piece<'w>(
     alloc: Global,
     block: &Block,
@@ -132,7 +133,7 @@ fn group_piece<'w>(
     Ok(piece)
 }
 
-/// Puts a group of this key and the given number of rows into the piece.
+/// Pushes a group with this key and the given number of rows into the piece.
 fn push(
     alloc: Global,
     piece: &mut Piece<'_>,
@@ -149,8 +150,8 @@ fn push(
     piece.push_group(key, rows as u32, parts)
 }
 
-/// Puts the key of the row at this place of the list in place of what `cells` held; `None` is NULL. The first values of
-/// keys are in `lead`, or nothing does.
+/// Replaces the values in `cells` by the key of the row at this index; `None` is NULL. `lead` holds the values of the
+/// first key column, or is empty.
 fn fill_key(
     cells: &mut Vec<Option<i64>>,
     block: &Block,
@@ -176,7 +177,7 @@ fn fill_key(
     }
 }
 
-/// Appends the values in these columns of the row at the place.
+/// Appends the values of the row with this number in these columns.
 fn push_cells(
     cells: &mut Vec<Option<i64>>,
     block: &Block,

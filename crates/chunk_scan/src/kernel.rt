@@ -1,4 +1,4 @@
-//! The kernels: a question asked of all rows of a block at once.
+//! The kernels: each evaluates a predicate on all rows of a block at once.
 ghost use Rattle.std.specs.Prelude.{◌≡◌, ◌+◌, ◌<◌, ◌≤◌, false, length, get_or, is_none, is_some, not, None};
 ghost use Rattle.lane_filter.specs.Tests.{IsKeptBy};
 ghost use Rattle.sky_row.specs.Columns.{no_row};
@@ -14,7 +14,7 @@ use sky_row::Column;
 use sql_tree::Cmp;
 use table_rules::limits::FIRST_COLUMNS;
 
-/// Clears the mask where the answer is no. Does not allocate.
+/// Clears the mask on each row on which the predicate does not hold. Does not allocate.
 pub(crate) fn keep_asked(block: &Block, test: Known, mask: &mut [bool])
     requires rows { length block.now.objects ≡ length mask.old }
     requires there { IsThere (FIRST_COLUMNS + block.now.width) test }
@@ -33,7 +33,7 @@ pub(crate) fn keep_asked(block: &Block, test: Known, mask: &mut [bool])
     }
 }
 
-/// Keeps where the value of the column compares so with n.
+/// Keeps the rows whose value in the column compares so with n.
 #[tactic(auto, using(crate::proofs::Kernels::column_told))]
 fn keep_compared(block: &Block, col: u32, op: Cmp, n: i64, mask: &mut [bool])
     requires rows { length block.now.objects ≡ length mask.old }
@@ -51,7 +51,7 @@ fn keep_compared(block: &Block, col: u32, op: Cmp, n: i64, mask: &mut [bool])
     }
 }
 
-/// Keeps where the value of the extra column compares so with n. NULL is stored as 0.
+/// Keeps the rows whose value in the extra column compares so with n. NULL is stored as 0.
 #[tactic(auto, using(crate::proofs::Kernels::further_compared))]
 fn keep_compared_further(column: &Column, op: Cmp, n: i64, mask: &mut [bool])
     requires rows { length column.now ≡ length mask.old }
@@ -62,7 +62,7 @@ fn keep_compared_further(column: &Column, op: Cmp, n: i64, mask: &mut [bool])
     keep_valued(column, mask);
 }
 
-/// Keeps where the value of the column is from `low` to `high`.
+/// Keeps the rows whose value in the column is from `low` to `high`.
 #[tactic(auto, using(crate::proofs::Kernels::column_told))]
 fn keep_range(block: &Block, col: u32, low: i64, high: i64, mask: &mut [bool])
     requires rows { length block.now.objects ≡ length mask.old }
@@ -80,7 +80,7 @@ fn keep_range(block: &Block, col: u32, low: i64, high: i64, mask: &mut [bool])
     }
 }
 
-/// Keeps where the value of the extra column is from `low` to `high`.
+/// Keeps the rows whose value in the extra column is from `low` to `high`.
 #[tactic(auto, using(crate::proofs::Kernels::further_ranged))]
 fn keep_range_further(column: &Column, low: i64, high: i64, mask: &mut [bool])
     requires rows { length column.now ≡ length mask.old }
@@ -92,7 +92,7 @@ fn keep_range_further(column: &Column, low: i64, high: i64, mask: &mut [bool])
     keep_valued(column, mask);
 }
 
-/// Keeps where the column has a value; the first four always have one.
+/// Keeps the rows whose value in the column is not NULL. The first four columns have no NULL.
 #[tactic(auto, using(crate::proofs::Kernels::column_told, crate::proofs::Kernels::first_valued))]
 fn keep_there(block: &Block, col: u32, mask: &mut [bool])
     requires rows { length block.now.objects ≡ length mask.old }
@@ -106,7 +106,7 @@ fn keep_there(block: &Block, col: u32, mask: &mut [bool])
     }
 }
 
-/// Keeps where the extra column has a value.
+/// Keeps the rows whose value in the extra column is not NULL.
 #[tactic(auto, using(crate::proofs::Kernels::all_valued, crate::proofs::Kernels::valued_there))]
 fn keep_valued(column: &Column, mask: &mut [bool])
     requires rows { length column.now ≡ length mask.old }
@@ -118,7 +118,7 @@ fn keep_valued(column: &Column, mask: &mut [bool])
     }
 }
 
-/// Keeps where the column has no value.
+/// Keeps the rows whose value in the column is NULL.
 #[tactic(auto, using(crate::proofs::Kernels::column_told, crate::proofs::Kernels::first_missing))]
 fn keep_missing(block: &Block, col: u32, mask: &mut [bool])
     requires rows { length block.now.objects ≡ length mask.old }
@@ -134,7 +134,7 @@ fn keep_missing(block: &Block, col: u32, mask: &mut [bool])
     }
 }
 
-/// Keeps where the extra column has no value.
+/// Keeps the rows whose value in the extra column is NULL.
 #[tactic(auto, using(crate::proofs::Kernels::none_missing, crate::proofs::Kernels::missing_there))]
 fn keep_null(column: &Column, mask: &mut [bool])
     requires rows { length column.now ≡ length mask.old }
@@ -158,7 +158,7 @@ fn clear(mask: &mut [bool])
     }
 }
 
-/// Keeps where the row has no value.
+/// Keeps the rows whose value is NULL.
 fn keep_absent(present: &[bool], mask: &mut [bool])
     requires { length present.now ≡ length mask.old }
     ensures len { length mask.new ≡ length mask.old }

@@ -1,7 +1,7 @@
-//! The places of rows in an order in which rows of one key are adjacent.
+//! The selected rows in an order in which rows with the same key are adjacent.
 //!
-//! Each row becomes one word, a number made of its key with its place after it, and words of one number are brought
-//! together. Nothing is allocated for a row or a key of its own.
+//! Each row becomes one packed key: a number made of its key, followed by its row number. Packed keys with the same
+//! number are brought together. No row and no key is allocated separately.
 
 ghost use Rattle.std.specs.Prelude.{◌≡◌, ◌+◌, ◌<◌, ◌≤◌, All, IfOk, IsTrue, false, length, replicate};
 ghost use Rattle.std.specs.List.{list_all};
@@ -18,7 +18,8 @@ use sky_io::Memory;
 use sky_row::Column;
 use sql_bound::BoundCol;
 
-/// The places with those of one key together, in a vector of the scratch. It needs two words and a place a row, 20 bytes.
+/// Returns the row numbers with those of the same key together, in a vector of the scratch. Uses two packed keys and a
+/// row number for each row, 20 bytes.
 pub(crate) fn by_key(
     block: &Block,
     keys: &[BoundCol],
@@ -45,7 +46,7 @@ pub(crate) fn by_key(
     Ok(order)
 }
 
-/// Puts the places into the order, those of one number together. `spare` is room for as many words.
+/// Writes the row numbers to `order`, those with the same number together. `spare` is room for as many packed keys.
 #[tactic(auto, using(crate::proofs::Apart::places_moved, crate::proofs::Apart::places_told))]
 fn reorder(numbers: &mut [u64], spare: &mut [u64], places: &[u32], order: &mut [u32])
     requires len { length numbers.old ≡ length places.now }
@@ -62,7 +63,7 @@ fn reorder(numbers: &mut [u64], spare: &mut [u64], places: &[u32], order: &mut [
     take_places(numbers, order);
 }
 
-/// Makes the numbers those of the keys of the rows at these places.
+/// Makes each number that of the key of its selected row.
 fn put_numbers(numbers: &mut [u64], block: &Block, keys: &[BoundCol], places: &[u32])
     requires len { length numbers.old ≡ length places.now }
     requires there { All (λ place. place < length block.now.objects) places.now }
@@ -74,7 +75,7 @@ fn put_numbers(numbers: &mut [u64], block: &Block, keys: &[BoundCol], places: &[
     }
 }
 
-/// Adds the values of a column of the block to the numbers.
+/// Mixes the values of a column of the block into the numbers.
 fn mix(numbers: &mut [u64], block: &Block, col: u32, places: &[u32])
     requires len { length numbers.old ≡ length places.now }
     requires there { All (λ place. place < length block.now.objects) places.now }
@@ -90,7 +91,7 @@ fn mix(numbers: &mut [u64], block: &Block, col: u32, places: &[u32])
     }
 }
 
-/// Adds the validity and the numbers of an extra column.
+/// Mixes the validity and the values of an extra column into the numbers.
 fn mix_further(numbers: &mut [u64], column: &Column, places: &[u32])
     requires len { length numbers.old ≡ length places.now }
     requires there { All (λ place. place < length column.now) places.now }
@@ -100,8 +101,8 @@ fn mix_further(numbers: &mut [u64], column: &Column, places: &[u32])
     mix_wide(numbers, column.values(), places);
 }
 
-/// Adds the validity of a column to the numbers, if it has rows with NULL. It goes before the values, so that numbers
-/// ascend with these.
+/// Mixes the validity of a column into the numbers, if it has rows with NULL. It is mixed in before the values, so that
+/// numbers ascend with the values.
 fn mix_presence_of(numbers: &mut [u64], column: &Column, places: &[u32])
     requires len { length numbers.old ≡ length places.now }
     requires there { All (λ place. place < length column.now) places.now }

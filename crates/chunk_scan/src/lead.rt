@@ -1,7 +1,8 @@
-//! The values of the first key column, in the order of the rows.
+//! The prefetched key column: the values of the first key column, in the order of the rows.
 //!
-//! A key is read once for each run of rows. In the column these rows are anywhere, and much is done between two keys,
-//! so that each would be waited for; a short loop over all rows reads many of them at one time.
+//! A key is read once for each run of rows. In the column these rows are anywhere, and much work is done between two
+//! keys. So each read would be a cache miss that is waited for. A short loop over all rows has many reads in flight at
+//! one time.
 
 ghost use Rattle.std.specs.Prelude.{◌≡◌, ◌+◌, ◌++◌, ◌<◌, ◌≤◌, [], All, IfOk, IsTrue, None, false, get_or, length, map, vec_capacity, vec_len};
 ghost use Rattle.std.specs.List.{list_all};
@@ -16,11 +17,11 @@ use column_block::Block;
 use sky_io::Memory;
 use sql_bound::BoundCol;
 
-/// How many rows a run has at the most, on average, if the values are listed: in longer runs few keys are read.
+/// The values are listed only if runs have at most this number of rows on average: in longer runs few keys are read.
 const LONG: usize = 8;
 
-/// The values of the first key column of the rows at these places, where runs are short, or none, in a vector of the
-/// scratch. `starts` returns where a run begins.
+/// Returns the values of the first key column on the selected rows if runs are short, and otherwise an empty list. The
+/// list is a vector of the scratch. `starts` is true for each row that begins a run.
 #[tactic(auto, using(crate::proofs::Leads::full_leads, crate::proofs::Leads::none_leads))]
 pub(crate) fn lead(
     block: &Block,
@@ -42,7 +43,7 @@ pub(crate) fn lead(
     Ok(none)
 }
 
-/// Whether enough runs begin for the values to be listed.
+/// Returns whether runs are short enough for the values to be listed.
 fn are_many(starts: &[bool]) -> bool {
     let mut count = 0usize;
     for start in starts {
@@ -51,7 +52,7 @@ fn are_many(starts: &[bool]) -> bool {
     count > starts.len() / LONG
 }
 
-/// The values of the first key column of all these rows; none where there is no key.
+/// Returns the values of the first key column on all these rows, or an empty list if there is no key column.
 fn full_lead(
     block: &Block,
     keys: &[BoundCol],
@@ -68,7 +69,7 @@ fn full_lead(
     Ok(lead)
 }
 
-/// The value in the first key column of the row at this place of the list: as it is listed, or else from the column.
+/// Returns the value of the row at this index in the first key column: from the list, or else from the column.
 #[tactic(auto, using(crate::proofs::Leads::leading_at))]
 pub(crate) fn first_value(
     block: &Block,
@@ -91,7 +92,7 @@ pub(crate) fn first_value(
     }
 }
 
-/// Puts these values into an empty list with room for one of each row. Does not allocate.
+/// Appends these values to an empty list with room for one value a row. Does not allocate.
 fn put_lead(lead: &mut Vec<Option<i64>>, block: &Block, keys: &[BoundCol], places: &[u32])
     requires empty { lead.old.items ≡ [] }
     requires room { length places.now ≤ vec_capacity lead.old }
@@ -105,7 +106,7 @@ fn put_lead(lead: &mut Vec<Option<i64>>, block: &Block, keys: &[BoundCol], place
     }
 }
 
-/// Appends the values of a key column at these places. Does not allocate.
+/// Appends the values of a key column on the selected rows. Does not allocate.
 fn put_cells(lead: &mut Vec<Option<i64>>, block: &Block, key: &BoundCol, places: &[u32])
     requires room { vec_len lead.old + length places.now ≤ vec_capacity lead.old }
     requires there { All (λ place. place < length block.now.objects) places.now }
@@ -118,7 +119,7 @@ fn put_cells(lead: &mut Vec<Option<i64>>, block: &Block, key: &BoundCol, places:
     }
 }
 
-/// The value of the row at the place in a key column.
+/// Returns the value of the row with this number in a key column.
 pub(crate) fn cell(block: &Block, key: &BoundCol, place: usize) -> Option<i64>
     requires there { place < length block.now.objects }
     requires col { IsTrue (has_col (FIRST_COLUMNS + block.now.width) false key.now) }

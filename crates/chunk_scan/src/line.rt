@@ -1,4 +1,4 @@
-//! What a chunk query computes of a row: the values of its items, and the row's place in the order.
+//! What a chunk query computes of a row: the values of its items, and its sort key.
 
 ghost use Rattle.std.specs.Prelude.{◌≡◌, ◌+◌, ◌++◌, ◌∷◌, [], IsTrue, OnOk, Some, length, map};
 ghost use Rattle.std.specs.List.{list_all};
@@ -17,7 +17,7 @@ use sky_io::Memory;
 use sky_row::Row;
 use sky_vector::Num;
 
-/// The place in the order of a row with this key and this id. Does not allocate.
+/// Returns the sort key of a row with this order key and this id. Does not allocate.
 pub(crate) fn rank_of(down: bool, key: &Option<Num>, id: i64) -> Rank
     ensures { result ≡ rank_by down key.now id }
 {
@@ -29,8 +29,7 @@ pub(crate) fn rank_of(down: bool, key: &Option<Num>, id: i64) -> Rank
     }
 }
 
-/// Puts the values of the items in place of what the list held; `None` is NULL. Allocates memory only where it held
-/// fewer.
+/// Replaces the values in the list by those of the items; `None` is NULL. Allocates memory only if the list held fewer.
 pub(crate) fn fill(
     values: &mut Vec<Option<Num>>,
     items: &[ChunkItem],
@@ -54,7 +53,7 @@ pub(crate) fn push(values: &mut Vec<Option<Num>>, value: Option<Num>) -> Result<
     Ok(values.push(value)?)
 }
 
-/// The value of an item; an aggregate has none on a row.
+/// Returns the value of an item. An aggregate has none on a row.
 fn cell(item: &ChunkItem, first: &Row) -> Option<Num>
     requires sound { IsTrue
         (is_sound_part (FIRST_COLUMNS + length first.now.further) Rows item.now) }
@@ -66,7 +65,7 @@ fn cell(item: &ChunkItem, first: &Row) -> Option<Num>
     }
 }
 
-/// Whether the order is descending. Does not allocate.
+/// Returns whether the order is descending. Does not allocate.
 pub(crate) fn is_down(order: &Option<ChunkOrder>) -> bool
     ensures { result ≡ chunk_down order.now }
 {
@@ -76,14 +75,14 @@ pub(crate) fn is_down(order: &Option<ChunkOrder>) -> bool
     }
 }
 
-/// The class of a key's sort key, which keeps NULL apart from the numbers.
+/// Returns the class of a key's sort key, which keeps NULL apart from the numbers.
 fn class(down: bool, key: &Option<Num>) -> u8
     ensures { result ≡ rank_class down key.now }
 {
     if key.is_none() == down { 1 } else { 0 }
 }
 
-/// The number of a key's sort key, which turns round where the order is descending.
+/// Returns the number of a key's sort key, which is negated if the order is descending.
 fn number(down: bool, key: &Option<Num>) -> i128
     ensures { result ≡ rank_value down key.now }
 {
@@ -93,7 +92,7 @@ fn number(down: bool, key: &Option<Num>) -> i128
     }
 }
 
-/// The number, or its opposite where the order is descending.
+/// Returns the number, or its negation if the order is descending.
 fn turned(down: bool, n: &Num) -> i128
     ensures { result ≡ rank_value down (Some n.now) }
 {

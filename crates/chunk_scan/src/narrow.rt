@@ -6,10 +6,11 @@ ghost use Rattle.value_rules.specs.Truth.{compares};
 
 use sky_vector::limits::PART_MOST;
 
-/// The first number above all parts of a position.
+/// The first number above all components of a position.
 const ABOVE: i64 = PART_MOST as i64 + 1;
 
-/// A number of 32 bits that no part of a position says from n: n itself, or one beyond all parts on the side of n.
+/// Returns a number of 32 bits that compares with each component of a position as n does: n itself, or a number beyond
+/// all components on the side of n.
 #[tactic(auto, using(crate::proofs::Beyond::above_alike, crate::proofs::Beyond::below_alike))]
 pub(crate) fn narrow(n: i64) -> i32
     ensures compares { (op : Cmp) (part : ℤ) → IsWithin part

@@ -1,4 +1,4 @@
-//! What a group keeps for an aggregate: the part that its rows make, which are adjacent in the lists of values.
+//! The aggregate states of a group, computed from its rows, which are adjacent in the lists of values.
 
 ghost use Rattle.std.specs.Prelude.{◌≡◌, ◌-◌, ◌++◌, ◌∷◌, [], ◌≤◌, All, List, OnOk, Some, length, map, slice_range};
 ghost use Rattle.table_rules.specs.Objects.{Obj};
@@ -13,8 +13,9 @@ use column_eval::ValueList;
 use partial_merge::Tally;
 use sky_io::Memory;
 
-/// The parts of the rows from one place up to another, for these aggregates, in place of what the list held. `worths`
-/// has for each aggregate the values of its expression on all rows. Allocates memory only where the list held fewer.
+/// Replaces what the list holds by the aggregate states of these aggregates over the rows from index `from` to before
+/// index `to`. For each aggregate, `worths` has the values of its expression on all rows. Allocates memory only if the
+/// list held fewer.
 pub(crate) fn fill(
     parts: &mut Vec<Tally>,
     items: &[ChunkItem],
@@ -37,14 +38,15 @@ pub(crate) fn fill(
     Ok(())
 }
 
-/// Appends the part.
+/// Appends the aggregate state.
 fn push(parts: &mut Vec<Tally>, part: Tally) -> Result<(), Memory>
     ensures { OnOk result (parts.new.items ≡ parts.old.items ++ part ∷ []) }
 {
     Ok(parts.push(part)?)
 }
 
-/// The part of the rows from one place up to another; NULL is not counted, and COUNT(*) counts the rows.
+/// Returns the aggregate state of the rows from index `from` to before index `to`. NULL is not counted, and COUNT(*)
+/// counts the rows.
 fn part(item: &ChunkItem, worth: &Option<ValueList<'_>>, from: usize, to: usize) -> Tally
     requires order { from ≤ to }
     requires few { to ≤ ROWS_MOST }
@@ -61,7 +63,7 @@ fn part(item: &ChunkItem, worth: &Option<ValueList<'_>>, from: usize, to: usize)
     }
 }
 
-/// The count of the values.
+/// Returns the count of the values.
 fn counted(worth: &Option<ValueList<'_>>, from: usize, to: usize) -> Tally
     requires order { from ≤ to }
     requires few { to ≤ ROWS_MOST }
@@ -74,7 +76,7 @@ fn counted(worth: &Option<ValueList<'_>>, from: usize, to: usize) -> Tally
     }
 }
 
-/// The count of the values and their sum.
+/// Returns the count of the values and their sum.
 fn summed(worth: &Option<ValueList<'_>>, from: usize, to: usize) -> Tally
     requires order { from ≤ to }
     requires few { to ≤ ROWS_MOST }
@@ -87,7 +89,8 @@ fn summed(worth: &Option<ValueList<'_>>, from: usize, to: usize) -> Tally
     }
 }
 
-/// The aggregate state of the values from one place up to another; of no values there is no sum.
+/// Returns the aggregate state of the values from index `from` to before index `to`. If there are no values, there is
+/// no sum.
 fn sum_of(found: &ValueList<'_>, from: usize, to: usize) -> Tally
     requires order { from ≤ to }
     requires few { to ≤ ROWS_MOST }
@@ -102,7 +105,7 @@ fn sum_of(found: &ValueList<'_>, from: usize, to: usize) -> Tally
     }
 }
 
-/// The count of the values and the least of them.
+/// Returns the count of the values and the least of them.
 fn least(worth: &Option<ValueList<'_>>, from: usize, to: usize) -> Tally
     requires order { from ≤ to }
     requires few { to ≤ ROWS_MOST }
@@ -115,7 +118,7 @@ fn least(worth: &Option<ValueList<'_>>, from: usize, to: usize) -> Tally
     }
 }
 
-/// The count of the values and the greatest of them.
+/// Returns the count of the values and the greatest of them.
 fn greatest(worth: &Option<ValueList<'_>>, from: usize, to: usize) -> Tally
     requires order { from ≤ to }
     requires few { to ≤ ROWS_MOST }

@@ -19,8 +19,8 @@ use sky_io::Memory;
 use sql_bound::BoundCond;
 use std::alloc::Global;
 
-/// A truth for each row of the chunk, in the order of its rows in the table: that the row meets all conditions of the
-/// query. Allocates memory for a truth and a place a row, and for what the evaluator needs.
+/// Returns a flag for each row of the chunk, in the order of its rows in the table: that the row meets all conditions
+/// of the query. Allocates memory for a flag and a row number for each row, and for what the evaluator needs.
 #[tactic(auto, using(crate::proofs::Found::block_few))]
 pub fn mask(
     alloc: Global,
@@ -39,7 +39,7 @@ pub fn mask(
     mask_over(alloc, store.block(chunk), query.conds.as_slice())
 }
 
-/// The mask of a block: which of its rows meet the conditions.
+/// Returns the mask of a block: which of its rows meet the conditions.
 #[tactic(auto, using(crate::proofs::Masks::mask_is))]
 fn mask_over(alloc: Global, block: &Block, conds: &[BoundCond]) -> Result<Vec<bool>, Memory>
     requires few { length block.now.objects < 2 ^ 32 }
@@ -55,7 +55,7 @@ fn mask_over(alloc: Global, block: &Block, conds: &[BoundCond]) -> Result<Vec<bo
     Ok(mask)
 }
 
-/// Makes the mask true at these places.
+/// Makes the mask true on the rows with these numbers.
 fn set_at(mask: &mut [bool], places: &[u32])
     requires { All (λ place. place < length mask.old) places.now }
     ensures len { length mask.new ≡ length mask.old }

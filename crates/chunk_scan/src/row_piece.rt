@@ -1,8 +1,8 @@
 //! The piece of a chunk query of rows.
 //!
-//! The values that rows are ordered by are computed a column at a time. With a LIMIT n most rows come after n others
-//! and are skipped by these alone; the items are computed of those that are kept. Without one all rows are kept, and
-//! the items too are computed a column at a time.
+//! The order keys are computed a column at a time. With a LIMIT n most rows come after n others and are skipped by
+//! their order keys alone. The items are computed only for the other rows. Without a LIMIT all rows are kept, and the
+//! items too are computed a column at a time.
 
 ghost use Rattle.std.specs.Prelude.{◌≡◌, ◌+◌, ◌<◌, All, IfOk, length};
 ghost use Rattle.sky_row.specs.Columns.{objects_at};
@@ -22,8 +22,8 @@ use sky_io::Memory;
 use sky_row::Rows;
 use std::alloc::Global;
 
-/// The piece of the rows at these places among those of the chunk. Allocates memory for what the piece keeps, for a few
-/// words an item, and where the scratch has no vector with enough room.
+/// Returns the piece of the selected rows of the chunk. Allocates memory for what the piece keeps, and for a few
+/// machine words an item. Allocates each vector that the scratch does not have with enough room.
 pub(crate) fn row_piece<'w>(
     alloc: Global,
     block: &Block,

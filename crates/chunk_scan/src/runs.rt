@@ -1,4 +1,4 @@
-//! Where groups begin among rows that follow one another.
+//! Where runs begin among adjacent rows: at each row whose key differs from that of the row before.
 
 ghost use Rattle.std.specs.Prelude.{◌≡◌, ◌+◌, ◌<◌, ◌≤◌, ℕ, All, IfOk, IsTrue, false, get_or, length, map, pos};
 ghost use Rattle.std.specs.List.{list_all};
@@ -13,7 +13,8 @@ use sky_io::Memory;
 use sky_row::Column;
 use sql_bound::BoundCol;
 
-/// For each row a truth, in a vector of the scratch: false only where its key is that of the row before it.
+/// Returns a flag for each row, in a vector of the scratch. The flag is false only if the row's key is that of the row
+/// before it.
 pub(crate) fn starts(
     block: &Block,
     keys: &[BoundCol],
@@ -31,7 +32,7 @@ pub(crate) fn starts(
     Ok(starts)
 }
 
-/// Marks the rows whose key is another than that of the row before.
+/// Marks the rows whose key differs from that of the row before.
 fn mark_all(starts: &mut [bool], block: &Block, keys: &[BoundCol], places: &[u32])
     requires len { length starts.old ≡ length places.now }
     requires there { All (λ place. place < length block.now.objects) places.now }
@@ -44,7 +45,7 @@ fn mark_all(starts: &mut [bool], block: &Block, keys: &[BoundCol], places: &[u32
     }
 }
 
-/// Marks the rows whose value in a column is another than that of the row before.
+/// Marks the rows whose value in a column differs from that of the row before.
 fn mark(starts: &mut [bool], block: &Block, col: u32, places: &[u32])
     requires len { length starts.old ≡ length places.now }
     requires there { All (λ place. place < length block.now.objects) places.now }
@@ -61,7 +62,8 @@ fn mark(starts: &mut [bool], block: &Block, col: u32, places: &[u32])
     }
 }
 
-/// Marks where the extra column changes: its numbers or its validity. NULL and 0 share the number alone.
+/// Marks the rows at which the extra column changes: its numbers or its validity. NULL and 0 differ only in their
+/// validity.
 fn mark_further(starts: &mut [bool], column: &Column, places: &[u32])
     requires len { length starts.old ≡ length places.now }
     requires there { All (λ place. place < length column.now) places.now }
@@ -74,7 +76,7 @@ fn mark_further(starts: &mut [bool], column: &Column, places: &[u32])
     }
 }
 
-/// Marks where the numbers change.
+/// Marks the rows at which the numbers change.
 fn mark_wide(starts: &mut [bool], values: &[i64], places: &[u32])
     requires len { length starts.old ≡ length places.now }
     requires there { All (λ place. place < length values.now) places.now }
@@ -87,7 +89,7 @@ fn mark_wide(starts: &mut [bool], values: &[i64], places: &[u32])
     }
 }
 
-/// Marks where the numbers of 32 bits change.
+/// Marks the rows at which the numbers of 32 bits change.
 fn mark_narrow(starts: &mut [bool], values: &[i32], places: &[u32])
     requires len { length starts.old ≡ length places.now }
     requires there { All (λ place. place < length values.now) places.now }
@@ -100,7 +102,7 @@ fn mark_narrow(starts: &mut [bool], values: &[i32], places: &[u32])
     }
 }
 
-/// Marks where the truths change.
+/// Marks the rows at which the flags change.
 fn mark_presence(starts: &mut [bool], values: &[bool], places: &[u32])
     requires len { length starts.old ≡ length places.now }
     requires there { All (λ place. place < length values.now) places.now }
@@ -113,7 +115,7 @@ fn mark_presence(starts: &mut [bool], values: &[bool], places: &[u32])
     }
 }
 
-/// The number after that of the last row of the run that begins with this one.
+/// Returns the index after the last row of the run that begins at this index.
 pub(crate) fn run_end(starts: &[bool], from: usize) -> usize
     requires { from < length starts.now }
     ensures more { from < result }

@@ -1,26 +1,26 @@
-//! Vectors that are used again: what one scan no longer needs, the next one takes.
+//! Vectors that are reused: what one scan no longer needs, the next one takes.
 
 use column_eval::{Pool, Scratch as Columns};
 use std::alloc::Global;
 
-/// What scans use again from one chunk and one query to the next. It begins with nothing, and comes to hold of each
-/// kind as many vectors as a scan had at one time, each with room for the most rows that it was used for.
+/// What scans reuse from one chunk and one query to the next. It begins with no vectors. It comes to hold as many
+/// vectors of each kind as a scan used at one time. Each has room for the most rows that it was used for.
 #[derive(Drop)]
 pub struct Scratch {
-    /// What the evaluator uses again.
+    /// The vectors of the evaluator.
     pub(crate) columns: Columns,
-    /// Truths, of rows and of conditions.
+    /// Flags of rows and of conditions.
     pub(crate) flags: Pool<bool>,
     /// Values of a key column.
     pub(crate) cells: Pool<Option<i64>>,
-    /// Places of rows.
+    /// Row numbers.
     pub(crate) places: Pool<u32>,
-    /// Words that rows of one key are brought together by.
+    /// Packed keys, by which rows with the same key are brought together.
     pub(crate) words: Pool<u64>,
 }
 
 impl Scratch {
-    /// A scratch without vectors. Does not allocate.
+    /// Creates a scratch without vectors. Does not allocate.
     pub fn new(alloc: Global) -> Scratch {
         Scratch {
             columns: Columns::new(alloc),

@@ -1,7 +1,8 @@
-//! The places of the rows that meet all conditions of a query.
+//! The numbers of the rows that meet all conditions of a query.
 //!
-//! First each condition that a kernel knows clears a mask of all rows. Then the places that are left are listed, and each
-//! other condition is evaluated at these alone, and takes out those at which it does not hold.
+//! First a kernel clears a mask of all rows by each condition that is a vectorizable predicate. Then the numbers of the
+//! remaining rows are listed in a selection vector. Each other condition is evaluated on these rows alone, and removes
+//! those that do not meet it.
 ghost use Rattle.std.specs.Prelude.{◌≡◌, ◌+◌, ◌<◌, ◌≤◌, ◌^◌, ℕ, Bool, All, IfOk, IsTrue, OnOk, length, map, replicate, take, true, false};
 ghost use Rattle.std.specs.List.{filter, list_all};
 ghost use Rattle.lane_filter.specs.Tests.{places_of};
@@ -18,8 +19,8 @@ use lane_filter::picked;
 use sky_io::Memory;
 use sql_bound::BoundCond;
 
-/// The places, ascending, of the rows of the block that meet all of the conditions, in a vector of the scratch. It needs a
-/// truth and a place a row, and what the evaluator needs.
+/// Returns the numbers of the rows of the block that meet all conditions, ascending, in a vector of the scratch. Uses a
+/// flag and a row number for each row, and what the evaluator needs.
 #[tactic(auto, using(crate::proofs::Places::done_at_places, crate::proofs::Places::standing_places, crate::proofs::Places::there_places))]
 pub(crate) fn standing(
     block: &Block,
@@ -43,7 +44,8 @@ pub(crate) fn standing(
     Ok(places)
 }
 
-/// Lets the kernels clear the mask by each condition that they know, and returns which conditions are done with.
+/// Clears the mask by each condition that a kernel can evaluate. Returns for each condition whether it is completely
+/// evaluated.
 #[tactic(auto, using(crate::proofs::Narrowing::narrowed_none, crate::proofs::Narrowing::narrowed_more))]
 fn narrow_all(
     block: &Block,
@@ -67,7 +69,7 @@ fn narrow_all(
     Ok(done)
 }
 
-/// Lets a kernel clear the mask by the condition, if one knows it, and returns whether the condition is done with.
+/// Clears the mask by the condition, if a kernel can evaluate it. Returns whether it is completely evaluated.
 #[tactic(auto, using(crate::proofs::Narrowing::narrowed_by, crate::proofs::Narrowing::narrowed_not))]
 fn narrow_by(block: &Block, c: &BoundCond, mask: &mut [bool]) -> bool
     requires rows { length block.now.objects ≡ length mask.old }
@@ -84,7 +86,7 @@ fn narrow_by(block: &Block, c: &BoundCond, mask: &mut [bool]) -> bool
     }
 }
 
-/// The places at which the mask is true, ascending.
+/// Returns the numbers of the rows on which the mask is true, ascending.
 fn places_in(mask: &[bool], scratch: &mut Scratch) -> Result<Vec<u32>, Memory>
     requires { length mask.now < 2 ^ 32 }
     ensures { IfOk result (λ places. places.items ≡ places_of mask.now) }
@@ -95,7 +97,7 @@ fn places_in(mask: &[bool], scratch: &mut Scratch) -> Result<Vec<u32>, Memory>
     Ok(places)
 }
 
-/// Takes out the places at which a condition that is not done with does not hold.
+/// Removes the rows that do not meet some condition that is not completely evaluated.
 #[tactic(auto, using(crate::proofs::Places::rest_step, crate::proofs::Places::rest_end, crate::proofs::Places::done_rest))]
 fn keep_all(
     block: &Block,
@@ -119,7 +121,7 @@ fn keep_all(
     Ok(())
 }
 
-/// Takes out the places at which the condition does not hold, of which there is none where it is done with.
+/// Removes the rows that do not meet the condition. If it is completely evaluated, there are none.
 #[tactic(auto, using(crate::proofs::Places::all_stay))]
 fn keep_unless(
     done: bool,
@@ -143,7 +145,7 @@ fn keep_unless(
     }
 }
 
-/// Takes out the places at which the condition does not hold. After `Err` nothing has changed.
+/// Removes the rows that do not meet the condition. After `Err` nothing has changed.
 #[tactic(auto, using(crate::proofs::Places::held))]
 fn keep_holding(
     block: &Block,
@@ -163,7 +165,7 @@ fn keep_holding(
     Ok(())
 }
 
-/// Keeps the places at which the mask is true, in their order. Does not allocate.
+/// Keeps the row numbers at the positions at which the mask is true, in their order. Does not allocate.
 fn keep_true(places: &mut Vec<u32>, mask: &[bool])
     requires { length mask.now ≡ length places.old.items }
     ensures { (test : ℕ → Bool) → mask.now ≡ map test places.old.items
@@ -173,7 +175,8 @@ fn keep_true(places: &mut Vec<u32>, mask: &[bool])
     places.truncate(count);
 }
 
-/// Moves the places at which the mask is true to the beginning, in their order, and returns how many there are.
+/// Moves the row numbers at the positions at which the mask is true to the beginning, in their order. Returns how many
+/// there are.
 fn to_front(places: &mut [u32], mask: &[bool]) -> usize
     requires { length mask.now ≡ length places.old }
     ensures value { (test : ℕ → Bool) → mask.now ≡ map test places.old

@@ -1,7 +1,7 @@
-//! Numbers made of keys, and words of them: a number with a place after it.
+//! Numbers made of keys, and packed keys: a number followed by a row number.
 //!
-//! Rows of one key have one number. Rows of two keys may have one number, too: where a key ends is given by their
-//! values.
+//! Rows with the same key have the same number. Rows with different keys may have the same number too, so that a run
+//! ends where the values of keys differ.
 
 ghost use Rattle.std.specs.Prelude.{◌≡◌, ◌<◌, All, length, map};
 ghost use Rattle.sky_row.specs.Keys.{place_in};
@@ -9,23 +9,23 @@ ghost use Rattle.table_rules.specs.declared.limits.TheConstants.{ROWS_MOST};
 
 use table_rules::limits::ROWS_MOST;
 
-/// How many places a packed key can hold: it is a number times this, plus a place.
+/// A packed key is a number times this, plus a row number, which is below this.
 pub(crate) const PLACES: u64 = ROWS_MOST as u64;
 
-/// How many numbers it says apart.
+/// How many different numbers packed keys can hold.
 const NUMBERS: u64 = 1 << 42;
 
-/// By how much a number is stretched before the value of one more column is added: an odd number of 64 bits.
+/// The factor by which a number is multiplied before the value of one more column is added: an odd number of 64 bits.
 const STRETCH: u64 = 0x9e37_79b9_7f4a_7c15;
 
-/// The number of a key with one more column, of this value.
+/// Returns the number of a key with one more column, which has this value.
 fn mixed(number: u64, value: i64) -> u64 {
     number
         .wrapping_mul(STRETCH)
         .wrapping_add(value.cast_unsigned())
 }
 
-/// Adds the values of a column at these places to the numbers.
+/// Mixes the values of a column on the selected rows into the numbers.
 pub(crate) fn mix_wide(numbers: &mut [u64], values: &[i64], places: &[u32])
     requires len { length numbers.old ≡ length places.now }
     requires there { All (λ place. place < length values.now) places.now }
@@ -47,7 +47,7 @@ pub(crate) fn mix_narrow(numbers: &mut [u64], values: &[i32], places: &[u32])
     }
 }
 
-/// Mixes the values of a column of truths into the numbers.
+/// Mixes the values of a column of flags into the numbers.
 pub(crate) fn mix_presence(numbers: &mut [u64], values: &[bool], places: &[u32])
     requires len { length numbers.old ≡ length places.now }
     requires there { All (λ place. place < length values.now) places.now }
@@ -58,7 +58,7 @@ pub(crate) fn mix_presence(numbers: &mut [u64], values: &[bool], places: &[u32])
     }
 }
 
-/// The word of a number, of which the high bits are lost, and a place.
+/// Returns the packed key of a number, whose high bits are lost, and a row number.
 fn word_of(number: u64, place: u32) -> u64
     requires { place < ROWS_MOST }
     ensures { place_in result ≡ place }
@@ -66,7 +66,7 @@ fn word_of(number: u64, place: u32) -> u64
     number % NUMBERS * PLACES + u64::from(place)
 }
 
-/// Puts the places after the numbers.
+/// Makes packed keys of the numbers and these row numbers.
 pub(crate) fn put_places(numbers: &mut [u64], places: &[u32])
     requires len { length numbers.old ≡ length places.now }
     requires few { All (λ place. place < ROWS_MOST) places.now }
@@ -77,7 +77,7 @@ pub(crate) fn put_places(numbers: &mut [u64], places: &[u32])
     }
 }
 
-/// Puts the places of the words in the place of these.
+/// Writes the row numbers of the packed keys to `places`.
 pub(crate) fn take_places(words: &[u64], places: &mut [u32])
     requires len { length words.now ≡ length places.old }
     ensures { places.new ≡ map place_in words.now }

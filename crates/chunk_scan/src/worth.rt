@@ -1,4 +1,4 @@
-//! The values that the aggregates of a grouped query go over, a column at a time.
+//! The values of the expressions that a grouped query aggregates, a column at a time.
 
 ghost use Rattle.std.specs.Prelude.{◌≡◌, ◌+◌, ◌++◌, ◌∷◌, [], ◌<◌, All, IfOk, IsTrue, OnOk, Some, false, length, map};
 ghost use Rattle.std.specs.List.{list_all};
@@ -16,9 +16,9 @@ use sky_io::Memory;
 use sql_bound::BoundExpr;
 use std::alloc::Global;
 
-/// For each of these aggregates the values of its expression on the rows at these places, `listed` where they are read
-/// run by run; COUNT(*) has none. Allocates memory for a list of them, and where the scratch has no vector with enough
-/// room.
+/// Returns for each of these aggregates the values of its expression on the selected rows. The values are `listed` if
+/// they are read run by run. COUNT(*) has none. Allocates memory for a list of them. Allocates each vector that the
+/// scratch does not have with enough room.
 pub(crate) fn worths<'a>(
     alloc: Global,
     block: &'a Block,
@@ -59,7 +59,7 @@ pub(crate) fn give_back(worths: Vec<Option<ValueList<'_>>>, scratch: &mut Scratc
     }
 }
 
-/// The values of the aggregate's expression, if it has one.
+/// Returns the values of the aggregate's expression, if it has one.
 fn worth<'a>(
     block: &'a Block,
     item: &ChunkItem,
@@ -82,7 +82,7 @@ fn worth<'a>(
     }
 }
 
-/// The values of an expression.
+/// Returns the values of an expression.
 fn of_expr<'a>(
     block: &'a Block,
     e: &BoundExpr,

@@ -1,5 +1,5 @@
-//! What a text evaluates to as a query over a table: the shape, how many items, conditions, area tests and id tests
-//! there are, the order and the limit; or its first fault.
+//! What a text is as a query over a table: its shape, the numbers of its items, conditions, area tests and id tests,
+//! its order and its limit, or its first fault.
 use crate::told::{put_counted, put_number};
 use sky_io::{Put, Sink, Stop};
 use sky_row::Schema;
@@ -70,7 +70,7 @@ fn put_limit<K: Sink>(sink: &mut K, limit: &Option<Int>) -> Put {
     }
 }
 
-// Writes what a bound query is: its shape, the counts of its parts, its order and its limit.
+// Writes a bound query: its shape, the numbers of its parts, its order and its limit.
 fn put_query<K: Sink>(sink: &mut K, bound: &Bound) -> Put {
     if put_shape(sink, &bound.shape) == Put::Failed {
         return Put::Failed;
@@ -84,7 +84,7 @@ fn put_query<K: Sink>(sink: &mut K, bound: &Bound) -> Put {
     put_limit(sink, &bound.limit)
 }
 
-// Writes words and the bytes where a fault is.
+// Writes words and the bytes that a fault is at.
 fn put_span<K: Sink>(sink: &mut K, words: &[u8], span: Span) -> Put {
     match put_number(sink, words, i128::from(span.from)) {
         Put::Failed => Put::Failed,
@@ -92,7 +92,7 @@ fn put_span<K: Sink>(sink: &mut K, words: &[u8], span: Span) -> Put {
     }
 }
 
-// Writes a fault, with the bytes where it is.
+// Writes a fault, with the bytes that it is at.
 fn put_fault<K: Sink>(sink: &mut K, fault: BindFault) -> Put {
     match fault {
         BindFault::JoinForm => sink.put(b"not the form of a join"),
@@ -104,7 +104,8 @@ fn put_fault<K: Sink>(sink: &mut K, fault: BindFault) -> Put {
     }
 }
 
-// Writes what a query evaluates to: it is borrowed here, as in the next two, so that each tree is dropped at one place.
+// Writes a bound query, or its first fault. The result is borrowed here, as in the next two functions, so that each
+// tree is dropped in one place.
 fn put_answer<K: Sink>(sink: &mut K, answer: &Result<Bound, Stop<BindFault>>) -> Put {
     match answer {
         Ok(bound) => put_query(sink, bound),
@@ -113,7 +114,7 @@ fn put_answer<K: Sink>(sink: &mut K, answer: &Result<Bound, Stop<BindFault>>) ->
     }
 }
 
-// Writes what a query evaluates to over a table.
+// Writes what a query is over a table.
 fn put_over<K: Sink>(sink: &mut K, alloc: Global, schema: &Schema, query: &Query) -> Put {
     let answer = bind(alloc, query, schema);
     let put = put_answer(sink, &answer);
@@ -121,7 +122,7 @@ fn put_over<K: Sink>(sink: &mut K, alloc: Global, schema: &Schema, query: &Query
     put
 }
 
-// Writes what is read of a text evaluates to over a table.
+// Writes what a text that has been read is over a table.
 fn put_read<K: Sink>(
     sink: &mut K,
     alloc: Global,
@@ -134,7 +135,7 @@ fn put_read<K: Sink>(
     }
 }
 
-/// Writes what a text evaluates to over a table.
+/// Writes what a text is over a table.
 pub(crate) fn put_bound<K: Sink>(sink: &mut K, alloc: Global, schema: &Schema, text: &[u8]) -> Put {
     if text.len() > QUERY_TEXT_MOST {
         return sink.put(b"too long");

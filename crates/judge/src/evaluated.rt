@@ -1,4 +1,4 @@
-//! Turns of the evaluator of columns, over expressions that are bound as those of any query.
+//! Runs of the column evaluator, over expressions that are bound as those of any query.
 ghost use Rattle.std.specs.Prelude.{◌≡◌, ◌<◌, ◌≤◌, ◌+◌, false, All, IfSome, IsTrue, length};
 ghost use Rattle.text_rules.specs.declared.limits.TheConstants.{QUERY_TEXT_MOST};
 ghost use Rattle.value_rules.specs.Sound.{has_col, is_sound_cond, is_sound_expr, IsSound};
@@ -16,7 +16,7 @@ use sql_tree::Query;
 use std::alloc::Global;
 use table_rules::limits::ROWS_MOST;
 
-// A query over the schema, if it fits it and there is memory.
+// Returns the query bound over the schema, if it fits the schema and memory is left.
 fn bound_over(alloc: Global, schema: &Schema, query: &Query) -> Option<Bound>
     requires { HasCounts query.now }
     ensures { IfSome result (IsSound (FIRST_COLUMNS + length schema.now)) }
@@ -24,7 +24,7 @@ fn bound_over(alloc: Global, schema: &Schema, query: &Query) -> Option<Bound>
     bind(alloc, query, schema).ok()
 }
 
-// A text as a query, if it is one and there is memory.
+// Returns the query that a text is, if it is one and memory is left.
 fn query_of(alloc: Global, text: &[u8]) -> Option<Query>
     requires { length text.now ≤ QUERY_TEXT_MOST }
     ensures { IfSome result HasCounts }
@@ -32,7 +32,7 @@ fn query_of(alloc: Global, text: &[u8]) -> Option<Query>
     read(alloc, text).ok()
 }
 
-// A text as a query over the schema, if it is one that fits it and there is memory.
+// Returns the query that a text is over the schema, if it is one, fits the schema and memory is left.
 fn bound_by(alloc: Global, schema: &Schema, text: &[u8]) -> Option<Bound>
     requires { length text.now ≤ QUERY_TEXT_MOST }
     ensures { IfSome result (IsSound (FIRST_COLUMNS + length schema.now)) }
@@ -43,7 +43,8 @@ fn bound_by(alloc: Global, schema: &Schema, text: &[u8]) -> Option<Bound>
     bound
 }
 
-// Whether the condition is true of the row of the turn's number, of its truths at all places.
+// Evaluates the condition on the selected rows. Returns whether it is true on the one whose index is the run's number
+// modulo 4,096.
 fn is_true_in(
     block: &Block,
     c: &BoundCond,
@@ -61,7 +62,7 @@ fn is_true_in(
     Ok(is_true)
 }
 
-// The turns in which it is true.
+// Returns the number of runs in which the condition is true.
 fn true_turns(
     block: &Block,
     c: &BoundCond,
@@ -81,7 +82,7 @@ fn true_turns(
     Ok(found)
 }
 
-// Writes the truth of the only condition of a query.
+// Returns the number of runs in which the only condition of a query of rows is true, and `None` for any other query.
 fn turns_of(
     block: &Block,
     bound: &Bound,
@@ -98,7 +99,8 @@ fn turns_of(
     }
 }
 
-/// The turns in which `flux*2+kind>7` is true of the row of the turn's number, of its truths at all places.
+/// Returns the number of runs in which `flux*2+kind>7` is true on the selected row whose index is the run's number
+/// modulo 4,096. Each run evaluates it on all selected rows.
 pub(crate) fn truths_taken(
     alloc: Global,
     schema: &Schema,
@@ -119,7 +121,7 @@ pub(crate) fn truths_taken(
     taken
 }
 
-// The sum of the values, without the NULLs. There are never more of them than rows of a catalogue.
+// Returns the sum of the values, without NULL. There are never more values than rows of a catalogue.
 fn total(values: &ValueList<'_>) -> i128 {
     if values.len() <= ROWS_MOST {
         values.sum(0, values.len())
@@ -128,7 +130,7 @@ fn total(values: &ValueList<'_>) -> i128 {
     }
 }
 
-// The sum of the expression at the places.
+// Returns the sum of the expression on the selected rows.
 fn sum_at(
     block: &Block,
     e: &BoundExpr,
@@ -145,7 +147,7 @@ fn sum_at(
     Ok(sum)
 }
 
-// The sum of it in all turns.
+// Returns the total of these sums over all runs.
 fn sum_of_turns(
     block: &Block,
     e: &BoundExpr,
@@ -165,7 +167,7 @@ fn sum_of_turns(
     Ok(found)
 }
 
-// Writes the value of the only item of a query.
+// Returns the total of the sums of the only item of a query of rows, and `None` for any other query.
 fn sums_of(
     block: &Block,
     bound: &Bound,
@@ -184,7 +186,7 @@ fn sums_of(
     }
 }
 
-/// The sum in all turns of flux at the places.
+/// Returns the total over all runs of the sum of flux on the selected rows.
 pub(crate) fn summed(
     alloc: Global,
     schema: &Schema,

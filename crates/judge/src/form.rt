@@ -21,7 +21,7 @@ pub(crate) enum Form {
     Kernel,
 }
 
-// The table with these extra columns, if each can be one.
+// Returns the schema with these extra columns, if each can be one.
 fn schema_of(alloc: Global, columns: SplitWhitespace<'_>) -> Option<Schema> {
     let mut schema = Schema::new(alloc);
     for column in columns {
@@ -32,7 +32,7 @@ fn schema_of(alloc: Global, columns: SplitWhitespace<'_>) -> Option<Schema> {
     Some(schema)
 }
 
-// The plan that a file says.
+// Returns the plan that a file describes.
 fn plan_of<S: Shelf>(shelf: &mut S, alloc: Global, name: &str) -> Option<SkyPlan> {
     let mut text = Vec::new(alloc);
     match shelf.fetch(name, SKY_TEXT_MOST, &mut text) {
@@ -41,7 +41,7 @@ fn plan_of<S: Shelf>(shelf: &mut S, alloc: Global, name: &str) -> Option<SkyPlan
     }
 }
 
-/// The way of evaluation that words name, if they name one.
+/// Returns the way of evaluation that the words of a command name, if they name one.
 pub(crate) fn form_of<S: Shelf>(shelf: &mut S, alloc: Global, words: &str) -> Option<Form> {
     let mut words = words.split_whitespace();
     let form = words.next()?;

@@ -1,8 +1,8 @@
-//! A kernel that is run over the same rows as often as a line says, so that a program outside can measure one turn as
-//! the difference of two counts.
+//! Kernels that are run many times over the same rows, as often as a line says. So another program can measure one run
+//! as the difference of two measurements.
 //!
-//! The rows are the first 4,096 that the demo draws from the number 1. Each turn begins anew, and something of each is
-//! added to what is reported, so that none can be left out.
+//! The rows are the first 4,096 that the demo draws from the seed 1. Each run starts anew. A part of its result is
+//! added to the number that is written, so that no run can be left out.
 ghost use Rattle.std.specs.Prelude.{◌≡◌, ◌<◌, ◌^◌, All, IfOk, length};
 
 use crate::evaluated::{summed, truths_taken};
@@ -16,13 +16,13 @@ use sky_vector::Pos;
 use sql_bound::Cmp;
 use std::alloc::Global;
 
-/// How many rows there are.
+/// The number of rows.
 const ROWS: u32 = 4096;
 
-/// The number of the column flux, from 0 to 99,999 in each row.
+/// The number of the column flux, which is from 0 to 99,999 in each row.
 const FLUX: u32 = 4;
 
-// What is run.
+// The kernels that can be run.
 #[derive(Clone, Copy)]
 enum Kernel {
     Keep,
@@ -35,7 +35,7 @@ enum Kernel {
     Sum,
 }
 
-// The kernel of a name, if there is one.
+// Returns the kernel with a name, if there is one.
 fn kernel_of(name: &[u8]) -> Option<Kernel> {
     match name {
         b"keep" => Some(Kernel::Keep),
@@ -50,7 +50,7 @@ fn kernel_of(name: &[u8]) -> Option<Kernel> {
     }
 }
 
-/// The numbers below the count that the step divides, ascending.
+/// Returns the numbers below the count that are divisible by the step, ascending.
 fn places_below(alloc: Global, count: u32, step: u32) -> Result<Vec<u32>, Memory>
     requires { 0 < step }
     ensures { IfOk result (λ places. All (λ place. place < count) places.items) }
@@ -64,7 +64,7 @@ fn places_below(alloc: Global, count: u32, step: u32) -> Result<Vec<u32>, Memory
     Ok(places)
 }
 
-// Clears the mask by a kernel that does so.
+// Clears the mask by a kernel, if it is one that clears masks.
 fn clear(kernel: Kernel, block: &Block, mask: &mut [bool])
     requires wide { 0 < block.now.width }
     requires rows { length mask.old ≡ length block.now.objects }
@@ -87,7 +87,7 @@ fn clear(kernel: Kernel, block: &Block, mask: &mut [bool])
     }
 }
 
-// How often the row of a turn's number is left by the kernel, of the whole mask.
+// Returns in how many runs the kernel leaves the row of the run's number, modulo 4,096, in a mask of all rows.
 fn cleared(alloc: Global, kernel: Kernel, block: &Block, times: u32) -> Result<i128, Memory>
     requires { 0 < block.now.width }
 {
@@ -102,7 +102,7 @@ fn cleared(alloc: Global, kernel: Kernel, block: &Block, times: u32) -> Result<i
     Ok(left)
 }
 
-// How many rows are picked in all turns, of a mask that is true where flux is below 50,000.
+// Returns how many rows are picked in all runs, from a mask that is true on the rows with flux below 50,000.
 fn picked_in_all(alloc: Global, block: &Block, times: u32) -> Result<i128, Memory>
     requires wide { 0 < block.now.width }
     requires few { length block.now.objects < 2 ^ 32 }
@@ -118,7 +118,7 @@ fn picked_in_all(alloc: Global, block: &Block, times: u32) -> Result<i128, Memor
     Ok(found)
 }
 
-// What the turns of the truths evaluates to, at all places.
+// Returns the result of the runs of the condition, on all rows.
 fn truths_of_all(
     alloc: Global,
     schema: &Schema,
@@ -133,7 +133,7 @@ fn truths_of_all(
     truths_taken(alloc, schema, block, places.as_slice(), times)
 }
 
-// What the turns of the sum evaluates to, at every second place.
+// Returns the result of the runs of the sum, on every second row.
 fn sum_of_half(
     alloc: Global,
     schema: &Schema,
@@ -148,7 +148,7 @@ fn sum_of_half(
     summed(alloc, schema, block, places.as_slice(), times)
 }
 
-// What the turns of a kernel evaluates to over a block of rows with the schema.
+// Returns the result of the runs of a kernel over a block of rows with the schema.
 fn run_over(
     alloc: Global,
     kernel: Kernel,
@@ -170,7 +170,7 @@ fn run_over(
     }
 }
 
-// The block of all rows.
+// Returns the block of all rows.
 fn block_of(alloc: Global, rows: &Rows) -> Result<Block, Memory>
     ensures { IfOk result (λ block. block.width ≡ length rows.now.names) }
 {
@@ -180,7 +180,8 @@ fn block_of(alloc: Global, rows: &Rows) -> Result<Block, Memory>
     block
 }
 
-// What the turns of a kernel evaluates to over rows: they are borrowed here, so that they are dropped at one place.
+// Returns the result of the runs of a kernel over these rows. The rows are borrowed here, so that they are dropped in
+// one place.
 fn run_rows(alloc: Global, kernel: Kernel, rows: &Rows, times: u32) -> Result<Option<i128>, Memory>
     requires { 0 < length rows.now.names }
 {
@@ -190,7 +191,7 @@ fn run_rows(alloc: Global, kernel: Kernel, rows: &Rows, times: u32) -> Result<Op
     told
 }
 
-// What the turns of a kernel evaluates to.
+// Returns the result of the runs of a kernel.
 fn run(alloc: Global, kernel: Kernel, times: u32) -> Result<Option<i128>, Memory> {
     let rows = rows_of(alloc, ROWS, 1)?;
     let told = run_rows(alloc, kernel, &rows, times);
@@ -198,7 +199,7 @@ fn run(alloc: Global, kernel: Kernel, times: u32) -> Result<Option<i128>, Memory
     told
 }
 
-// The kernel and the count of turns on a line.
+// Returns the kernel and the number of runs on a line.
 fn asked(line: &[u8]) -> Option<(Kernel, u32)> {
     let mut words = line.split(|b| *b == b' ');
     let kernel = kernel_of(words.next()?)?;
@@ -206,7 +207,7 @@ fn asked(line: &[u8]) -> Option<(Kernel, u32)> {
     Some((kernel, times))
 }
 
-/// Writes what the turns of a line's kernel evaluates to.
+/// Writes the result of the runs of a line's kernel.
 pub(crate) fn put_run<K: Sink>(sink: &mut K, alloc: Global, line: &[u8]) -> Put {
     let Some((kernel, times)) = asked(line) else {
         return sink.put(b"no kernel");

@@ -1,19 +1,21 @@
-//! Evaluates texts, positions and kernels: for each line of standard input a line. A line `judge FORM` gives none: it says
-//! how those after it are evaluated. FORM is one of
+//! Evaluates each line of standard input, as a text, a position or a kernel, and writes a line for each.
+//!
+//! A line `judge COMMAND` writes nothing: it says how the lines after it are evaluated. COMMAND is one of
 //!
 //! - `read`: `query`, or the first fault of the text;
 //! - `print`: the printed text of the query, or the first fault of the text;
-//! - `bind COLUMN ..`: what the text evaluates to over a table with these extra columns, or its first fault there;
-//! - `place SKY`: where the position `x y z` lies by the sky plan of that file, `chunk C sub S near N N ..`;
-//! - `kernel`: what the given number of turns of a kernel evaluates to, from `NAME TURNS`.
+//! - `bind COLUMN ..`: what the text is as a query over a table with these extra columns, or its first fault there;
+//! - `place SKY`: the chunks of the position `x y z` in the sky plan of that file, as `chunk C sub S near N N ..`;
+//! - `kernel`: the result of running a kernel, from `NAME RUNS`.
 //!
-//! A line before the first of these, a FORM that is none of them and a line that isn't UTF-8 end it with status 1.
+//! The program ends with status 1 at a line before the first command, at any other COMMAND, and at a line that is not
+//! UTF-8.
 //!
-//! It is for checks from outside, as `scripts/random_queries.py` and `scripts/compare_places.py`, which find the same
-//! by ways of their own, and for `bench/kernels.py`, which measures turns. Below: `sql_reader` and `sql_print` for
-//! texts, `sql_bind` for queries, `sky_plan` and `overlap_tables` for positions, `lane_filter` and `column_eval` for
-//! kernels, over rows of `sky_generate`. Above: nothing, this is a program. No rows but the demo's and no clause on
-//! what it says: nothing is proved of that.
+//! It is for checks from outside: `scripts/random_queries.py` and `scripts/compare_places.py` compute the same results
+//! independently, and `bench/kernels.py` measures runs. Below: `sql_reader` and `sql_print` for texts, `sql_bind` for
+//! queries, `sky_plan` and `overlap_tables` for positions, `lane_filter` and `column_eval` for kernels, over rows of
+//! `sky_generate`. Above: nothing, this is a program. It has no rows but the demo's. No clause is about what it writes,
+//! so nothing is proved of that.
 #![tactic(auto)]
 
 mod bound;
@@ -34,7 +36,7 @@ use std::alloc::Global;
 use std::io;
 use std::process::ExitCode;
 
-// Writes what a line evaluates to, and ends the line.
+// Writes the result of a line, and ends the line.
 fn put_judged<K: Sink>(sink: &mut K, alloc: Global, form: &Form, line: &[u8]) -> Put {
     let put = match form {
         Form::Read => put_text(sink, alloc, line, false),
@@ -49,7 +51,7 @@ fn put_judged<K: Sink>(sink: &mut K, alloc: Global, form: &Form, line: &[u8]) ->
     }
 }
 
-// Writes what a line evaluates to, if a line before it has said how.
+// Writes the result of a line, if a command precedes it.
 fn put_by<K: Sink>(sink: &mut K, alloc: Global, form: &Option<Form>, line: &[u8]) -> Put {
     match form {
         Some(form) => put_judged(sink, alloc, form, line),
@@ -57,7 +59,7 @@ fn put_by<K: Sink>(sink: &mut K, alloc: Global, form: &Option<Form>, line: &[u8]
     }
 }
 
-// Takes the way of evaluation that a line names.
+// Sets the way of evaluation that a command names. The result is `Failed` if it names none.
 fn take_form(form: &mut Option<Form>, said: Option<Form>) -> Put {
     *form = said;
     if form.is_some() {
@@ -67,7 +69,7 @@ fn take_form(form: &mut Option<Form>, said: Option<Form>) -> Put {
     }
 }
 
-// Takes a line: a form, or a line that is judged.
+// Processes a line, which is a command or is evaluated.
 fn take_line<S: Shelf, K: Sink>(
     form: &mut Option<Form>,
     shelf: &mut S,
@@ -81,7 +83,7 @@ fn take_line<S: Shelf, K: Sink>(
     }
 }
 
-// Judges all lines, by the form that is before each.
+// Evaluates all lines, each by the last command before it.
 fn judge_lines<S: Shelf>(
     rt: &HostRuntime,
     form: &mut Option<Form>,
@@ -98,7 +100,7 @@ fn judge_lines<S: Shelf>(
     Ok(sink.flush_out())
 }
 
-// Judges all lines. No form is before the first.
+// Evaluates all lines. No command precedes the first.
 fn judge(rt: &HostRuntime, sink: &mut OutSink) -> io::Result<Put> {
     let mut shelf = FolderShelf::new(rt, rt.alloc());
     let mut form = None;

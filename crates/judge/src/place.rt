@@ -1,4 +1,4 @@
-//! Where a position lies.
+//! The chunk and the subchunk of a position, and the chunks that it is near.
 use crate::told::put_number;
 use overlap_tables::near_chunks;
 use sky_io::{Put, Sink};
@@ -7,12 +7,12 @@ use sky_text::read_int;
 use sky_vector::{Pos, length_ok};
 use std::alloc::Global;
 
-// The number that a word is, if it is one of 64 bits.
+// Returns the number that a word is, if it is one of 64 bits.
 fn number_of(word: &[u8]) -> Option<i64> {
     i64::try_from(read_int(word)?).ok()
 }
 
-// The position on a line: three numbers, parted by one blank each.
+// Returns the position on a line: three numbers, separated by one blank each.
 fn position_on(line: &[u8]) -> Option<Pos> {
     let mut words = line.split(|b| *b == b' ');
     let x = number_of(words.next()?)?;
@@ -24,7 +24,7 @@ fn position_on(line: &[u8]) -> Option<Pos> {
     Pos::new(x, y, z)
 }
 
-// Writes the chunks that are near.
+// Writes the chunks that the position is near.
 fn put_near<K: Sink>(sink: &mut K, near: &[u32]) -> Put {
     if sink.put(b" near") == Put::Failed {
         return Put::Failed;

@@ -7,7 +7,7 @@ use sql_tree::Query;
 use std::alloc::Global;
 use text_rules::limits::QUERY_TEXT_MOST;
 
-// Writes a fault, with the byte where it is.
+// Writes a fault, with the byte that it is at.
 fn put_fault<K: Sink>(sink: &mut K, fault: SqlFault) -> Put {
     match fault {
         SqlFault::BadByte { place } => put_number(sink, b"bad byte ", i128::from(place)),
@@ -27,7 +27,7 @@ fn put_read<K: Sink>(sink: &mut K, query: &Query, prints: bool) -> Put {
     }
 }
 
-// Writes what was read of a text: it is borrowed here, so that its tree is dropped at one place.
+// Writes what was read of a text. The result is borrowed here, so that its tree is dropped in one place.
 fn put_answer<K: Sink>(sink: &mut K, answer: &Result<Query, Stop<SqlFault>>, prints: bool) -> Put {
     match answer {
         Ok(query) => put_read(sink, query, prints),

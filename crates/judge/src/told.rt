@@ -1,4 +1,4 @@
-//! Words and the numbers after them.
+//! Words, and the numbers after them or before them.
 use sky_io::{Put, Sink};
 use sky_text::put_int;
 

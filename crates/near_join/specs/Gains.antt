@@ -1,4 +1,4 @@
--- What a step of a join puts into the piece.
+-- What a step of a join pushes into the piece.
 use Rattle.std.specs.Prelude.{◌≡◌, ℤ, Bool, List, [], ◌∷◌, Option, ◌++◌, ◌&&◌, if◌then◌else◌, map}
 use Rattle.std.specs.List.{filter, flat_map}
 use Rattle.table_rules.specs.Objects.{Obj}
@@ -22,7 +22,7 @@ lines_for cq pairs = map (out_row (chunk_lines cq)) pairs
 abbrev pub with_cells : List (Option ℤ) → OutRow → OutRow
 with_cells cells r = record { class = r.class; value = r.value; first = r.first; second = r.second; cells = cells }
 
--- the piece is of rows, and adds those of these pairs: the first n of both are kept
+-- the piece is of rows, and the new one keeps the first n of its rows and those of these pairs
 abbrev pub Gains : ChunkQuery → List Pick → PieceView → PieceView → Type 0
 Gains cq ps (OfRows pushed rows) (OfRows limit kept) =
     (limit ≡ pushed) × KeepsFirst row_order pushed (rows ++ lines_for cq ps) kept
@@ -37,7 +37,7 @@ row_pairs cq limit others u = pairs_of (joins limit cq.conds) others u
 abbrev pub swept_pairs : ChunkQuery → ℤ → List Obj → List Obj → List Pick
 swept_pairs cq limit others rows = flat_map (row_pairs cq limit others) rows
 
--- of some rows those that the bounds hold
+-- the rows that are within the bounds
 abbrev pub held_rows : Bounds → List Obj → List Obj
 held_rows bounds rows = filter (λ o. in_bounds bounds o.at) rows
 
@@ -45,11 +45,11 @@ held_rows bounds rows = filter (λ o. in_bounds bounds o.at) rows
 abbrev pub if_met : List BoundCond → Obj → Obj → List Pick
 if_met conds u v = if meets conds (pair u v) then pair u v ∷ [] else []
 
--- the pair of two rows that join, if the first is one that is held
+-- the pair of two rows that join, if the first is held
 abbrev pub way : ChunkQuery → ℤ → Bool → Obj → Obj → List Pick
 way cq limit held u v = if held && joins limit cq.conds u v then pair u v ∷ [] else []
 
--- the pair of two rows that join, if the bounds hold the first
+-- the pair of two rows that join, if the first is within the bounds
 abbrev pub held_pair : ChunkQuery → ℤ → Bounds → Obj → Obj → List Pick
 held_pair cq limit bounds u v = way cq limit (in_bounds bounds u.at) u v
 

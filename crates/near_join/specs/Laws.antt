@@ -1,4 +1,4 @@
--- The lemmas of the join: subchunk by subchunk, with the overlap of each, no pair is missed and none comes twice.
+-- The lemmas of the join: subchunk by subchunk, with the overlap of each, no pair is missed and none is found twice.
 use Rattle.std.specs.Prelude.{ℕ, ℤ, pos, int_le, ◌<◌, ◌≤ℤ◌, ◌++◌, List, [], ◌∷◌, map}
 use Rattle.std.specs.List.{filter, flat_map, range_with_len}
 use Rattle.std.specs.List.Sorted.{IsPermutation}
@@ -16,8 +16,8 @@ use Rattle.chunk_rules.specs.Places.{rows_at}
 use Rattle.chunk_store.specs.Places.{sub_rows, sub_overlap_rows}
 use Rattle.near_join.specs.Walk.{joins, walked_pairs}
 
--- the walk over a chunk's subchunks finds the pairs whose first row the chunk holds, each once, if the limit is at most
--- the square of the chunk's overlap radius
+-- if the limit is at most the square of the chunk's overlap radius, the walk over its subchunks finds the pairs whose
+-- first row the chunk holds, each once
 abbrev pub WalkFindsAll : Type 0
 WalkFindsAll =
     (g : Partition) (table : List Obj) (limit : ℤ) (conds : List BoundCond) (c : ℕ) → IsSky g → AreInTheSky table
@@ -32,8 +32,9 @@ rows_beside g table c s = rows_at table (sub_rows g table c s ++ sub_overlap_row
 abbrev pub pairs_with : ℤ → List Obj → Obj → List Pick
 pairs_with limit others u = map (pair u) (filter (λ v. int_le (chord_squared u.at v.at) limit) others)
 
--- the pairs whose first row lies in a chunk are, each exactly once, those found by walking its subchunks, the rows of
--- each, and for each row the rows of that subchunk and of its overlap: over the lists that a store gives
+-- if the limit is at most the square of the chunk's overlap radius, the pairs whose first row is in the chunk are those
+-- that its subchunks find, each once: a subchunk finds the pairs of its rows with its rows and those of its overlap,
+-- over the lists that a store returns
 abbrev pub PairsOfSubs : Type 0
 PairsOfSubs =
     (g : Partition) (table : List Obj) (c : ℕ) (limit : ℤ) → IsSky g → AreInTheSky table → c < chunk_count g

@@ -1,4 +1,4 @@
--- Rows that are near enough to another one, and the pairs that they make.
+-- Rows that are near enough to another one, and the pairs that they are in.
 use Rattle.std.specs.Prelude.{◌≡◌, ◌<◌, ℤ, Bool, List, ◌++◌, length}
 use Rattle.std.specs.List.{flat_map}
 use Rattle.table_rules.specs.Objects.{Obj}
@@ -13,12 +13,12 @@ use Rattle.near_join.specs.Strips.{object_at}
 abbrev pub row_of : List Obj → Neighbour → Obj
 row_of objects n = object_at objects n.place
 
--- The table has a row at the place, and this is its id.
+-- The table has a row with the number, and its id is that of the neighbour.
 pub record IsRowOf (objects : List Obj) (n : Neighbour) : Type 0 where
   pub there : n.place < length objects
   pub id : n.id ≡ (row_of objects n).id
 
--- A neighbour, and whether the bounds hold its row.
+-- A neighbour, with the flag whether its row is within the bounds.
 pub record IsTold (objects : List Obj) (bounds : Bounds) (n : Neighbour) : Type 0 where
   pub row : IsRowOf objects n
   pub held : n.held ≡ in_bounds bounds (row_of objects n).at

@@ -1,4 +1,4 @@
--- Conditions that hold only of pairs whose first id is the lower one.
+-- Conditions that hold only for pairs whose first id is the lower one.
 use Rattle.std.specs.Prelude.{◌≡◌, ◌<ℤ◌, Bool, true, List, if◌then◌else◌, int_lt}
 use Rattle.table_rules.specs.Objects.{Obj}
 use Rattle.sql_bound.specs.declared.cond.BoundCond.{BoundCond}

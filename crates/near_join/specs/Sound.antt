@@ -1,4 +1,4 @@
--- What a chunk query over pairs asks of two rows: words by which its columns are there.
+-- What a chunk query over pairs computes of two rows: its columns are there.
 use Rattle.std.specs.Prelude.{ℤ, negsuc, Bool, true, IsTrue, Option, None, Some}
 use Rattle.std.specs.List.{list_all}
 use Rattle.sql_bound.specs.declared.expr.BoundCol.{BoundCol}
@@ -10,7 +10,7 @@ use Rattle.answer_rules.specs.declared.rewritten.ChunkItem.TheVariants.{Plain}
 use Rattle.answer_rules.specs.declared.rewritten.ChunkOrder.{ChunkOrder}
 use Rattle.answer_rules.specs.declared.rewritten.ChunkQuery.{ChunkQuery}
 
--- an expression of allowed columns; an aggregate is nothing that a row or a pair has
+-- the item is an expression of allowed columns, or an aggregate, which has no value on a row or a pair
 abbrev pub is_sound_item : (BoundCol → Bool) → ChunkItem → Bool
 is_sound_item allowed (Plain e) = is_sound_expr allowed e
 is_sound_item allowed i = true
@@ -20,13 +20,13 @@ abbrev pub is_sound_key : (BoundCol → Bool) → Option ChunkOrder → Bool
 is_sound_key allowed None = true
 is_sound_key allowed (Some order) = is_sound_expr allowed order.key
 
--- What a chunk query computes and asks of a pair that has the allowed columns.
+-- The items, the order key and the conditions of a chunk query use allowed columns only.
 pub record IsSoundLine (allowed : BoundCol → Bool) (cq : ChunkQuery) : Type 0 where
   pub items : IsTrue (list_all (is_sound_item allowed) cq.items)
   pub key : IsTrue (is_sound_key allowed cq.order)
   pub conds : IsTrue (list_all (is_sound_cond allowed) cq.conds)
 
--- the largest squared chord of a query over pairs
+-- the largest squared chord of a query over pairs, and -1 for any other
 abbrev pub limit_in : Shape → ℤ
 limit_in Rows = negsuc 0
 limit_in (Pairs limit) = limit

@@ -1,4 +1,4 @@
-//! What a sweep is asked: a query over pairs of rows of a table.
+//! The input of a sweep: a query over pairs of rows of a table.
 
 use crate::reach::Reach;
 use answer_rules::ChunkQuery;

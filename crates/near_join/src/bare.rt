@@ -1,5 +1,5 @@
-//! Whether a query is bare: it asks for the two ids of a pair and for no order, and its conditions are none, or the one that the
-//! first id is the lower one. What is found of a pair is then known from its ids, and no row is looked up for it.
+//! Bare queries: they select the two ids of a pair and have no order. Their only condition, if they have one, is that
+//! the first id is the lower one. Such a pair is computed from its ids alone, and no row is read for it.
 
 ghost use Rattle.std.specs.Prelude.{◌≡◌, ◌∷◌, [], IsTrue, None, Some, map};
 ghost use Rattle.table_rules.specs.Objects.{Obj};
@@ -13,14 +13,14 @@ use crate::rising::{is_id, is_rising};
 use answer_rules::{ChunkItem, ChunkOrder, ChunkQuery};
 use sql_bound::BoundCond;
 
-/// Whether the query is bare, if `rises` says whether the lower id has to come first.
+/// Returns true only if the query is bare. `rises` is whether the lower id has to come first.
 pub(crate) fn is_bare(query: &ChunkQuery, rises: bool) -> bool
     ensures { IsTrue result → IsBare rises query.now }
 {
     are_ids(query.items.as_slice()) && asks_no_more(query, rises)
 }
 
-/// Whether there is no order, and no condition beside that of the ids.
+/// Returns true only if there is no order, and no condition but that on the ids.
 fn asks_no_more(query: &ChunkQuery, rises: bool) -> bool
     ensures { IsTrue result → (query.now.order ≡ None) × ((u v : Obj) →
         meets query.now.conds (pair u v) ≡ is_upward rises u v) }
@@ -28,7 +28,7 @@ fn asks_no_more(query: &ChunkQuery, rises: bool) -> bool
     is_in_no_order(&query.order) && are_order_of_ids(query.conds.as_slice(), rises)
 }
 
-/// Whether the items are the id of the first row and that of the second.
+/// Returns true only if the items are the id of the first row and that of the second.
 fn are_ids(items: &[ChunkItem]) -> bool
     ensures { IsTrue result → (u v : Obj) → map (chunk_value (pair u v)) items.now
         ≡ Some u.id ∷ Some v.id ∷ [] }
@@ -39,7 +39,7 @@ fn are_ids(items: &[ChunkItem]) -> bool
     }
 }
 
-/// Whether the item is the id of the second row of a pair, or else of the first.
+/// Returns true only if the item is the id of the second row of a pair, or without `second` that of the first.
 fn is_id_item(item: &ChunkItem, second: bool) -> bool
     ensures { IsTrue result → (u v : Obj) → chunk_value (pair u v) item.now
         ≡ cell_of (pair u v) (id_of second) }
@@ -50,7 +50,7 @@ fn is_id_item(item: &ChunkItem, second: bool) -> bool
     }
 }
 
-/// Whether there is no order.
+/// Returns whether there is no order.
 fn is_in_no_order(order: &Option<ChunkOrder>) -> bool
     ensures { IsTrue result → order.now ≡ None }
 {
@@ -60,7 +60,7 @@ fn is_in_no_order(order: &Option<ChunkOrder>) -> bool
     }
 }
 
-/// Whether the conditions are none, or the one that the first id is the lower one, if it has to be.
+/// Returns true only if there is no condition, or if the lower id has to come first and the only condition says so.
 fn are_order_of_ids(conds: &[BoundCond], rises: bool) -> bool
     ensures { IsTrue result → (u v : Obj) → meets conds.now (pair u v) ≡ is_upward rises u v }
 {

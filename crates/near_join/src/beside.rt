@@ -1,5 +1,5 @@
-//! Whether a position is near the sides of a part of the sky, with no decision on the way: rows that are side by side
-//! in height lie in all directions, so that a decision would mostly be guessed wrong.
+//! Whether a position is near the sides of a part of the sky, computed without a branch. Rows that are adjacent in
+//! height are in all directions, so that a branch would mostly be mispredicted.
 
 ghost use Rattle.std.specs.Prelude.{◌≡◌, ◌≤◌, ◌||◌, int_le, int_lt, pos};
 ghost use Rattle.sky_vector.specs.Pos.{point};
@@ -10,7 +10,8 @@ ghost use Rattle.sky_plan.specs.Regions.{sides_shown};
 
 use sky_vector::{Dir, Pos, cross, within};
 
-/// Whether the position is at or past the first side or near it, and short of the second or near it. Does not allocate.
+/// Returns whether the position is at or past the first side or near it, and short of the second side or near it. Does
+/// not allocate.
 #[inline(always)]
 pub(crate) fn is_near(sides: Option<(Dir, Dir)>, radius: u32, p: &Pos) -> bool
     requires { radius ≤ OVERLAP_MOST }
@@ -22,7 +23,7 @@ pub(crate) fn is_near(sides: Option<(Dir, Dir)>, radius: u32, p: &Pos) -> bool
     }
 }
 
-/// Whether the position is at or past a direction, or near its line.
+/// Returns whether the position is at or past a direction, or near its line.
 #[inline(always)]
 fn is_past(side: &Dir, radius: u32, p: &Pos) -> bool
     requires { radius ≤ OVERLAP_MOST }
@@ -32,7 +33,7 @@ fn is_past(side: &Dir, radius: u32, p: &Pos) -> bool
     (cross(side, p) >= 0) | is_near_line(side, radius, p)
 }
 
-/// Whether the position is short of a direction, or near its line.
+/// Returns whether the position is short of a direction, or near its line.
 #[inline(always)]
 fn is_short(side: &Dir, radius: u32, p: &Pos) -> bool
     requires { radius ≤ OVERLAP_MOST }
@@ -42,7 +43,7 @@ fn is_short(side: &Dir, radius: u32, p: &Pos) -> bool
     (cross(side, p) < 0) | is_near_line(side, radius, p)
 }
 
-/// Whether the position is, in the plane, no farther than the radius from the line of a direction.
+/// Returns whether the position is, in the plane, no farther than the radius from the line of a direction.
 #[inline(always)]
 fn is_near_line(side: &Dir, radius: u32, p: &Pos) -> bool
     requires { radius ≤ OVERLAP_MOST }

@@ -1,4 +1,4 @@
-//! The pair of a bare query: its two ids are all that is computed of it, so that no row is looked up.
+//! The pair of a bare query: only its two ids are computed, so that no row is read.
 
 ghost use Rattle.std.specs.Prelude.{◌≡◌, OnOk, Some};
 ghost use Rattle.partial_merge.specs.Joining.{IsOfRows, TakesRow};
@@ -8,7 +8,7 @@ use partial_merge::{Piece, Rank};
 use sky_io::Memory;
 use sky_vector::Num;
 
-/// Puts a pair with these ids, which are all that is asked of it, into the piece.
+/// Pushes a pair with these ids, which are all that is computed of it, into the piece.
 pub(crate) fn push_line(piece: &mut Piece<'_>, first: i64, second: i64) -> Result<(), Memory>
     requires { IsOfRows piece.old }
     ensures { OnOk result (TakesRow piece.old (id_line first second) piece.new) }
@@ -22,7 +22,7 @@ pub(crate) fn push_line(piece: &mut Piece<'_>, first: i64, second: i64) -> Resul
     piece.push_row(&rank, &[id_value(first), id_value(second)])
 }
 
-/// The id as a value of a line.
+/// Returns the id as a value of a line.
 fn id_value(id: i64) -> Option<Num>
     ensures { result ≡ Some id }
 {

@@ -29,7 +29,7 @@ use sky_io::Memory;
 use sky_vector::Num;
 use std::alloc::Global;
 
-/// A chunk of a store that is joined: what is asked of its pairs, and the rows that its subchunks take theirs of.
+/// A chunk that is joined: the query over its pairs, and the rows from which its subchunks select theirs.
 #[derive(Drop)]
 struct Joined<'a> {
     store: &'a Store,
@@ -40,9 +40,9 @@ struct Joined<'a> {
     strip: &'a Strip,
 }
 
-/// What the chunk query finds over the pairs whose first row lies in the chunk. Allocates memory for the piece, for a
-/// sweep window of the chunk's rows and its full overlap, and for one of a subchunk's at a time; none for a row or a
-/// pair.
+/// Returns what the chunk query finds over the pairs whose first row is in the chunk. Allocates memory for the piece,
+/// and for the sweep window of the chunk's rows and its full overlap. It also allocates the sweep window of one
+/// subchunk at a time, and nothing for a single row or pair.
 pub fn join<'w>(
     alloc: Global,
     store: &'w Store,
@@ -77,7 +77,8 @@ pub fn join<'w>(
     Ok(piece)
 }
 
-/// What a store says of itself: its plan is within the limits, and its rows lie in the sky. Does not allocate.
+/// Makes invariants of a store visible to contracts: its plan is within the limits, and its rows are in the sky. Does
+/// not allocate.
 fn know(store: &Store)
     ensures plan { IsSky store.now.plan }
     ensures rows { AreInTheSky store.now.rows.objects }
@@ -86,11 +87,11 @@ fn know(store: &Store)
     let _ = store.rows().len();
 }
 
-/// How many rows a subchunk has to have, one with another, for the rows of each not to be listed: then few are empty, and to
-/// know which costs more than to look.
+/// If subchunks have at least this number of rows on average, their rows are not listed. Few subchunks are then empty,
+/// and listing costs more than it saves.
 const MANY: usize = 8;
 
-/// The rows of each of the chunk's subchunks, if they are few. Allocates memory for the lists.
+/// Returns the rows of each of the chunk's subchunks, if they are few. Allocates memory for the lists.
 fn few_rows(alloc: Global, store: &Store, chunk: u32) -> Result<Option<Lists>, Memory>
     requires { chunk < chunk_count store.now.plan }
     ensures { IfOk result (λ subs. IfSome subs (λ lists.
@@ -104,7 +105,7 @@ fn few_rows(alloc: Global, store: &Store, chunk: u32) -> Result<Option<Lists>, M
     }
 }
 
-/// Whether the subchunk is known to hold no row.
+/// Returns true only if the subchunk is known to hold no row.
 fn is_empty(store: &Store, chunk: u32, subs: &Option<Lists>, sub: u32) -> bool
     requires sub { sub < sub_count store.now.plan chunk }
     requires subs { IfSome subs.now (λ lists.
@@ -117,14 +118,14 @@ fn is_empty(store: &Store, chunk: u32, subs: &Option<Lists>, sub: u32) -> bool
     }
 }
 
-/// Whether the list has no place.
+/// Returns whether the list is empty.
 fn is_nothing(places: &[u32]) -> bool
     ensures { IsTrue result → places.now ≡ [] }
 {
     places.is_empty()
 }
 
-/// Puts the pairs of a subchunk into the piece, of its rows and the sweep window of its chunk.
+/// Pushes the pairs of a subchunk into the piece, found in the sweep window of its chunk.
 fn push_sub(
     alloc: Global,
     piece: &mut Piece<'_>,
@@ -156,7 +157,8 @@ fn push_sub(
     }
 }
 
-/// Puts the pairs of a subchunk into the piece, of those rows of the sweep window of its chunk that are near it.
+/// Pushes the pairs of a subchunk into the piece, found in those rows of the chunk's sweep window that are near the
+/// subchunk.
 fn push_near(
     alloc: Global,
     piece: &mut Piece<'_>,

@@ -1,12 +1,13 @@
-//! The window of a sweep by height: in ascending heights, those that are near enough to one height are side by side, so
-//! that two searches by halving find them, and a walk up from one of them may end at the first that is too high.
+//! The window of a sweep by height. In ascending heights, those that are near enough to one height are adjacent. So two
+//! binary searches find them, and a walk upwards from one of them may end at the first that is too high.
 
 ghost use Rattle.std.specs.Prelude.{◌≡◌, ◌<◌, ◌≤ℤ◌, ◌^◌, ℤ, get_or, int_lt, length, pos, negsuc};
 ghost use Rattle.sky_vector.specs.Points.{IsWithin};
 ghost use Rattle.near_join.specs.Windows.{Ascend, IsBetween, IsRoot, IsWindow};
 
-/// The places, from the first up to and without the second, of the ascending heights whose squared difference from z is
-/// at most the limit, in squared grid units; (0, 0) where there are none. Does not allocate.
+/// Returns the range of positions of the heights whose squared difference from z is at most the limit, in squared grid
+/// units. The heights ascend. The second position is after the last, and the range is (0, 0) if there are none. Does
+/// not allocate.
 pub fn window(zs: &[i64], z: i64, limit: i64) -> (usize, usize)
     requires ascend { Ascend zs.now }
     requires z_within { IsWithin z }
@@ -16,7 +17,7 @@ pub fn window(zs: &[i64], z: i64, limit: i64) -> (usize, usize)
     within(zs, z, root(limit))
 }
 
-/// The largest difference whose square is at most the limit, and -1 for a limit below 0.
+/// Returns the largest difference whose square is at most the limit, and -1 for a limit below 0.
 pub(crate) fn root(limit: i64) -> i64
     requires { negsuc 0 ≤ℤ limit }
     ensures root { IsRoot limit result }
@@ -26,7 +27,7 @@ pub(crate) fn root(limit: i64) -> i64
     if limit < 0 { -1 } else { limit.isqrt() }
 }
 
-/// The window for the root of a limit.
+/// Returns the window for the root of a limit.
 pub(crate) fn within(zs: &[i64], z: i64, root: i64) -> (usize, usize)
     requires ascend { Ascend zs.now }
     requires z_within { IsWithin z }
@@ -37,7 +38,7 @@ pub(crate) fn within(zs: &[i64], z: i64, root: i64) -> (usize, usize)
     between(zs, z - root, z + root)
 }
 
-/// The places of the heights from low to high, and (0, 0) where there are none.
+/// Returns the range of positions of the heights from low to high, or (0, 0) if there are none.
 pub(crate) fn between(zs: &[i64], low: i64, high: i64) -> (usize, usize)
     requires { Ascend zs.now }
     ensures { IsBetween zs.now low high result.0 result.1 }
@@ -47,7 +48,7 @@ pub(crate) fn between(zs: &[i64], low: i64, high: i64) -> (usize, usize)
     if from < to { (from, to) } else { (0, 0) }
 }
 
-/// Whether the height with this number is above the bound.
+/// Returns whether the height at this position is above the bound.
 pub(crate) fn is_above(zs: &[i32], k: usize, high: i64) -> bool
     requires { k < length zs.now }
     ensures { result ≡ int_lt high (get_or zs.now k (pos 0)) }
@@ -55,7 +56,7 @@ pub(crate) fn is_above(zs: &[i32], k: usize, high: i64) -> bool
     i64::from(zs[k]) > high
 }
 
-/// The places of the heights, in 32 bits, from low to high, and (0, 0) where there are none.
+/// Returns the range of positions of the heights, which have 32 bits, from low to high, or (0, 0) if there are none.
 pub(crate) fn between_narrow(zs: &[i32], low: i64, high: i64) -> (usize, usize)
     requires { Ascend zs.now }
     ensures { IsBetween zs.now low high result.0 result.1 }

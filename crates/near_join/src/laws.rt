@@ -1,9 +1,9 @@
-//! Lemmas of the join, as functions that do nothing: a caller has what they ensure.
+//! Lemmas about the join, stated as functions that do nothing: a caller obtains what they ensure.
 
 ghost use Rattle.near_join.specs.Laws.{PairsOfSubs, WalkFindsAll};
 
-/// The pairs whose first row lies in a chunk are those of its subchunks' rows with the rows of each and of its overlap,
-/// each exactly once.
+/// The pairs whose first row is in a chunk are those that its subchunks find, each exactly once. A subchunk finds the
+/// pairs of its rows with its rows and those of its overlap.
 #[tactic(auto, using(crate::proofs::Listing::pairs_of_subs))]
 pub fn pairs_of_subs()
     ensures { PairsOfSubs }

@@ -1,14 +1,18 @@
-//! The near-neighbour join of a chunk: the ordered pairs of rows that a chunk query finds whose first row lies in it.
+//! The near-neighbour join of a chunk: the ordered pairs of rows that a chunk query finds whose first row is in the
+//! chunk.
 //!
-//! Callers see what is found as a `Piece`, and what it represents by `PieceFor`; the lemma that a walk over the
-//! subchunks finds each pair once is `laws` over `specs/Walk.antt`. Inside, the rows of a chunk and of its full overlap
-//! are in ascending height (`order`, `strip`). Each subchunk (`chunk`) takes what is near it of them (`sweep`,
-//! `beside`, `heights`), and each row of that is compared with those after it (`pairs`). What was found for a row
-//! (`neighbour`) becomes pairs in both orders (`ways`): of rows that are looked up (`line`), or of the two ids alone
-//! where the query is bare (`by_ids`). What the query asks of a pair is found out once (`asked`, `reach`; `rising`,
-//! `bare`). Below: `chunk_store` for the rows of a chunk, of its overlap and of its subchunks, `overlap_tables` for
-//! whether a subchunk holds a row, `expr_eval` for conditions and items, `partial_merge` for the piece. Above: `czar`,
-//! which asks for the piece of each chunk. No merging: an order and a LIMIT are left to the piece.
+//! Callers see the result as a `Piece`, and `PieceFor` defines what it represents. The lemma that a walk over the
+//! subchunks finds each pair once is in `laws`, over `specs/Walk.antt`.
+//!
+//! The rows of a chunk and of its full overlap are in ascending height (`order`, `strip`). Each subchunk (`chunk`)
+//! selects those of them that are near it (`sweep`, `beside`, `heights`). Each selected row is compared with those
+//! after it (`pairs`). The rows that are near enough (`neighbour`) become pairs in both orders (`ways`): pairs of rows
+//! (`line`), or of the two ids alone if the query is bare (`by_ids`). What a query demands of a pair is computed once
+//! (`asked`, `reach`; `rising`, `bare`).
+//!
+//! Below: `chunk_store` for the rows of a chunk, of its overlap and of its subchunks, `overlap_tables` for whether a
+//! subchunk holds a row, `expr_eval` for conditions and items, and `partial_merge` for the piece. Above: `czar`, which
+//! calls for the piece of each chunk. This crate merges nothing: an order and a LIMIT are left to the piece.
 #![tactic(auto)]
 
 mod asked;

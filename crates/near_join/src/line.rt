@@ -1,4 +1,4 @@
-//! What a chunk query computes of a pair of rows: the values of its items, and the pair's place in the order.
+//! What a chunk query computes of a pair of rows: the values of its items, and the pair's sort key.
 
 ghost use Rattle.std.specs.Prelude.{◌≡◌, ◌+◌, ◌++◌, ◌∷◌, [], IsTrue, OnOk, Some, length, map, true};
 ghost use Rattle.std.specs.List.{list_all};
@@ -19,7 +19,7 @@ use sky_io::Memory;
 use sky_row::Row;
 use sky_vector::Num;
 
-/// The place of the pair in the order of the chunk query. Does not allocate.
+/// Returns the sort key of the pair in the chunk query. Does not allocate.
 pub(crate) fn rank_of(query: &ChunkQuery, first: &Row, second: &Row) -> Rank
     requires wide { length second.now.further ≡ length first.now.further }
     requires sound { IsSoundLine (has_col (FIRST_COLUMNS + length first.now.further) true)
@@ -37,8 +37,7 @@ pub(crate) fn rank_of(query: &ChunkQuery, first: &Row, second: &Row) -> Rank
     }
 }
 
-/// Puts the values of the items in place of what the list held; `None` is NULL. Allocates memory only where it held
-/// fewer.
+/// Replaces the values in the list by those of the items; `None` is NULL. Allocates memory only if the list held fewer.
 pub(crate) fn fill(
     values: &mut Vec<Option<Num>>,
     items: &[ChunkItem],
@@ -59,7 +58,7 @@ pub(crate) fn fill(
     Ok(())
 }
 
-/// The value of an item; an aggregate has none on a pair.
+/// Returns the value of an item. An aggregate has none on a pair.
 fn cell(item: &ChunkItem, first: &Row, second: &Row) -> Option<Num>
     requires wide { length second.now.further ≡ length first.now.further }
     requires sound { IsTrue (is_sound_item (has_col (FIRST_COLUMNS + length first.now.further) true)
@@ -72,7 +71,7 @@ fn cell(item: &ChunkItem, first: &Row, second: &Row) -> Option<Num>
     }
 }
 
-/// Whether the order is descending.
+/// Returns whether the order is descending.
 fn is_down(order: &Option<ChunkOrder>) -> bool
     ensures { result ≡ chunk_down order.now }
 {
@@ -82,7 +81,7 @@ fn is_down(order: &Option<ChunkOrder>) -> bool
     }
 }
 
-/// The value that the order goes by.
+/// Returns the value of the order key.
 fn key(order: &Option<ChunkOrder>, first: &Row, second: &Row) -> Option<Num>
     requires wide { length second.now.further ≡ length first.now.further }
     requires sound { IsTrue (is_sound_key (has_col (FIRST_COLUMNS + length first.now.further) true)
@@ -95,14 +94,14 @@ fn key(order: &Option<ChunkOrder>, first: &Row, second: &Row) -> Option<Num>
     }
 }
 
-/// The class of a key's sort key, which keeps NULL apart from the numbers.
+/// Returns the class of a key's sort key, which keeps NULL apart from the numbers.
 fn class(down: bool, key: &Option<Num>) -> u8
     ensures { result ≡ rank_class down key.now }
 {
     if key.is_none() == down { 1 } else { 0 }
 }
 
-/// The number of a key's sort key, which turns round where the order is descending.
+/// Returns the number of a key's sort key, which is negated if the order is descending.
 fn number(down: bool, key: &Option<Num>) -> i128
     ensures { result ≡ rank_value down key.now }
 {
@@ -112,7 +111,7 @@ fn number(down: bool, key: &Option<Num>) -> i128
     }
 }
 
-/// The number, or its opposite where the order is descending.
+/// Returns the number, or its negation if the order is descending.
 fn turned(down: bool, n: &Num) -> i128
     ensures { result ≡ rank_value down (Some n.now) }
 {

@@ -1,6 +1,6 @@
-//! The sweep of a sweep window: each row is compared with those after it, up to the first whose height is too far above
-//! its own, by the columns of the sweep window. What is asked of a row for its pairs is asked where it is found near
-//! enough, of those columns.
+//! The sweep of a sweep window. Each row is compared with those after it, up to the first whose height is too far above
+//! its own. Only the columns of the sweep window are read. What the pairs of a row need of it is computed from these
+//! columns, once it is near enough.
 
 ghost use Rattle.std.specs.Prelude.{◌≡◌, ◌+◌, ◌++◌, ◌+ℤ◌, ◌-ℤ◌, ◌<◌, ◌∷◌, [], All, IsTrue, OnOk, drop, filter, get_or, if◌then◌else◌, int_le, length, map, true};
 ghost use Rattle.sky_vector.specs.Points.{chord_squared, square};
@@ -27,8 +27,8 @@ use sky_plan::Region;
 use sky_row::Rows;
 use sky_vector::{Num, Pos, chord2};
 
-/// Puts the pairs of those rows of the sweep window that the region holds, with those of the sweep window that they
-/// join, into the piece. `values` and `found` are room that is used again for each row.
+/// Pushes pairs into the piece: those of the rows that the region holds with the rows that they join, all in the sweep
+/// window. `values` and `found` are buffers that are reused for each row.
 pub(crate) fn push_swept(
     piece: &mut Piece<'_>,
     values: &mut Vec<Option<Num>>,
@@ -55,8 +55,8 @@ pub(crate) fn push_swept(
     Ok(())
 }
 
-/// Puts the pairs of the row with this number in the sweep window into the piece: with itself, and with those after it
-/// in both orders.
+/// Pushes the pairs of the row at this position of the sweep window into the piece: with itself, and with those after
+/// it in both orders.
 fn push_upwards(
     piece: &mut Piece<'_>,
     values: &mut Vec<Option<Num>>,
@@ -88,15 +88,15 @@ fn push_upwards(
     }
 }
 
-/// Whether nothing was found for a row that is no pair with itself.
+/// Returns true only if a row has no pair: none was found, and it is no pair with itself.
 fn is_done(reach: &Reach, found: &[Neighbour]) -> bool
     ensures { IsTrue result → (reach.now.rises ≡ true) × (found.now ≡ []) }
 {
     reach.rises && found.is_empty()
 }
 
-/// Those rows after the one with this number in the sweep window that are near enough to it. They take the place of
-/// what the list held.
+/// Replaces what the list held by the rows after this position of the sweep window that are near enough to the row at
+/// it.
 fn pick(
     found: &mut Vec<Neighbour>,
     asked: &Asked<'_>,
@@ -128,14 +128,14 @@ fn pick(
     Ok(())
 }
 
-/// The largest height that is near enough to the position.
+/// Returns the largest height that is near enough to the position.
 fn highest(at: &Pos, reach: &Reach) -> i64
     ensures { result ≡ (point at.now).z +ℤ reach.now.root }
 {
     at.z + reach.root
 }
 
-/// Whether two rows are near enough; most are too far apart by their x alone.
+/// Returns whether two rows are near enough. Most are too far apart by their x alone.
 #[inline(always)]
 fn is_pair(reach: &Reach, at: &Pos, other: &Pos) -> bool
     ensures { result ≡ int_le (chord_squared (point at.now) (point other.now)) reach.now.limit }
@@ -143,7 +143,7 @@ fn is_pair(reach: &Reach, at: &Pos, other: &Pos) -> bool
     is_within(reach, at, other) && is_near(at, other, reach)
 }
 
-/// Whether the square of the difference in x is at most the limit.
+/// Returns whether the square of the difference in x is at most the limit.
 #[inline(always)]
 fn is_within(reach: &Reach, at: &Pos, other: &Pos) -> bool
     ensures { result ≡ int_le (square ((point at.now).x -ℤ (point other.now).x)) reach.now.limit }
@@ -151,7 +151,7 @@ fn is_within(reach: &Reach, at: &Pos, other: &Pos) -> bool
     -reach.root <= at.x - other.x && at.x - other.x <= reach.root
 }
 
-/// Whether the squared chord is at most the limit.
+/// Returns whether the squared chord is at most the limit.
 #[inline(always)]
 fn is_near(a: &Pos, b: &Pos, reach: &Reach) -> bool
     ensures { result ≡ int_le (chord_squared (point a.now) (point b.now)) reach.now.limit }
@@ -159,7 +159,7 @@ fn is_near(a: &Pos, b: &Pos, reach: &Reach) -> bool
     chord2(a, b) as i64 <= reach.limit
 }
 
-/// Appends the row with this number in the sweep window, if the answer is yes.
+/// Appends the row at this position of the sweep window, if the condition is true.
 #[inline(always)]
 fn push_if(
     found: &mut Vec<Neighbour>,
@@ -185,7 +185,7 @@ fn push_if(
     Ok(())
 }
 
-/// What is asked of the row with this number in the sweep window for its pairs.
+/// Returns what the pairs of the row at this position of the sweep window need of it.
 fn neighbour_at(rows: &Rows, region: &Region, near: &Strip, k: usize) -> Neighbour
     requires listed { IsListed rows.now.objects near.now }
     requires whole { IsWhole near.now }

@@ -1,5 +1,5 @@
-//! How near two rows of a pair have to be: the limit of their squared chord, and its root, which is taken once; and whether
-//! the lower id has to come first, and whether the query is bare.
+//! How near the two rows of a pair have to be: the limit of their squared chord, and its root, which is computed once.
+//! Also whether the lower id has to come first, and whether the query is bare.
 
 ghost use Rattle.std.specs.Prelude.{◌≡◌, ◌≤ℤ◌, ◌^◌, IsTrue, negsuc, pos};
 ghost use Rattle.near_join.specs.Bare.{IsBare};
@@ -13,9 +13,9 @@ use crate::rising::rises;
 use answer_rules::ChunkQuery;
 use sql_bound::Shape;
 
-/// The largest squared chord, in squared grid units and -1 where no pair is asked for; the largest difference in height whose
-/// square is at most that; whether the conditions hold only of pairs whose first id is the lower one; and whether the query asks
-/// for the two ids of a pair alone.
+/// The largest squared chord, in squared grid units, which is -1 if no pair is asked for; the largest difference in
+/// height whose square is at most that; whether the conditions hold only for pairs whose first id is the lower one; and
+/// whether the query is bare.
 #[derive(Clone, Copy)]
 pub(crate) struct Reach {
     pub limit: i64,
@@ -29,7 +29,7 @@ pub(crate) struct Reach {
 }
 
 impl Reach {
-    /// The reach of a query over pairs; that of any other is nothing.
+    /// Returns the reach of a query over pairs. Any other query finds no pair.
     pub(crate) fn of(query: &ChunkQuery) -> Reach
         requires { negsuc 0 ≤ℤ limit_in query.now.shape }
         ensures limit { result.limit ≡ limit_in query.now.shape }
@@ -47,7 +47,7 @@ impl Reach {
     }
 }
 
-/// The largest squared chord of a query over pairs.
+/// Returns the largest squared chord of a query over pairs, or -1 for any other.
 fn limit_of(shape: &Shape) -> i64
     ensures { result ≡ limit_in shape.now }
 {

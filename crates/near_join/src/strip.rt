@@ -1,5 +1,5 @@
-//! Rows by their places, in ascending height, with their positions as three columns: a sweep reads them from front to back,
-//! and looks up a row only where it is near enough.
+//! The sweep window: row numbers in ascending order of height, with the positions of the rows as three columns. A sweep
+//! reads the columns sequentially, and reads a row of the table only if it is near enough.
 
 ghost use Rattle.std.specs.Prelude.{◌≡◌, ◌<◌, All, IfOk, List, length, get_or, map, pos};
 ghost use Rattle.sky_vector.specs.Points.{IsWithin};
@@ -16,7 +16,7 @@ use sky_vector::Pos;
 use std::alloc::Global;
 use std::marker::Model;
 
-/// Rows by their places in the table, with the parts of their positions side by side.
+/// Row numbers, with the components of the rows' positions as columns.
 #[derive(Drop)]
 pub(crate) struct Strip {
     places: Vec<u32>,
@@ -34,14 +34,14 @@ impl Model for Strip {
 }
 
 impl Strip {
-    /// How many rows there are.
+    /// Returns the number of rows.
     pub(crate) fn len(&self) -> usize
         ensures { result ≡ length self.now.places }
     {
         self.places.len()
     }
 
-    /// The place of the row with this number, from 0, in the sweep window.
+    /// Returns the row number at this position of the sweep window, from 0.
     pub(crate) fn place(&self, i: usize) -> u32
         requires { i < length self.now.places }
         ensures { result ≡ get_or self.now.places i 0 }
@@ -49,14 +49,14 @@ impl Strip {
         self.places[i]
     }
 
-    /// The heights of the rows.
+    /// Returns the heights of the rows.
     pub(crate) fn zs(&self) -> &[i32]
         ensures { result.now ≡ self.now.zs }
     {
         self.zs.as_slice()
     }
 
-    /// The position of the row with this number, from 0, in the sweep window.
+    /// Returns the position in the sky of the row at this position of the sweep window, from 0.
     pub(crate) fn at(&self, i: usize) -> Pos
         requires whole { IsWhole self.now }
         requires there { i < length self.now.places }
@@ -69,7 +69,7 @@ impl Strip {
         )
     }
 
-    /// The rows with these numbers, in their order. Allocates memory for each column once.
+    /// Returns the rows at these positions, in their order. Allocates memory for each column once.
     pub(crate) fn taken(&self, alloc: Global, numbers: &[u32]) -> Result<Strip, Memory>
         requires whole { IsWhole self.now }
         requires there { All (λ k. k < length self.now.places) numbers.now }
@@ -86,7 +86,7 @@ impl Strip {
     }
 }
 
-/// The part of a position at a number.
+/// Returns the component at an index.
 fn part_at(parts: &[i32], i: usize) -> i32
     requires within { All IsWithin parts.now }
     requires there { i < length parts.now }
@@ -96,7 +96,7 @@ fn part_at(parts: &[i32], i: usize) -> i32
     parts[i]
 }
 
-/// The position with these parts.
+/// Returns the position with these components.
 fn point_of(x: i32, y: i32, z: i32) -> Pos
     requires x { IsWithin x }
     requires y { IsWithin y }
@@ -110,7 +110,8 @@ fn point_of(x: i32, y: i32, z: i32) -> Pos
     }
 }
 
-/// The rows of a chunk and of its full overlap, in ascending height. Allocates memory for them, 24 bytes a row.
+/// Returns the rows of a chunk and of its full overlap, in ascending order of height. Allocates memory for them, 24
+/// bytes a row.
 pub(crate) fn chunk_strip(alloc: Global, store: &Store, chunk: u32) -> Result<Strip, Memory>
     requires { chunk < chunk_count store.now.plan }
     ensures { IfOk result (λ s.
@@ -124,7 +125,7 @@ pub(crate) fn chunk_strip(alloc: Global, store: &Store, chunk: u32) -> Result<St
     gathered(alloc, rows, places)
 }
 
-/// The sweep window of the rows at these places, in their order. Allocates memory for each column once.
+/// Returns the sweep window of the rows with these numbers, in their order. Allocates memory for each column once.
 fn gathered(alloc: Global, rows: &Rows, places: Vec<u32>) -> Result<Strip, Memory>
     requires { All (λ place. place < length rows.now.objects) places.items }
     ensures places { IfOk result (λ s. s.places ≡ places.items) }

@@ -1,4 +1,4 @@
-//! What a subchunk takes of the sweep window of its chunk: its rows and those of its overlap.
+//! What a subchunk selects of the sweep window of its chunk: its rows and those of its overlap.
 
 ghost use Rattle.std.specs.Prelude.{◌≡◌, ◌-◌, ◌<◌, ◌≤◌, ◌^◌, ◌+ℤ◌, ◌-ℤ◌, IfOk, filter, length, pos, slice_range, take};
 ghost use Rattle.std.specs.List.{range_with_len};
@@ -20,8 +20,8 @@ use sky_row::Rows;
 use sky_vector::Dir;
 use std::alloc::Global;
 
-/// A subchunk's rows and those of its overlap, in ascending height, of the sweep window of its chunk. Allocates memory
-/// for them.
+/// Returns a subchunk's rows and those of its overlap, in ascending order of height, from the sweep window of its
+/// chunk. Allocates memory for them.
 pub(crate) fn sub_strip(
     alloc: Global,
     store: &Store,
@@ -46,7 +46,7 @@ pub(crate) fn sub_strip(
     near_ones(alloc, rows, strip, from, to, region, radius)
 }
 
-/// The places of the heights that are no farther than the radius from those of the region.
+/// Returns the range of positions of the heights that are no farther than the radius from those of the region.
 fn near_heights(zs: &[i32], region: &Region, radius: u32) -> (usize, usize)
     requires ascend { Ascend zs.now }
     requires radius { radius ≤ OVERLAP_MOST }
@@ -57,8 +57,8 @@ fn near_heights(zs: &[i32], region: &Region, radius: u32) -> (usize, usize)
     between_narrow(zs, region.z_low - radius, region.z_high + radius)
 }
 
-/// Of the rows from one number up to and without another, which are those that are near the heights of the region, those that
-/// are near the region, in the same order.
+/// Returns the rows near the region, in the same order, among those from one position to before another. These
+/// positions are those of all rows that are near the heights of the region.
 fn near_ones(
     alloc: Global,
     rows: &Rows,
@@ -83,8 +83,8 @@ fn near_ones(
     strip.taken(alloc, numbers.as_slice())
 }
 
-/// The numbers, from one up to and without another, of the rows that are near these sides. Allocates memory for each
-/// row from one to the other, 4 bytes.
+/// Returns the positions, from one to before another, of the rows that are near these sides. Allocates 4 bytes for each
+/// position of this range.
 fn near_numbers(
     alloc: Global,
     strip: &Strip,
@@ -108,9 +108,9 @@ fn near_numbers(
     Ok(numbers)
 }
 
-/// Writes the numbers, from one up to and without another, of the rows that are near these sides to the beginning of a
-/// list, and answers how many they are: each is written, over the one before it where that is not near, so that nothing
-/// is decided.
+/// Writes the positions, from one to before another, of the rows that are near these sides to the beginning of a list.
+/// Returns how many there are. Each position is written, and is overwritten by the next one if its row is not near, so
+/// that there is no branch.
 fn put_near(
     strip: &Strip,
     from: usize,

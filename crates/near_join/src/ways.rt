@@ -1,5 +1,6 @@
-//! The pairs of a row with its neighbours: in both orders, or in one where the lower id has to come first, of those whose first
-//! row the subchunk holds, what meets the conditions. For these the rows are looked up, where more than their ids is asked.
+//! The pairs of a row with its neighbours, in both orders, or in one if the lower id has to come first. Only pairs
+//! whose first row is held by the subchunk and that meet the conditions are pushed. For these the rows are read, if
+//! more than their ids is needed.
 
 ghost use Rattle.std.specs.Prelude.{◌≡◌, ◌&&◌, ◌+◌, ◌<◌, ◌∷◌, [], All, IsTrue, OnOk, if◌then◌else◌, int_le, int_lt, length, pos, true};
 ghost use Rattle.std.specs.List.{flat_map};
@@ -27,7 +28,7 @@ use sky_io::Memory;
 use sky_row::Row;
 use sky_vector::Num;
 
-/// Puts the pairs of a row with itself, and with the neighbours that were found in both orders, into the piece.
+/// Pushes the pairs of a row with itself, and with its neighbours in both orders, into the piece.
 pub(crate) fn push_found(
     piece: &mut Piece<'_>,
     values: &mut Vec<Option<Num>>,
@@ -51,7 +52,7 @@ pub(crate) fn push_found(
     push_others(piece, values, asked, this, found)
 }
 
-/// Puts the pair of the row with itself into the piece, if it is near enough to itself.
+/// Pushes the pair of the row with itself into the piece, if it is near enough to itself.
 fn push_itself(
     piece: &mut Piece<'_>,
     values: &mut Vec<Option<Num>>,
@@ -73,14 +74,14 @@ fn push_itself(
     }
 }
 
-/// Whether a row is near enough to itself.
+/// Returns whether a row is near enough to itself.
 fn is_own_pair(reach: &Reach) -> bool
     ensures { result ≡ int_le (pos 0) reach.now.limit }
 {
     0 <= reach.limit
 }
 
-/// Puts the pairs of the row with its neighbours into the piece, in both orders.
+/// Pushes the pairs of the row with its neighbours into the piece, in both orders.
 fn push_others(
     piece: &mut Piece<'_>,
     values: &mut Vec<Option<Num>>,
@@ -106,7 +107,7 @@ fn push_others(
     Ok(())
 }
 
-/// Puts the pairs of the row with a neighbour into the piece, in both orders.
+/// Pushes the pairs of the row with a neighbour into the piece, in both orders.
 fn push_other(
     piece: &mut Piece<'_>,
     values: &mut Vec<Option<Num>>,
@@ -129,8 +130,8 @@ fn push_other(
     push_way(piece, values, asked, other, this)
 }
 
-/// Puts the pair of two rows that are near enough into the piece, if the first is held and has the lower id, if it has
-/// to, and the pair meets the conditions.
+/// Pushes the pair of two rows that are near enough into the piece. It does so only if the first row is held, has the
+/// lower id if it has to, and the pair meets the conditions.
 fn push_way(
     piece: &mut Piece<'_>,
     values: &mut Vec<Option<Num>>,
@@ -156,22 +157,22 @@ fn push_way(
     }
 }
 
-/// Whether the first of two rows is held, and has the lower id, if it has to.
+/// Returns whether the first of two rows is held, and has the lower id if it has to.
 fn is_way(held: bool, rises: bool, first: i64, second: i64) -> bool
     ensures { result ≡ (held && (if rises then int_lt first second else true)) }
 {
     held && is_upward(rises, first, second)
 }
 
-/// Whether the first of two ids is the lower one, if it has to be.
+/// Returns whether the first of two ids is the lower one, if it has to be.
 fn is_upward(rises: bool, first: i64, second: i64) -> bool
     ensures { result ≡ (if rises then int_lt first second else true) }
 {
     !rises || first < second
 }
 
-/// Puts the pair of two rows into the piece, if it meets the conditions. The first has the lower id, if it has to; of a
-/// bare query that is the condition, and the ids are all that is asked of the rows.
+/// Pushes the pair of two rows into the piece, if it meets the conditions. The first row has the lower id, if it has
+/// to. For a bare query that is the only condition, and only the ids of the rows are needed.
 fn push_upward(
     piece: &mut Piece<'_>,
     values: &mut Vec<Option<Num>>,
@@ -198,7 +199,7 @@ fn push_upward(
     }
 }
 
-/// Puts the pair of two rows, which are looked up, into the piece, if it meets the conditions.
+/// Reads two rows, and pushes their pair into the piece, if it meets the conditions.
 fn push_looked_up(
     piece: &mut Piece<'_>,
     values: &mut Vec<Option<Num>>,
@@ -220,7 +221,7 @@ fn push_looked_up(
     push_if_met(piece, values, asked.query, &row, &beside)
 }
 
-/// Puts the pair of rows into the piece, if it meets the conditions.
+/// Pushes the pair of rows into the piece, if it meets the conditions.
 fn push_if_met(
     piece: &mut Piece<'_>,
     values: &mut Vec<Option<Num>>,
@@ -242,7 +243,7 @@ fn push_if_met(
     }
 }
 
-/// Puts the pair of rows into the piece.
+/// Pushes the pair of rows into the piece.
 fn push_pair(
     piece: &mut Piece<'_>,
     values: &mut Vec<Option<Num>>,

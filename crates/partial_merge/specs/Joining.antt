@@ -1,4 +1,4 @@
--- What a piece that adds another one represents, and when it may be finished.
+-- What a piece represents after it has absorbed another one, and when it may be finished.
 use Rattle.std.specs.Prelude.{◌≡◌, ◌≤◌, ℕ, ℤ, Bool, true, List, length, ◌++◌, [], ◌∷◌, Option, IfSome}
 use Rattle.table_rules.specs.Objects.{Obj}
 use Rattle.sky_rules.specs.Partition.{Partition}
@@ -31,24 +31,24 @@ pub record MayJoin (mine other : PieceView) : Type 0 where
   pub that : StandsFor base q others other
   pub apart : AreDisjoint chunks others
 
--- whatever the two was for over disjoint sets of chunks, the new piece represents both sets
+-- whatever the two represented over disjoint sets of chunks, the new piece represents over both sets
 abbrev pub Joins : PieceView → PieceView → PieceView → Type 0
 Joins old other new =
     (g : Partition) (table : List Obj) (cq : ChunkQuery) (chunks others : List ℕ) → AreDisjoint chunks others
     → PieceFor g table cq chunks old → PieceFor g table cq others other → PieceFor g table cq (chunks ++ others) new
 
--- the piece is of rows, and adds one of them: the first n of both are kept
+-- the piece is of rows, and the new one keeps the first n of its rows and this one
 abbrev pub TakesRow : PieceView → OutRow → PieceView → Type 0
 TakesRow (OfRows pushed rows) row (OfRows limit kept) =
     (limit ≡ pushed) × KeepsFirst row_order pushed (rows ++ row ∷ []) kept
 TakesRow old row new = ⊥
 
--- a row with this sort key is none of the first n, whatever its values: a piece that takes it in may stay as it is
+-- a row with this sort key is none of the first n, whatever its values: a piece that is given it may stay as it is
 abbrev pub IsNoneOfFirst : PieceView → Rank → Type 0
 IsNoneOfFirst view rank = (values : List (Option ℤ)) → TakesRow view (out_row rank values) view
 
--- that a row with this sort key is too late is reported as soon as as many rows as the limit are held and none of them
--- comes after it
+-- the answer is true if at least as many rows as the limit are held and none of them comes after a row with this sort
+-- key
 abbrev pub IsToldLate : PieceView → Rank → Bool → Type 0
 IsToldLate (OfRows pushed rows) rank told =
     IfSome pushed (λ n. n ≤ length rows → ComesBeforeNone rank rows → told ≡ true)
@@ -59,17 +59,17 @@ abbrev pub IsOfRows : PieceView → Type 0
 IsOfRows (OfRows pushed rows) = Unit {0}
 IsOfRows (OfGroups parts) = ⊥
 
--- the piece is of groups, and the group is of the same ways and as small as its rows allow
+-- the piece is of groups, and the group has the same combine functions and is as small as its rows allow
 abbrev pub MayTakeGroup : PieceView → Partial Key Sums → Type 0
 MayTakeGroup (OfRows pushed rows) g = ⊥
 MayTakeGroup (OfGroups parts) g = MayGather parts (g ∷ []) × IsSmallGroup g
 
--- the piece with one group more, added to that of its key
+-- the piece with one more group, added to the group with its key
 abbrev pub with_group : PieceView → Partial Key Sums → PieceView
 with_group (OfRows pushed rows) g = OfRows pushed rows
 with_group (OfGroups parts) g = OfGroups (gather key_order add_own_sums (parts ++ g ∷ []))
 
--- The piece's chunk query and the merge are the two parts that a query which can be run is cut into.
+-- The piece's chunk query and the merge are the two parts into which a query that can be run is split.
 pub record MayFinish (merge : MergePlan) (view : PieceView) : Type 0 where
   pub base : Base
   pub fits : IsBase base

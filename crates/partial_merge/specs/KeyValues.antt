@@ -8,7 +8,7 @@ use Rattle.partial_merge.specs.declared.limits.TheConstants.{SHORT_KEY_MOST}
 abbrev pub cell_by : Bool → ℤ → Option ℤ
 cell_by present number = if present then Some number else None
 
--- the value at a place of a short key
+-- the value at a position of a short key
 abbrev pub cell_in : List Bool → List ℤ → ℕ → Option ℤ
 cell_in present numbers i = cell_by (get_or present i false) (get_or numbers i (pos 0))
 
@@ -21,7 +21,7 @@ abbrev pub few_values : ℕ → List Bool → List ℤ → List (Option ℤ)
 few_values taken present numbers =
     first_of_four taken (cell_in present numbers 0) (cell_in present numbers 1) (cell_in present numbers 2) (cell_in present numbers 3)
 
--- the values that a key has: few are in the key itself, more in a list
+-- the values of a key: few are in the key itself, more are in a list
 abbrev pub values_in : Values → List (Option ℤ)
 values_in (values.Short taken present numbers) = few_values taken present numbers
 values_in (values.Long v) = v.items

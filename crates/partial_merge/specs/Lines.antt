@@ -1,4 +1,4 @@
--- The lines of an answer of groups, before they are put in order.
+-- The lines of an answer of groups, before they are sorted.
 use Rattle.std.specs.Prelude.{map, List}
 use Rattle.std.specs.declared.cmp.Ordering.{Ordering}
 use Rattle.std.specs.Ordering.{int_cmp, nat_cmp, on, then_cmp}
@@ -15,11 +15,11 @@ use Rattle.partial_merge.specs.declared.line.Line.{Line}
 use Rattle.partial_merge.specs.declared.mark.Mark.{Mark}
 use Rattle.partial_merge.specs.Groups.{group_of}
 
--- lines go by the sort key of their order key, then by the keys of their groups
+-- lines are ordered by the sort key of their order key, then by the keys of their groups
 abbrev pub line_order : Line → Line → Ordering
 line_order = then_cmp (on (λ l. l.class) nat_cmp) (then_cmp (on (λ l. l.value) int_cmp) (on (λ l. l.mark.key) key_order))
 
--- the line of a group, with its place in the order
+-- the line of a group, with its sort key
 abbrev pub line_by : List Part → List BoundCol → MergePlan → Mark → Line
 line_by parts keys merge m = record {
   class = rank_class (merge_down merge.order) (merged_order keys merge.items (group_of parts m) merge.order);
@@ -35,7 +35,7 @@ group_values parts keys items m = map (merged_value keys (group_of parts m)) ite
 abbrev pub line_values : List Part → List BoundCol → List MergeItem → Line → List Value
 line_values parts keys items l = group_values parts keys items l.mark
 
--- the line, its values computed
+-- the line, with its values
 abbrev pub line_of : List Part → List BoundCol → List MergeItem → Line → GroupLine
 line_of parts keys items l = record {
   class = l.class;

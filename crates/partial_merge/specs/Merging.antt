@@ -1,4 +1,4 @@
--- When the items of a merge can be computed of a group, and the lines of an answer before they are put in order.
+-- When the items of a merge can be computed for a group.
 use Rattle.std.specs.Prelude.{◌≡◌, ◌<◌, true, length, List, IfSome, All}
 use Rattle.std.specs.List.{AllByRecursion}
 use Rattle.sky_vector.specs.Numbers.{is_query_number}
@@ -23,12 +23,14 @@ use Rattle.answer_rules.specs.Ranks.{row_order}
 use Rattle.partial_merge.specs.declared.mark.Mark.{Mark}
 use Rattle.partial_merge.specs.Groups.{Gathered, IsThere, group_of}
 
--- The expression can be computed on the key: there is a value for each key column, and each number on the way is small.
+-- The expression can be computed on the key: there is a value for each key column, and each intermediate result is
+-- small.
 pub record IsOnKey (keys : List BoundCol) (key : Key) (e : BoundExpr) : Type 0 where
   pub long : length key ≡ length keys
   pub range : IsInRangeAt (key_cell keys key) (term_of e)
 
--- the item can be merged: a least or a greatest value is small, and a total is of some rows
+-- the item can be merged: a least or a greatest value is small, and an average that has a total counts at least one
+-- value
 abbrev pub MayMerge : List BoundCol → Partial Key Sums → MergeItem → Type 0
 MayMerge keys g (Column n) = Unit {0}
 MayMerge keys g (OfKeys e) = IsOnKey keys g.key e
@@ -38,23 +40,23 @@ MayMerge keys g (Min n) = IsOfSize most (part_at g n).value
 MayMerge keys g (Max n) = IsOfSize most (part_at g n).value
 MayMerge keys g (Avg n count) = IfSome (part_at g n).value (λ t. 0 < (part_at g count).seen)
 
--- no total that the item takes of the group is out of range
+-- no total of the group that the item uses is out of range
 abbrev pub IsTested : Partial Key Sums → MergeItem → Type 0
 IsTested g i = AllByRecursion (λ t. is_query_number t ≡ true) (merged_totals g i)
 
--- A group of an aggregation table of which each item can be merged, its totals tested.
+-- A group of an aggregation table whose totals are checked and for which each item can be merged.
 pub record IsMergeable (keys : List BoundCol) (items : List MergeItem) (parts : List Part) (m : Mark) : Type 0 where
   pub there : IsThere (length parts) m
   pub may : All (MayMerge keys (group_of parts m)) items
   pub tested : All (IsTested (group_of parts m)) items
 
--- of groups each item can be merged; a merge of another shape has none
+-- each item can be merged for each group, and the merge is of groups
 abbrev pub CanMerge : Shape → List MergeItem → Gathered → Type 0
 CanMerge Rows items gs = ⊥
 CanMerge (Pairs limit) items gs = ⊥
 CanMerge (Groups keys) items gs = All (λ g. All (MayMerge keys g) items) (groups_merged keys gs)
 
--- what a piece holds can be finished: rows are apart, and of groups each item can be merged
+-- a piece can be finished: no two rows tie, and for groups each item can be merged
 abbrev pub CanFinish : MergePlan → PieceView → Type 0
 CanFinish merge (OfRows pushed rows) = AreApart row_order rows
 CanFinish merge (OfGroups gs) = CanMerge merge.shape merge.items gs

@@ -1,4 +1,4 @@
--- The values of a key side by side.
+-- The values of a key as one list.
 use Rattle.std.specs.Prelude.{ℤ, List, Option}
 use Rattle.partial_merge.specs.declared.short_key.Cells.{Cells}
 use Rattle.partial_merge.specs.declared.short_key.Cells.TheVariants as cells

@@ -1,4 +1,4 @@
--- Pairs without an order key whose values are their own two ids: the ids are all that has to be kept of them.
+-- Pairs without an order key whose values are their own two ids: only the ids are stored.
 use Rattle.std.specs.Prelude.{pos, List, [], ◌∷◌, map, Some}
 use Rattle.std.specs.declared.cmp.Ordering.{Ordering}
 use Rattle.std.specs.Ordering.{int_cmp, on, then_cmp}
@@ -8,7 +8,7 @@ use Rattle.answer_rules.specs.declared.value.Value.{Value}
 use Rattle.answer_rules.specs.Finish.{column_value}
 use Rattle.partial_merge.specs.declared.id_pair.IdPair.{IdPair}
 
--- the row of the pair: its values are its ids
+-- the row of the pair, whose values are its ids
 abbrev pub pair_row : IdPair → OutRow
 pair_row p = record {
   class = 0;
@@ -18,7 +18,7 @@ pair_row p = record {
   cells = Some p.first ∷ Some p.second ∷ [];
 }
 
--- such pairs go by their ids
+-- such pairs are ordered by their ids
 abbrev pub pair_order : IdPair → IdPair → Ordering
 pair_order = then_cmp (on (λ p. p.first) int_cmp) (on (λ p. p.second) int_cmp)
 

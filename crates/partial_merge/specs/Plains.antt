@@ -1,5 +1,5 @@
--- Rows of a multiset without a limit: those whose sort key is that of no order key, each with as many values, and the
--- others.
+-- Rows of a multiset without a limit: compact rows, which sort as rows without an order key and have the same number of
+-- values, and the others.
 use Rattle.std.specs.Prelude.{◌≡◌, ℕ, ℤ, Option, pos, ◌+◌, ◌-◌, ◌≤◌, ◌++◌, List, map, vec_len, vec_capacity}
 use Rattle.std.specs.declared.cmp.Ordering.{Ordering}
 use Rattle.std.specs.Ordering.{int_cmp, on, then_cmp}
@@ -21,11 +21,11 @@ full width p = record {
   to = p.from + width;
 }
 
--- the row, its values to be counted elsewhere
+-- the row as a compact row, which does not hold its number of values
 abbrev pub plain_of : Ranked → Plain
 plain_of r = record { first = r.first; second = r.second; from = r.from }
 
--- such rows go by their ids
+-- compact rows are ordered by their ids
 abbrev pub plain_order : Plain → Plain → Ordering
 plain_order = then_cmp (on (λ p. p.first) int_cmp) (on (λ p. p.second) int_cmp)
 
@@ -33,25 +33,25 @@ plain_order = then_cmp (on (λ p. p.first) int_cmp) (on (λ p. p.second) int_cmp
 abbrev pub all_of : Lot → List Ranked
 all_of l = map (full l.width) l.plain.items ++ l.rows.items
 
--- The row's sort key is that of no order key, and it has as many values as those of its kind that are there.
+-- The row sorts as a row without an order key, and has as many values as the compact rows that are there.
 pub record IsPlainIn (l : Lot) (r : Ranked) : Type 0 where
   pub class : r.class ≡ 0
   pub value : r.value ≡ pos 0
   pub order : r.from ≤ r.to
   pub wide : map (full (r.to - r.from)) l.plain.items ≡ map (full l.width) l.plain.items
 
--- There is room for the given number of more of either kind.
+-- There is room for the given number of more rows of either kind.
 pub record HasRoom (l : Lot) (n : ℕ) : Type 0 where
   pub plain : vec_len l.plain + n ≤ vec_capacity l.plain
   pub rows : vec_len l.rows + n ≤ vec_capacity l.rows
 
--- There is room for at most one less than there was.
+-- There is room for at most one row less than there was.
 pub record TakesOne (old new : Lot) : Type 0 where
   pub plain : vec_len new.plain ≤ vec_len old.plain + 1
   pub plain_room : vec_capacity new.plain ≡ vec_capacity old.plain
   pub rows : vec_len new.rows ≤ vec_len old.rows + 1
   pub rows_room : vec_capacity new.rows ≡ vec_capacity old.rows
 
--- the merged items of a plain row
+-- the merged items of a compact row
 abbrev pub plain_values : List (Option ℤ) → List MergeItem → ℕ → Plain → List Value
 plain_values cells items width p = row_values cells items (full width p)

@@ -1,10 +1,10 @@
-//! Averages.
+//! The rounded averages of an answer.
 
 ghost use Rattle.std.specs.Prelude.{◌≡◌, ◌≤◌, ◌<◌, ◌^◌, nat_abs};
 ghost use Rattle.answer_rules.specs.Aggregates.{rounded_average};
 ghost use Rattle.value_rules.specs.Widths.{most};
 
-/// A total over a count in ten-thousandths, to the nearest, halves away from zero.
+/// Returns a total divided by a count, in ten-thousandths, rounded to the nearest, halves away from zero.
 pub(crate) fn rounded(total: i128, count: u32) -> i128
     requires some { 0 < count }
     requires small { nat_abs total ≤ most }

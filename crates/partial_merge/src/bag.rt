@@ -1,13 +1,13 @@
-//! A multiset of rows: their places in the order in one list, and all their values in another, so that a row takes no
-//! allocation of its own.
+//! A multiset of rows: their sort keys are in one list, and all their values in another. So a row needs no allocation
+//! of its own.
 //!
-//! Nothing is in order before the end. Without a limit a multiset keeps all rows that come; with a limit n it is a heap
-//! of the first n, and a row that comes after n others is inspected and forgotten. The values of rows that were dropped
-//! stay until the list of values has doubled; then those of the others are copied into a new one (`packing`).
+//! The rows are in no order before the end. Without a limit a multiset keeps all its rows. With a limit n it is a heap
+//! of the first n, and a row that comes after n others is inspected and dropped. The values of dropped rows stay until
+//! the list of values has doubled. Then the values of the remaining rows are copied into a new list (`packing`).
 //!
-//! A join whose answer is the two ids of each pair has millions of rows whose values say again what their sort keys
-//! say. Without a limit and without an order key such a pair is kept as its two ids in a third list, and has no values
-//! elsewhere. The table is written from that list alone where the multiset holds nothing else (`bag_table`).
+//! A join whose answer is the two ids of each pair has millions of rows whose values repeat their sort keys. Without a
+//! limit and without an order key such a pair is stored as its two ids in a third list, and has no other values. If the
+//! multiset holds nothing else, the table is written from that list alone (`bag_table`).
 
 ghost use Rattle.std.specs.Prelude.{◌≡◌, ◌≤◌, ◌++◌, ◌∷◌, [], ℤ, length, IfOk, IfSome, List, None, OnErr, OnOk, Option, true};
 ghost use Rattle.std.specs.Bool.{OnTrue};
@@ -41,7 +41,7 @@ pub(crate) struct Bag {
     ids: Vec<IdPair>,
 }
 
-/// How many values a multiset may have before it is packed for the first time, twice over.
+/// The multiset is packed for the first time when it has twice this number of values.
 const SHORT: usize = 512;
 
 impl Model for Bag {
@@ -57,7 +57,8 @@ impl Model for Bag {
     ghost invariant = { λ b. IsBag (length b.cells.items) b.kept b.ids.items };
 }
 
-/// The pair with this sort key with these values, if all rows are kept and its ids are all that has to be kept of it.
+/// Returns the pair with this sort key and these values, if all rows are kept and only the pair's ids have to be
+/// stored.
 #[inline]
 fn ids_alone(kept: &Kept, rank: &Rank, values: &[Option<Num>]) -> Option<IdPair>
     ensures all { IfSome result (λ pair. pushed_in kept.now ≡ None) }
@@ -70,7 +71,7 @@ fn ids_alone(kept: &Kept, rank: &Rank, values: &[Option<Num>]) -> Option<IdPair>
 }
 
 impl Bag {
-    /// A multiset without rows, which keeps the first n, or all. Does not allocate.
+    /// Creates a multiset without rows, which keeps the first n, or all. Does not allocate.
     pub(crate) fn empty(alloc: Global, limit: Option<usize>) -> Bag
         ensures { result ≡ record { pushed = limit; rows = [] } }
     {
@@ -83,8 +84,8 @@ impl Bag {
         }
     }
 
-    /// Whether the given number of rows are kept that one with this sort key is none of the first, whatever its values:
-    /// as soon as none of as many rows as the limit comes after it. Does not allocate.
+    /// Returns true only if a row with this sort key is none of the first n, whatever its values. Returns true as soon
+    /// as the multiset holds as many rows as the limit and none of them comes after such a row. Does not allocate.
     pub(crate) fn is_too_late(&self, rank: &Rank) -> bool
         ensures late { OnTrue result ((values : List (Option ℤ)) →
             KeepsFirst row_order self.now.pushed
@@ -108,7 +109,7 @@ impl Bag {
         push_ids(&mut self.ids, pair)
     }
 
-    /// Adds any row with this sort key with these values. After `Err` nothing has changed.
+    /// Adds any row with this sort key and these values. After `Err` nothing has changed.
     fn push_row(&mut self, rank: &Rank, values: &[Option<Num>]) -> Result<(), Memory>
         ensures pushed { self.new.pushed ≡ self.old.pushed }
         ensures kept { OnOk result (KeepsFirst row_order self.old.pushed
@@ -130,7 +131,7 @@ impl Bag {
         Ok(())
     }
 
-    /// Adds a row with this sort key with these values. After `Err` nothing has changed.
+    /// Adds a row with this sort key and these values. After `Err` nothing has changed.
     pub(crate) fn push(&mut self, rank: &Rank, values: &[Option<Num>]) -> Result<(), Memory>
         ensures pushed { self.new.pushed ≡ self.old.pushed }
         ensures kept { OnOk result (KeepsFirst row_order self.old.pushed
@@ -172,7 +173,7 @@ impl Bag {
         Ok(())
     }
 
-    /// How many rows it holds: at most the limit, if there is one. Does not allocate.
+    /// Returns the number of rows, which is at most the limit, if there is one. Does not allocate.
     pub(crate) fn held(&self) -> usize
         ensures held { result ≡ length self.now.rows }
         ensures few { IfSome self.now.pushed (λ n. result ≤ n) }
@@ -180,8 +181,8 @@ impl Bag {
         count(&self.kept) + self.ids.len()
     }
 
-    /// The table of the rows: in order, the first of them, and of each its merged items. Allocates memory for the
-    /// table.
+    /// Returns the table of the rows: the first of them in order, and the merged items of each. Allocates memory for
+    /// the table.
     pub(crate) fn finish(self, alloc: Global, merge: &MergePlan) -> Result<Table, Memory>
         requires { AreApart row_order self.rows }
         ensures { IfOk result (λ table. table ≡ merged_rows merge.now self.rows) }

@@ -1,4 +1,4 @@
-//! The table of a multiset: of the rows that are kept, or of the pairs whose values are their own ids, or of both.
+//! The table of a multiset, which is of rows, of pairs whose values are their own ids, or of both.
 
 ghost use Rattle.std.specs.Prelude.{◌≡◌, ◌++◌, ◌∷◌, [], length, map, IfOk, IsPermutation, None, OnOk};
 ghost use Rattle.answer_rules.specs.Finish.{merged_rows};
@@ -46,7 +46,7 @@ fn put_pairs(kept: &mut Kept, cells: &mut Vec<Cell>, pairs: &[IdPair]) -> Result
     Ok(())
 }
 
-/// The table of rows and of pairs. Allocates memory for the table, and for the pairs once more.
+/// Returns the table of rows and of pairs. Allocates memory for the table, and for a copy of the pairs.
 fn both_table(
     alloc: Global,
     mut kept: Kept,
@@ -64,7 +64,7 @@ fn both_table(
     kept_table(alloc, kept, cells.as_slice(), merge)
 }
 
-/// The table of what a multiset holds: in order, the first of the rows, and of each its merged items.
+/// Returns the table of a multiset: the first of its rows in order, and the merged items of each.
 pub(crate) fn bag_table(
     alloc: Global,
     kept: Kept,

@@ -1,4 +1,4 @@
-//! A value of a row in sixteen bytes, NULL among them: a multiset of rows has millions.
+//! A value of a row, or NULL, in sixteen bytes: a multiset of rows has millions of them.
 
 ghost use Rattle.std.specs.Prelude.{◌≡◌, negsuc, ◌<ℤ◌, IfSome};
 ghost use Rattle.partial_merge.specs.Cells.{cell_in};
@@ -31,7 +31,7 @@ const NULL: i128 = i128::MIN;
 const LEAST: i128 = -(NUMBER_MOST as i128);
 
 impl Cell {
-    /// The cell with this value. Does not allocate.
+    /// Creates the cell with this value. Does not allocate.
     pub(crate) fn new(value: Option<Num>) -> Cell
         ensures { result ≡ value }
     {
@@ -41,14 +41,14 @@ impl Cell {
         }
     }
 
-    /// The cell once more. Does not allocate.
+    /// Returns a copy of the cell. Does not allocate.
     pub(crate) fn copy(&self) -> Cell
         ensures { result ≡ self.now }
     {
         Cell { code: self.code }
     }
 
-    /// The value. Does not allocate.
+    /// Returns the value. Does not allocate.
     pub(crate) fn get(&self) -> Option<Num>
         ensures { result ≡ self.now }
     {

@@ -1,4 +1,4 @@
-//! The table of groups: their totals tested, their lines put in order, and of the first of them the merged items.
+//! The table of groups: their totals are checked, their lines are sorted, and the items of the first lines are merged.
 
 ghost use Rattle.std.specs.Prelude.{◌≡◌, ◌++◌, ◌<◌, All, Err, IfErr, IfOk, IfSome, length, map, Ok, OnOk, Some};
 ghost use Rattle.std.specs.List.{flat_map};
@@ -49,7 +49,7 @@ fn put_group(
     Ok(())
 }
 
-/// The values of the lines, one line after the other.
+/// Returns the values of the lines, line by line.
 fn values_of(
     alloc: Global,
     lines: &[Line],
@@ -69,7 +69,7 @@ fn values_of(
     Ok(values)
 }
 
-/// The table of the lines.
+/// Returns the table of the lines.
 fn line_table(
     alloc: Global,
     lines: &[Line],
@@ -85,7 +85,7 @@ fn line_table(
     Ok(Table::of(values, items.len(), lines.len()))
 }
 
-/// The table of lines in any order, each apart from the others.
+/// Returns the table of lines that are in any order, no two of which tie.
 fn all_table(
     alloc: Global,
     mut lines: Vec<Line>,
@@ -110,7 +110,7 @@ fn all_table(
     )
 }
 
-/// The table of the first n of more lines in any order: only these are put in order.
+/// Returns the table of the first n of more than n lines in any order. Sorts only these n.
 fn some_table(
     alloc: Global,
     lines: &mut [Line],
@@ -130,7 +130,7 @@ fn some_table(
     line_table(alloc, front, keys, tallies, items)
 }
 
-/// The limit, if there are more lines.
+/// Returns the limit, if there are more lines.
 fn limit_below(limit: Option<Int>, count: usize) -> Option<usize>
     ensures limit { IfSome result (λ n. limit_of limit ≡ Some n) }
     ensures below { IfSome result (λ n. n < count) }
@@ -139,7 +139,7 @@ fn limit_below(limit: Option<Int>, count: usize) -> Option<usize>
     if n < count { Some(n) } else { None }
 }
 
-/// The table of groups whose totals are in range.
+/// Returns the table of groups whose totals are in range.
 fn tested_table(
     alloc: Global,
     marks: Vec<Mark>,
@@ -166,8 +166,8 @@ fn tested_table(
     }
 }
 
-/// The table of groups that ascend by their keys, or the first total that is out of range. Allocates memory for the
-/// table and for a line a group.
+/// Returns the table of groups that ascend by their keys, or the first total that is out of range. Allocates memory for
+/// the table, and for one line for each group.
 pub(crate) fn group_table(
     alloc: Global,
     marks: Vec<Mark>,

@@ -1,4 +1,4 @@
-//! The first n rows of those that were offered, as a heap whose top is the last of them.
+//! The first n of the rows that were offered, as a heap whose top is the last of them.
 
 ghost use Rattle.std.specs.Prelude.{◌≡◌, ◌≤◌, ◌<◌, ◌+◌, ◌++◌, ◌∷◌, [], length, not, Some, true, IsPermutation};
 ghost use Rattle.std.specs.Bool.{OnTrue, OnFalse};
@@ -11,7 +11,8 @@ use crate::ranked::Ranked;
 use std::cmp::Ordering;
 use std::collections::BinaryHeap;
 
-/// Takes the row in where it is one of the first `limit`; the last of these then goes. Does not allocate.
+/// Adds the row if it is one of the first `limit` rows. If there were `limit` rows before, the last of them is dropped.
+/// Does not allocate.
 pub(crate) fn offer(heap: &mut BinaryHeap<Ranked>, limit: usize, row: Ranked)
     requires order { IsHeap rank_order (heap_items heap.old) }
     requires few { length (heap_items heap.old) ≤ limit }
@@ -33,7 +34,7 @@ pub(crate) fn offer(heap: &mut BinaryHeap<Ranked>, limit: usize, row: Ranked)
     replace_last(heap, row);
 }
 
-/// Whether no row of the heap comes after this one.
+/// Returns whether no row of the heap comes after this one.
 pub(crate) fn comes_late(heap: &BinaryHeap<Ranked>, row: &Ranked) -> bool
     requires order { IsHeap rank_order (heap_items heap.now) }
     ensures late { OnTrue result (IsBehindAll row.now (heap_items heap.now)) }
@@ -47,14 +48,14 @@ pub(crate) fn comes_late(heap: &BinaryHeap<Ranked>, row: &Ranked) -> bool
     }
 }
 
-/// Whether the row does not come before the other one.
+/// Returns whether the row does not come before the other one.
 fn is_behind(row: &Ranked, other: &Ranked) -> bool
     ensures { result ≡ not (is_lt (rank_order row.now other.now)) }
 {
     row.cmp(other) != Ordering::Less
 }
 
-/// Puts the row in the place of the last one.
+/// Replaces the last row by this one.
 fn replace_last(heap: &mut BinaryHeap<Ranked>, row: Ranked)
     requires order { IsHeap rank_order (heap_items heap.old) }
     requires some { 0 < heap_len heap.old }
@@ -71,7 +72,7 @@ fn replace_last(heap: &mut BinaryHeap<Ranked>, row: Ranked)
     }
 }
 
-/// Puts the row in.
+/// Adds the row.
 fn add(heap: &mut BinaryHeap<Ranked>, row: Ranked)
     requires order { IsHeap rank_order (heap_items heap.old) }
     requires room { heap_len heap.old < heap_capacity heap.old }

@@ -33,14 +33,14 @@ pub(crate) enum Held {
     Groups(Pile),
 }
 
-/// A limit as a number of rows.
+/// Returns a limit as a number of rows.
 fn limit(limit: Option<Int>) -> Option<usize>
     ensures { result ≡ limit_of limit }
 {
     Some(limit?.get().unsigned_abs() as usize)
 }
 
-/// Nothing, of the kind that the chunk query gives. Does not allocate.
+/// Creates an empty value of the kind that the chunk query produces. Does not allocate.
 pub(crate) fn nothing(alloc: Global, query: &ChunkQuery) -> Held
     ensures { view_in result ≡ empty_view query.now.shape (limit_of query.now.limit) }
 {
@@ -64,7 +64,7 @@ pub(crate) fn take_in(held: &mut Held, other: Held) -> Result<(), Memory>
     }
 }
 
-/// Whether a row with this sort key is none of the first that are kept, whatever its values.
+/// Returns true only if a row with this sort key is none of the first that are kept, whatever its values.
 pub(crate) fn is_too_late(held: &Held, rank: &Rank) -> bool
     ensures late { OnTrue result (IsNoneOfFirst (view_in held.now) rank.now) }
     ensures told { IsToldLate (view_in held.now) rank.now result }
@@ -75,7 +75,7 @@ pub(crate) fn is_too_late(held: &Held, rank: &Rank) -> bool
     }
 }
 
-/// Adds a row with this sort key with these values. After `Err` nothing has changed.
+/// Adds a row with this sort key and these values. After `Err` nothing has changed.
 pub(crate) fn push_row(held: &mut Held, rank: &Rank, values: &[Option<Num>]) -> Result<(), Memory>
     requires rows { IsOfRows (view_in held.old) }
     ensures kept { OnOk result (TakesRow (view_in held.old) (out_row rank.now values.now)
@@ -88,7 +88,7 @@ pub(crate) fn push_row(held: &mut Held, rank: &Rank, values: &[Option<Num>]) -> 
     }
 }
 
-/// Adds a group of this key. After `Err` nothing has changed.
+/// Adds a group with this key. After `Err` nothing has changed.
 pub(crate) fn push_group(
     held: &mut Held,
     key: Key,
@@ -106,7 +106,7 @@ pub(crate) fn push_group(
     }
 }
 
-/// How many rows there are, or groups, a key perhaps more than once.
+/// Returns the number of rows, or of groups, where one key may count more than once.
 pub(crate) fn count(held: &Held) -> usize
     ensures held { IsOfRows (view_in held.now) → result ≡ size_of (view_in held.now) }
     ensures most { size_of (view_in held.now) ≤ result }
@@ -118,7 +118,7 @@ pub(crate) fn count(held: &Held) -> usize
     }
 }
 
-/// The table of what is held, or the first total that is out of range.
+/// Returns the table of the rows or groups, or the first total that is out of range.
 pub(crate) fn finish(alloc: Global, held: Held, merge: &MergePlan) -> Result<Table, Stop<TotalOut>>
     requires { CanFinish merge.now (view_in held) }
     ensures ok { IfOk result (λ table. finished merge.now (view_in held) ≡ Ok table) }
@@ -131,7 +131,7 @@ pub(crate) fn finish(alloc: Global, held: Held, merge: &MergePlan) -> Result<Tab
     }
 }
 
-/// The table of groups, or the first total that is out of range.
+/// Returns the table of groups, or the first total that is out of range.
 fn finish_groups(alloc: Global, pile: Pile, merge: &MergePlan) -> Result<Table, Stop<TotalOut>>
     requires { CanMerge merge.now.shape merge.now.items pile }
     ensures ok { IfOk result (λ table. finished merge.now (OfGroups pile) ≡ Ok table) }

@@ -1,8 +1,8 @@
-//! Where the group of a key may are in an aggregation table: a table of places, by numbers made of keys.
+//! A cache of where the group of a key is in an aggregation table, found by a hash of the key.
 //!
-//! A place of the table is a cache entry and no more: it is taken where the group at that place is found to have the
-//! key. A key that is not found is put after the others, and the next consolidation adds it up. So the table may be
-//! small, old or missing.
+//! An entry of the cache is not relied on: it is used only if the group at that position has the key. If a key is not
+//! found, its group is appended, and the next consolidation adds it up. So the cache may be small, out of date or
+//! missing.
 
 ghost use Rattle.std.specs.Prelude.{◌≡◌, ◌<◌, IfSome, length, true};
 ghost use Rattle.std.specs.Ordering.{is_eq};
@@ -13,23 +13,23 @@ use crate::key::Key;
 use crate::mark::Mark;
 use std::alloc::Global;
 
-/// How many cache entries are made for each group, at the least.
+/// The least number of cache entries for each group.
 const ROOM: usize = 4;
 
-/// By how much a number is stretched before the next value is added: an odd number of 64 bits.
+/// The factor by which a hash is multiplied before the next value is added: an odd number of 64 bits.
 const STRETCH: u64 = 0x9e37_79b9_7f4a_7c15;
 
-/// The cache entry where there is none: a place that no aggregation table has.
+/// The entry that holds nothing: a position that no aggregation table has.
 const NONE: u32 = u32::MAX;
 
-/// Places of groups in an aggregation table.
+/// The cached positions of groups in an aggregation table.
 #[derive(Drop)]
 pub(crate) struct Hints {
     places: Vec<u32>,
 }
 
-/// The number of a key. Of a key of one column whose value is from 0 and below 2^29 it is the value, so that such keys lie in
-/// the table in their order.
+/// Returns the hash of a key. If the key is one value from 0 and below 2^29, the hash is that value. So such keys are
+/// in the cache in their order.
 fn number(key: &Key) -> u64 {
     let number = match key.lone() {
         Some(value) => value.cast_unsigned(),
@@ -38,7 +38,7 @@ fn number(key: &Key) -> u64 {
     number ^ (number >> 29)
 }
 
-/// The values of a key, mixed into one number.
+/// Returns the values of a key, mixed into one number.
 fn mixed(key: &Key) -> u64 {
     let key = key.open();
     let mut number = 0u64;
@@ -48,7 +48,7 @@ fn mixed(key: &Key) -> u64 {
     number
 }
 
-/// The number of a value.
+/// Returns the number that a value is mixed in as.
 fn code(value: Option<i64>) -> u64 {
     match value {
         None => STRETCH,
@@ -56,8 +56,7 @@ fn code(value: Option<i64>) -> u64 {
     }
 }
 
-/// How many cache entries there are for the given number of groups: a power of two, or none where that is past all
-/// memory.
+/// Returns the number of cache entries for the given number of groups: a power of two, or 0 if that overflows.
 fn count(groups: usize) -> usize {
     match groups.checked_mul(ROOM) {
         None => 0,
@@ -68,7 +67,7 @@ fn count(groups: usize) -> usize {
     }
 }
 
-/// The place as a cache entry.
+/// Returns the position as a cache entry.
 fn hint(place: usize) -> u32 {
     match u32::try_from(place) {
         Ok(place) => place,
@@ -76,7 +75,7 @@ fn hint(place: usize) -> u32 {
     }
 }
 
-/// Whether the group at the place has the key.
+/// Returns whether the group at the position has the key.
 fn is_of(marks: &Vec<Mark>, place: usize, key: &Key) -> bool
     requires { place < length marks.now.items }
     ensures { result ≡ is_eq (key_order key.now (mark_in marks.now.items place).key) }
@@ -84,7 +83,7 @@ fn is_of(marks: &Vec<Mark>, place: usize, key: &Key) -> bool
     *key == marks[place].key
 }
 
-/// The place, if the group there has the key.
+/// Returns the position, if the group there has the key.
 fn checked(marks: &Vec<Mark>, place: usize, key: &Key) -> Option<usize>
     ensures there { IfSome result (λ p. p < length marks.now.items) }
     ensures key { IfSome result (λ p.
@@ -97,14 +96,14 @@ fn checked(marks: &Vec<Mark>, place: usize, key: &Key) -> Option<usize>
 }
 
 impl Hints {
-    /// No cache entries. Does not allocate.
+    /// Creates a cache without entries. Does not allocate.
     pub(crate) fn none(alloc: Global) -> Hints {
         Hints {
             places: Vec::new(alloc),
         }
     }
 
-    /// Cache entries for the groups of an aggregation table; none where memory is short.
+    /// Creates cache entries for the groups of an aggregation table, or none if memory is short.
     pub(crate) fn of(alloc: Global, marks: &Vec<Mark>) -> Hints {
         match vec![in alloc; NONE; count(marks.len())] {
             Err(_) => Hints::none(alloc),
@@ -112,7 +111,7 @@ impl Hints {
         }
     }
 
-    /// The cache entry for a key.
+    /// Returns the cache entry for a key.
     fn at(&self, key: &Key) -> usize {
         let count = self.places.len();
         if count == 0 {
@@ -121,7 +120,7 @@ impl Hints {
         self.places[number(key) as usize & (count - 1)] as usize
     }
 
-    /// A group of the key, if a cache entry leads to one. Does not allocate.
+    /// Returns the position of a group with the key, if a cache entry leads to one. Does not allocate.
     pub(crate) fn find(&self, marks: &Vec<Mark>, key: &Key) -> Option<usize>
         ensures there { IfSome result (λ p. p < length marks.now.items) }
         ensures key { IfSome result (λ p.
@@ -130,7 +129,7 @@ impl Hints {
         checked(marks, self.at(key), key)
     }
 
-    /// Notes at which place the group of the key is. Does not allocate.
+    /// Stores the position of the group with the key. Does not allocate.
     pub(crate) fn note(&mut self, key: &Key, place: usize) {
         let count = self.places.len();
         if count == 0 {
@@ -140,7 +139,7 @@ impl Hints {
     }
 }
 
-/// The cache entries with one for each group.
+/// Returns the cache with an entry for each group.
 fn filled(mut hints: Hints, marks: &Vec<Mark>) -> Hints {
     for i in 0..marks.len() {
         hints.note(&marks[i].key, i);

@@ -14,14 +14,14 @@ use crate::rank::Rank;
 use sky_vector::Num;
 use std::cmp::Ordering;
 
-/// The ids of a pair, which are its values too, and give it its place in the order: 16 bytes.
+/// The ids of a pair, which are both its values and its sort key: 16 bytes.
 #[derive(Clone, Copy, Drop)]
 pub(crate) struct IdPair {
     pub(crate) first: i64,
     pub(crate) second: i64,
 }
 
-/// Whether the value is this id.
+/// Returns whether the value is this id.
 #[inline]
 fn is_id(value: &Option<Num>, id: i64) -> bool
     ensures { OnTrue result (value.now ≡ Some id) }
@@ -32,7 +32,7 @@ fn is_id(value: &Option<Num>, id: i64) -> bool
     }
 }
 
-/// Whether the values are these two ids.
+/// Returns whether the values are these two ids.
 #[inline]
 fn are_ids(values: &[Option<Num>], first: i64, second: i64) -> bool
     ensures { OnTrue result (values.now ≡ Some first ∷ Some second ∷ []) }
@@ -43,7 +43,7 @@ fn are_ids(values: &[Option<Num>], first: i64, second: i64) -> bool
     }
 }
 
-/// The id as a number.
+/// Returns the id as a number.
 fn whole(id: i64) -> Num
     ensures { result ≡ id }
 {
@@ -51,7 +51,7 @@ fn whole(id: i64) -> Num
 }
 
 impl IdPair {
-    /// The pair with this sort key and these values, if it has no order key and the values are its ids.
+    /// Returns the pair with this sort key and these values, if it has no order key and the values are its ids.
     #[inline]
     pub(crate) fn of(rank: &Rank, values: &[Option<Num>]) -> Option<IdPair>
         ensures { IfSome result (λ pair. pair_row pair ≡ out_row rank.now values.now) }
@@ -66,7 +66,7 @@ impl IdPair {
         }
     }
 
-    /// The sort key of the pair.
+    /// Returns the sort key of the pair.
     pub(crate) fn rank(&self) -> Rank
         ensures { out_row result (pair_row self.now).cells ≡ pair_row self.now }
     {
@@ -78,7 +78,7 @@ impl IdPair {
         }
     }
 
-    /// The value in a column; one that is not there is NULL.
+    /// Returns the value in a column, which is NULL if there is no such column.
     pub(crate) fn value(&self, n: usize) -> Option<Num>
         ensures { result ≡ unwrap_or (slice_get (pair_row self.now).cells n) None }
     {

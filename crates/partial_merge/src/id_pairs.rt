@@ -1,4 +1,4 @@
-//! The list of a multiset's pairs whose values are their own two ids: one more, and those of another multiset.
+//! The list of a multiset's pairs whose values are their own two ids.
 
 ghost use Rattle.std.specs.Prelude.{◌≡◌, ◌≤◌, ◌<◌, ◌+◌, ◌++◌, ◌∷◌, [], ◌-◌, ◌^◌, OnErr, OnOk, vec_capacity, vec_len};
 
@@ -6,7 +6,7 @@ use crate::id_pair::IdPair;
 use crate::lists::reserve;
 use sky_io::Memory;
 
-/// Whether n more rows can still be counted: no memory holds more.
+/// Checks that n more rows can be counted. No memory holds more rows than can be counted.
 #[inline]
 pub(crate) fn count_more(held: usize, more: usize) -> Result<(), Memory>
     ensures { OnOk result (held + more ≤ 2 ^ 64 - 1) }
@@ -27,8 +27,8 @@ pub(crate) fn push_ids(ids: &mut Vec<IdPair>, pair: IdPair) -> Result<(), Memory
     Ok(ids.push(pair)?)
 }
 
-/// Reserves room for the given number of further pairs where some are there; where none is, those of another multiset
-/// are taken as they are.
+/// Reserves room for the given number of more pairs, if the list is not empty. An empty list is replaced by that of
+/// another multiset, and needs no room.
 pub(crate) fn make_room(ids: &mut Vec<IdPair>, more: usize) -> Result<(), Memory>
     ensures same { ids.new.items ≡ ids.old.items }
     ensures room { OnOk result

@@ -1,4 +1,4 @@
-//! How an aggregation table is kept short: it is consolidated each time that it has become twice as long.
+//! When an aggregation table is consolidated: each time that it has doubled in length.
 
 ghost use Rattle.partial_merge.specs.Adding.{IsAs};
 ghost use Rattle.partial_merge.specs.Groups.{ArePiled};
@@ -10,8 +10,8 @@ use crate::settle::settle;
 use crate::tally::Tally;
 use std::alloc::Global;
 
-/// Consolidates an aggregation table that is twice as long as it was after the last time, and makes new cache entries
-/// for it. If memory is short it is tried again at the next call.
+/// Consolidates an aggregation table that is twice as long as after the last consolidation, and creates new cache
+/// entries for it. If memory is short, the next call tries again.
 pub(crate) fn keep_short(
     alloc: Global,
     marks: &mut Vec<Mark>,
@@ -33,7 +33,7 @@ pub(crate) fn keep_short(
     }
 }
 
-/// Makes cache entries for the groups, and returns how many these are.
+/// Creates cache entries for the groups, and returns the number of groups.
 fn hinted(alloc: Global, marks: &Vec<Mark>, hints: &mut Hints) -> usize {
     *hints = Hints::of(alloc, marks);
     marks.len()

@@ -1,4 +1,4 @@
-//! The rows of a multiset and the list of their values: what changes the one changes the other too.
+//! The rows of a multiset and the list of their values, which change together.
 
 ghost use Rattle.std.specs.Prelude.{◌≡◌, ◌≤◌, ◌+◌, ◌++◌, ◌∷◌, [], length, OnErr, OnOk, vec_len, vec_capacity};
 ghost use Rattle.answer_rules.specs.Keeps.{KeepsFirst};
@@ -24,7 +24,7 @@ fn put_values(cells: &mut Vec<Cell>, values: &[Option<Num>])
     }
 }
 
-/// Keeps one row more, its values after the others. After `Err` nothing has changed.
+/// Adds a row, and appends its values. After `Err` nothing has changed.
 pub(crate) fn put_row(
     kept: &mut Kept,
     cells: &mut Vec<Cell>,
@@ -47,7 +47,7 @@ pub(crate) fn put_row(
     Ok(())
 }
 
-/// Keeps one row more, and returns how many values there were after the last packing. After `Err` nothing has changed.
+/// Adds a row, and returns how many values there were after the last packing. After `Err` nothing has changed.
 pub(crate) fn put_and_pack(
     alloc: Global,
     kept: &mut Kept,

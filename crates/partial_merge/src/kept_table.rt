@@ -1,4 +1,4 @@
-//! The table of the rows that a multiset keeps: they are put in order, and the first of them taken.
+//! The table of the rows that a multiset keeps: they are sorted, and the first of them are its rows.
 
 ghost use Rattle.std.specs.Prelude.{◌≡◌, ◌≤◌, ◌+◌, ◌++◌, All, IfOk, length, map, vec_capacity, vec_len};
 ghost use Rattle.std.specs.BinaryHeap.{heap_items};
@@ -22,7 +22,7 @@ use sky_io::Memory;
 use std::alloc::Global;
 use std::collections::BinaryHeap;
 
-/// The table of rows in any order. Allocates memory for the table.
+/// Returns the table of rows in any order. Allocates memory for the table.
 fn sorted_table(
     alloc: Global,
     mut rows: Vec<Ranked>,
@@ -39,7 +39,7 @@ fn sorted_table(
     row_table(alloc, rows.as_slice(), cells, merge.items.as_slice())
 }
 
-/// The table of compact rows of the given width, in any order. Allocates memory for the table.
+/// Returns the table of compact rows of the given width, in any order. Allocates memory for the table.
 fn sorted_plain_table(
     alloc: Global,
     mut plain: Vec<Plain>,
@@ -75,7 +75,7 @@ fn put_full(rows: &mut Vec<Ranked>, plain: &[Plain], width: usize, cells: usize)
     }
 }
 
-/// The compact rows of the given width, and after them the others. Allocates memory for them.
+/// Returns the compact rows of the given width, followed by the others. Allocates memory for them.
 fn all_rows(
     alloc: Global,
     plain: &[Plain],
@@ -92,7 +92,7 @@ fn all_rows(
     Ok(all)
 }
 
-/// The table of rows of both kinds. Allocates memory for the table, and for the rows once more.
+/// Returns the table of rows of both kinds. Allocates memory for the table, and for a copy of the rows.
 fn mixed_table(
     alloc: Global,
     plain: &[Plain],
@@ -111,8 +111,8 @@ fn mixed_table(
     sorted_table(alloc, all, cells, merge)
 }
 
-/// The table of all rows of a multiset without a limit. Allocates memory for the table and, if some have an order key
-/// and others have none, for the rows once more.
+/// Returns the table of all rows of a multiset without a limit. Allocates memory for the table. If some rows have an
+/// order key and others have none, allocates memory for a copy of the rows too.
 fn lot_table(alloc: Global, lot: Lot, cells: &[Cell], merge: &MergePlan) -> Result<Table, Memory>
     requires there { All (IsIn (length cells.now)) (all_of lot) }
     requires apart { AreApart row_order (map (row_of cells.now) (all_of lot)) }
@@ -127,14 +127,14 @@ fn lot_table(alloc: Global, lot: Lot, cells: &[Cell], merge: &MergePlan) -> Resu
     }
 }
 
-/// The rows of a heap, in any order. Does not allocate.
+/// Returns the rows of a heap, in any order. Does not allocate.
 fn ranks(heap: BinaryHeap<Ranked>) -> Vec<Ranked>
     ensures { result.items ≡ heap_items heap }
 {
     heap.into_vec()
 }
 
-/// The table of the rows that are kept: in order, the first of them, and of each its merged items.
+/// Returns the table of the rows that are kept: the first of them in order, and the merged items of each.
 pub(crate) fn kept_table(
     alloc: Global,
     kept: Kept,

@@ -1,7 +1,7 @@
-//! The key of a group. It allocates memory where it has more than four values, and no query has such keys.
+//! The key of a group. It allocates memory only if it has more than four values, and no query has such keys.
 //!
 //! An aggregation table has a key for each of its groups, and moves and compares them all the time. So a key of few
-//! values is 40 bytes, and one of a single number, which most are, is compared as that number.
+//! values has 40 bytes. A key of a single number, as most are, is compared as that number.
 
 ghost use Rattle.std.specs.Prelude.{◌≡◌, ◌≤◌, ◌∷◌, [], get_or, length, IfOk, IfSome, None, Some};
 ghost use Rattle.std.proofs.Common.{rules};
@@ -20,10 +20,10 @@ use std::alloc::Global;
 use std::cmp::Ordering;
 use std::marker::Model;
 
-/// The values of a key: in the key itself, if they are few.
+/// The values of a key, which are in the key itself if they are few.
 #[derive(Drop)]
 pub(crate) enum Values {
-    /// The first `taken` of them, each a number or, if none is present, NULL.
+    /// The first `taken` of these, each of which is a number if it is `present`, and otherwise NULL.
     Short {
         taken: u8,
         present: [bool; SHORT_KEY_MOST],
@@ -32,7 +32,7 @@ pub(crate) enum Values {
     Long(Vec<Option<i64>>),
 }
 
-/// A value for each key column; `None` is NULL, which equals itself and comes first.
+/// The values of the key columns. `None` is NULL, which equals itself and comes first.
 #[derive(Drop)]
 pub struct Key {
     values: Values,
@@ -47,7 +47,7 @@ impl Model for Key {
     ghost view = { λ k. values_in k.values };
 }
 
-/// The value at a place, and NULL after the last one.
+/// Returns the value at a position, or NULL if there is none.
 fn value_at(values: &[Option<i64>], place: usize) -> Option<i64>
     ensures { result ≡ get_or values.now place None }
 {
@@ -57,7 +57,7 @@ fn value_at(values: &[Option<i64>], place: usize) -> Option<i64>
     }
 }
 
-/// The number of a value, and any for NULL.
+/// Returns the number of a value, or any number for NULL.
 fn number_of(value: Option<i64>) -> i64
     ensures { IfSome value (λ n. result ≡ n) }
 {
@@ -67,7 +67,7 @@ fn number_of(value: Option<i64>) -> i64
     }
 }
 
-/// The first n of these values.
+/// Packs the first n of these values.
 fn packed(taken: u8, a: Option<i64>, b: Option<i64>, c: Option<i64>, d: Option<i64>) -> Values
     ensures { values_in result ≡ first_of_four taken a b c d }
 {
@@ -78,7 +78,7 @@ fn packed(taken: u8, a: Option<i64>, b: Option<i64>, c: Option<i64>, d: Option<i
     }
 }
 
-/// The number of a short key of one column, if it is one.
+/// Returns the number of a short key of one column, if its value is a number.
 fn lone_in(
     taken: u8,
     present: &[bool; SHORT_KEY_MOST],
@@ -93,7 +93,7 @@ fn lone_in(
 }
 
 impl Key {
-    /// The key of these values. Allocates memory for more than four of them.
+    /// Creates the key of these values. Allocates memory for more than four of them.
     pub fn from_slice(alloc: Global, values: &[Option<i64>]) -> Result<Key, Memory>
         ensures { IfOk result (λ key. key ≡ values.now) }
     {
@@ -105,7 +105,7 @@ impl Key {
         })
     }
 
-    /// The key of at most four values. Does not allocate.
+    /// Creates the key of at most four values. Does not allocate.
     pub fn short(values: &[Option<i64>]) -> Key
         requires { length values.now ≤ SHORT_KEY_MOST }
         ensures { result ≡ values.now }
@@ -121,7 +121,7 @@ impl Key {
         }
     }
 
-    /// The key without values. Does not allocate.
+    /// Creates the key without values. Does not allocate.
     pub(crate) fn none() -> Key
         ensures { result ≡ [] }
     {
@@ -130,7 +130,7 @@ impl Key {
         }
     }
 
-    /// The number of a key of one column, if it is one.
+    /// Returns the number of a key of one column, if its value is a number.
     pub(crate) fn lone(&self) -> Option<i64>
         ensures { IfSome result (λ n. self.now ≡ Some n ∷ []) }
     {
@@ -144,7 +144,7 @@ impl Key {
         }
     }
 
-    /// The values side by side. Does not allocate.
+    /// Returns the values as one slice. Does not allocate.
     pub(crate) fn open(&self) -> OpenKey<'_>
         ensures { result ≡ self.now }
     {
@@ -159,7 +159,7 @@ impl Key {
     }
 }
 
-/// The order of two keys of any length, value by value.
+/// Compares two keys of any length, value by value.
 fn order_by_values(a: &Key, b: &Key) -> Ordering
     ensures { result ≡ key_order a.now b.now }
 {
@@ -168,7 +168,7 @@ fn order_by_values(a: &Key, b: &Key) -> Ordering
     a.as_slice().cmp(b.as_slice())
 }
 
-/// The order of two keys.
+/// Compares two keys.
 fn order_of(a: &Key, b: &Key) -> Ordering
     ensures { result ≡ key_order a.now b.now }
 {

@@ -1,19 +1,24 @@
-//! Pieces of an answer: what a chunk query gave over a set of chunks, how pieces join, and the table of the last one.
+//! Partial results: what a chunk query produces over a set of chunks, how two of them are combined, and the final
+//! table.
 //!
-//! Callers see a `Piece` as `PieceView` of `answer_rules`, a `Table` as a list of rows of values, and a `PieceRoot`, on
-//! which the pieces of a session rest, as a `Base`. What a piece represents is given by `PieceFor`; `absorb` keeps it,
-//! for whatever two pieces it is called (`specs/Joining.antt`). Inside, a piece holds rows or groups (`held`). Rows are
-//! a multiset (`bag`): all of them (`lot`; `plain` are the short ones, `ranked` the others) or the first n (`heap`), as
-//! `kept` has them. Their values are in one list (`kept_cells`, `cell`), from which those of rows that were dropped are
-//! dropped (`packing`). Pairs whose values are their own two ids have a list of their own (`id_pair`, `id_pairs`). A
-//! multiset becomes a table in `bag_table`: of rows in `kept_table`, of such pairs in `pair_table`. Groups are an
-//! aggregation table (`pile`, `mark`, `short_key`). Those of another aggregation table are added where cache entries
-//! lead to their keys (`taking`, `hints`), and an aggregation table is consolidated now and then (`keeping`, `settle`).
-//! It becomes a table in `group_table`: the totals are tested (`totals`), the lines put in order (`lines`), and their
-//! items merged (`merged`, `average`). Below: `answer_rules` for what pieces mean and the lemmas that are used here,
-//! `expr_eval` for expressions of keys, and `scan_core` for `Work`, by which a board joins pieces (`work`). Above:
-//! `chunk_scan` and `near_join` fill pieces, a board joins them, and `czar` finishes them. No chunks, no scans and no
-//! threads.
+//! Callers see a `Piece` as `PieceView` of `answer_rules`, and a `Table` as a list of rows of values. They see a
+//! `PieceRoot`, which the pieces of a session are defined over, as a `Base`. `PieceFor` defines what a piece
+//! represents. `absorb` preserves it, whichever two pieces are joined (`specs/Joining.antt`).
+//!
+//! A piece holds rows or groups (`held`). Rows are a multiset (`bag`, `kept`): either all of them (`lot`; `plain` are
+//! the compact rows, `ranked` the others) or the first n (`heap`). Their values are in one list (`kept_cells`, `cell`),
+//! from which the values of dropped rows are removed (`packing`). Pairs whose values are their own two ids have a list
+//! of their own (`id_pair`, `id_pairs`). A multiset becomes a table in `bag_table`: its rows in `kept_table`, such
+//! pairs in `pair_table`.
+//!
+//! Groups are an aggregation table (`pile`, `mark`, `short_key`). The groups of another aggregation table are added
+//! through cache entries, found by their keys (`taking`, `hints`). An aggregation table is consolidated when it has
+//! doubled (`keeping`, `settle`). It becomes a table in `group_table`: its totals are checked (`totals`), its lines
+//! sorted (`lines`), and their items merged (`merged`, `average`).
+//!
+//! Below: `answer_rules` for the meaning of pieces and the lemmas, `expr_eval` for expressions of keys, and `scan_core`
+//! for `Work`, by which a board joins pieces (`work`). Above: the scans fill pieces, a board joins them, and the czar
+//! finishes them. This crate has no chunks, no scans and no threads.
 #![tactic(auto)]
 
 mod average;

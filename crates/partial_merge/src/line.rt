@@ -1,4 +1,4 @@
-//! A line of an answer of groups: its place in the order, and its group.
+//! A line of an answer of groups: its sort key, and its group.
 
 ghost use Rattle.std.specs.Prelude.{◌≡◌};
 ghost use Rattle.std.proofs.Common.{rules};
@@ -13,7 +13,7 @@ ghost use Rattle.partial_merge.specs.declared.line.Line.{Line};
 use crate::mark::Mark;
 use std::cmp::Ordering;
 
-/// The sort key of a group's order key, its direction and NULL worked in, and the group.
+/// The sort key of a group and the group. The direction of the order and NULL are encoded in the sort key.
 #[derive(Drop)]
 pub(crate) struct Line {
     pub(crate) class: u8,

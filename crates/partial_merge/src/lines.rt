@@ -1,4 +1,4 @@
-//! The lines of an answer of groups: of each group its place in the order.
+//! The lines of an answer of groups, each with the sort key of its group.
 
 ghost use Rattle.std.specs.Prelude.{◌≡◌, ◌≤◌, ◌+◌, ◌^◌, ◌++◌, All, IfOk, length, map, None, slice_get, unwrap_or, vec_capacity, vec_len};
 ghost use Rattle.value_rules.specs.Widths.{IsOfSize};
@@ -21,14 +21,14 @@ use sky_io::Memory;
 use sql_bound::ColList;
 use std::alloc::Global;
 
-/// The class of a sort key: it keeps NULL before the numbers, and after them where the order is descending.
+/// Returns the class of a sort key, which puts NULL before the numbers, or after them if the order is descending.
 fn class(down: bool, key: Option<i128>) -> u8
     ensures { result ≡ rank_class down key }
 {
     if key.is_none() == down { 1 } else { 0 }
 }
 
-/// The number of a sort key, which turns round where the order is descending.
+/// Returns the number of a sort key, which is negated if the order is descending.
 fn rank(down: bool, key: Option<i128>) -> i128
     requires { IsOfSize (2 ^ 126) key }
     ensures { result ≡ rank_value down key }
@@ -39,7 +39,7 @@ fn rank(down: bool, key: Option<i128>) -> i128
     }
 }
 
-/// Whether the order is descending.
+/// Returns whether the order is descending.
 fn goes_down(order: &Option<MergeOrder>) -> bool
     ensures { result ≡ merge_down order.now }
 {
@@ -49,7 +49,7 @@ fn goes_down(order: &Option<MergeOrder>) -> bool
     }
 }
 
-/// The number that a value is compared by.
+/// Returns the number that a value is compared by.
 fn number_of(value: Value) -> Option<i128>
     requires { IsShort value }
     ensures number { result ≡ number_of value }
@@ -62,7 +62,7 @@ fn number_of(value: Value) -> Option<i128>
     }
 }
 
-/// The value at a place of a key; one that is not there is NULL.
+/// Returns the value at a position of a key, or NULL if there is none.
 fn key_at(key: &Key, place: usize) -> Option<i128>
     ensures value { result ≡ unwrap_or (slice_get key.now place) None }
     ensures small { IsOfSize (2 ^ 126) result }
@@ -72,7 +72,7 @@ fn key_at(key: &Key, place: usize) -> Option<i128>
     Some(value? as i128)
 }
 
-/// The value that a group is ordered by.
+/// Returns the value that a group is ordered by.
 fn key_of(
     keys: &ColList,
     items: &[MergeItem],
@@ -91,7 +91,7 @@ fn key_of(
     }
 }
 
-/// The value that a group is ordered by, if there is an order.
+/// Returns the value that a group is ordered by, if there is an order.
 fn order_key(keys: &ColList, merge: &MergePlan, tallies: &[Tally], mark: &Mark) -> Option<i128>
     requires { IsMergeable keys.now merge.now.items tallies.now mark.now }
     ensures value { result
@@ -104,7 +104,7 @@ fn order_key(keys: &ColList, merge: &MergePlan, tallies: &[Tally], mark: &Mark) 
     }
 }
 
-/// The line of a group.
+/// Returns the line of a group.
 fn line(keys: &ColList, merge: &MergePlan, tallies: &[Tally], mark: Mark) -> Line
     requires { IsMergeable keys.now merge.now.items tallies.now mark }
     ensures { result ≡ line_by tallies.now keys.now merge.now mark }
@@ -136,7 +136,7 @@ fn put_lines(
     }
 }
 
-/// The lines of the groups, in their order.
+/// Returns the lines of the groups, in the groups' order.
 pub(crate) fn lines(
     alloc: Global,
     marks: Vec<Mark>,

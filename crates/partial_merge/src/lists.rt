@@ -1,4 +1,4 @@
-//! Lists that grow: room for more, more after the others, and the first of them.
+//! Lists that grow: reserving room, appending, and cutting to the first n.
 
 ghost use Rattle.std.specs.Prelude.{◌≡◌, ◌≤◌, ◌+◌, ◌++◌, [], IfOk, OnErr, OnOk, vec_capacity, vec_len};
 ghost use Rattle.answer_rules.specs.InOrder.{first};
@@ -8,7 +8,7 @@ use sky_io::Memory;
 use sql_bound::Int;
 use std::alloc::Global;
 
-/// An empty list with room for the given number of elements.
+/// Creates an empty list with room for the given number of elements.
 pub(crate) fn room<T>(alloc: Global, count: usize) -> Result<Vec<T>, Memory>
     ensures items { IfOk result (λ list. list.items ≡ []) }
     ensures room { IfOk result (λ list. count ≤ vec_capacity list) }
@@ -17,7 +17,7 @@ pub(crate) fn room<T>(alloc: Global, count: usize) -> Result<Vec<T>, Memory>
     Ok(Vec::with_capacity(alloc, count)?)
 }
 
-/// Reserves room for the given number of further elements.
+/// Reserves room for the given number of more elements.
 pub(crate) fn reserve<T>(list: &mut Vec<T>, more: usize) -> Result<(), Memory>
     ensures same { list.new.items ≡ list.old.items }
     ensures room { OnOk result (vec_len list.new + more ≤ vec_capacity list.new) }

@@ -10,7 +10,7 @@ use crate::mark::Mark;
 use sky_io::Memory;
 use sql_bound::ColList;
 
-/// Puts the one group of a query without keys there, if it found no rows.
+/// Adds the one group of a query without keys, if it found no rows.
 pub(crate) fn put_lone(marks: &mut Vec<Mark>, keys: &ColList) -> Result<(), Memory>
     ensures groups { OnOk result ((parts : List Part) → map (group_of parts) marks.new.items
         ≡ groups_merged keys.now (map (group_of parts) marks.old.items)) }

@@ -1,6 +1,8 @@
-//! All rows of a multiset without a limit. Most queries that list millions of rows ask for no order of their own: a row
-//! then has its place by its ids alone, and is kept in a short record, which is what is sorted at the end. That is
-//! given by its sort key, which a NULL key has too where the order is ascending, and the key 0 where it is descending.
+//! All rows of a multiset without a limit.
+//!
+//! Most queries that list millions of rows have no ORDER BY. Such rows are ordered by their ids alone, and are stored
+//! as short records, which are what is sorted at the end. A row is such a row if its sort key is that of no order key.
+//! A NULL key in ascending order has that sort key too, and so has the key 0 in descending order.
 
 ghost use Rattle.std.specs.Prelude.{◌≡◌, ◌≤◌, ◌+◌, ◌-◌, ◌^◌, ◌++◌, ◌∷◌, [], pos, All, IsPermutation, length, map, None, OnErr, OnOk, vec_capacity, vec_len};
 ghost use Rattle.std.specs.Bool.{OnTrue};
@@ -16,8 +18,8 @@ use crate::ranked::Ranked;
 use sky_io::Memory;
 use std::alloc::Global;
 
-/// Rows without an order key, or with one that sorts as none, that have `width` values; and all others; each in any
-/// order.
+/// The compact rows, which sort as rows without an order key and have `width` values each, and all other rows. Both
+/// lists are in any order.
 #[derive(Drop)]
 pub(crate) struct Lot {
     pub(crate) plain: Vec<Plain>,
@@ -25,7 +27,7 @@ pub(crate) struct Lot {
     pub(crate) rows: Vec<Ranked>,
 }
 
-/// Whether the row has no order key, or one that sorts as none.
+/// Returns whether the row sorts as a row without an order key.
 fn is_unordered(row: &Ranked) -> bool
     ensures class { OnTrue result (row.now.class ≡ 0) }
     ensures value { OnTrue result (row.now.value ≡ pos 0) }
@@ -34,7 +36,7 @@ fn is_unordered(row: &Ranked) -> bool
 }
 
 impl Lot {
-    /// No rows. Does not allocate.
+    /// Creates a list without rows. Does not allocate.
     pub(crate) fn new(alloc: Global) -> Lot
         ensures { all_of result ≡ [] }
     {
@@ -45,14 +47,14 @@ impl Lot {
         }
     }
 
-    /// How many rows there are.
+    /// Returns the number of rows.
     pub(crate) fn len(&self) -> usize
         ensures { result ≡ length (all_of self.now) }
     {
         self.plain.len() + self.rows.len()
     }
 
-    /// Whether each of the compact rows has the given number of values.
+    /// Returns whether each of the compact rows has the given number of values.
     fn is_wide(&self, width: usize) -> bool
         ensures { OnTrue result (map (full width) self.now.plain.items
             ≡ map (full self.now.width) self.now.plain.items) }
@@ -60,14 +62,14 @@ impl Lot {
         self.plain.is_empty() || self.width == width
     }
 
-    /// Whether the row can be one of the compact ones.
+    /// Returns whether the row can be one of the compact ones.
     fn is_plain(&self, row: &Ranked) -> bool
         ensures { OnTrue result (IsPlainIn self.now row.now) }
     {
         is_unordered(row) && row.from <= row.to && self.is_wide(row.to - row.from)
     }
 
-    /// Reserves room for the given number of further rows of either kind. After `Err` nothing has changed.
+    /// Reserves room for the given number of more rows of either kind. After `Err` nothing has changed.
     fn make_room(&mut self, more: usize) -> Result<(), Memory>
         ensures same { all_of self.new ≡ all_of self.old }
         ensures room { OnOk result (HasRoom self.new more) }
@@ -87,7 +89,7 @@ impl Lot {
         self.plain.push_reserved(Plain::of(row));
     }
 
-    /// Adds the row to the others. Does not allocate.
+    /// Adds the row to the list of its kind. Does not allocate.
     fn put_reserved(&mut self, row: Ranked)
         requires room { HasRoom self.old 1 }
         ensures put { IsPermutation (all_of self.old ++ row ∷ []) (all_of self.new) }
@@ -100,7 +102,7 @@ impl Lot {
         self.rows.push_reserved(row);
     }
 
-    /// Adds the row to the others. After `Err` nothing has changed.
+    /// Adds the row. After `Err` nothing has changed.
     pub(crate) fn put(&mut self, row: Ranked) -> Result<(), Memory>
         ensures kept { OnOk result (KeepsFirst rank_order None (all_of self.old ++ row ∷ [])
             (all_of self.new)) }
@@ -112,7 +114,7 @@ impl Lot {
     }
 }
 
-/// Adds compact rows of the given width to the others, their values shifted by the given offset. Does not allocate.
+/// Adds compact rows of the given width to the list, their values shifted by the given offset. Does not allocate.
 fn put_plains(lot: &mut Lot, others: &[Plain], width: usize, by: usize, count: usize)
     requires room { HasRoom lot.old (length others.now) }
     requires there { All (λ p. IsIn count (full width p)) others.now }
@@ -129,7 +131,7 @@ fn put_plains(lot: &mut Lot, others: &[Plain], width: usize, by: usize, count: u
     }
 }
 
-/// Adds rows to the others, their values shifted by the given offset. Does not allocate.
+/// Adds rows to the list, their values shifted by the given offset. Does not allocate.
 fn put_rows(lot: &mut Lot, others: &[Ranked], by: usize, count: usize)
     requires room { HasRoom lot.old (length others.now) }
     requires there { All (IsIn count) others.now }
@@ -141,7 +143,7 @@ fn put_rows(lot: &mut Lot, others: &[Ranked], by: usize, count: usize)
     }
 }
 
-/// Adds all of the other rows, whose values go after these. After `Err` nothing has changed.
+/// Adds all rows of another list, whose values are after these. After `Err` nothing has changed.
 pub(crate) fn join_all(
     lot: &mut Lot,
     cells: &mut Vec<Cell>,

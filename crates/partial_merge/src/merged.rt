@@ -23,7 +23,7 @@ use expr_eval::value_on_key;
 use sky_vector::Num;
 use sql_bound::{BoundExpr, ColList};
 
-/// The parts of a group.
+/// Returns the aggregate states of a group.
 pub(crate) fn parts_of<'t>(tallies: &'t [Tally], mark: &Mark) -> &'t [Tally]
     requires { IsThere (length tallies.now) mark.now }
     ensures { result.now ≡ (group_of tallies.now mark.now).part.parts }
@@ -31,7 +31,7 @@ pub(crate) fn parts_of<'t>(tallies: &'t [Tally], mark: &Mark) -> &'t [Tally]
     &tallies[mark.from..mark.to]
 }
 
-/// How many values the part at a place counts; one that is not there counts none.
+/// Returns how many values the aggregate state at a position counts, or 0 if there is none.
 fn seen_at(parts: &[Tally], n: usize) -> u32
     ensures { result ≡ (unwrap_or (slice_get parts.now n) (count_part 0)).seen }
 {
@@ -41,7 +41,7 @@ fn seen_at(parts: &[Tally], n: usize) -> u32
     }
 }
 
-/// What the values of the part at a place evaluates to; one that is not there has none.
+/// Returns the value of the aggregate state at a position, or `None` if there is none.
 pub(crate) fn value_at(parts: &[Tally], n: usize) -> Option<i128>
     ensures { result ≡ (unwrap_or (slice_get parts.now n) (count_part 0)).value }
 {
@@ -51,7 +51,7 @@ pub(crate) fn value_at(parts: &[Tally], n: usize) -> Option<i128>
     }
 }
 
-/// The number with this value.
+/// Returns the number with this value.
 pub(crate) fn number(value: i128) -> Num
     requires { IsQueryNumber value }
     ensures { result ≡ value }
@@ -62,7 +62,7 @@ pub(crate) fn number(value: i128) -> Num
     }
 }
 
-/// A whole number, or NULL.
+/// Returns a whole number, or NULL.
 fn whole(value: Option<i128>) -> Value
     requires { IsOfSize most value }
     ensures { result ≡ shown value }
@@ -73,7 +73,7 @@ fn whole(value: Option<i128>) -> Value
     }
 }
 
-/// An average, or NULL.
+/// Returns an average, or NULL.
 fn average(total: Option<i128>, count: u32) -> Value
     requires small { IsOfSize most total }
     requires some { IfSome total (λ t. 0 < count) }
@@ -86,7 +86,7 @@ fn average(total: Option<i128>, count: u32) -> Value
     }
 }
 
-/// The value of an expression of the keys.
+/// Returns the value of an expression of the keys.
 fn of_keys(e: &BoundExpr, keys: &ColList, key: &Key) -> Value
     requires { IsOnKey keys.now key.now e.now }
     ensures value { result ≡ shown (value_on (key_cell keys.now key.now) (term_of e.now)) }
@@ -96,7 +96,7 @@ fn of_keys(e: &BoundExpr, keys: &ColList, key: &Key) -> Value
     shown(value_on_key(e, keys, key.as_slice()))
 }
 
-/// A merged item of a group, its total tested.
+/// Returns a merged item of a group whose totals are checked.
 pub(crate) fn merged(keys: &ColList, tallies: &[Tally], mark: &Mark, item: &MergeItem) -> Value
     requires there { IsThere (length tallies.now) mark.now }
     requires may { MayMerge keys.now (group_of tallies.now mark.now) item.now }

@@ -1,8 +1,8 @@
-//! Packing a multiset: the values of rows that were dropped are dropped.
+//! Packing a multiset: removing the values of rows that were dropped.
 //!
-//! With a limit the rows of a multiset are few, and the values of all rows that ever were among them are in its list.
-//! When the list has doubled, the values of the rows that are left are copied into a new one; the old one goes. Until
-//! the copy is whole nothing is changed.
+//! With a limit a multiset has few rows, but its list has the values of all rows that it ever kept. When the list has
+//! doubled, the values of the remaining rows are copied into a new one, and the old one is freed. Nothing changes until
+//! the copy is complete.
 
 ghost use Rattle.std.specs.Prelude.{◌≡◌, ◌≤◌, ◌+◌, ◌-◌, ◌++◌, ◌∷◌, [], All, length, map, slice_range, vec_capacity, vec_len, OnErr, OnOk, Some};
 ghost use Rattle.std.specs.BinaryHeap.{heap_items, IsHeap};
@@ -39,7 +39,7 @@ fn put_copies(cells: &mut Vec<Cell>, values: &[Cell]) -> Result<(), Memory>
     Ok(())
 }
 
-/// Appends the row, and copies of its values after theirs.
+/// Appends the row, and copies of its values.
 fn put_row(
     rows: &mut Vec<Ranked>,
     live: &mut Vec<Cell>,
@@ -58,7 +58,7 @@ fn put_row(
     Ok(())
 }
 
-/// Appends the rows, and copies of their values after theirs.
+/// Appends the rows, and copies of their values.
 fn put_rows(
     rows: &mut Vec<Ranked>,
     live: &mut Vec<Cell>,
@@ -77,7 +77,7 @@ fn put_rows(
     Ok(())
 }
 
-/// Leaves the rows of the heap with the values of these alone. After `Err` nothing has changed.
+/// Leaves only the values of the heap's rows. After `Err` nothing has changed.
 fn pack_heap(
     alloc: Global,
     heap: &mut BinaryHeap<Ranked>,
@@ -107,7 +107,8 @@ fn pack_heap(
     Ok(())
 }
 
-/// Leaves the values of the rows that are kept. If all are kept, so are all values. After `Err` nothing has changed.
+/// Leaves only the values of the rows that are kept. If all rows are kept, so are all values. After `Err` nothing has
+/// changed.
 fn pack(alloc: Global, kept: &mut Kept, cells: &mut Vec<Cell>) -> Result<(), Memory>
     requires mine { IsKept (length cells.old.items) kept.old }
     ensures mine { IsKept (length cells.new.items) kept.new }
@@ -123,8 +124,8 @@ fn pack(alloc: Global, kept: &mut Kept, cells: &mut Vec<Cell>) -> Result<(), Mem
     }
 }
 
-/// Packs a multiset that has twice as many values as it had after the last time, and returns how many it has then. If
-/// there is no memory it is tried again at the next call.
+/// Packs a multiset that has twice as many values as after the last packing, and returns how many it then has. If
+/// memory is short, the next call tries again.
 pub(crate) fn keep_small(
     alloc: Global,
     kept: &mut Kept,

@@ -1,4 +1,4 @@
-//! The table of pairs whose values are their own two ids: they are put in order, and the first of them written out.
+//! The table of pairs whose values are their own two ids: they are sorted, and the first of them are written.
 
 ghost use Rattle.std.specs.Prelude.{◌≡◌, ◌++◌, map, IfOk, OnOk};
 ghost use Rattle.std.specs.List.{flat_map};
@@ -15,7 +15,7 @@ use answer_rules::{MergeItem, MergePlan, Value};
 use sky_io::Memory;
 use std::alloc::Global;
 
-/// A merged item of a pair.
+/// Returns a merged item of a pair.
 fn column(pair: &IdPair, item: &MergeItem) -> Value
     ensures { result ≡ column_value (pair_row pair.now).cells item.now }
 {
@@ -35,7 +35,7 @@ fn put_pair(values: &mut Vec<Value>, pair: &IdPair, items: &[MergeItem]) -> Resu
     Ok(())
 }
 
-/// The values of the answer's rows.
+/// Returns the values of the answer's rows.
 fn pair_values(alloc: Global, pairs: &[IdPair], items: &[MergeItem]) -> Result<Vec<Value>, Memory>
     ensures { IfOk result (λ values. values.items ≡ flat_map (pair_values items.now) pairs.now) }
 {
@@ -46,7 +46,7 @@ fn pair_values(alloc: Global, pairs: &[IdPair], items: &[MergeItem]) -> Result<V
     Ok(values)
 }
 
-/// The table of these pairs. Allocates memory for it.
+/// Returns the table of these pairs. Allocates memory for it.
 fn pair_table(alloc: Global, pairs: &[IdPair], items: &[MergeItem]) -> Result<Table, Memory>
     ensures { IfOk result (λ table. table ≡ map (λ r. map (column_value r.cells) items.now)
         (map pair_row pairs.now)) }
@@ -55,7 +55,7 @@ fn pair_table(alloc: Global, pairs: &[IdPair], items: &[MergeItem]) -> Result<Ta
     Ok(Table::of(values, items.len(), pairs.len()))
 }
 
-/// The table of pairs in any order. Allocates memory for the table.
+/// Returns the table of pairs in any order. Allocates memory for the table.
 pub(crate) fn sorted_pair_table(
     alloc: Global,
     mut pairs: Vec<IdPair>,

@@ -1,10 +1,11 @@
-//! A piece of an answer: what a chunk query gave over a set of chunks.
+//! A piece of an answer: the partial result of a chunk query over a set of chunks.
 //!
-//! Chunks are scanned in any order and by more than one worker, so pieces join in any order: rows as a multiset, of
-//! which with a LIMIT n the first n are kept, groups as an aggregation table that is consolidated now and then. At the
-//! end the piece over all chunks of the plan is put in order and becomes the table. Callers see a piece as its rows
-//! with the limit of the chunk query, or as its groups (`PieceView`). What it represents is given by `PieceFor`;
-//! `absorb` keeps that, whatever the two pieces was for.
+//! Chunks are scanned in any order and by more than one worker, so pieces can be joined in any order. Rows are a
+//! multiset, of which the first n are kept if there is a LIMIT n. Groups are an aggregation table that is consolidated
+//! as it grows. At the end the piece over all chunks of the plan is sorted and becomes the table.
+//!
+//! Callers see a piece as its rows with the limit of the chunk query, or as its groups (`PieceView`). `PieceFor`
+//! defines what a piece represents, and `absorb` preserves it for any two pieces.
 
 ghost use Rattle.std.specs.Prelude.{◌≡◌, ◌≤◌, Err, IfErr, IfOk, Ok, OnErr, OnOk};
 ghost use Rattle.std.specs.Bool.{OnTrue};
@@ -30,7 +31,8 @@ use sky_vector::Num;
 use std::alloc::Global;
 use std::marker::{Model, PhantomData};
 
-/// What a chunk query gave over a set of chunks. It rests on the rows of a session, though it keeps none of them.
+/// The partial result of a chunk query over a set of chunks. It is defined over the rows of a session, though it holds
+/// no reference to them.
 #[derive(Drop)]
 pub struct Piece<'w> {
     alloc: Global,
@@ -48,7 +50,7 @@ impl<'w> Model for Piece<'w> {
 }
 
 impl<'w> Piece<'w> {
-    /// The piece over no chunks. Does not allocate.
+    /// Creates the piece over no chunks. Does not allocate.
     pub fn empty(alloc: Global, query: &ChunkQuery) -> Piece<'w>
         ensures { result ≡ empty_view query.now.shape (limit_of query.now.limit) }
     {
@@ -59,9 +61,9 @@ impl<'w> Piece<'w> {
         }
     }
 
-    /// Whether a row with this sort key is none of the first n of a chunk query with LIMIT n, whatever its values: as
-    /// soon as n rows are held of which none comes after it. Such a row need not be pushed, nor its values be computed.
-    /// Does not allocate.
+    /// Returns true only if a row with this sort key is none of the first n rows of a LIMIT n, whatever its values.
+    /// Returns true as soon as n rows are held and none of them comes after such a row. Such a row need not be pushed,
+    /// nor its values be computed. Does not allocate.
     pub fn is_too_late(&self, rank: &Rank) -> bool
         ensures late { OnTrue result (IsNoneOfFirst self.now rank.now) }
         ensures told { IsToldLate self.now rank.now result }
@@ -69,7 +71,7 @@ impl<'w> Piece<'w> {
         is_too_late(&self.held, rank)
     }
 
-    /// Adds a row with this sort key with these values, as a scan finds it. After `Err` nothing has changed.
+    /// Adds a row with this sort key and these values, as a scan finds it. After `Err` nothing has changed.
     pub fn push_row(&mut self, rank: &Rank, values: &[Option<Num>]) -> Result<(), Memory>
         requires rows { IsOfRows self.old }
         ensures kept { OnOk result (TakesRow self.old (out_row rank.now values.now) self.new) }
@@ -78,8 +80,8 @@ impl<'w> Piece<'w> {
         push_row(&mut self.held, rank, values)
     }
 
-    /// Adds a group of this key with the given number of rows and these parts, as a scan finds it. After `Err` nothing
-    /// has changed.
+    /// Adds a group with this key, this number of rows and these aggregate states, as a scan finds it. After `Err`
+    /// nothing has changed.
     pub fn push_group(&mut self, key: Key, rows: u32, parts: &[Tally]) -> Result<(), Memory>
         requires alike { MayTakeGroup self.old (group_by key rows parts.now) }
         ensures put { OnOk result (self.new ≡ with_group self.old (group_by key rows parts.now)) }
@@ -88,8 +90,8 @@ impl<'w> Piece<'w> {
         push_group(&mut self.held, key, rows, parts)
     }
 
-    /// How many rows it holds, at most n of a chunk query with LIMIT n, or how many groups it keeps, a key perhaps more
-    /// than once. Does not allocate.
+    /// Returns the number of rows, which is at most n for a chunk query with LIMIT n. For groups it returns their
+    /// number, where one key may count more than once. Does not allocate.
     pub fn held(&self) -> usize
         ensures held { IsOfRows self.now → result ≡ size_of self.now }
         ensures most { size_of self.now ≤ result }
@@ -98,8 +100,8 @@ impl<'w> Piece<'w> {
         count(&self.held)
     }
 
-    /// Adds another piece, so that this one represents the chunks of both. After `Err` nothing has changed, and the
-    /// other piece is gone.
+    /// Adds another piece, so that this one represents the chunks of both. After `Err` this piece is unchanged, and the
+    /// other one is dropped.
     pub fn absorb(&mut self, other: Piece<'w>) -> Result<(), Memory>
         requires { MayJoin self.old other }
         ensures joined { OnOk result (Joins self.old other.entry self.new) }
@@ -113,9 +115,9 @@ impl<'w> Piece<'w> {
         take_in(&mut self.held, held)
     }
 
-    /// The answer: in order, the first of its rows where there is a limit; or the first total of a group that is
-    /// outside ±2^100, by group, then by item. The piece is gone after it. Allocates memory for the table, and of
-    /// groups for a new aggregation table and their order.
+    /// Returns the answer: its rows in order, or the first of them if there is a limit. If totals are outside ±2^100,
+    /// returns the first of them, by group, then by item. Consumes the piece. Allocates memory for the table, and for
+    /// groups also for a new aggregation table and their order.
     pub fn finish(self, merge: &MergePlan) -> Result<Table, Stop<TotalOut>>
         requires { MayFinish merge.now self }
         ensures ok { IfOk result (λ table. finished merge.now self.entry ≡ Ok table) }

@@ -1,6 +1,6 @@
-//! An aggregation table of groups: their keys in one list, and all their parts in another.
+//! An aggregation table: the keys of its groups in one list, and all their aggregate states in another.
 //!
-//! A key may are in it more than once; what contracts see is the list in which those of one key are added up.
+//! It may hold a key more than once. Contracts see the list in which the groups with the same key are added up.
 
 ghost use Rattle.std.specs.Prelude.{◌≡◌, ◌+◌, ◌≤◌, ◌*◌, ◌++◌, ◌∷◌, [], All, Err, length, map, IfErr, IfOk, Ok, OnErr, OnOk, vec_capacity, vec_len};
 ghost use Rattle.answer_rules.specs.Finish.{groups_merged, merged_groups};
@@ -41,7 +41,7 @@ pub(crate) struct Pile {
     hints: Hints,
 }
 
-/// How long an aggregation table may become before it is consolidated for the first time, twice over.
+/// The aggregation table is consolidated for the first time when it has twice this number of groups.
 const SHORT: usize = 32;
 
 impl Model for Pile {
@@ -55,7 +55,7 @@ impl Model for Pile {
     ghost invariant = { λ p. ArePiled p.tallies.items p.marks.items × HaveOwnParts p.marks.items };
 }
 
-/// Appends copies of the parts. Does not allocate.
+/// Appends copies of the aggregate states. Does not allocate.
 fn put_reserved(tallies: &mut Vec<Tally>, parts: &[Tally])
     requires { vec_len tallies.old + length parts.now ≤ vec_capacity tallies.old }
     ensures { tallies.new.items ≡ tallies.old.items ++ parts.now }
@@ -65,7 +65,7 @@ fn put_reserved(tallies: &mut Vec<Tally>, parts: &[Tally])
     }
 }
 
-/// Appends copies of the parts.
+/// Appends copies of the aggregate states.
 fn put_parts(tallies: &mut Vec<Tally>, parts: &[Tally]) -> Result<(), Memory>
     ensures ok { OnOk result (tallies.new.items ≡ tallies.old.items ++ parts.now) }
     ensures err { OnErr result (tallies.new.items ≡ tallies.old.items) }
@@ -75,7 +75,8 @@ fn put_parts(tallies: &mut Vec<Tally>, parts: &[Tally]) -> Result<(), Memory>
     Ok(())
 }
 
-/// Room for the groups of another aggregation table and for their parts. After `Err` nothing has changed.
+/// Reserves room for the groups of another aggregation table and for their aggregate states. After `Err` nothing has
+/// changed.
 fn make_room(
     marks: &mut Vec<Mark>,
     tallies: &mut Vec<Tally>,
@@ -118,7 +119,7 @@ fn join(
     Ok(())
 }
 
-/// Appends a group, and copies of its parts after theirs. After `Err` nothing has changed.
+/// Appends a group, and copies of its aggregate states. After `Err` nothing has changed.
 fn put(
     marks: &mut Vec<Mark>,
     tallies: &mut Vec<Tally>,
@@ -153,7 +154,7 @@ fn put(
 }
 
 impl Pile {
-    /// An aggregation table without groups. Does not allocate.
+    /// Creates an aggregation table without groups. Does not allocate.
     pub(crate) fn empty(alloc: Global) -> Pile
         ensures { result ≡ [] }
     {
@@ -166,7 +167,7 @@ impl Pile {
         }
     }
 
-    /// Adds a group of the same ways. After `Err` nothing has changed.
+    /// Adds a group with the same combine functions. After `Err` nothing has changed.
     pub(crate) fn push(&mut self, key: Key, rows: u32, parts: &[Tally]) -> Result<(), Memory>
         requires alike { MayGather self.old (group_by key rows parts.now ∷ []) }
         requires small { IsSmallGroup (group_by key rows parts.now) }
@@ -177,7 +178,7 @@ impl Pile {
         put(&mut self.marks, &mut self.tallies, key, rows, parts)
     }
 
-    /// Adds the groups of another aggregation table of the same ways. After `Err` nothing has changed.
+    /// Adds the groups of another aggregation table with the same combine functions. After `Err` nothing has changed.
     pub(crate) fn absorb(&mut self, other: Pile) -> Result<(), Memory>
         requires alike { MayGather self.old other }
         ensures joined { OnOk result (self.new
@@ -208,7 +209,7 @@ impl Pile {
         Ok(())
     }
 
-    /// The table of the groups by these keys, or the first total that is out of range.
+    /// Returns the table of the groups by these keys, or the first total that is out of range.
     pub(crate) fn finish(
         self,
         alloc: Global,
@@ -234,7 +235,7 @@ impl Pile {
         group_table(alloc, marks, tallies.as_slice(), keys, merge)
     }
 
-    /// How many groups it keeps, a key perhaps more than once. Does not allocate.
+    /// Returns the number of groups, where one key may count more than once. Does not allocate.
     pub(crate) fn len(&self) -> usize
         ensures { length self.now ≤ result }
     {

@@ -1,4 +1,5 @@
-//! A row of a multiset that has no order key, or one that sorts as none, and as many values as the others of its kind.
+//! A compact row of a multiset: it sorts as a row without an order key, and has as many values as the other compact
+//! rows.
 
 ghost use Rattle.std.specs.Prelude.{◌≡◌, ◌+◌, ◌-◌, ◌≤◌, ◌^◌};
 ghost use Rattle.std.proofs.Common.{rules};
@@ -10,7 +11,7 @@ ghost use Rattle.partial_merge.specs.Plains.{full, plain_of};
 use crate::ranked::Ranked;
 use std::cmp::Ordering;
 
-/// The ids of a row, by which alone it has its place in the order, and where its values begin: 24 bytes.
+/// The ids of a row, which alone are its sort key, and the position of its first value: 24 bytes.
 #[derive(Clone, Copy, Drop)]
 pub(crate) struct Plain {
     pub(crate) first: i64,
@@ -19,7 +20,7 @@ pub(crate) struct Plain {
 }
 
 impl Plain {
-    /// The row, whose values have to be as many as those of its kind.
+    /// Creates the compact row of a row, which must have as many values as the other compact rows.
     pub(crate) fn of(row: &Ranked) -> Plain
         ensures { result ≡ plain_of row.now }
     {
@@ -30,7 +31,7 @@ impl Plain {
         }
     }
 
-    /// The row, with the given number of values.
+    /// Returns the row, with the given number of values.
     pub(crate) fn full(&self, width: usize) -> Ranked
         requires { self.now.from + width ≤ 2 ^ 64 - 1 }
         ensures { result ≡ full width self.now }

@@ -1,4 +1,5 @@
-//! What the pieces of a session rest on: a plan of the sky, a catalogue, and the chunk queries by their numbers.
+//! What the pieces of a session are defined over: a plan of the sky, a catalogue, and the chunk queries by their
+//! numbers.
 
 ghost use Rattle.std.specs.Prelude.{◌≡◌, ◌<◌, ◌≤◌, ◌++◌, ◌∷◌, [], All, length, OnErr, OnOk};
 ghost use Rattle.answer_rules.specs.Bases.{IsBase, columns_in};
@@ -13,8 +14,8 @@ use sky_row::Rows;
 use std::alloc::Global;
 use std::marker::Model;
 
-/// What the pieces of a session rest on. It keeps the plan and the rows by reference, and each chunk query with its
-/// number, from 1 to 255.
+/// What the pieces of a session are defined over. It holds references to the plan and the rows, and each chunk query
+/// with its number, from 1 to 255.
 #[derive(Drop)]
 pub struct PieceRoot<'w> {
     plan: &'w SkyPlan,
@@ -46,7 +47,7 @@ fn give(queries: &mut Vec<(u32, ChunkQuery)>, q: u32, query: ChunkQuery) -> Resu
 }
 
 impl<'w> PieceRoot<'w> {
-    /// A root without chunk queries. Does not allocate.
+    /// Creates a root without chunk queries. Does not allocate.
     pub fn new(alloc: Global, plan: &'w SkyPlan, rows: &'w Rows) -> PieceRoot<'w>
         ensures { result ≡ record { plan = plan.now; rows = rows.now; queries = [] } }
     {
@@ -59,7 +60,7 @@ impl<'w> PieceRoot<'w> {
         }
     }
 
-    /// Gives a number, above those that are given, a chunk query. Allocates memory; after `Err` nothing has changed.
+    /// Adds a chunk query under a number above all those in use. Allocates memory. After `Err` nothing has changed.
     pub fn push(&mut self, q: u32, query: ChunkQuery) -> Result<(), Memory>
         requires above { All (λ e. e.0 < q) self.old.queries }
         requires from_1 { 1 ≤ q }
@@ -71,7 +72,7 @@ impl<'w> PieceRoot<'w> {
         give(&mut self.queries, q, query)
     }
 
-    /// How many chunk queries there are. Does not allocate.
+    /// Returns the number of chunk queries. Does not allocate.
     pub fn len(&self) -> usize
         ensures count { result ≡ length self.now.queries }
         ensures base { IsBase self.now }

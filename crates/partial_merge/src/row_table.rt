@@ -18,7 +18,7 @@ use sky_io::Memory;
 use sky_vector::Num;
 use std::alloc::Global;
 
-/// The value as one of an answer.
+/// Returns the value as one of an answer.
 pub(crate) fn shown(value: Option<Num>) -> Value
     ensures { result ≡ shown value }
 {
@@ -28,14 +28,14 @@ pub(crate) fn shown(value: Option<Num>) -> Value
     }
 }
 
-/// The value in a column; one that is not there is NULL.
+/// Returns the value in a column, or NULL if there is none.
 fn cell_at(cells: &[Cell], n: usize) -> Option<Num>
     ensures { result ≡ unwrap_or (slice_get cells.now n) None }
 {
     cells.get(n)?.get()
 }
 
-/// A merged item of a row.
+/// Returns a merged item of a row.
 fn column(cells: &[Cell], item: &MergeItem) -> Value
     ensures { result ≡ column_value cells.now item.now }
 {
@@ -52,7 +52,7 @@ pub(crate) fn put(values: &mut Vec<Value>, value: Value) -> Result<(), Memory>
     Ok(values.push(value)?)
 }
 
-/// An empty list with room for the values of the given number of rows: it need not grow.
+/// Creates an empty list with room for the values of the given number of rows, so that it need not grow.
 pub(crate) fn values_room(alloc: Global, rows: usize, items: usize) -> Result<Vec<Value>, Memory>
     ensures { IfOk result (λ values. values.items ≡ []) }
 {
@@ -70,7 +70,7 @@ fn put_row(values: &mut Vec<Value>, cells: &[Cell], items: &[MergeItem]) -> Resu
     Ok(())
 }
 
-/// The values of a row.
+/// Returns the values of a row.
 pub(crate) fn cells_of<'c>(cells: &'c [Cell], row: &Ranked) -> &'c [Cell]
     requires { IsIn (length cells.now) row.now }
     ensures { result.now ≡ (row_of cells.now row.now).cells }
@@ -78,7 +78,7 @@ pub(crate) fn cells_of<'c>(cells: &'c [Cell], row: &Ranked) -> &'c [Cell]
     &cells[row.from..row.to]
 }
 
-/// The values of the answer's rows.
+/// Returns the values of the answer's rows.
 fn row_values(
     alloc: Global,
     rows: &[Ranked],
@@ -96,7 +96,7 @@ fn row_values(
     Ok(values)
 }
 
-/// So many of the values, from this place.
+/// Returns `width` of the values, from position `from` on.
 fn part(cells: &[Cell], from: usize, width: usize) -> &[Cell]
     requires { from + width ≤ length cells.now }
     ensures { result.now ≡ slice_range cells.now from (from + width) }
@@ -104,7 +104,7 @@ fn part(cells: &[Cell], from: usize, width: usize) -> &[Cell]
     &cells[from..from + width]
 }
 
-/// The values of compact rows, each of the given width.
+/// Returns the values of compact rows, each of the given width.
 fn plain_values(
     alloc: Global,
     plain: &[Plain],
@@ -123,7 +123,7 @@ fn plain_values(
     Ok(values)
 }
 
-/// The table of these compact rows, of which each has the given number of values. Allocates memory for it.
+/// Returns the table of these compact rows, each of which has the given number of values. Allocates memory for it.
 pub(crate) fn plain_table(
     alloc: Global,
     plain: &[Plain],
@@ -139,7 +139,7 @@ pub(crate) fn plain_table(
     Ok(Table::of(values, items.len(), plain.len()))
 }
 
-/// The table of these rows. Allocates memory for it.
+/// Returns the table of these rows. Allocates memory for it.
 pub(crate) fn row_table(
     alloc: Global,
     rows: &[Ranked],

@@ -1,5 +1,5 @@
-//! The values of a key side by side, as they are compared (`key`), hashed (`hints`), and read for a line of the table (`lines`,
-//! `merged`).
+//! The values of a key as one slice. So they are compared (`key`), hashed (`hints`), and read for a line of the table
+//! (`lines`, `merged`).
 
 ghost use Rattle.std.specs.Prelude.{◌≡◌, ◌≤◌, min};
 ghost use Rattle.partial_merge.specs.declared.limits.TheConstants.{SHORT_KEY_MOST};
@@ -11,9 +11,9 @@ use std::marker::Model;
 /// At most four values; `None` is NULL.
 #[derive(Drop)]
 pub(crate) struct ShortKey {
-    /// How many there are.
+    /// The number of values.
     taken: usize,
-    /// The values, and others after them.
+    /// The values, and unused ones after them.
     values: [Option<i64>; SHORT_KEY_MOST],
 }
 
@@ -28,14 +28,14 @@ impl Model for ShortKey {
     ghost invariant = { λ k. k.taken ≤ SHORT_KEY_MOST };
 }
 
-/// The values of a key, opened or as they are.
+/// The values of a key, unpacked or borrowed.
 #[derive(Drop)]
 pub(crate) enum Cells<'k> {
     Few(ShortKey),
     Many(&'k [Option<i64>]),
 }
 
-/// The values of a key side by side.
+/// The values of a key as one slice.
 #[derive(Drop)]
 pub(crate) struct OpenKey<'k> {
     cells: Cells<'k>,
@@ -50,14 +50,14 @@ impl<'k> Model for OpenKey<'k> {
     ghost view = { λ k. open_values k.cells };
 }
 
-/// A number, or NULL.
+/// Returns a number, or NULL.
 fn cell(present: bool, number: i64) -> Option<i64>
     ensures { result ≡ cell_by present number }
 {
     if present { Some(number) } else { None }
 }
 
-/// The number, and four at most.
+/// Returns the number, or four if it is more.
 fn at_most_four(taken: u8) -> usize
     ensures min { result ≡ min taken SHORT_KEY_MOST }
     ensures few { result ≤ SHORT_KEY_MOST }
@@ -66,7 +66,7 @@ fn at_most_four(taken: u8) -> usize
 }
 
 impl<'k> OpenKey<'k> {
-    /// These values.
+    /// Creates the value that holds a short key's values.
     pub(crate) fn few(values: ShortKey) -> OpenKey<'k>
         ensures { result ≡ values }
     {
@@ -75,7 +75,7 @@ impl<'k> OpenKey<'k> {
         }
     }
 
-    /// The values of a slice.
+    /// Creates the value that borrows a slice.
     pub(crate) fn many(values: &'k [Option<i64>]) -> OpenKey<'k>
         ensures { result ≡ values.now }
     {
@@ -84,7 +84,7 @@ impl<'k> OpenKey<'k> {
         }
     }
 
-    /// The values, in their order.
+    /// Returns the values, in their order.
     pub(crate) fn as_slice(&self) -> &[Option<i64>]
         ensures { result.now ≡ self.now }
     {
@@ -96,7 +96,7 @@ impl<'k> OpenKey<'k> {
 }
 
 impl ShortKey {
-    /// The first n of these.
+    /// Returns the first n of these values.
     pub(crate) fn of(
         taken: u8,
         present: &[bool; SHORT_KEY_MOST],
@@ -115,7 +115,7 @@ impl ShortKey {
         }
     }
 
-    /// The values, in their order.
+    /// Returns the values, in their order.
     pub(crate) fn as_slice(&self) -> &[Option<i64>]
         ensures { result.now ≡ self.now }
     {

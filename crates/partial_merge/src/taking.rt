@@ -1,8 +1,8 @@
-//! Taking the groups of one aggregation table into another: each is added to the one of its key, if a cache entry leads
-//! to that, and is put after the others where none does.
+//! Adding the groups of one aggregation table to another. Each is added to the group of its key if a cache entry leads
+//! to one, and is appended if none does.
 //!
-//! A sum is where the part of the aggregation table was. No two groups share a part, so that the others stay as they
-//! were. The room for groups and parts is made before anything changes.
+//! A sum replaces the aggregate state that it was added to. No two groups share an aggregate state, so that the others
+//! stay as they were. Room for groups and aggregate states is reserved before anything changes.
 
 ghost use Rattle.std.specs.Prelude.{◌≡◌, ◌≤◌, ◌<◌, ◌+◌, ◌*◌, ◌++◌, ◌∷◌, [], length, slice_range, slice_set, true, vec_capacity, vec_len, All};
 ghost use Rattle.std.specs.Ordering.{is_eq};
@@ -19,8 +19,7 @@ use crate::mark::Mark;
 use crate::settle::{put_alone, sum_at};
 use crate::tally::Tally;
 
-/// Puts the sum of a part of the other aggregation table, and of one of the aggregation table, in the place of that
-/// one. Does not allocate.
+/// Adds an aggregate state of the other aggregation table to one of this aggregation table. Does not allocate.
 fn add_at(tallies: &mut Vec<Tally>, b: usize, more: &Vec<Tally>, a: usize)
     requires a_there { a < length more.now.items }
     requires b_there { b < length tallies.old.items }
@@ -33,8 +32,8 @@ fn add_at(tallies: &mut Vec<Tally>, b: usize, more: &Vec<Tally>, a: usize)
     tallies[b] = sum_at(more, a, tallies, b);
 }
 
-/// Adds the given number of parts of the other aggregation table, from that place, to those of the aggregation table,
-/// from this place. Does not allocate.
+/// Adds the given number of aggregate states of the other aggregation table, from `a` on, to those of this aggregation
+/// table, from `b` on. Does not allocate.
 fn add_parts(tallies: &mut Vec<Tally>, b: usize, more: &Vec<Tally>, a: usize, width: usize)
     requires a_there { a + width ≤ length more.now.items }
     requires b_there { b + width ≤ length tallies.old.items }
@@ -53,7 +52,7 @@ fn add_parts(tallies: &mut Vec<Tally>, b: usize, more: &Vec<Tally>, a: usize, wi
     }
 }
 
-/// Adds the given number of rows to those of the group at the place. Does not allocate.
+/// Adds the given number of rows to those of the group at the position. Does not allocate.
 fn add_rows(marks: &mut Vec<Mark>, place: usize, rows: u32)
     requires there { place < length marks.old.items }
     requires few { rows + (mark_in marks.old.items place).rows ≤ most_rows }
@@ -65,7 +64,7 @@ fn add_rows(marks: &mut Vec<Mark>, place: usize, rows: u32)
     marks[place].rows = rows + marks[place].rows;
 }
 
-/// Adds a group of the other aggregation table to the one at the place, which is of its key. Does not allocate.
+/// Adds a group of the other aggregation table to the one at the position, which has its key. Does not allocate.
 fn add_to(
     marks: &mut Vec<Mark>,
     tallies: &mut Vec<Tally>,
@@ -128,7 +127,7 @@ fn take_one(
     }
 }
 
-/// Appends a group of the other aggregation table, and notes where. Does not allocate.
+/// Appends a group of the other aggregation table, and stores its position in the cache. Does not allocate.
 fn put_behind(
     marks: &mut Vec<Mark>,
     tallies: &mut Vec<Tally>,
@@ -158,8 +157,8 @@ fn put_behind(
     put_alone(marks, tallies, more, other);
 }
 
-/// Adds the groups of the other aggregation table. Does not allocate. They are read in place: most of them are
-/// added to groups of the aggregation table, and only what is put after is moved.
+/// Adds the groups of the other aggregation table. Does not allocate. The groups are read in place: most of them are
+/// added to groups of this aggregation table, and only those that are appended are moved.
 pub(crate) fn take_all(
     marks: &mut Vec<Mark>,
     tallies: &mut Vec<Tally>,

@@ -1,4 +1,4 @@
-//! A part of a group for one aggregate, in 32 bytes.
+//! The aggregate state of a group for one aggregate, in 32 bytes.
 
 ghost use Rattle.std.specs.Prelude.{◌≡◌, ◌≤◌, ◌^◌, nat_abs};
 ghost use Rattle.value_rules.specs.Widths.{IsOfSize};
@@ -9,7 +9,7 @@ ghost use Rattle.partial_merge.specs.Adding.{MayAdd};
 use answer_rules::Way;
 use std::marker::Model;
 
-/// The way of an aggregate, how many values it counts, and what they evaluates to, if there are any.
+/// The combine function of an aggregate, how many values it counts, and what they combine to, if there are any.
 #[derive(Drop)]
 pub struct Tally {
     way: Way,
@@ -28,7 +28,8 @@ impl Model for Tally {
 }
 
 impl Tally {
-    /// The part of this way, of the given width that evaluates to this. Does not allocate.
+    /// Creates the aggregate state with this combine function, over the given number of values that combine to `value`.
+    /// Does not allocate.
     pub fn new(way: Way, seen: u32, value: Option<i128>) -> Tally
         ensures { result ≡ record { way = way; seen = seen; value = value } }
     {
@@ -48,7 +49,7 @@ impl Tally {
         }
     }
 
-    /// The part once more. Does not allocate.
+    /// Returns a copy of the aggregate state. Does not allocate.
     pub(crate) fn copy(&self) -> Tally
         ensures { result ≡ self.now }
     {
@@ -60,21 +61,21 @@ impl Tally {
         }
     }
 
-    /// How many values it counts.
+    /// Returns how many values it counts.
     pub(crate) fn seen(&self) -> u32
         ensures { result ≡ self.now.seen }
     {
         self.seen
     }
 
-    /// What the values evaluates to, if there are any.
+    /// Returns what the values combine to, if there are any.
     pub(crate) fn value(&self) -> Option<i128>
         ensures { result ≡ self.now.value }
     {
         if self.some { Some(self.value) } else { None }
     }
 
-    /// The part of the values of both, by the way of this one. Does not allocate.
+    /// Returns the aggregate state of the values of both, combined as this one is. Does not allocate.
     pub(crate) fn added(&self, other: &Tally) -> Tally
         requires { MayAdd self.now other.now }
         ensures { result ≡ add_own self.now other.now }
@@ -87,7 +88,7 @@ impl Tally {
     }
 }
 
-/// What two values evaluates to.
+/// Combines two values.
 fn join_two(way: Way, a: i128, b: i128) -> i128
     requires a_size { nat_abs a ≤ 2 ^ 124 }
     requires b_size { nat_abs b ≤ 2 ^ 124 }
@@ -100,7 +101,7 @@ fn join_two(way: Way, a: i128, b: i128) -> i128
     }
 }
 
-/// What two values evaluates to, where either may be missing.
+/// Combines two values, of which either may be missing.
 fn joined(way: Way, a: Option<i128>, b: Option<i128>) -> Option<i128>
     requires a_size { IsOfSize (2 ^ 124) a }
     requires b_size { IsOfSize (2 ^ 124) b }

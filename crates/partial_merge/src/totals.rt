@@ -12,7 +12,7 @@ use crate::tally::Tally;
 use answer_rules::MergeItem;
 use sky_vector::Num;
 
-/// The total, or 0 where there is none.
+/// Returns the total, or 0 if there is none.
 fn total_or_0(total: Option<i128>) -> i128
     ensures { result ≡ unwrap_or total (pos 0) }
 {
@@ -22,7 +22,7 @@ fn total_or_0(total: Option<i128>) -> i128
     }
 }
 
-/// The total that an item takes of a group, if it takes one.
+/// Returns the total of a group that an item uses, if it uses one.
 fn total(tallies: &[Tally], mark: &Mark, item: &MergeItem) -> Option<i128>
     requires { IsThere (length tallies.now) mark.now }
     ensures { option_to_list result ≡ merged_totals (group_of tallies.now mark.now) item.now }
@@ -35,7 +35,7 @@ fn total(tallies: &[Tally], mark: &Mark, item: &MergeItem) -> Option<i128>
     }
 }
 
-/// Whether the total is no number of a query.
+/// Returns whether the total is out of the range of a query's numbers.
 fn is_out(total: i128) -> bool
     ensures { result ≡ not (is_query_number total) }
 {
@@ -45,7 +45,7 @@ fn is_out(total: i128) -> bool
     }
 }
 
-/// The total, if it is out of range.
+/// Returns the total, if it is out of range.
 fn if_out(total: Option<i128>) -> Option<i128>
     ensures { result ≡ find (λ t. not (is_query_number t)) (option_to_list total) }
 {
@@ -53,7 +53,7 @@ fn if_out(total: Option<i128>) -> Option<i128>
     if is_out(total) { Some(total) } else { None }
 }
 
-/// The total that an item takes of a group, if it is out of range.
+/// Returns the total of a group that an item uses, if it is out of range.
 fn out_of(tallies: &[Tally], mark: &Mark, item: &MergeItem) -> Option<i128>
     requires { IsThere (length tallies.now) mark.now }
     ensures { result ≡ find (λ t. not (is_query_number t))
@@ -62,7 +62,7 @@ fn out_of(tallies: &[Tally], mark: &Mark, item: &MergeItem) -> Option<i128>
     if_out(total(tallies, mark, item))
 }
 
-/// The first total of a group that is out of range, by item.
+/// Returns the first total of a group that is out of range, by item.
 fn first_of(tallies: &[Tally], mark: &Mark, items: &[MergeItem]) -> Option<i128>
     requires { IsThere (length tallies.now) mark.now }
     ensures { result ≡ find (λ t. not (is_query_number t))
@@ -77,7 +77,7 @@ fn first_of(tallies: &[Tally], mark: &Mark, items: &[MergeItem]) -> Option<i128>
     None
 }
 
-/// The first total that is out of range, by group, then by item.
+/// Returns the first total that is out of range, by group, then by item.
 pub(crate) fn first_out(tallies: &[Tally], marks: &[Mark], items: &[MergeItem]) -> Option<i128>
     requires { All (IsThere (length tallies.now)) marks.now }
     ensures { result ≡ merged_out items.now (map (group_of tallies.now) marks.now) }

@@ -1,4 +1,4 @@
-//! A piece as the work that a board shares out.
+//! A piece as the work that a board distributes.
 
 ghost use Rattle.answer_rules.specs.Bases.{Asks, StandsFor};
 

@@ -31,7 +31,7 @@ query k = step.Query k (record { from = 0; to = 0 })
 abbrev pub cancel_second : List Step
 cancel_second = query 1 ∷ query 2 ∷ query 3 ∷ step.Cancel 2 ∷ step.Wait 1 ∷ []
 
--- the same script with the wait before the cancel
+-- three queries, then a wait for the first and a cancel of the second
 abbrev pub wait_first : List Step
 wait_first = query 1 ∷ query 2 ∷ query 3 ∷ step.Wait 1 ∷ step.Cancel 2 ∷ []
 

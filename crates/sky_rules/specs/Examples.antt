@@ -13,7 +13,7 @@ two_stripes = codes "overlap 5\nstripe -268435472 4 2 2\nstripe 0 4 2 2\n"
 abbrev pub south : ℕ → Stripe
 south r = record { z_low = negsuc 268435471; chunks = 4; columns = 2; rows = 2; overlap = r }
 
--- the same stripe above the equator
+-- the stripe above the equator, of four chunks with two columns and two rows each
 abbrev pub north : ℕ → Stripe
 north r = record { z_low = pos 0; chunks = 4; columns = 2; rows = 2; overlap = r }
 

@@ -9,7 +9,7 @@ abbrev pub with_row : Obj → List Obj → List Obj
 with_row o [] = o ∷ []
 with_row o (first ∷ rest) = if int_lt o.id first.id then o ∷ first ∷ rest else first ∷ with_row o rest
 
--- the same rows in ascending order of id
+-- these rows in ascending order of id
 abbrev pub by_id : List Obj → List Obj
 by_id [] = []
 by_id (o ∷ rest) = with_row o (by_id rest)
