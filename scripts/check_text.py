@@ -125,8 +125,12 @@ def main():
             count += 1
         if name.endswith((".csv", ".png", ".gz")):
             continue
-        with open(name, encoding="utf-8", errors="replace") as file:
-            lines = file.read().splitlines()
+        with open(name, "rb") as file:
+            data = file.read()
+        if b"\0" in data:
+            # a program of release/
+            continue
+        lines = data.decode(errors="replace").splitlines()
         for what, number, line in findings(name, lines):
             print(f"{name}:{number}: {what}: {line.strip()[:80]}")
             count += 1
