@@ -26,7 +26,8 @@ PROGRAM = "#!/bin/sh\n[ $# -gt 0 ] || exit 2\necho {}: $*\n"
 PROGRAM_NAME = "qserv-x86-64-v2"
 LINE = "kit-of-the-test logic 0123456789abcdef"
 
-# The toolchain of the test. `ci` notes the files that it is called over, and leaves libraries and a program.
+# The toolchain of the test. `ci` notes the files that it is called over, and leaves libraries and a program; `all` and `run` work
+# over what is kept.
 RT = """#!/bin/sh
 case $1 in
     version) echo "{line}" ;;
@@ -39,6 +40,15 @@ case $1 in
             echo "== ${{crate#crates/}}"
         done
         cp "{kit}/program" crates/qserv_cli/out/qserv_cli
+        ;;
+    all)
+        echo "kept" >>"{kit}/built"
+        echo "== qserv_cli"
+        ;;
+    run)
+        mkdir -p out
+        cp "{kit}/program" out/qserv_cli
+        echo "rt: running out/qserv_cli"
         ;;
     *) exit 1 ;;
 esac
@@ -299,6 +309,25 @@ def facts_of_building(copy):
     copy.forget()
 
 
+def facts_of_building_over_kept_work(copy):
+    built, crates = f"{copy.kit}/built", program_crates(ROOT) - {"qserv_cli"}
+    for crate in crates:
+        write(f"{copy.root}/crates/{crate}/out/rlib/stamp", "")
+    write(built, "")
+    status, out, _ = copy.run("./qserv", "a", has_kit=True, QSERV_BUILD="1")
+    yield "where each library is kept, it is built over these", (status, out) == (0, "built: a\n") and read(built) == b"kept\n"
+    os.remove(f"{copy.root}/crates/sky_vector/out/rlib/stamp")
+    write(built, "")
+    yield "and else anew", copy.run("./qserv", "a", has_kit=True, QSERV_BUILD="1")[0] == 0 and read(built) == b"built\n"
+    write(f"{copy.kit}/program", "#!/bin/sh\nexit 3\n", 0o755)
+    status, out, _ = copy.run("./qserv", "a", has_kit=True, QSERV_BUILD="1")
+    yield "a program that does not run is not taken", out != "built: a\n"
+    write(f"{copy.kit}/program", PROGRAM.format("built"), 0o755)
+    for crate in crates | {"qserv_cli"}:
+        shutil.rmtree(f"{copy.root}/crates/{crate}/out", ignore_errors=True)
+    copy.forget()
+
+
 def facts_of_installing(copy):
     prefix = f"{os.path.dirname(copy.root)}/prefix"
     yield "install wants a prefix", copy.run("./qserv", "install")[0] == 2
@@ -356,6 +385,7 @@ FACTS = [
     facts_of_the_check,
     facts_of_writing,
     facts_of_building,
+    facts_of_building_over_kept_work,
     facts_of_installing,
     facts_of_the_man_page,
     facts_of_the_release,
