@@ -10,6 +10,7 @@ toolchain, over the files of examples/. It prints a line for each fact that does
 status is 0 if all hold. It writes nothing outside the temporary folder.
 """
 import argparse
+import concurrent.futures
 import hashlib
 import os
 import re
@@ -196,6 +197,12 @@ def facts_of_a_fresh_copy(copy):
     yield "it runs it again", copy.runs_release()
     status, out, _ = copy.run("./qserv", "--version")
     yield "--version says of which sources the program is", status == 0 and f"{copy.hash}, which are these\n" in out and LINE in out
+    copy.forget()
+    with concurrent.futures.ThreadPoolExecutor(8) as pool:
+        ended = [it.result() for it in [pool.submit(copy.runs_release) for _ in range(8)]]
+    left = os.listdir(f"{copy.root}/.qserv")
+    yield f"eight calls at one time all run it, and leave no file of their own: {left}", all(ended) and set(left) == {"stamp", "qserv"}
+    yield "the link in .qserv leads to it", read(f"{copy.root}/.qserv/qserv") == PROGRAM.format("release").encode()
     copy.forget()
     write(f"{copy.root}/.qserv", "no folder")
     yield "it runs where no stamp can be kept", copy.runs_release()
