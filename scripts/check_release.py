@@ -369,7 +369,7 @@ def facts_of_the_man_page(copy):
 def facts_of_the_release(copy):
     """The true program in a copy of the sources that has never run anything."""
     if subprocess.run([f"{ROOT}/scripts/release", "--check"]).returncode:
-        print("check_release: release/ is of other sources, so its program is not run")
+        print("check_release: there is no release of these sources, so its program is not run")
         return
     shutil.rmtree(f"{copy.root}/release")
     shutil.copytree(f"{ROOT}/release", f"{copy.root}/release")
