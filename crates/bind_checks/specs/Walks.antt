@@ -1,5 +1,5 @@
--- The tests in the order in which a walk over a condition visits them, each with whether it is a conjunct: brackets and
--- AND leave it one, NOT and OR do not.
+-- The tests in the order in which a walk over a condition visits them, each with a flag: whether it is a conjunct. Brackets
+-- and AND keep the flag, NOT and OR clear it.
 use Rattle.std.specs.Prelude.{Bool, true, false, ◌&&◌, not, List, [], ◌∷◌, ◌++◌, map}
 use Rattle.sql_tree.specs.declared.cond.Cond.{Cond}
 use Rattle.sql_tree.specs.declared.cond.Pred.TheFolds.{fold-Cond}
@@ -15,7 +15,7 @@ Founds = List Found
 abbrev pub kept_if : Bool → Founds → Founds
 kept_if holds = map (λ f. record { test = f.test; top = holds && f.top })
 
--- there is only one part
+-- no further part follows
 abbrev pub is_alone : {A : Type 0} → List A → Bool
 is_alone [] = true
 is_alone (x ∷ xs) = false

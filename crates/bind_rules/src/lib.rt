@@ -2,7 +2,7 @@
 //!
 //! Callers see the conjuncts of WHERE (`specs/Conjuncts.antt`), and the six checks and their order
 //! (`specs/Checks.antt`), each of which searches positions in the order of the text. The bound query
-//! (`specs/Binding.antt`) has on a row or a pair the truth of the written WHERE (`specs/BoundWhere.antt`).
+//! (`specs/Binding.antt`) is true of a row or a pair exactly if the written WHERE is (`specs/BoundWhere.antt`).
 //!
 //! Below: `sql_token` for spans, `sql_tree` for the written query, `sql_rules` for its text, `sql_bound` for the bound
 //! query and `value_rules` for well-formed ones; `table_rules` for the columns and their bounds, and `sky_vector` for

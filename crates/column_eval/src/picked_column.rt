@@ -1,6 +1,6 @@
 //! A column of 64-bit numbers without a NULL, at selected rows. It is read in the block: nothing is copied.
 //!
-//! A sum is computed in segments of so few rows that it stays in 64 bits in one, as the sum of a column vector is.
+//! A sum is added in 64 bits over segments too short to overflow, as that of a column vector is.
 ghost use Rattle.std.specs.Prelude.{◌≡◌, ◌+◌, ◌+ℤ◌, ◌<◌, ◌≤◌, All, Some, get_or, length, map, pos};
 ghost use Rattle.table_rules.specs.declared.limits.TheConstants.{ROWS_MOST};
 ghost use Rattle.column_eval.specs.Aggregates.{AreSummed, IsNoLarger, StaysWithin, joined_all, joined_from, numbers_between, sum_of};

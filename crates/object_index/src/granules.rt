@@ -15,7 +15,7 @@ use std::alloc::Global;
 /// The number of rows of a granule; the last one has those that are left.
 pub const GRANULE: usize = 1 << 12;
 
-/// Returns the id of each granule's first row with that row's number. Allocates memory for an entry a granule.
+/// Returns the id of each granule's first row with that row's number. Allocates memory for one entry per granule.
 pub(crate) fn first_rows(alloc: Global, ids: &[i64]) -> Result<IndexMap<i64, u32>, Memory>
     requires few { length ids.now ≤ ROWS_MOST }
     requires ascend { AllPairs (λ a b. a <ℤ b) ids.now }

@@ -124,7 +124,7 @@ fn pack(alloc: Global, kept: &mut Kept, cells: &mut Vec<Cell>) -> Result<(), Mem
     }
 }
 
-/// Packs a multiset that has twice as many values as after the last packing, and returns how many it then has. If
+/// Packs a multiset that has at least twice as many values as after the last packing, and returns how many it then has. If
 /// memory is short, the next call tries again.
 pub(crate) fn keep_small(
     alloc: Global,

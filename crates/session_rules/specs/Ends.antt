@@ -70,7 +70,7 @@ must_be_cancelled workers steps k j =
     nat_eq workers 0 && nat_le (query_count steps) RUNNING_MOST && has_work j && has_prompt_cancel steps k
 
 -- query k may have this end: an early refusal is always reported; a query is cancelled only by its own cancel, and
--- spent only by an allocation failure in its own work
+-- spent only if it has chunks to scan; that an allocation failed is not stated
 abbrev pub may_end : ℕ → List Step → ℕ → Judged → EndKind → Bool
 may_end workers steps k j Answered = not (is_refused j) && not (must_be_cancelled workers steps k j)
 may_end workers steps k j Refused = is_refused j && not (must_be_cancelled workers steps k j)

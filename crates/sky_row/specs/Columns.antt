@@ -6,7 +6,7 @@ use Rattle.sky_vector.specs.Points.{IsWithin}
 use Rattle.table_rules.specs.Objects.{Obj, Catalogue, IsRow, cell}
 use Rattle.table_rules.specs.declared.limits.TheConstants.{FURTHER_COLUMNS_MOST, ROWS_MOST}
 
--- the value at an index of a column: if there is no validity list each row has one, else the valid rows have one
+-- the value at an index of a column, None for NULL; without a validity list every row has a value
 abbrev pub cell_at : List ℤ → List Bool → ℕ → Option ℤ
 cell_at values present i = if get_or present i true then Some (get_or values i (pos 0)) else None
 
@@ -125,7 +125,7 @@ pub record AreRows (p : Parts) : Type 0 where
 abbrev pub column_in : List Obj → ℕ → List (Option ℤ)
 column_in objects col = map (λ o. cell o col) objects
 
--- some row
+-- a placeholder for an index out of range
 abbrev pub no_row : Obj
 no_row = record { id = pos 0; at = record { x = pos 0; y = pos 0; z = pos 0 }; further = [] }
 

@@ -14,7 +14,7 @@ pub type ColList = Items<BoundCol>;
 pub enum Shape {
     /// The rows of the table.
     Rows,
-    /// The ordered pairs of rows whose squared chord is at most the limit. The limit is -1 if no pair is asked for.
+    /// The ordered pairs of rows whose squared chord is at most the limit. The limit is -1 for `chord2 < 0`, which no pair meets.
     Pairs { limit: i64 },
     /// The groups of rows with equal keys. With no keys there is one group.
     Groups { keys: ColList },
@@ -50,7 +50,7 @@ pub struct BoundOrder {
     pub down: bool,
 }
 
-/// A bound query. `conds` are the top-level conjuncts of WHERE, but for a join's chord test, which is the limit of its
+/// A bound query. `conds` are the top-level conjuncts of WHERE, except a join's chord test, which is the limit of its
 /// shape. The area tests and the id tests are among them, and again in `areas` and `ids`.
 #[derive(Drop)]
 pub struct Bound {

@@ -85,7 +85,7 @@ fn put_and_neg<K: Sink>(sink: &mut K, neg: &Neg) -> Put
     }
 }
 
-// Writes a predicate, and the NOT before it.
+// Writes a predicate, and the NOT before it, if any.
 #[cycle(put)]
 fn put_neg<K: Sink>(sink: &mut K, neg: &Neg) -> Put
     ensures { Wrote (K.state sink.old) (K.state sink.new) (print_neg neg.now) result }

@@ -142,7 +142,7 @@ fn more_factors<'a>(
     Ok((found, rest))
 }
 
-// An atom, and the minus before it.
+// An atom, and the minus before it, if any.
 #[cycle(expr)]
 #[tactic(auto, unfolding(sql_rules::specs::ReadExprs::factor_with))]
 fn factor<'a>(alloc: Global, ahead: &Ahead<'a>, inner: u32) -> Result<(Factor, Ahead<'a>), ReadStop>
@@ -187,7 +187,7 @@ fn bracket<'a>(alloc: Global, ahead: &Ahead<'a>, inner: u32) -> Result<(Atom, Ah
     }
 }
 
-// An integer, and the minus before it.
+// An integer, and the minus before it, if any.
 #[tactic(auto, unfolding(sql_rules::specs::ReadExprs::int_at))]
 fn int<'a>(ahead: &Ahead<'a>) -> Option<(SignedInt, Ahead<'a>)>
     ensures { Shows (int_at ahead.now) result }

@@ -15,7 +15,7 @@ pub enum SqlFault {
     /// More than 2,048 tokens.
     #[error("too many tokens")]
     TooMany,
-    /// The first bracket with which 33 are open.
+    /// The first `(` at which 33 brackets are open.
     #[error("brackets too deep")]
     Depth { place: u32 },
     /// The tokens are no query.

@@ -37,7 +37,7 @@ EndsFit (Reports survey) ends = ends ≡ []
 EndsFit (Runs workers survey view) ends = FitEnds workers survey.plan survey.rows view ends
 EndsFit (Explains survey view) ends = ends ≡ []
 
--- the query was answered, or an allocation failed in its own work
+-- the query was answered, or ended as out of memory
 abbrev pub IsAnsweredOrSpent : EndKind → Type 0
 IsAnsweredOrSpent Answered = Unit {0}
 IsAnsweredOrSpent Refused = ⊥

@@ -1,4 +1,4 @@
--- The block of a query in a transcript.
+-- The block of a query in a transcript. Here g is a sky plan, c a catalogue and k the query's number.
 use Rattle.std.specs.Prelude.{ℕ, List, [], ◌++◌, length, Option, None, Some, Result, Ok, Err, codes}
 use Rattle.std.specs.Fmt.{decimal}
 use Rattle.table_rules.specs.Objects.{Catalogue}

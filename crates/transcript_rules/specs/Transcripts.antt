@@ -1,4 +1,4 @@
--- The transcript of a script, and which ends fit it.
+-- The transcript of a script, and which ends fit it. Here g is a sky plan, c a catalogue and s a script.
 use Rattle.std.specs.Prelude.{◌≡◌, ℕ, ◌+◌, Bool, true, false, List, [], ◌∷◌, map, Result, Ok, Err}
 use Rattle.std.specs.Option.{is_some}
 use Rattle.text_rules.specs.Readings.{joined}
