@@ -1,4 +1,4 @@
-//! Whether an area may have a point in a region. The tests are coarser than the areas.
+//! Whether an area may have a point in a region. The tests may say yes where the area has no point.
 
 ghost use Rattle.std.specs.Prelude.{◌≡◌};
 ghost use Rattle.std.specs.List.{list_all};

@@ -20,7 +20,7 @@ fn is_same_name(a: &Name, b: &Name) -> bool
     a.text.as_slice() == b.text.as_slice()
 }
 
-// Returns whether the names are these two, one each.
+// Returns whether one name is one of these two aliases, and the other name the other one.
 fn is_pair(left: &Name, right: &Name, a: &Name, b: &Name) -> bool
     ensures { result ≡ (bytes_eq left.now.text a.now.text && bytes_eq right.now.text b.now.text) }
 {
@@ -65,7 +65,7 @@ fn with_one(chords: Chords, fits: bool) -> Chords
     }
 }
 
-// The chord tests of a query; one of them may be that of a join with these aliases.
+// The chord tests met so far, and the two aliases that a join's test has to name.
 #[derive(Drop)]
 struct ChordsMet<'a> {
     a: &'a Name,
@@ -133,7 +133,8 @@ fn has_lone_chord(query: &Query, a: &Name, b: &Name) -> bool
     }
 }
 
-// Returns whether the aliases are two, and there is one chord test, which is at the top and names both.
+// Returns whether both tables have an alias, the two differ, and there is one chord test, which is at the top and names
+// both.
 #[tactic(auto, using(crate::proofs::ChordLaws::pairs_lone))]
 fn pairs_both(query: &Query, a: &Option<Name>, b: &Option<Name>) -> bool
     ensures { result ≡ pairs_both a.now b.now (chords_of query.now) }

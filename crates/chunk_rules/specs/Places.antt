@@ -1,4 +1,4 @@
--- Rows by their positions: a row's position is its number in the table, from 0.
+-- Rows by their row numbers: a row's number in the table, from 0.
 use Rattle.std.specs.Prelude.{◌≡◌, ℕ, Bool, false, List, length, Option, None, Some, option_to_list, slice_get, filter}
 use Rattle.std.specs.List.{flat_map, range_with_len}
 use Rattle.table_rules.specs.Objects.{Obj}
@@ -8,11 +8,11 @@ abbrev pub passes : (Obj → Bool) → Option Obj → Bool
 passes test None = false
 passes test (Some o) = test o
 
--- the positions of the objects that pass the test, ascending
+-- the row numbers of the objects that pass the test, ascending
 abbrev pub places_by : (Obj → Bool) → List Obj → List ℕ
 places_by test objects = filter (λ i. passes test (slice_get objects i)) (range_with_len 0 (length objects))
 
--- the objects at these positions; a position past the end has none
+-- the objects with these row numbers; a number past the end has none
 abbrev pub rows_at : List Obj → List ℕ → List Obj
 rows_at objects places = flat_map (λ i. option_to_list (slice_get objects i)) places
 

@@ -1,4 +1,4 @@
-//! What a kernel can do for an area test.
+//! The part of an area test that a kernel of `lane_filter` evaluates.
 ghost use Rattle.std.specs.Prelude.{◌≡◌};
 ghost use Rattle.value_rules.specs.Formulas.{LiesIn};
 ghost use Rattle.chunk_scan.specs.Asking.{IsEarly};

@@ -1,7 +1,7 @@
 //! A number for each selected row, in 64 bits or in 128.
 //!
-//! A number that is the same on each row, as a literal of the query, is stored once. A loop that has it on its right
-//! need not read it from a list; elsewhere it is materialised in a list.
+//! A number that is the same on each row, such as a literal of the query, is stored once. A loop that has it as its right
+//! operand need not read it from a list; elsewhere it is materialised in a list.
 ghost use Rattle.std.specs.Prelude.{◌≡◌, ◌<◌, ◌≤◌, ℕ, [], IfOk, length, get_or, pos, replicate, vec_capacity};
 ghost use Rattle.column_eval.specs.Lanes.{numbers_of};
 

@@ -7,12 +7,12 @@
 //! The rows of a chunk and of its full overlap are in ascending height (`order`, `strip`). Each subchunk (`chunk`)
 //! selects those of them that are near it (`sweep`, `beside`, `heights`). Each selected row is compared with those
 //! after it (`pairs`). The rows that are near enough (`neighbour`) become pairs in both orders (`ways`): pairs of rows
-//! (`line`), or of the two ids alone if the query is bare (`by_ids`). What a query demands of a pair is computed once
+//! (`line`), or of the two ids alone if the query selects nothing else (`by_ids`). What a query demands of a pair is computed once
 //! (`asked`, `reach`; `rising`, `bare`).
 //!
 //! Below: `chunk_store` for the rows of a chunk, of its overlap and of its subchunks, `overlap_tables` for whether a
 //! subchunk holds a row, `expr_eval` for conditions and items, and `partial_merge` for the piece. Above: `czar`, which
-//! calls for the piece of each chunk. This crate merges nothing: an order and a LIMIT are left to the piece.
+//! asks for the piece of each chunk. This crate merges nothing: an order and a LIMIT are left to the piece.
 #![tactic(auto)]
 
 mod asked;

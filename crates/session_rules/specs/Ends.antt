@@ -63,7 +63,7 @@ has_cancel steps k = list_any (cancels k) (take_while (λ s. not (waits_for k s)
 abbrev pub has_prompt_cancel : List Step → ℕ → Bool
 has_prompt_cancel steps k = list_any (cancels k) (take_while (λ s. not (is_wait s)) (behind_query k steps))
 
--- query k has to end cancelled: there are no workers and no more queries than run at once, so no chunk of it is scanned
+-- query k has to end cancelled: there are no workers and no more queries than may run at once, so no chunk of it is scanned
 -- before its cancel
 abbrev pub must_be_cancelled : ℕ → List Step → ℕ → Judged → Bool
 must_be_cancelled workers steps k j =

@@ -106,7 +106,7 @@ fn int_of(e: &Expr) -> Option<i64>
     }
 }
 
-// Appends the ids of an equation, and returns whether there was memory for them.
+// Appends the id of an equation, if it is an id test, and returns whether there was memory for it.
 fn push_one(ids: &mut IdTests, alloc: Global, scope: &Scope<'_>, left: &Expr, right: &Expr) -> bool
     ensures { IsTrue result →
         ids.new ≡ ids.old ++ ids_by scope.now (Equals left.now right.now) }
@@ -162,7 +162,7 @@ fn push_test(ids: &mut IdTests, alloc: Global, scope: &Scope<'_>, test: &TestRef
     }
 }
 
-// Id tests in their order, and whether all of them are there.
+// Id tests in their order, and whether none was lost because an allocation failed.
 #[derive(Drop)]
 struct IdList<'a> {
     alloc: Global,

@@ -12,7 +12,7 @@ fn is_blank(byte: u8) -> bool
     byte == b' ' || byte == b'\t' || byte == b'\n' || byte == b'\r'
 }
 
-/// Whether the byte is a letter of ASCII or an underscore.
+/// Whether the byte is an ASCII letter or an underscore.
 pub(crate) fn begins_word(byte: u8) -> bool
     ensures { result ≡ begins_word byte }
 {
@@ -26,7 +26,7 @@ fn continues_word(byte: u8) -> bool
     begins_word(byte) || byte.is_ascii_digit()
 }
 
-/// Whether the byte is a digit of ASCII.
+/// Whether the byte is an ASCII digit.
 pub(crate) fn is_digit(byte: u8) -> bool
     ensures { result ≡ is_digit byte }
 {

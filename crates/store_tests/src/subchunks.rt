@@ -1,4 +1,4 @@
-//! The lists of subchunks of a small table, found by hand: no program makes them.
+//! The lists of subchunks of a small table, found by hand: no output of the program shows them.
 
 use chunk_store::Store;
 use sky_io::Memory;
@@ -76,7 +76,7 @@ fn a_subchunk_has_its_rows_and_those_near_it(rt: HostRuntime) -> Result<(), Fail
     let Some(store) = store_of(alloc, plan)? else {
         panic!(rt; "no store");
     };
-    // the places of the rows, from 0; the last two subchunks lie beside the first, and the third around the pole
+    // the row numbers, from 0; chunk 4's subchunk 2 is around the pole, and the last two subchunks are beside the first
     assert!(rt; has(alloc, &store, 4, 0, &[0, 1, 2], &[3, 4])?);
     assert!(rt; has(alloc, &store, 4, 2, &[5], &[])?);
     assert!(rt; has(alloc, &store, 7, 1, &[3], &[0, 1, 2, 4])?);

@@ -17,7 +17,7 @@ use Rattle.transcript_rules.specs.Tables.{headings, table_lines}
 abbrev pub number_line : ℕ → Bytes
 number_line k = line (codes "query " ++ decimal k)
 
--- the lines of an answer; a total out of range has none
+-- the lines of an answer; an answer that is a total out of range has no lines
 abbrev pub answer_lines : List Bytes → Answer → ℕ → Bytes
 answer_lines headings (Ok rows) chunks = table_lines headings rows chunks
 answer_lines headings (Err total) chunks = []

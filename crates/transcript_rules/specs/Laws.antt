@@ -1,4 +1,4 @@
--- Facts about every transcript, and about every explain text.
+-- Facts about every transcript and every explain text, which `src/laws.rt` proves.
 use Rattle.std.specs.Prelude.{◌≡◌, ◌⊎◌, ℕ, ◌+◌, true, false, List, ◌++◌, length, None, Some, Ok, slice_get, codes}
 use Rattle.table_rules.specs.Objects.{Catalogue}
 use Rattle.sky_rules.specs.Partition.{Partition}
@@ -33,7 +33,7 @@ pub record Numbered (k : ℕ) (text : Bytes) : Type 0 where
   pub rest : Bytes
   pub begins : text ≡ number_line k ++ rest
 
--- The text is the block of a query that is answered: its table over the flat table, and the size of its plan.
+-- The text is the block of a query that is answered: its rows over the flat table, and the size of its plan.
 pub record IsTable (g : Partition) (c : Catalogue) (k : ℕ) (text block_text : Bytes) : Type 0 where
   pub query : Understood
   pub known : understood c.names text ≡ Ok query
@@ -86,7 +86,7 @@ RefusedShowsNoRows =
     (end : EndKind) (block_text : Bytes) (why : Refusal) → IsBlock workers g c s ends i text end block_text
     → refusal_of g c text ≡ Some why → HasNoRows (i + 1) text why block_text
 
--- a query that is refused before it is run shows that, whatever the script cancels
+-- a query that is refused before it is run shows its refusal, whatever the script cancels
 abbrev pub EarlyIsTold : Type 0
 EarlyIsTold =
     (workers : ℕ) (g : Partition) (c : Catalogue) (s : ScriptView) (ends : List EndKind) (i : ℕ) (text : Bytes)
