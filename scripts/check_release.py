@@ -302,7 +302,7 @@ def facts_of_building(copy):
     tree = read(f"{copy.kit}/tree").decode().split()
     crates = {name.split("/")[2] for name in tree if name.startswith("./crates/")}
     yield "of the program's crates alone", crates == program_crates(ROOT)
-    tests = [name for name in tree if name.endswith(".rt") and re.search(r"/tests(\.rt|/)|worker_tests|/worked\.rt", name)]
+    tests = [name for name in tree if name.endswith(".rt") and re.search(r"/tests(\.rt|/)", name)]
     yield "without tests and must-fail edits", not tests and not [name for name in tree if "/must-fail/" in name]
     yield "what was built runs again without the toolchain", copy.run("./qserv", "a") == (0, "built: a\n", "")
     yield "and was built once", read(built) == b"built\n"

@@ -65,7 +65,7 @@ def parts_of(path):
 
 
 def long_parts():
-    """Queries at the limit of 2,048 tokens, and more queries than run at once."""
+    """Queries at the limit of 2,048 tokens, a long name, and more queries than run at once."""
     # SELECT, 1,022 items with 1,021 commas, and four words: 2,048 tokens
     items = "x" + ",x" * 1021
     largest, refused = f"SELECT {items} FROM Object LIMIT 0", ["refused: more than 2048 tokens"]
@@ -75,6 +75,8 @@ def long_parts():
         # the number of tokens is judged before the brackets; the 33rd that is open stands at 32
         Row("2048 brackets", "(" * 2048, ["refused: brackets too deep at 32"]),
         Row("2049 brackets", "(" * 2049, refused),
+        # a piece that is longer than the buffer of standard output
+        Row("a long name", f"SELECT {'n' * 9000} FROM Object", [f"refused: unknown name {'n' * 9000}"]),
     ]
     counts = [Row("100 queries", "SELECT COUNT(*) FROM Object", ["COUNT(*)", "6", "1 rows, 3 chunks"])] * 100
     texts = ["sky.txt", "catalogue.csv"]

@@ -111,6 +111,8 @@ ACCEPTED = [
     (rows_of("5 9 2 0 7 1"), in_chunk_4(6)),
     (THOUSAND, in_chunk_4(1000)),
     (SHUFFLED, in_chunk_4(2110)),
+    # names are compared byte for byte
+    (f"objectId,x,y,z,flux,Flux,_9,{'q' * 32}\n", NONE),
     # twelve further columns, a NULL among their values
     (f"objectId,x,y,z,{FURTHER}\n9,268435456,0,0,1,,-3,4,5,,7,-8,9,,11,12\n", in_chunk_4(1)),
     ("objectId,x,y,z,flux\n1,268435456,0,0,", in_chunk_4(1)),
@@ -130,6 +132,9 @@ CSV_FAULTS = [
     ("objectId,x,y,z,f\0\n", "header: field 5"),
     ('objectId,x,y,z,"a""b"\n', "header: field 5"),
     (f"objectId,x,y,z,{FURTHER},m\n", "header: field 17"),
+    # a name begins with a letter or a low line, has no blank and up to 32 bytes, and is that of one column
+    *((f"objectId,x,y,z,{name}\n", "header: field 5") for name in ["9a", "a b", "q" * 33, "objectId"]),
+    ("objectId,x,y,z,flux,flux\n", "header: field 6"),
     (FOUR + "1,268435456,0\n", "row 1: 3 fields"),
     (FOUR + '""\n', "row 1: 1 fields"),
     (FOUR + "  \n", "row 1: 1 fields"),
@@ -364,6 +369,8 @@ STATUSES += [
     fault(["query", "sky.txt", "moon", "script", "0"], 7, "moon: cannot be read", script=COUNT),
     fault(["query", "sky.txt", "", "script", "0"], 7, ": cannot be read", script=COUNT),
     fault(["query", *TEXTS, "two ranges", "0"], 7, "two ranges: cannot be read"),
+    # a name that no file can have, longer than the buffer of standard error
+    fault(["load", "n" * 9000, "catalogue.csv"], 7, "n" * 9000 + ": cannot be read"),
     # a folder is there, and has no text
     *(fault(["load", *words], 7, ".: cannot be read") for words in [[".", "catalogue.csv"], ["sky.txt", "."]]),
     fault(["explain", *TEXTS, "."], 7, ".: cannot be read"),
