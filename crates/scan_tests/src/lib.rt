@@ -1,8 +1,8 @@
 //! Tests of the shared scan by public calls alone, of what no output of the program shows: the board's answers, seats at one
-//! board, threads that meet, and a query whose work fails.
+//! board, threads that meet, visits that no thread loses, and a query whose work fails.
 //!
 //! Callers: none. No crate depends on this one, so that a crate of the scan is proved once, and its tests over what it promises.
-//! Below: `scan_core` (`machine`), `scan_board` (`boards`), and `scan_session` over `scan_worker` (`sessions`, `teams`).
+//! Below: `turn_lock` (`turns`), `scan_core` (`machine`), `scan_board` (`boards`), and `scan_session` over `scan_worker` (`sessions`, `teams`).
 #![tactic(auto)]
 
 #[cfg(test)]
@@ -13,3 +13,5 @@ mod machine;
 mod sessions;
 #[cfg(test)]
 mod teams;
+#[cfg(test)]
+mod turns;
