@@ -95,6 +95,14 @@ impl Gathered {
         Ok(())
     }
 
+    /// The columns, with the rows so far.
+    pub(crate) fn into_columns(self) -> Columns
+        ensures { result ≡ self }
+    {
+        let Gathered { columns, cells: _ } = self;
+        columns
+    }
+
     /// Returns the rows in ascending id, or the first fault of an id that an earlier row has.
     pub(crate) fn into_rows(self, alloc: Global) -> Result<Rows, Stop<LoadFault>>
         ensures names { IfOk result (λ all. all.names ≡ self.names) }

@@ -20,7 +20,7 @@ use table_rules::LoadFault;
 
 /// Reads the records that the reader has left, up to the first with a fault other than a repeated id. Appends the rows
 /// of those before it. There are no rows at first.
-fn read_rest(
+pub(crate) fn read_rest(
     mut reader: Reader<&[u8]>,
     mut fields: ByteRecord,
     gathered: &mut Gathered,
@@ -72,10 +72,8 @@ fn rows_under(
     }
 }
 
-/// Reads a catalogue from a text of at most 2^29 bytes: its rows in ascending id, or its first fault. Allocates memory
-/// for the rows. If they do not ascend, it allocates memory for their ids, and for the ids with their row numbers to
-/// find a fault. After an error no memory is kept.
-pub fn load(alloc: Global, text: &[u8]) -> Result<Rows, Stop<LoadFault>>
+/// Reads a catalogue by this thread alone. Allocates as `load` does.
+pub(crate) fn load_alone(alloc: Global, text: &[u8]) -> Result<Rows, Stop<LoadFault>>
     requires { length text.now ≤ TEXT_MOST }
     ensures ok { IfOk result (λ rows. catalogue_of text.now ≡ Ok rows) }
     ensures bad { IfErr result (λ stop. IfBad stop (λ fault. catalogue_of text.now ≡ Err fault)) }

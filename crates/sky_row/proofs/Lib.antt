@@ -6,3 +6,4 @@ pub mod Filling
 pub mod Gathering
 pub mod Keys
 pub mod Rowed
+pub mod Appended

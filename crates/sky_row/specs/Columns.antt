@@ -81,6 +81,28 @@ row_behind p o = record {
   further = cells_behind p.further o.further;
 }
 
+-- each extra column with the values of its counterpart appended
+unfoldable pub columns_appended : List (List (Option ℤ)) → List (List (Option ℤ)) → List (List (Option ℤ))
+columns_appended [] others = []
+columns_appended (column ∷ columns) [] = column ∷ columns
+columns_appended (column ∷ columns) (other ∷ others) = (column ++ other) ∷ columns_appended columns others
+
+-- the columns with the rows of another table appended
+abbrev pub rows_appended : Parts → Parts → Parts
+rows_appended p q = record {
+  ids = p.ids ++ q.ids;
+  xs = p.xs ++ q.xs;
+  ys = p.ys ++ q.ys;
+  zs = p.zs ++ q.zs;
+  further = columns_appended p.further q.further;
+}
+
+-- The presence of a column with another's appended: none, or one for each row.
+pub record IsPresenceOfBoth (count more : ℕ) (present shown found : List Bool) : Type 0 where
+  pub presence : (found ≡ []) ⊎ (length found ≡ count + more)
+  pub front : (k : ℕ) → k < count → get_or found k true ≡ get_or present k true
+  pub behind : (k : ℕ) → get_or found (count + k) true ≡ get_or shown k true
+
 -- the first n rows
 abbrev pub first_rows : ℕ → Parts → Parts
 first_rows n p = record {

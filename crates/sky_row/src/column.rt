@@ -7,7 +7,7 @@ ghost use Rattle.std.specs.Option.{is_some};
 ghost use Rattle.sky_row.specs.Columns.{cell_at, cells_of, or_zero, IsFront, IsKept};
 ghost use Rattle.sky_row.specs.Filling.{IsFilled, IsPresenceUpTo};
 
-use crate::nulls::{fill_presence, is_whole, presence_at};
+use crate::nulls::{fill_presence, is_whole, presence_appended, presence_at};
 use crate::places::{fill, gather, make_room};
 use sky_io::Memory;
 use std::alloc::Global;
@@ -138,6 +138,19 @@ impl Column {
             places,
             count,
         )
+    }
+
+    /// The column with another's values appended. Allocates; if memory is out, it is dropped.
+    pub(crate) fn followed_by(self, alloc: Global, other: &Column) -> Result<Column, Memory>
+        ensures { IfOk result (λ column. column ≡ self ++ other.now) }
+    {
+        let Column { values, present } = self;
+        let count = values.len();
+        let shown = other.present.as_slice();
+        let present = presence_appended(alloc, present, count, shown, other.values.len())?;
+        let mut values = values;
+        values.extend_from_slice(other.values.as_slice())?;
+        Ok(of_parts(values, present))
     }
 
     /// Truncates the column to the first `count` rows. Does not allocate.

@@ -142,6 +142,20 @@ impl Columns {
         self.lists.further(col as usize - FIRST_COLUMNS)
     }
 
+    /// The rows with those of another table appended, which has as many extra columns. Allocates for each column; if memory is
+    /// out, the rows are dropped.
+    pub fn followed_by(self, alloc: Global, other: &Columns) -> Result<Columns, Memory>
+        requires wide { length other.now.names ≡ length self.names }
+        requires few { length self.objects + length other.now.objects ≤ ROWS_MOST }
+        ensures names { IfOk result (λ columns. columns.names ≡ self.names) }
+        ensures objects { IfOk result (λ columns.
+            columns.objects ≡ self.objects ++ other.now.objects) }
+    {
+        let Columns { schema, lists } = self;
+        let lists = lists.followed_by(alloc, other.lists())?;
+        Ok(Columns { schema, lists })
+    }
+
     /// Returns the rows with these numbers, counted from 0, in the order of the list. Allocates memory for each column
     /// once.
     pub fn at(self, alloc: Global, places: &[u32]) -> Result<Columns, Memory>

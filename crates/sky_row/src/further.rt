@@ -3,7 +3,7 @@ ghost use Rattle.std.specs.Prelude.{◌≡◌, ◌<◌, ◌≤◌, ℕ, [], ◌�
 ghost use Rattle.std.specs.Prelude.{IfOk, IsTrue, OnOk, OnErr, None};
 ghost use Rattle.std.specs.List.{list_all};
 ghost use Rattle.table_rules.specs.Objects.{is_further};
-ghost use Rattle.sky_row.specs.Columns.{IsFront, cells_in};
+ghost use Rattle.sky_row.specs.Columns.{IsFront, cells_in, columns_appended};
 ghost use Rattle.sky_row.specs.Filling.{IsFilled};
 ghost use Rattle.table_rules.specs.declared.limits.TheConstants.{FURTHER_COLUMNS_MOST};
 
@@ -41,6 +41,23 @@ pub(crate) fn columns_at(
     let mut found = Vec::new(alloc);
     for column in columns {
         found.push(column.at(alloc, places)?)?;
+    }
+    Ok(found)
+}
+
+/// The columns, each with the values of its counterpart appended.
+pub(crate) fn columns_appended(
+    alloc: Global,
+    columns: Vec<Column>,
+    others: &[Column],
+) -> Result<Vec<Column>, Memory>
+    requires { length others.now ≡ length columns.items }
+    ensures { IfOk result (λ found. found.items ≡ columns_appended columns.items others.now) }
+{
+    let mut found = Vec::with_capacity(alloc, columns.len())?;
+    for column in columns {
+        let both = column.followed_by(alloc, &others[found.len()])?;
+        found.push_reserved(both);
     }
     Ok(found)
 }

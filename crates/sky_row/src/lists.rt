@@ -4,12 +4,12 @@ ghost use Rattle.std.specs.Prelude.{IfOk, OnOk, OnErr, pos};
 ghost use Rattle.sky_vector.specs.Points.{IsWithin};
 ghost use Rattle.sky_vector.specs.Pos.{point};
 ghost use Rattle.sky_row.specs.Filling.{AreBegun, AreFilled};
-ghost use Rattle.sky_row.specs.Columns.{AreAligned, AreRows, Begins, IsFront, first_rows, no_rows, row_at, row_behind, rows_at};
+ghost use Rattle.sky_row.specs.Columns.{AreAligned, AreRows, Begins, IsFront, first_rows, no_rows, row_at, row_behind, rows_at, rows_appended};
 ghost use Rattle.table_rules.specs.declared.limits.TheConstants.{FURTHER_COLUMNS_MOST};
 
 use crate::column::Column;
 use crate::further::{
-    cells_at, columns_at, empty_columns, fill_columns, push_cells, truncate_cells,
+    cells_at, columns_appended, columns_at, empty_columns, fill_columns, push_cells, truncate_cells,
 };
 use crate::places::{fill_list, gather};
 use crate::row::Row;
@@ -149,6 +149,27 @@ impl Lists {
         fill_columns(&mut self.further, table.further.as_slice(), places, count)
     }
 
+    /// The columns with the rows of another table appended. Allocates for each column; if memory is out, they are dropped.
+    pub(crate) fn followed_by(self, alloc: Global, other: &Lists) -> Result<Lists, Memory>
+        requires { length other.now.further ≡ length self.further }
+        ensures { IfOk result (λ lists. lists ≡ rows_appended self other.now) }
+    {
+        let Lists {
+            ids,
+            xs,
+            ys,
+            zs,
+            further,
+        } = self;
+        Ok(Lists {
+            ids: extended(ids, other.ids.as_slice())?,
+            xs: extended(xs, other.xs.as_slice())?,
+            ys: extended(ys, other.ys.as_slice())?,
+            zs: extended(zs, other.zs.as_slice())?,
+            further: columns_appended(alloc, further, other.further.as_slice())?,
+        })
+    }
+
     /// Returns the ids. Does not allocate.
     pub fn ids(&self) -> &[i64]
         ensures { result.now ≡ self.now.ids }
@@ -195,6 +216,15 @@ impl Lists {
         self.zs.truncate(count);
         truncate_cells(&mut self.further, count);
     }
+}
+
+/// A list with another appended. Allocates; if memory is out, the list is dropped.
+fn extended<T: Copy>(list: Vec<T>, other: &[T]) -> Result<Vec<T>, Memory>
+    ensures { IfOk result (λ found. found.items ≡ list.items ++ other.now) }
+{
+    let mut found = list;
+    found.extend_from_slice(other)?;
+    Ok(found)
 }
 
 /// Returns the component of a position with index `i`.

@@ -1,6 +1,6 @@
 //! Which rows of a column have a value: a validity list, empty if each row has one.
 ghost use Rattle.std.specs.Prelude.{ℕ, true, ◌≡◌, ◌≤◌, ◌<◌, [], All, IfOk, IsTrue, ◌⊎◌, ◌↔◌, length, get_or, vec_capacity};
-ghost use Rattle.sky_row.specs.Columns.{IsPresenceAt};
+ghost use Rattle.sky_row.specs.Columns.{IsPresenceAt, IsPresenceOfBoth};
 ghost use Rattle.sky_row.specs.Filling.{IsPresenceUpTo};
 
 use crate::places::gather;
@@ -43,6 +43,44 @@ pub(crate) fn presence_at(
     }
     let found = gather(alloc, present, places)?;
     Ok(unless_whole(found))
+}
+
+/// A presence for each of `count` rows: those for which none was kept have a value.
+#[tactic(auto, using(crate::proofs::Filling::push_true))]
+fn padded(present: Vec<bool>, count: usize) -> Result<Vec<bool>, Memory>
+    requires few { length present.items ≤ count }
+    ensures full { IfOk result (λ found. length found.items ≡ count) }
+    ensures each { IfOk result (λ found. (k : ℕ)
+        → get_or found.items k true ≡ get_or present.items k true) }
+{
+    let mut found = present;
+    for row in found.len()..count {
+        found.push(true)?;
+    }
+    Ok(found)
+}
+
+/// The presence of `count` rows with that of `more` others appended, and none if neither list keeps one.
+#[tactic(auto, using(crate::proofs::Appended::presence_of_both, crate::proofs::Appended::none_of_both, crate::proofs::Appended::no_more_rows))]
+pub(crate) fn presence_appended(
+    alloc: Global,
+    present: Vec<bool>,
+    count: usize,
+    shown: &[bool],
+    more: usize,
+) -> Result<Vec<bool>, Memory>
+    requires present { (present.items ≡ []) ⊎ (length present.items ≡ count) }
+    requires shown { (shown.now ≡ []) ⊎ (length shown.now ≡ more) }
+    ensures { IfOk result (λ found.
+        IsPresenceOfBoth count more present.items shown.now found.items) }
+{
+    if present.is_empty() && shown.is_empty() {
+        return Ok(present);
+    }
+    let mut found = padded(present, count)?;
+    let others = padded(Vec::from_slice(alloc, shown)?, more)?;
+    found.extend_from_slice(others.as_slice())?;
+    Ok(found)
 }
 
 /// Returns whether each row from index `from` up to but not including `count` of the list has a value.

@@ -17,6 +17,7 @@ use sky_io::{Fetch, Shelf, Stop};
 use sky_plan::SkyPlan;
 use sky_row::Rows;
 use std::alloc::Global;
+use std::thread::Threads;
 use text_rules::limits::{SCRIPT_TEXT_MOST, SKY_TEXT_MOST, TEXT_MOST};
 
 /// The survey that a sky plan and a catalogue spell.
@@ -26,10 +27,12 @@ pub struct Inputs {
     pub rows: Rows,
 }
 
-/// Fetches and reads the sky plan and the catalogue of these names. Allocates memory. If it stops, the shelf alone
-/// explains the outcome.
-pub fn fetch_survey<S: Shelf>(
+/// Fetches and reads the sky plan and the catalogue of these names, the catalogue by the given number of threads. Allocates. If
+/// it stops, the shelf alone explains the outcome.
+pub fn fetch_survey<R: Threads + Sync, S: Shelf>(
     alloc: Global,
+    rt: &R,
+    threads: u32,
     shelf: &mut S,
     sky: &str,
     catalogue: &str,
@@ -40,14 +43,16 @@ pub fn fetch_survey<S: Shelf>(
         (IsSurveyStop sky.now catalogue.now (S.state shelf.old) (S.state shelf.new)) }
 {
     let plan = fetch_sky(alloc, shelf, sky)?;
-    let rows = fetch_catalogue(alloc, shelf, catalogue)?;
+    let rows = fetch_catalogue(alloc, rt, threads, shelf, catalogue)?;
     Ok(Inputs { plan, rows })
 }
 
-/// Fetches the texts of these names, and reads the sky plan and the catalogue; the script is returned as its text.
-/// Allocates memory. If it stops, the shelf alone explains the outcome.
-pub fn fetch_all<S: Shelf>(
+/// Fetches the texts of these names, and reads the sky plan and, by the given number of threads, the catalogue; the script is
+/// given as its text. Allocates. If it stops, the shelf alone explains the outcome.
+pub fn fetch_all<R: Threads + Sync, S: Shelf>(
     alloc: Global,
+    rt: &R,
+    threads: u32,
     shelf: &mut S,
     sky: &str,
     catalogue: &str,
@@ -58,7 +63,7 @@ pub fn fetch_all<S: Shelf>(
     ensures err { IfErr result (IsShelfStop sky.now catalogue.now (Some script.now)
         (S.state shelf.old) (S.state shelf.new)) }
 {
-    match fetch_survey(alloc, shelf, sky, catalogue) {
+    match fetch_survey(alloc, rt, threads, shelf, sky, catalogue) {
         Err(outcome) => Err(outcome),
         Ok(inputs) => match fetch_whole(alloc, shelf, script, SCRIPT_TEXT_MOST, Which::Script) {
             Err(outcome) => {
@@ -84,14 +89,20 @@ fn fetch_sky<S: Shelf>(alloc: Global, shelf: &mut S, name: &str) -> Result<SkyPl
     }
 }
 
-// Fetches and reads the catalogue.
-fn fetch_catalogue<S: Shelf>(alloc: Global, shelf: &mut S, name: &str) -> Result<Rows, Outcome>
+// Fetches the catalogue, and reads it by the given number of threads.
+fn fetch_catalogue<R: Threads + Sync, S: Shelf>(
+    alloc: Global,
+    rt: &R,
+    threads: u32,
+    shelf: &mut S,
+    name: &str,
+) -> Result<Rows, Outcome>
     ensures ok { IfOk result (λ rows. IsRead (OfNamed name.now (λ text. IsCatalogueOf text rows))
         (S.state shelf.old) (S.state shelf.new)) }
     ensures err { IfErr result (IsCatalogueStop name.now (S.state shelf.old) (S.state shelf.new)) }
 {
     let text = fetch_whole(alloc, shelf, name, TEXT_MOST, Which::Catalogue)?;
-    match load(alloc, text.as_slice()) {
+    match load(rt, alloc, threads, text.as_slice()) {
         Ok(rows) => Ok(rows),
         Err(Stop::Bad(fault)) => Err(Outcome::BadCatalogue { fault }),
         Err(Stop::Memory) => Err(Outcome::Memory),

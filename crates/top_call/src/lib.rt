@@ -16,6 +16,7 @@ mod limits;
 mod outcome;
 mod script_lines;
 mod task;
+mod threads;
 mod told;
 mod top;
 mod words;

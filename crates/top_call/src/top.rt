@@ -9,6 +9,7 @@ use crate::demo::run_demo;
 use crate::inputs::{fetch_all, fetch_survey};
 use crate::outcome::Outcome;
 use crate::task::Task;
+use crate::threads::{processors, threads_of};
 use crate::words::{Form, read_words};
 use crate::work::{do_task, report};
 use sky_io::{Gate, Shelf, Sink};
@@ -59,7 +60,7 @@ fn run_form<R: Threads + Wait + Sync, S: Shelf, K: Sink, G: Gate + Sync>(
         result }
 {
     match form {
-        Form::Load { sky, catalogue } => run_load(alloc, sky, catalogue, shelf, sink),
+        Form::Load { sky, catalogue } => run_load(alloc, rt, sky, catalogue, shelf, sink),
         Form::Asks {
             task,
             sky,
@@ -75,8 +76,9 @@ fn run_form<R: Threads + Wait + Sync, S: Shelf, K: Sink, G: Gate + Sync>(
 }
 
 // Reports how the rows of the named catalogue are distributed over the chunks of the named sky plan.
-fn run_load<S: Shelf, K: Sink>(
+fn run_load<R: Threads + Sync, S: Shelf, K: Sink>(
     alloc: Global,
+    rt: &R,
     sky: &str,
     catalogue: &str,
     shelf: &mut S,
@@ -86,7 +88,7 @@ fn run_load<S: Shelf, K: Sink>(
         (shown (S.state shelf.old) (S.state shelf.new) (K.state sink.old) (K.state sink.new))
         result }
 {
-    match fetch_survey(alloc, shelf, sky, catalogue) {
+    match fetch_survey(alloc, rt, processors(rt), shelf, sky, catalogue) {
         Ok(inputs) => report(alloc, inputs, sink),
         Err(outcome) => outcome,
     }
@@ -109,7 +111,15 @@ fn run_task<R: Threads + Wait + Sync, S: Shelf, K: Sink, G: Gate + Sync>(
         (shown (S.state shelf.old) (S.state shelf.new) (K.state sink.old) (K.state sink.new))
         result }
 {
-    match fetch_all(alloc, shelf, sky, catalogue, script) {
+    match fetch_all(
+        alloc,
+        rt,
+        threads_of(rt, task),
+        shelf,
+        sky,
+        catalogue,
+        script,
+    ) {
         Ok((inputs, text)) => do_task(alloc, rt, task, inputs, text.as_slice(), sink, gate),
         Err(outcome) => outcome,
     }
