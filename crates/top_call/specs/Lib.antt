@@ -7,4 +7,3 @@ pub mod Jobs
 pub mod Explained
 pub mod Completes
 pub mod Steps
-pub mod Inputs

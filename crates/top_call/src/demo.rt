@@ -3,14 +3,13 @@
 ghost use Rattle.std.specs.Prelude.{◌≡◌, ◌≤◌, ◌^◌, IfOk};
 ghost use Rattle.table_rules.specs.declared.limits.TheConstants.{ROWS_MOST};
 ghost use Rattle.demo_rules.specs.declared.limits.TheConstants.{SEED_MOST};
-ghost use Rattle.top_call.specs.Inputs.{survey_of};
 ghost use Rattle.top_call.specs.Jobs.{IsDemoSurvey};
 ghost use Rattle.top_call.specs.Steps.{IsDemo, IsDemoOver};
 ghost use Rattle.session_rules.specs.declared.limits.TheConstants.{WORKERS_MOST};
 
-use crate::inputs::Inputs;
 use crate::outcome::Outcome;
 use crate::work::answer_queries;
+use chunk_store::Store;
 use demo_answers::laws::demo_is_answered;
 use demo_answers::texts::{demo_script_is_accepted, demo_sky_is_accepted};
 use session_script::Script;
@@ -42,18 +41,18 @@ pub fn run_demo<R: Threads + Wait + Sync, K: Sink, G: Gate + Sync>(
     demo_is_answered();
     demo_sky_is_accepted();
     demo_script_is_accepted();
-    match demo_inputs(alloc, count, seed) {
-        Ok(inputs) => answer_demo(alloc, rt, inputs, workers, sink, gate),
+    match demo_store(alloc, count, seed) {
+        Ok(store) => answer_demo(alloc, rt, store, workers, sink, gate),
         Err(_) => Outcome::Memory,
     }
 }
 
-// Creates the demo's sky plan and catalogue.
-fn demo_inputs(alloc: Global, count: u32, seed: u32) -> Result<Inputs, Memory>
+// The store of the demo's catalogue under its sky plan.
+fn demo_store(alloc: Global, count: u32, seed: u32) -> Result<Store, Memory>
     requires few { count ≤ ROWS_MOST }
     requires first { 1 ≤ seed }
     requires last { seed ≤ SEED_MOST }
-    ensures { IfOk result (λ inputs. IsDemoSurvey count seed (survey_of inputs)) }
+    ensures { IfOk result (λ store. IsDemoSurvey count seed store) }
 {
     // The text is a sky plan, so only an allocation can fail.
     demo_sky_is_accepted();
@@ -61,27 +60,27 @@ fn demo_inputs(alloc: Global, count: u32, seed: u32) -> Result<Inputs, Memory>
         return Err(Memory);
     };
     let rows = rows_of(alloc, count, seed)?;
-    Ok(Inputs { plan, rows })
+    Store::build(alloc, plan, rows)
 }
 
 // Answers the queries of the demo's script.
 fn answer_demo<R: Threads + Wait + Sync, K: Sink, G: Gate + Sync>(
     alloc: Global,
     rt: &R,
-    inputs: Inputs,
+    store: Store,
     workers: u32,
     sink: &mut K,
     gate: &G,
 ) -> Outcome
     requires { workers ≤ WORKERS_MOST }
-    ensures { IsDemoOver workers (survey_of inputs) (K.state sink.old) (K.state sink.new) result }
+    ensures { IsDemoOver workers store (K.state sink.old) (K.state sink.new) result }
 {
     // The text is a script, so only an allocation can fail.
     demo_script_is_accepted();
     match Script::read(alloc, demo_script()) {
-        Ok(script) => answer_queries(alloc, rt, inputs, &script, workers, sink, gate),
+        Ok(script) => answer_queries(alloc, rt, store, &script, workers, sink, gate),
         Err(_) => {
-            drop(inputs);
+            drop(store);
             Outcome::Memory
         }
     }

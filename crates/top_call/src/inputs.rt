@@ -1,11 +1,11 @@
 //! The texts of a command, each fetched and read before the next is fetched: sky, catalogue, script.
 //!
-//! A text is fetched to one byte past its limit, so that a longer one is recognised; it is refused as too long. The raw
-//! texts of the sky plan and of the catalogue are freed before the next is fetched. A script borrows its text, so its
-//! text is returned raw, and the caller that holds the text reads it.
+//! A text is fetched to one byte past its limit, so that a longer one shows itself; it is refused as too long. The raw
+//! texts of the sky plan and of the catalogue are dropped before the next is fetched. The store is built before the script is
+//! fetched, so a script that arrives late, through a pipe, is answered at once. A script borrows its text, so its text is
+//! returned raw, and its owner reads it.
 ghost use Rattle.std.specs.Prelude.{◌≡◌, ◌≤◌, ◌^◌, IfOk, IfErr, length, Some};
 ghost use Rattle.catalogue_load.specs.Catalogue.{catalogue_of};
-ghost use Rattle.top_call.specs.Inputs.{survey_of};
 ghost use Rattle.top_call.specs.Jobs.{IsSurveyOf};
 ghost use Rattle.top_call.specs.Reached.{IsCatalogueOf, IsSkyOf, limit_of};
 ghost use Rattle.top_call.specs.Steps.{AreGiven, IsCatalogueStop, IsFetchFault, IsGiven, IsRead, IsShelfStop};
@@ -13,6 +13,7 @@ ghost use Rattle.top_call.specs.Steps.{IsSkyStop, IsSurveyStop, IsWhole, IsWhole
 
 use crate::outcome::{Outcome, Which};
 use catalogue_load::load;
+use chunk_store::Store;
 use sky_io::{Fetch, Shelf, Stop};
 use sky_plan::SkyPlan;
 use sky_row::Rows;
@@ -20,15 +21,8 @@ use std::alloc::Global;
 use std::thread::Threads;
 use text_rules::limits::{SCRIPT_TEXT_MOST, SKY_TEXT_MOST, TEXT_MOST};
 
-/// The survey that a sky plan and a catalogue spell.
-#[derive(Drop)]
-pub struct Inputs {
-    pub plan: SkyPlan,
-    pub rows: Rows,
-}
-
-/// Fetches and reads the sky plan and the catalogue of these names, the catalogue by the given number of threads. Allocates. If
-/// it stops, the shelf alone explains the outcome.
+/// Fetches and reads the sky plan and the catalogue of these names, the catalogue by the given number of threads, and builds the
+/// store of its rows. Allocates. If it stops, the shelf alone explains the outcome.
 pub fn fetch_survey<R: Threads + Sync, S: Shelf>(
     alloc: Global,
     rt: &R,
@@ -36,19 +30,20 @@ pub fn fetch_survey<R: Threads + Sync, S: Shelf>(
     shelf: &mut S,
     sky: &str,
     catalogue: &str,
-) -> Result<Inputs, Outcome>
-    ensures ok { IfOk result (λ inputs. IsRead (IsSurveyOf sky.now catalogue.now (survey_of inputs))
+) -> Result<Store, Outcome>
+    ensures ok { IfOk result (λ store. IsRead (IsSurveyOf sky.now catalogue.now store)
         (S.state shelf.old) (S.state shelf.new)) }
     ensures err { IfErr result
         (IsSurveyStop sky.now catalogue.now (S.state shelf.old) (S.state shelf.new)) }
 {
     let plan = fetch_sky(alloc, shelf, sky)?;
     let rows = fetch_catalogue(alloc, rt, threads, shelf, catalogue)?;
-    Ok(Inputs { plan, rows })
+    stored(alloc, plan, rows)
 }
 
-/// Fetches the texts of these names, and reads the sky plan and, by the given number of threads, the catalogue; the script is
-/// given as its text. Allocates. If it stops, the shelf alone explains the outcome.
+/// Fetches the texts of these names, reads the sky plan and, by the given number of threads, the catalogue, and builds the store
+/// of its rows before the script is fetched, which is given as its text. Allocates. If it stops, the shelf alone explains the
+/// outcome.
 pub fn fetch_all<R: Threads + Sync, S: Shelf>(
     alloc: Global,
     rt: &R,
@@ -57,21 +52,32 @@ pub fn fetch_all<R: Threads + Sync, S: Shelf>(
     sky: &str,
     catalogue: &str,
     script: &str,
-) -> Result<(Inputs, Vec<u8>), Outcome>
+) -> Result<(Store, Vec<u8>), Outcome>
     ensures ok { IfOk result (λ given. AreGiven sky.now catalogue.now script.now
-        (survey_of given.0) given.1.items (S.state shelf.old) (S.state shelf.new)) }
+        given.0 given.1.items (S.state shelf.old) (S.state shelf.new)) }
     ensures err { IfErr result (IsShelfStop sky.now catalogue.now (Some script.now)
         (S.state shelf.old) (S.state shelf.new)) }
 {
     match fetch_survey(alloc, rt, threads, shelf, sky, catalogue) {
         Err(outcome) => Err(outcome),
-        Ok(inputs) => match fetch_whole(alloc, shelf, script, SCRIPT_TEXT_MOST, Which::Script) {
+        Ok(store) => match fetch_whole(alloc, shelf, script, SCRIPT_TEXT_MOST, Which::Script) {
             Err(outcome) => {
-                drop(inputs);
+                drop(store);
                 Err(outcome)
             }
-            Ok(text) => Ok((inputs, text)),
+            Ok(text) => Ok((store, text)),
         },
+    }
+}
+
+// The store of a catalogue's rows under a plan.
+fn stored(alloc: Global, plan: SkyPlan, rows: Rows) -> Result<Store, Outcome>
+    ensures ok { IfOk result (λ store. store ≡ record { plan = plan; rows = rows }) }
+    ensures err { IfErr result (λ outcome. outcome ≡ Outcome.Memory) }
+{
+    match Store::build(alloc, plan, rows) {
+        Ok(store) => Ok(store),
+        Err(_) => Err(Outcome::Memory),
     }
 }
 

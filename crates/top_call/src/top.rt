@@ -18,11 +18,11 @@ use std::sync::Wait;
 use std::thread::Threads;
 
 /// Executes the command that the arguments give. It fetches the texts from the shelf. It reports how the rows are
-/// distributed over the chunks, or answers or explains the queries of the script. It writes to the sink. All texts are
-/// accepted and all answers computed before the first byte is written, and writing does not allocate. Allocates memory
-/// for the texts, the rows and their chunks, and the answers. Queries are answered by as many threads beside this one
-/// as the arguments ask for; a thread that takes a chunk passes the gate before the work on it. Waits for the threads.
-/// A thread that cannot be started costs no answer.
+/// distributed over the chunks, or answers or explains the queries of the script. It writes to the sink. The chunks are
+/// made before the script is fetched. All texts are accepted and all answers computed before the first byte is written,
+/// and writing does not allocate. Allocates memory for the texts, the rows and their chunks, and the answers. Queries are
+/// answered by as many threads beside this one as the arguments ask for, and these read the texts too; a thread that takes
+/// a chunk passes the gate before the work on it. Waits for the threads. A thread that cannot be started costs no answer.
 pub fn qserv<R: Threads + Wait + Sync, S: Shelf, K: Sink, G: Gate + Sync>(
     rt: &R,
     alloc: Global,
@@ -89,7 +89,7 @@ fn run_load<R: Threads + Sync, S: Shelf, K: Sink>(
         result }
 {
     match fetch_survey(alloc, rt, processors(rt), shelf, sky, catalogue) {
-        Ok(inputs) => report(alloc, inputs, sink),
+        Ok(store) => report(alloc, store, sink),
         Err(outcome) => outcome,
     }
 }
@@ -120,7 +120,7 @@ fn run_task<R: Threads + Wait + Sync, S: Shelf, K: Sink, G: Gate + Sync>(
         catalogue,
         script,
     ) {
-        Ok((inputs, text)) => do_task(alloc, rt, task, inputs, text.as_slice(), sink, gate),
+        Ok((store, text)) => do_task(alloc, rt, task, store, text.as_slice(), sink, gate),
         Err(outcome) => outcome,
     }
 }

@@ -2,21 +2,19 @@
 //!
 //! What holds the rows is dropped by name. That is one call; what goes out of scope is dropped part by part. All that
 //! allocates memory is created before the first byte is written: the store, the answers, and the list of how the
-//! queries ended. A script is validated before the store is built.
+//! queries ended.
 ghost use Rattle.std.specs.Prelude.{◌≡◌, ◌≤◌, ◌^◌, ℕ, [], length, map};
 ghost use Rattle.text_rules.specs.declared.limits.TheConstants.{SCRIPT_TEXT_MOST};
 ghost use Rattle.session_script.specs.Views.{query_lines};
 ghost use Rattle.transcript_rules.specs.Transcripts.{FitEnds};
 ghost use Rattle.czar.specs.Ends.{EndsShow, kind_of};
 ghost use Rattle.czar.specs.Plans.{ArePlans};
-ghost use Rattle.top_call.specs.Inputs.{survey_of};
 ghost use Rattle.top_call.specs.Jobs.{Explains, Reports, Runs, job_on};
 ghost use Rattle.top_call.specs.Steps.{IsFlushed, IsTaskOver, IsWritten};
 ghost use Rattle.top_call.specs.Words.{IsManned};
 ghost use Rattle.session_rules.specs.declared.limits.TheConstants.{WORKERS_MOST};
 
 use crate::ends::{kinds_of, no_ends};
-use crate::inputs::Inputs;
 use crate::outcome::Outcome;
 use crate::task::Task;
 use answer_text::put_report;
@@ -30,18 +28,12 @@ use std::sync::Wait;
 use std::thread::Threads;
 
 /// Writes the report of the rows in their chunks. Allocates memory.
-pub fn report<K: Sink>(alloc: Global, inputs: Inputs, sink: &mut K) -> Outcome
-    ensures { IsWritten (Reports (survey_of inputs)) (K.state sink.old) (K.state sink.new) result }
+pub fn report<K: Sink>(alloc: Global, store: Store, sink: &mut K) -> Outcome
+    ensures { IsWritten (Reports store) (K.state sink.old) (K.state sink.new) result }
 {
-    let Inputs { plan, rows } = inputs;
-    match Store::build(alloc, plan, rows) {
-        Ok(store) => {
-            let outcome = write_report(alloc, &store, sink);
-            drop(store);
-            outcome
-        }
-        Err(_) => Outcome::Memory,
-    }
+    let outcome = write_report(alloc, &store, sink);
+    drop(store);
+    outcome
 }
 
 /// Reads a script and executes the task on it. Allocates memory, and waits.
@@ -49,24 +41,24 @@ pub fn do_task<R: Threads + Wait + Sync, K: Sink, G: Gate + Sync>(
     alloc: Global,
     rt: &R,
     task: Task,
-    inputs: Inputs,
+    store: Store,
     text: &[u8],
     sink: &mut K,
     gate: &G,
 ) -> Outcome
     requires short { length text.now ≤ SCRIPT_TEXT_MOST }
     requires manned { IsManned task }
-    ensures { IsTaskOver task (survey_of inputs) text.now
+    ensures { IsTaskOver task store text.now
         (K.state sink.old) (K.state sink.new) result }
 {
     match Script::read(alloc, text) {
-        Ok(script) => do_script(alloc, rt, task, inputs, &script, sink, gate),
+        Ok(script) => do_script(alloc, rt, task, store, &script, sink, gate),
         Err(Stop::Bad(fault)) => {
-            drop(inputs);
+            drop(store);
             Outcome::BadScript { fault }
         }
         Err(Stop::Memory) => {
-            drop(inputs);
+            drop(store);
             Outcome::Memory
         }
     }
@@ -77,20 +69,20 @@ fn do_script<R: Threads + Wait + Sync, K: Sink, G: Gate + Sync>(
     alloc: Global,
     rt: &R,
     task: Task,
-    inputs: Inputs,
+    store: Store,
     script: &Script<'_>,
     sink: &mut K,
     gate: &G,
 ) -> Outcome
     requires { IsManned task }
-    ensures { IsWritten (job_on task (survey_of inputs) script.now)
+    ensures { IsWritten (job_on task store script.now)
         (K.state sink.old) (K.state sink.new) result }
 {
     match task {
         Task::Answer { workers } => {
-            answer_queries(alloc, rt, inputs, script, workers, sink, gate)
+            answer_queries(alloc, rt, store, script, workers, sink, gate)
         }
-        Task::Explain => explain_queries(alloc, inputs, script, sink),
+        Task::Explain => explain_queries(alloc, store, script, sink),
     }
 }
 
@@ -99,25 +91,19 @@ fn do_script<R: Threads + Wait + Sync, K: Sink, G: Gate + Sync>(
 pub fn answer_queries<R: Threads + Wait + Sync, K: Sink, G: Gate + Sync>(
     alloc: Global,
     rt: &R,
-    inputs: Inputs,
+    store: Store,
     script: &Script<'_>,
     workers: u32,
     sink: &mut K,
     gate: &G,
 ) -> Outcome
     requires { workers ≤ WORKERS_MOST }
-    ensures { IsWritten (Runs workers (survey_of inputs) script.now)
+    ensures { IsWritten (Runs workers store script.now)
         (K.state sink.old) (K.state sink.new) result }
 {
-    let Inputs { plan, rows } = inputs;
-    match Store::build(alloc, plan, rows) {
-        Ok(store) => {
-            let outcome = answer_over(alloc, rt, &store, script, workers, sink, gate);
-            drop(store);
-            outcome
-        }
-        Err(_) => Outcome::Memory,
-    }
+    let outcome = answer_over(alloc, rt, &store, script, workers, sink, gate);
+    drop(store);
+    outcome
 }
 
 // Answers the queries of a script over a store, and writes their transcript.
@@ -143,22 +129,16 @@ fn answer_over<R: Threads + Wait + Sync, K: Sink, G: Gate + Sync>(
 // Explains the queries of a script, and writes the explanation.
 fn explain_queries<K: Sink>(
     alloc: Global,
-    inputs: Inputs,
+    store: Store,
     script: &Script<'_>,
     sink: &mut K,
 ) -> Outcome
-    ensures { IsWritten (Explains (survey_of inputs) script.now)
+    ensures { IsWritten (Explains store script.now)
         (K.state sink.old) (K.state sink.new) result }
 {
-    let Inputs { plan, rows } = inputs;
-    match Store::build(alloc, plan, rows) {
-        Ok(store) => {
-            let outcome = explain_over(alloc, &store, script, sink);
-            drop(store);
-            outcome
-        }
-        Err(_) => Outcome::Memory,
-    }
+    let outcome = explain_over(alloc, &store, script, sink);
+    drop(store);
+    outcome
 }
 
 // Explains the queries of a script over a store, and writes the explanation.

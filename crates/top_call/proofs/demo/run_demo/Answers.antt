@@ -1,4 +1,3 @@
-use Rattle.top_call.specs.Inputs.{survey_of}
 use Rattle.top_call.proofs.Demos.{demo_explained}
 use Rattle.top_call.proofs.demo.run_demo.Goals as goal
 
@@ -6,4 +5,4 @@ pub returns-in-Ok : goal.returns-in-Ok
 returns-in-Ok g c =
     λ shelf. demo_explained c.demo_is_answered.ensures.answered c.demo_sky_is_accepted.ensures.plan
     c.demo_script_is_accepted.ensures.steps c.args.count c.args.seed c.args.workers c.requires.few
-    (survey_of c.in-Ok.inputs) _ _ _ shelf c.in-Ok.ensures c.answer_demo.ensures
+    c.in-Ok.store _ _ _ shelf c.in-Ok.ensures c.answer_demo.ensures
