@@ -1,6 +1,6 @@
 -- The blocks of chunks while they are filled by turns.
-use Rattle.std.proofs.Common.{◌≡◌, ◌∙◌, sym, ap, subst, ℕ, ◌+◌, ◌<◌, arith, suc, List, [], ◌∷◌, ◌++◌, length, map, drop, get_or, below_more}
-use Rattle.std.proofs.lemmas.List.{get_or_append_left, get_or_push, drop_more, length_push}
+use Rattle.std.proofs.Common.{◌≡◌, ◌∙◌, sym, ap, subst, ℕ, ◌+◌, ◌<◌, arith, suc, List, [], ◌∷◌, ◌++◌, length, map, take, drop, get_or, below_more}
+use Rattle.std.proofs.lemmas.List.{get_or_append_left, get_or_push, drop_more, length_push, map-append, take-append-drop}
 use Rattle.std.proofs.Math.Seq.{append_snoc}
 use Rattle.sky_row.specs.Columns.{Parts, no_rows}
 use Rattle.sky_row.specs.Filling.{AreBegun}
@@ -50,3 +50,12 @@ pub this_begun : (table : Parts) (lists : List (List ℕ)) (chunks : List ℕ) (
 this_begun table lists chunks n m old new p same is each =
     subst (AreBegun table (places_of lists chunks m)) (ap (λ l. get_or l 0 (no_rows 0)) is)
     (subst (λ j. AreBegun table (places_of lists chunks j) (get_or old 0 (no_rows 0))) (omega (arith, same)) (each 0 (omega (arith, ap length is))))
+
+-- the blocks of the first chunks and of the others are those of all
+pub blocks_both : {X : Type 0} (f : ℕ → X) (chunks : List ℕ) (at : ℕ) (first second blocks : List X) → first ≡ map f (take at chunks) → second ≡ map f (drop at chunks)
+    → blocks ≡ first ++ second → blocks ≡ map f chunks
+blocks_both f chunks at first second blocks a b is =
+    is
+    ∙ (ap (λ l. l ++ second) a
+    ∙ (ap (λ l. map f (take at chunks) ++ l) b
+    ∙ (sym (map-append f (take at chunks) (drop at chunks)) ∙ ap (map f) (take-append-drop at chunks))))

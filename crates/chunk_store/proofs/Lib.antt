@@ -1,6 +1,7 @@
 pub mod Ranges
 pub mod Merging
 pub mod Pushing
+pub mod Appending
 pub mod Filled
 pub mod Begun
 pub mod ChunkBlocks

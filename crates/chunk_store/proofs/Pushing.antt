@@ -12,8 +12,8 @@ use Rattle.sky_rules.specs.Bounds.{in_chunk, near_chunk}
 use Rattle.sky_plan.specs.Places.{IsOnlyChunk}
 use Rattle.overlap_tables.specs.Overlaps.{near_others}
 use Rattle.chunk_rules.specs.Places.{passes}
-use Rattle.chunk_store.specs.Lists.{kept_if, as_often, Pushed, places_below, AreLists, own_test, overlap_test}
-use Rattle.chunk_store.proofs.Ranges.{filter_more, filter_below, one_of}
+use Rattle.chunk_store.specs.Lists.{kept_if, as_often, Pushed, places_from, AreListsFrom, own_test, overlap_test}
+use Rattle.chunk_store.proofs.Ranges.{filter_more_from, filter_below, one_of}
 
 -- before a push
 pub pushed_none : (place : ℕ) (lists : List (List ℕ)) → Pushed [] place lists lists
@@ -60,22 +60,22 @@ pushed_more chunks i chunk place first old new low is before one = record { same
         ∙ ap (as_often place c) (ap (λ x. take i chunks ++ x ∷ []) is ∙ sym (take_more chunks i chunk low)))))
 
 -- empty lists, before the first row
-pub lists_start : (test : ℕ → Obj → Bool) (count : ℕ) (objects : List Obj) → AreLists test count objects 0 (replicate count [])
-lists_start test count objects = record { all = length-replicate count []; each = λ c h. get_or-replicate count c [] [] h }
+pub lists_start : (test : ℕ → Obj → Bool) (count : ℕ) (objects : List Obj) (from : ℕ) → AreListsFrom test count objects from 0 (replicate count [])
+lists_start test count objects from = record { all = length-replicate count []; each = λ c h. get_or-replicate count c [] [] h }
 
 -- a row more
-pub lists_more : (test : ℕ → Obj → Bool) (count : ℕ) (objects : List Obj) (n : ℕ) (chunks : List ℕ) (old new : List (List ℕ))
-    → AreLists test count objects n old → Pushed chunks n old new
-    → ((c : ℕ) → c < count → as_often n c chunks ≡ kept_if (passes (test c) (slice_get objects n)) n)
-    → AreLists test count objects (n + 1) new
-lists_more test count objects n chunks old new are pushed often = record { all = pushed.same ∙ are.all; each = at }
+pub lists_more : (test : ℕ → Obj → Bool) (count : ℕ) (objects : List Obj) (from n : ℕ) (chunks : List ℕ) (old new : List (List ℕ))
+    → AreListsFrom test count objects from n old → Pushed chunks (from + n) old new
+    → ((c : ℕ) → c < count → as_often (from + n) c chunks ≡ kept_if (passes (test c) (slice_get objects (from + n))) (from + n))
+    → AreListsFrom test count objects from (n + 1) new
+lists_more test count objects from n chunks old new are pushed often = record { all = pushed.same ∙ are.all; each = at }
   where
-    at : (c : ℕ) → c < count → get_or new c [] ≡ places_below (n + 1) (test c) objects
+    at : (c : ℕ) → c < count → get_or new c [] ≡ places_from from (n + 1) (test c) objects
     at c h =
         pushed.each c (subst (λ k. c < k) (sym are.all) h)
-        ∙ (ap (λ l. l ++ as_often n c chunks) (are.each c h)
-        ∙ (ap (λ l. places_below n (test c) objects ++ l) (often c h)
-        ∙ sym (filter_more (λ i. passes (test c) (slice_get objects i)) n)))
+        ∙ (ap (λ l. l ++ as_often (from + n) c chunks) (are.each c h)
+        ∙ (ap (λ l. places_from from n (test c) objects ++ l) (often c h)
+        ∙ sym (filter_more_from (λ i. passes (test c) (slice_get objects i)) from n)))
 
 held_step : (b t : Bool) (place d c : ℕ) → (d == c) ≡ b → t ≡ b → map (λ e. place) (cond (d == c) (d ∷ []) []) ≡ kept_if t place
 held_step true t place d c e f = rw (e, f) refl

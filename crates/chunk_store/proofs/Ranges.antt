@@ -3,7 +3,7 @@ use Rattle.std.proofs.Common.{◌≡◌, ℕ, ◌+◌, ◌<◌, ◌≤◌, ◌==
 use Rattle.std.proofs.Common.{refl, ap, sym, subst, ◌∙◌, arith, suc, zero, length, slice_get, ◌⊎◌, inl, inr, ◌≢◌}
 use Rattle.std.specs.List.{range_with_len, All}
 use Rattle.std.proofs.lemmas.List.{append-nil, append_assoc}
-use Rattle.std.proofs.lemmas.List.Elements.{All-filter}
+use Rattle.std.proofs.lemmas.List.Elements.{All-filter, filter-append}
 use Rattle.std.proofs.lemmas.List.FromFn.{filter_of_map_range_with_len_more, get_or-range_with_len, length-range_with_len}
 use Rattle.std.proofs.lemmas.Bool.{eq-eqb}
 use Rattle.std.proofs.lemmas.Bool.Decides.{eqb_tells}
@@ -15,12 +15,34 @@ same_map : (l : List ℕ) → map (λ k. k) l ≡ l
 same_map [] = refl
 same_map (x ∷ l) = ap (λ r. x ∷ r) (same_map l)
 
+-- a number more, of those from one on
+pub filter_more_from : (p : ℕ → Bool) (a n : ℕ) → filter p (range_with_len a (n + 1)) ≡ filter p (range_with_len a n) ++ kept_if (p (a + n)) (a + n)
+filter_more_from p a n =
+    ap (filter p) (sym (same_map (range_with_len a (n + 1))))
+    ∙ (filter_of_map_range_with_len_more p (λ k. k) a n (a + n) refl
+    ∙ ap (λ l. filter p l ++ kept_if (p (a + n)) (a + n)) (same_map (range_with_len a n)))
+
 -- a number more
 pub filter_more : (p : ℕ → Bool) (n : ℕ) → filter p (range_with_len 0 (n + 1)) ≡ filter p (range_with_len 0 n) ++ kept_if (p n) n
 filter_more p n =
-    ap (filter p) (sym (same_map (range_with_len 0 (n + 1))))
-    ∙ (filter_of_map_range_with_len_more p (λ k. k) 0 n n (omega arith)
-    ∙ ap (λ l. filter p l ++ kept_if (p n) n) (same_map (range_with_len 0 n)))
+    let e : 0 + n ≡ n = omega arith in
+    subst (λ k. filter p (range_with_len 0 (n + 1)) ≡ filter p (range_with_len 0 n) ++ kept_if (p k) k) e (filter_more_from p 0 n)
+
+range_both : (a n m : ℕ) → range_with_len a (n + m) ≡ range_with_len a n ++ range_with_len (a + n) m
+range_both a zero m =
+    let none : a + 0 ≡ a = omega arith in
+    let all : zero + m ≡ m = omega arith in
+    ap (range_with_len a) all ∙ ap (λ k. range_with_len k m) (sym none)
+range_both a (suc n) m =
+    let more : suc n + m ≡ suc (n + m) = omega arith in
+    let here : a + 1 + n ≡ a + suc n = omega arith in
+    ap (range_with_len a) more
+    ∙ (ap (λ l. a ∷ l) (range_both (a + 1) n m)
+    ∙ ap (λ k. a ∷ (range_with_len (a + 1) n ++ range_with_len k m)) here)
+
+-- the numbers of two ranges, one after the other
+pub filter_both : (p : ℕ → Bool) (a n m : ℕ) → filter p (range_with_len a (n + m)) ≡ filter p (range_with_len a n) ++ filter p (range_with_len (a + n) m)
+filter_both p a n m = ap (filter p) (range_both a n m) ∙ filter-append p (range_with_len a n) (range_with_len (a + n) m)
 
 -- tests that agree on the numbers keep the same
 pub same_filter : (p q : ℕ → Bool) (a n : ℕ) → ((c : ℕ) → a ≤ c → c < a + n → p c ≡ q c)

@@ -1,22 +1,21 @@
 -- Rows of subchunks, over lists of places.
-use Rattle.std.proofs.Common.{◌≡◌, ℕ, ◌<◌, ◌≤ℤ◌, pos, Bool, true, false, not, ◌&&◌, ◌||◌, List, length, slice_get, Option, Some, None, refl, sym, ap, subst, ◌∙◌, ◌⊎◌, inl, inr}
+use Rattle.std.proofs.Common.{◌≡◌, ℕ, ◌<◌, Bool, true, false, not, ◌&&◌, ◌||◌, List, length, slice_get, Option, Some, None, refl, sym, ap, subst, ◌∙◌, ◌⊎◌, inl, inr}
 use Rattle.std.specs.Prelude.{All}
-use Rattle.std.specs.List.{Contains, filter, range_with_len}
+use Rattle.std.specs.List.{Contains, range_with_len}
 use Rattle.std.proofs.lemmas.Bool.{and_from}
 use Rattle.std.proofs.lemmas.List.Elements.{All-contains, filter_passes}
 use Rattle.std.proofs.lemmas.Option.{slice_get_within, get_or_from_slice_get, same_Some}
-use Rattle.sky_vector.specs.Points.{IsAdmissible, chord_squared, square}
+use Rattle.sky_vector.specs.Points.{IsAdmissible}
 use Rattle.table_rules.specs.Objects.{Obj}
-use Rattle.sky_rules.specs.Partition.{Partition, chunk_count, overlap_at, sub_count}
-use Rattle.sky_rules.specs.Limits.{IsSky}
+use Rattle.sky_rules.specs.Partition.{Partition, sub_count}
 use Rattle.sky_rules.specs.Bounds.{in_chunk, in_sub, near_sub}
 use Rattle.sky_rules.proofs.OnlyPlace.{exactly_one_place, sub_lies_in_its_chunk}
 use Rattle.overlap_tables.specs.Overlaps.{in_full_overlap}
 use Rattle.sky_rules.proofs.Ranges.{listed}
 use Rattle.overlap_tables.proofs.Listed.{overlap_is_enough}
 use Rattle.chunk_rules.specs.Places.{passes, places_by}
-use Rattle.chunk_store.specs.Places.{in_sub_overlap, chunk_rows, sub_rows, sub_overlap_rows}
-use Rattle.chunk_store.specs.Laws.{IsOnlySub, EachRowInOneSub, SubRowsAreTheChunks, NearRowsAreThere}
+use Rattle.chunk_store.specs.Places.{in_sub_overlap, sub_rows, sub_overlap_rows}
+use Rattle.chunk_store.specs.Laws.{EachRowInOneSub, SubRowsAreTheChunks, NearRowsAreThere}
 
 -- the place of an object that passes is one of the places
 pub place_listed : (test : Obj → Bool) (objects : List Obj) (i : ℕ) (o : Obj) → slice_get objects i ≡ Some o → test o ≡ true → Contains (places_by test objects) i

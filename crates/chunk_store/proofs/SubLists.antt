@@ -1,6 +1,6 @@
 -- A chunk's rows, parted by its subchunks.
-use Rattle.std.proofs.Common.{◌≡◌, ℕ, ◌+◌, ◌*◌, ◌<◌, ◌≤◌, ◌-◌, Bool, true, false, List, [], ◌∷◌, ◌++◌, filter, cond, map, nat_lt}
-use Rattle.std.proofs.Common.{refl, ap, sym, subst, ◌∙◌, arith, length, take, get_or, replicate, slice_get, IsTrue}
+use Rattle.std.proofs.Common.{◌≡◌, ℕ, ◌+◌, ◌*◌, ◌<◌, ◌≤◌, ◌-◌, Bool, true, false, List, [], ◌∷◌, ◌++◌, filter, cond, nat_lt}
+use Rattle.std.proofs.Common.{ap, sym, subst, ◌∙◌, arith, length, take, get_or, replicate, slice_get, IsTrue}
 use Rattle.std.specs.Prelude.{All}
 use Rattle.std.specs.List.{Contains, range_with_len}
 use Rattle.std.proofs.Math.Nat.{mul-le-mul_left, mul-le-mul_right}

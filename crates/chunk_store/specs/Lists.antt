@@ -1,6 +1,6 @@
 -- The lists of row numbers that a store keeps, one for each chunk.
-use Rattle.std.specs.Prelude.{◌≡◌, ℕ, ◌<◌, ◌==◌, Bool, true, false, List, [], ◌∷◌, ◌++◌, if◌then◌else◌, length, get_or}
-use Rattle.std.specs.Prelude.{slice_get, filter, map}
+use Rattle.std.specs.Prelude.{◌≡◌, ◌≢◌, ℕ, ◌<◌, ◌≤◌, ◌==◌, Bool, true, false, List, [], ◌∷◌, ◌++◌, if◌then◌else◌, length, get_or}
+use Rattle.std.specs.Prelude.{All, slice_get, filter, map}
 use Rattle.std.specs.List.{range_with_len}
 use Rattle.table_rules.specs.Objects.{Obj, Catalogue}
 use Rattle.sky_rules.specs.Limits.{IsSky}
@@ -32,19 +32,22 @@ pub record Pushed (chunks : List ℕ) (place : ℕ) (old new : List (List ℕ)) 
   pub same : length new ≡ length old
   pub each : (c : ℕ) → c < length old → get_or new c [] ≡ get_or old c [] ++ as_often place c chunks
 
+-- of n row numbers, from one on, those whose object passes the test
+abbrev pub places_from : (from n : ℕ) → (Obj → Bool) → List Obj → List ℕ
+places_from from n test objects = filter (λ i. passes test (slice_get objects i)) (range_with_len from n)
+
 -- the row numbers below n of the objects that pass the test
 abbrev pub places_below : ℕ → (Obj → Bool) → List Obj → List ℕ
-places_below n test objects = filter (λ i. passes test (slice_get objects i)) (range_with_len 0 n)
+places_below n test objects = places_from 0 n test objects
 
--- A list for each of the given number of chunks, of the row numbers below n whose object passes the chunk's test.
-pub record AreLists (test : ℕ → Obj → Bool) (count : ℕ) (objects : List Obj) (n : ℕ) (lists : List (List ℕ)) : Type 0 where
+-- A list for each of the given number of chunks, of those of n row numbers, from one on, whose object passes the chunk's test.
+pub record AreListsFrom (test : ℕ → Obj → Bool) (count : ℕ) (objects : List Obj) (from n : ℕ) (lists : List (List ℕ)) : Type 0 where
   pub all : length lists ≡ count
-  pub each : (c : ℕ) → c < count → get_or lists c [] ≡ places_below n (test c) objects
+  pub each : (c : ℕ) → c < count → get_or lists c [] ≡ places_from from n (test c) objects
 
--- A list for each of a chunk's subchunks, of those of these row numbers whose object the subchunk contains.
-pub record AreParts (g : Partition) (objects : List Obj) (c : ℕ) (places : List ℕ) (lists : List (List ℕ)) : Type 0 where
-  pub all : length lists ≡ sub_count g c
-  pub each : (s : ℕ) → s < sub_count g c → get_or lists s [] ≡ filter (λ i. passes (λ o. in_sub g c s o.at) (slice_get objects i)) places
+-- a list for each of the given number of chunks, of the row numbers below n whose object passes the chunk's test
+abbrev pub AreLists : (test : ℕ → Obj → Bool) (count : ℕ) (objects : List Obj) (n : ℕ) (lists : List (List ℕ)) → Type 0
+AreLists test count objects n lists = AreListsFrom test count objects 0 n lists
 
 -- the test of a chunk's own rows
 abbrev pub own_test : Partition → ℕ → Obj → Bool
@@ -54,9 +57,36 @@ own_test g c o = in_chunk g c o.at
 abbrev pub overlap_test : Partition → ℕ → Obj → Bool
 overlap_test g c o = in_full_overlap g c o.at
 
+-- A list for each chunk of those of n rows, from one on, that it contains, and one of those in its full overlap.
+pub record AreRowLists (g : Partition) (objects : List Obj) (from n : ℕ) (rows near : List (List ℕ)) : Type 0 where
+  pub own : AreListsFrom (own_test g) (chunk_count g) objects from n rows
+  pub overlap : AreListsFrom (overlap_test g) (chunk_count g) objects from n near
+
+-- The list of one chunk has others appended.
+pub record Extended (chunk : ℕ) (more : List ℕ) (old new : List (List ℕ)) : Type 0 where
+  pub same : length new ≡ length old
+  pub here : get_or new chunk [] ≡ get_or old chunk [] ++ more
+  pub others : (c : ℕ) → c ≢ chunk → get_or new c [] ≡ get_or old c []
+
+-- The lists below a number have their counterparts appended.
+pub record AreAppendedBelow (n : ℕ) (old more new : List (List ℕ)) : Type 0 where
+  pub same : length new ≡ length old
+  pub below : (c : ℕ) → c < n → get_or new c [] ≡ get_or old c [] ++ get_or more c []
+  pub above : (c : ℕ) → n ≤ c → get_or new c [] ≡ get_or old c []
+
+-- A list for each of a chunk's subchunks, of those of these row numbers whose object the subchunk contains.
+pub record AreParts (g : Partition) (objects : List Obj) (c : ℕ) (places : List ℕ) (lists : List (List ℕ)) : Type 0 where
+  pub all : length lists ≡ sub_count g c
+  pub each : (s : ℕ) → s < sub_count g c → get_or lists s [] ≡ filter (λ i. passes (λ o. in_sub g c s o.at) (slice_get objects i)) places
+
 -- the rows with these numbers as columns
 abbrev pub block_at : Catalogue → List ℕ → Stored
 block_at table places = record { width = length table.names; objects = objects_at table.objects places }
+
+-- Each of the chunks has a list, and the rows of all lists exist.
+pub record AreThere (lists : List (List ℕ)) (objects : List Obj) (wanted : List ℕ) : Type 0 where
+  pub chunks : All (λ chunk. chunk < length lists) wanted
+  pub rows : All (λ list. All (λ place. place < length objects) list) lists
 
 -- For each of the chunks the columns of the first of its rows.
 pub record AreBegunBlocks (table : Parts) (lists : List (List ℕ)) (chunks : List ℕ) (blocks : List Parts) : Type 0 where

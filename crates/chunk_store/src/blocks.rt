@@ -2,28 +2,37 @@
 //!
 //! Rows of one chunk are far apart in the table. So all blocks are filled in turns from a part of the table that stays
 //! in the processor's cache meanwhile. A block gets those of its rows that are in the part, some tens, and then the
-//! next block does.
+//! next block does. Each thread makes the blocks of neighbouring chunks, which are cut by their numbers of rows: one
+//! chunk may have a quarter of all rows.
 
-ghost use Rattle.std.specs.Prelude.{◌≡◌, ◌<◌, [], IfOk, OnOk, All, AllPairs, get_or, length, map};
+ghost use Rattle.std.specs.Thread.{IsSync};
+ghost use Rattle.std.specs.Prelude.{◌≡◌, ◌<◌, ◌≤◌, [], IfOk, OnOk, All, AllPairs, drop, get_or, length, map, take};
 ghost use Rattle.std.specs.List.{Contains};
 ghost use Rattle.sky_row.specs.Columns.{AreAligned, AreRows, objects_at, objects_of};
 ghost use Rattle.sky_row.specs.Filling.{AreBegun};
-ghost use Rattle.chunk_store.specs.Lists.{AreBegunBlocks, block_at};
+ghost use Rattle.chunk_store.specs.Lists.{AreBegunBlocks, AreThere, block_at};
 
 use crate::lists::Lists;
 use column_block::Block;
 use sky_io::Memory;
 use sky_row::{Lists as RowLists, Rows};
 use std::alloc::Global;
+use std::thread::{Threads, join};
 use table_rules::limits::FIRST_COLUMNS;
 
 /// The number of rows of a part of the table, for each block: few, so that the part stays in the cache, and enough to
 /// pay for the walk over all blocks.
 const ROWS_A_TURN: usize = 64;
 
-/// Returns the block of each of the chunks, in their order. Allocates memory for their columns.
-pub(crate) fn blocks_of(
+/// Fewer chunks are gathered by one thread: to start another costs more than it gains.
+const SHORT: usize = 4;
+
+/// Returns the block of each of the chunks, in their order, made by the given number of threads. Allocates memory for
+/// their columns. A thread that cannot be started costs time alone.
+pub(crate) fn blocks_of<R: Threads + Sync>(
+    rt: &R,
     alloc: Global,
+    threads: u32,
     rows: &Rows,
     own: &Lists,
     chunks: &[u32],
@@ -33,8 +42,116 @@ pub(crate) fn blocks_of(
     ensures { IfOk result (λ blocks. blocks.items
         ≡ map (λ chunk. block_at rows.now (get_or own.now chunk [])) chunks.now) }
 {
+    let part = ROWS_A_TURN.saturating_mul(chunks.len()).max(1);
+    blocks_by(rt, alloc, threads, rows, own, chunks, part)
+}
+
+/// Returns the block of each of the chunks, made by the given number of threads from parts of `part` rows of the table.
+fn blocks_by<R: Threads + Sync>(
+    rt: &R,
+    alloc: Global,
+    threads: u32,
+    rows: &Rows,
+    own: &Lists,
+    chunks: &[u32],
+    part: usize,
+) -> Result<Vec<Block>, Memory>
+    requires chunks { All (λ chunk. chunk < length own.now) chunks.now }
+    requires there { All (λ list. All (λ place. place < length rows.now.objects) list) own.now }
+    requires part { 0 < part }
+    ensures { IfOk result (λ blocks. blocks.items
+        ≡ map (λ chunk. block_at rows.now (get_or own.now chunk [])) chunks.now) }
+{
+    if threads < 2 || chunks.len() < SHORT {
+        return blocks_from(alloc, rows, own, chunks, part);
+    }
+    let low = threads / 2;
+    let high = threads - low;
+    let at = cut_of(own, chunks, threads, low);
+    let (front, rest) = chunks.split_at(at);
+    let (first, second) = join(
+        rt,
+        || -> Result<Vec<Block>, Memory>
+            requires { IsSync R.row × AreThere own.now rows.now.objects front.now × (0 < part) }
+            ensures { IfOk result (λ blocks. blocks.items
+                ≡ map (λ chunk. block_at rows.entry.now (get_or own.entry.now chunk [])) front.entry.now) }
+        { blocks_by(rt, alloc, low, rows, own, front, part) },
+        || -> Result<Vec<Block>, Memory>
+            requires { IsSync R.row × AreThere own.now rows.now.objects rest.now × (0 < part) }
+            ensures { IfOk result (λ blocks. blocks.items
+                ≡ map (λ chunk. block_at rows.entry.now (get_or own.entry.now chunk [])) rest.entry.now) }
+        { blocks_by(rt, alloc, high, rows, own, rest, part) },
+    );
+    both_blocks(rows, own, chunks, at, first?, second?)
+}
+
+/// Returns the number of rows of the chunks.
+fn rows_in(own: &Lists, chunks: &[u32]) -> usize
+    requires { All (λ chunk. chunk < length own.now) chunks.now }
+{
+    let mut count = 0usize;
+    for chunk in chunks {
+        count = count.wrapping_add(own.of(*chunk).len());
+    }
+    count
+}
+
+/// Returns how many of the first chunks have about as many of all rows as `some` of the threads are of all.
+fn cut_of(own: &Lists, chunks: &[u32], threads: u32, some: u32) -> usize
+    requires chunks { All (λ chunk. chunk < length own.now) chunks.now }
+    requires threads { 0 < threads }
+    ensures { result ≤ length chunks.now }
+{
+    let wanted = (rows_in(own, chunks) / threads as usize).saturating_mul(some as usize);
+    let mut count = 0usize;
+    for k in 0..chunks.len() {
+        if count >= wanted {
+            return k;
+        }
+        count = count.wrapping_add(own.of(chunks[k]).len());
+    }
+    chunks.len()
+}
+
+/// Returns the blocks of all chunks, from those of the first ones and of the others.
+#[tactic(auto, using(crate::proofs::Begun::blocks_both))]
+fn both_blocks(
+    rows: &Rows,
+    own: &Lists,
+    chunks: &[u32],
+    at: usize,
+    first: Vec<Block>,
+    second: Vec<Block>,
+) -> Result<Vec<Block>, Memory>
+    requires first { first.items
+        ≡ map (λ chunk. block_at rows.now (get_or own.now chunk [])) (take at chunks.now) }
+    requires second { second.items
+        ≡ map (λ chunk. block_at rows.now (get_or own.now chunk [])) (drop at chunks.now) }
+    ensures { IfOk result (λ blocks. blocks.items
+        ≡ map (λ chunk. block_at rows.now (get_or own.now chunk [])) chunks.now) }
+{
+    let mut blocks = first;
+    let mut others = second;
+    blocks.append(&mut others)?;
+    Ok(blocks)
+}
+
+/// Returns the block of each of the chunks, made by this thread from parts of `part` rows of the table.
+fn blocks_from(
+    alloc: Global,
+    rows: &Rows,
+    own: &Lists,
+    chunks: &[u32],
+    part: usize,
+) -> Result<Vec<Block>, Memory>
+    requires chunks { All (λ chunk. chunk < length own.now) chunks.now }
+    requires there { All (λ list. All (λ place. place < length rows.now.objects) list) own.now }
+    requires part { 0 < part }
+    ensures { IfOk result (λ blocks. blocks.items
+        ≡ map (λ chunk. block_at rows.now (get_or own.now chunk [])) chunks.now) }
+{
     let table = rows.lists();
-    let begun = begun_blocks(alloc, rows, table, own, chunks)?;
+    let begun = begun_blocks(alloc, rows, table, own, chunks, part)?;
     let mut blocks = Vec::with_capacity(alloc, chunks.len())?;
     for lists in begun {
         let block = finished(table, own, chunks, blocks.len(), lists)?;
@@ -72,8 +189,10 @@ fn begun_blocks(
     table: &RowLists,
     own: &Lists,
     chunks: &[u32],
+    part: usize,
 ) -> Result<Vec<RowLists>, Memory>
     requires chunks { All (λ chunk. chunk < length own.now) chunks.now }
+    requires part { 0 < part }
     requires aligned { AreAligned table.now }
     requires there { All (λ list. All (λ place. place < length table.now.ids) list) own.now }
     requires wide { length table.now.further ≡ length rows.now.names }
@@ -81,7 +200,6 @@ fn begun_blocks(
 {
     let width = rows.schema().width() - FIRST_COLUMNS as u32;
     let mut blocks = empty_blocks(alloc, table, width, own, chunks)?;
-    let part = ROWS_A_TURN.saturating_mul(chunks.len()).max(1);
     for turn in 0..rows.len() as usize / part {
         fill_turn(
             table,

@@ -3,7 +3,7 @@
 ghost use Rattle.std.specs.Prelude.{◌≡◌, ◌<◌, ◌≤◌, [], ◌∷◌, ◌++◌, IfOk, OnOk, All, length, get_or, replicate, filter, map};
 ghost use Rattle.std.specs.List.{range_with_len};
 ghost use Rattle.sky_rules.specs.declared.limits.TheConstants.{CHUNKS_MOST};
-ghost use Rattle.chunk_store.specs.Lists.{Pushed, has_some, kept_if};
+ghost use Rattle.chunk_store.specs.Lists.{AreAppendedBelow, Extended, Pushed, has_some, kept_if};
 
 use sky_io::Memory;
 use std::alloc::Global;
@@ -21,6 +21,14 @@ fn push(list: &mut Vec<u32>, number: u32) -> Result<(), Memory>
     ensures { OnOk result (list.new.items ≡ list.old.items ++ number ∷ []) }
 {
     list.push(number)?;
+    Ok(())
+}
+
+/// Appends another list to a list.
+fn extend(list: &mut Vec<u32>, more: &[u32]) -> Result<(), Memory>
+    ensures { OnOk result (list.new.items ≡ list.old.items ++ more.now) }
+{
+    list.extend_from_slice(more)?;
     Ok(())
 }
 
@@ -110,6 +118,27 @@ impl Lists {
     {
         for chunk in chunks {
             self.push(*chunk, place)?;
+        }
+        Ok(())
+    }
+
+    /// Appends another list to a chunk's.
+    fn extend(&mut self, chunk: u32, more: &[u32]) -> Result<(), Memory>
+        requires { chunk < length self.old }
+        ensures { OnOk result (Extended chunk more.now self.old self.new) }
+    {
+        extend(&mut self.lists[chunk as usize], more)?;
+        Ok(())
+    }
+
+    /// Appends to each list its counterpart. If an allocation fails, some lists have theirs.
+    #[tactic(auto, using(crate::proofs::Appending::none_appended, crate::proofs::Appending::one_appended))]
+    pub(crate) fn append(&mut self, more: &Lists) -> Result<(), Memory>
+        requires { length more.now ≡ length self.old }
+        ensures { OnOk result (AreAppendedBelow (length self.old) self.old more.now self.new) }
+    {
+        for chunk in 0..self.len() {
+            self.extend(chunk, more.of(chunk))?;
         }
         Ok(())
     }

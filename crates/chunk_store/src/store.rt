@@ -21,6 +21,7 @@ use sky_plan::SkyPlan;
 use sky_row::Rows;
 use std::alloc::Global;
 use std::marker::Model;
+use std::thread::Threads;
 
 /// A survey's rows by chunk: for each chunk the row numbers of its rows and of its full overlap, the chunks that have
 /// rows, and the columns of each of those. A row number is the row's number in the table, from 0.
@@ -47,15 +48,21 @@ impl Model for Store {
 }
 
 impl Store {
-    /// Creates the store of a catalogue's rows under a plan. Allocates memory for a number a row and for each chunk
-    /// that it is near, and for each column once more. If an allocation fails, plan and rows are dropped.
-    #[tactic(auto, using(crate::proofs::Filled::filled_of, crate::proofs::ChunkBlocks::chunks_there, crate::proofs::ChunkBlocks::lists_there, crate::proofs::ChunkBlocks::blocks_stored))]
-    pub fn build(alloc: Global, plan: SkyPlan, rows: Rows) -> Result<Store, Memory>
+    /// Creates the store of a catalogue's rows under a plan, by the given number of threads, this one among them. Allocates
+    /// memory for a number a row and for each chunk that it is near, and for each column once more. If an allocation
+    /// fails, plan and rows are dropped. A thread that cannot be started costs time alone.
+    pub fn build<R: Threads + Sync>(
+        rt: &R,
+        alloc: Global,
+        threads: u32,
+        plan: SkyPlan,
+        rows: Rows,
+    ) -> Result<Store, Memory>
         ensures { IfOk result (λ store. store ≡ record { plan = plan; rows = rows }) }
     {
-        let (own, overlap) = row_lists(alloc, &plan, &rows)?;
+        let (own, overlap) = row_lists(rt, alloc, threads, &plan, &rows)?;
         let filled = own.filled(alloc)?;
-        let blocks = blocks_of(alloc, &rows, &own, filled.as_slice())?;
+        let blocks = blocks_of(rt, alloc, threads, &rows, &own, filled.as_slice())?;
         Ok(Store {
             plan,
             rows,

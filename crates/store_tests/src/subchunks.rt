@@ -7,6 +7,7 @@ use sky_row::{Columns, Row, Rows, Schema};
 use sky_vector::{Pos, length_ok};
 use std::alloc::Global;
 use std::test::Fail;
+use std::thread::Threads;
 
 /// Two stripes of four chunks, each with two columns and two rows, below and above the equator.
 const SKY: &[u8] = b"overlap 5\nstripe -268435472 4 2 2\nstripe 0 4 2 2\n";
@@ -40,14 +41,18 @@ fn fill(columns: &mut Columns) -> Result<(), Memory> {
     Ok(())
 }
 
-// The store of the rows.
-fn store_of(alloc: Global, plan: SkyPlan) -> Result<Option<Store>, Fail> {
+// The store of the rows, built by three threads.
+fn store_of<R: Threads + Sync>(
+    rt: &R,
+    alloc: Global,
+    plan: SkyPlan,
+) -> Result<Option<Store>, Fail> {
     let mut columns = Columns::new(alloc, Schema::new(alloc))?;
     fill(&mut columns)?;
     let Some(rows) = Rows::in_order(alloc, columns)? else {
         return Ok(None);
     };
-    Ok(Some(Store::build(alloc, plan, rows)?))
+    Ok(Some(Store::build(rt, alloc, 3, plan, rows)?))
 }
 
 // Whether a subchunk has these rows, and those beside it.
@@ -73,7 +78,7 @@ fn a_subchunk_has_its_rows_and_those_near_it(rt: HostRuntime) -> Result<(), Fail
     let Ok(plan) = SkyPlan::read(alloc, SKY) else {
         panic!(rt; "no plan");
     };
-    let Some(store) = store_of(alloc, plan)? else {
+    let Some(store) = store_of(&rt, alloc, plan)? else {
         panic!(rt; "no store");
     };
     // the row numbers, from 0; chunk 4's subchunk 2 is around the pole, and the last two subchunks are beside the first

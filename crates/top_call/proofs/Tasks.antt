@@ -13,7 +13,7 @@ use Rattle.top_call.specs.Jobs.{AreSurveyAndScript, IsSurveyOf, job_on}
 use Rattle.top_call.specs.Explained.{ExplainedOf, IsStop, Shown, shown}
 use Rattle.top_call.specs.Steps.{AreGiven, IsTaskOver}
 use Rattle.top_call.specs.declared.task.Task.{Task}
-use Rattle.top_call.specs.declared.outcome.Which.TheVariants.{Sky, Catalogue, Script}
+use Rattle.top_call.specs.declared.outcome.Which.TheVariants.{Script}
 use Rattle.top_call.specs.declared.outcome.Outcome.{Outcome}
 use Rattle.top_call.specs.declared.outcome.Outcome.TheVariants.{Done, Usage, BadSky, BadCatalogue, BadScript}
 use Rattle.top_call.specs.declared.outcome.Outcome.TheVariants.{TooLong, ShelfFault, SinkFault, Memory}

@@ -41,14 +41,20 @@ pub fn run_demo<R: Threads + Wait + Sync, K: Sink, G: Gate + Sync>(
     demo_is_answered();
     demo_sky_is_accepted();
     demo_script_is_accepted();
-    match demo_store(alloc, count, seed) {
+    match demo_store(alloc, rt, workers + 1, count, seed) {
         Ok(store) => answer_demo(alloc, rt, store, workers, sink, gate),
         Err(_) => Outcome::Memory,
     }
 }
 
-// The store of the demo's catalogue under its sky plan.
-fn demo_store(alloc: Global, count: u32, seed: u32) -> Result<Store, Memory>
+// The store of the demo's catalogue under its sky plan, built by the given number of threads.
+fn demo_store<R: Threads + Sync>(
+    alloc: Global,
+    rt: &R,
+    threads: u32,
+    count: u32,
+    seed: u32,
+) -> Result<Store, Memory>
     requires few { count ≤ ROWS_MOST }
     requires first { 1 ≤ seed }
     requires last { seed ≤ SEED_MOST }
@@ -60,7 +66,7 @@ fn demo_store(alloc: Global, count: u32, seed: u32) -> Result<Store, Memory>
         return Err(Memory);
     };
     let rows = rows_of(alloc, count, seed)?;
-    Store::build(alloc, plan, rows)
+    Store::build(rt, alloc, threads, plan, rows)
 }
 
 // Answers the queries of the demo's script.

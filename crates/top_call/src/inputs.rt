@@ -21,8 +21,8 @@ use std::alloc::Global;
 use std::thread::Threads;
 use text_rules::limits::{SCRIPT_TEXT_MOST, SKY_TEXT_MOST, TEXT_MOST};
 
-/// Fetches and reads the sky plan and the catalogue of these names, the catalogue by the given number of threads, and builds the
-/// store of its rows. Allocates. If it stops, the shelf alone explains the outcome.
+/// Fetches and reads the sky plan and the catalogue of these names, and builds the store of its rows, both by the given number of
+/// threads. Allocates. If it stops, the shelf alone explains the outcome.
 pub fn fetch_survey<R: Threads + Sync, S: Shelf>(
     alloc: Global,
     rt: &R,
@@ -38,12 +38,12 @@ pub fn fetch_survey<R: Threads + Sync, S: Shelf>(
 {
     let plan = fetch_sky(alloc, shelf, sky)?;
     let rows = fetch_catalogue(alloc, rt, threads, shelf, catalogue)?;
-    stored(alloc, plan, rows)
+    stored(alloc, rt, threads, plan, rows)
 }
 
-/// Fetches the texts of these names, reads the sky plan and, by the given number of threads, the catalogue, and builds the store
-/// of its rows before the script is fetched, which is given as its text. Allocates. If it stops, the shelf alone explains the
-/// outcome.
+/// Fetches the texts of these names, reads the sky plan and the catalogue, and builds the store of its rows before the script is
+/// fetched, which is given as its text; reads and builds by the given number of threads. Allocates. If it stops, the shelf alone
+/// explains the outcome.
 pub fn fetch_all<R: Threads + Sync, S: Shelf>(
     alloc: Global,
     rt: &R,
@@ -70,12 +70,18 @@ pub fn fetch_all<R: Threads + Sync, S: Shelf>(
     }
 }
 
-// The store of a catalogue's rows under a plan.
-fn stored(alloc: Global, plan: SkyPlan, rows: Rows) -> Result<Store, Outcome>
+// The store of a catalogue's rows under a plan, built by the given number of threads.
+fn stored<R: Threads + Sync>(
+    alloc: Global,
+    rt: &R,
+    threads: u32,
+    plan: SkyPlan,
+    rows: Rows,
+) -> Result<Store, Outcome>
     ensures ok { IfOk result (λ store. store ≡ record { plan = plan; rows = rows }) }
     ensures err { IfErr result (λ outcome. outcome ≡ Outcome.Memory) }
 {
-    match Store::build(alloc, plan, rows) {
+    match Store::build(rt, alloc, threads, plan, rows) {
         Ok(store) => Ok(store),
         Err(_) => Err(Outcome::Memory),
     }

@@ -1,11 +1,11 @@
-use Rattle.std.proofs.Common.{◌≡◌, ◌∷◌, ◌∙◌, ◌<◌, ◌+◌, ap, sym, arith, ℕ, List, get_or, [], rules, length}
+use Rattle.std.proofs.Common.{◌≡◌, ◌∷◌, ◌∙◌, ◌<◌, ◌+◌, ap, arith, get_or, [], rules, length}
 use Rattle.std.specs.Vec.Iter.{into_iter_items}
 use Rattle.sky_row.specs.Columns.{objects_at}
 use Rattle.sky_row.proofs.Rowed.{places_there}
 use Rattle.column_block.proofs.Storing.{stored_same}
 use Rattle.chunk_store.specs.Lists.{block_at}
 use Rattle.chunk_store.proofs.Begun.{next_begun, next_block, this_begun}
-use Rattle.chunk_store.proofs.blocks.blocks_of.Goals as goal
+use Rattle.chunk_store.proofs.blocks.blocks_from.Goals as goal
 
 pub begun_blocks-requires-clause-there : goal.begun_blocks-requires-clause-there
 begun_blocks-requires-clause-there c =

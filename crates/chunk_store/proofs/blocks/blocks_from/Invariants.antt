@@ -3,7 +3,7 @@ use Rattle.std.specs.Vec.Iter.{into_iter_items, into_iter_len}
 use Rattle.sky_row.specs.Columns.{no_rows}
 use Rattle.sky_row.specs.Filling.{AreBegun}
 use Rattle.chunk_store.specs.Lists.{block_at}
-use Rattle.chunk_store.proofs.blocks.blocks_of.Given as goal
+use Rattle.chunk_store.proofs.blocks.blocks_from.Given as goal
 
 abbrev pub invariant-loop-lists : goal.invariant-loop-lists
 invariant-loop-lists l = record {

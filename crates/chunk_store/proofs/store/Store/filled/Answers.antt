@@ -1,4 +1,4 @@
-use Rattle.std.proofs.Common.{◌≡◌, ℕ, ◌<◌, true, List, sym, subst}
+use Rattle.std.proofs.Common.{◌≡◌, ◌<◌, true, sym, subst}
 use Rattle.std.specs.Prelude.{All, AllPairs}
 use Rattle.std.proofs.lemmas.List.Elements.{filter_passes}
 use Rattle.sky_rules.specs.Partition.{chunk_count}
