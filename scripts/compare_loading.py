@@ -1,0 +1,317 @@
+#!/usr/bin/env python3
+"""Compares what the built program makes of catalogues, read by several threads, with what is read of them here by one.
+
+    scripts/compare_loading.py FOLDER [--program FILE] [--texts N] [--seed SEED]
+
+The program reads a text of at least 64 KiB in parts, one a thread, cut after line feeds, and builds its chunks by threads too. So
+each text here is longer than that. It is read here byte by byte, as docs/FORMATS.md describes it, and its rows are validated one
+by one; `flat_answers.py` says what is to be answered and reported over them. The program answers three queries over each text
+with 0, 1, 3 and 16 workers, and reports its chunks: all must write the same bytes, or the same fault, with the same status.
+
+- Swept: five short pieces of a text, one of LF, one of CR, one of CR LF, one of all three with empty lines, and one with quotes,
+  each in the middle of a text of lines. The text grows at its end, so that with 3 workers the cut is looked for from each byte of
+  the piece in turn.
+- Cases: a byte order mark in front of the text and of a row, no line feed at the end, lines fewer than threads, no line feed at
+  all, a header alone, empty lines alone, a header in quotes, a quote in each of 20 places, a fault of each kind in each of 20
+  places, two faults, an id that repeats in another part, ids that rise, fall and are shuffled, NULL from a row on.
+- Random: N texts (20) of up to 16,000 rows, some with a changed byte.
+
+FILE is the built program, by default .qserv/qserv, where ./qserv leaves it. The texts sky, csv and script of the last text, or
+of the first that differs, are left in FOLDER, which is made if it is missing. It prints how many texts were compared, and each run
+that differs; the status is 0 if none does, and 1 else.
+"""
+import collections
+import os
+import random
+import subprocess
+import sys
+
+import flat_answers
+import random_worlds
+
+HERE = os.path.dirname(os.path.abspath(__file__))
+sys.path.append(os.path.join(HERE, "..", "bench"))
+import demo_files  # noqa: E402  (it is in the other folder)
+import program_words  # noqa: E402
+
+SKY = "overlap 1000000\nstripe -268435472 1 1 1\nstripe -134217728 5 2 3\nstripe 0 8 1 2\nstripe 200000000 3 1 1\n"
+QUERIES = [
+    "SELECT COUNT(*),COUNT(flux),SUM(flux),MIN(objectId),MAX(objectId) FROM Object",
+    "SELECT objectId,x,y,z,flux FROM Object WHERE flux IS NULL OR flux>=0 ORDER BY objectId LIMIT 4000",
+    "SELECT kind,COUNT(*),MIN(flux),MAX(z) FROM Object GROUP BY kind",
+]
+FIRST = [b"objectId", b"x", b"y", b"z"]
+HEADER = b"objectId,x,y,z,flux,kind\n"
+WORKERS = [0, 1, 3, 16]
+IDS, COORDINATE, EXTRA = (1 << 63) - 1, 268435472, 1 << 50
+EDGE = 1 << 28
+LONG = 1 << 16
+
+
+# ---- the reader
+
+
+def records(text):
+    """The records of a text, each a list of fields: the rules of csv, a byte at a time."""
+    if text.startswith(b"\xef\xbb\xbf"):
+        text = text[3:]
+    fields, field, state = [], bytearray(), "start"
+    for byte in text:
+        if state == "start" and byte in b"\r\n":
+            continue
+        if state == "quoted":
+            if byte == 34:
+                state = "closed"
+            else:
+                field.append(byte)
+        elif state == "closed" and byte == 34:
+            field.append(byte)
+            state = "quoted"
+        elif byte == 44:
+            fields.append(bytes(field))
+            field, state = bytearray(), "field"
+        elif byte in b"\r\n":
+            yield [*fields, bytes(field)]
+            fields, field, state = [], bytearray(), "start"
+        elif byte == 34 and state in ("start", "field"):
+            state = "quoted"
+        else:
+            field.append(byte)
+            state = "inside"
+    if state != "start":
+        yield [*fields, bytes(field)]
+
+
+def number(field):
+    """The number of a field, or None."""
+    digits = field[1:] if field.startswith(b"-") else field
+    if not 1 <= len(digits) <= 19 or not all(48 <= byte <= 57 for byte in digits):
+        return None
+    return -int(digits) if field.startswith(b"-") else int(digits)
+
+
+def is_name(name):
+    letters = b"abcdefghijklmnopqrstuvwxyzABCDEFGHIJKLMNOPQRSTUVWXYZ_"
+    return 1 <= len(name) <= 32 and name[0] in letters and all(byte in letters + b"0123456789" for byte in name)
+
+
+def header_fault(header):
+    """The number of the first field of a header that is wrong, or None."""
+    for col in range(max(4, len(header))):
+        if col < 4:
+            right = col < len(header) and header[col] == FIRST[col]
+        else:
+            right = col < 16 and is_name(header[col]) and header[col] not in header[:col]
+        if not right:
+            return col + 1
+    return None
+
+
+def row_fault(record, width):
+    """What is wrong with a record, whatever the ids of others are, or None."""
+    if len(record) != width:
+        return f"{len(record)} fields"
+    for col, field in enumerate(record):
+        if col >= 4 and field == b"":
+            continue
+        value = number(field)
+        if value is None:
+            return f"field {col + 1} is not a number"
+        least, most = (0, IDS) if col == 0 else (-COORDINATE, COORDINATE) if col < 4 else (-EXTRA, EXTRA)
+        if not least <= value <= most:
+            return f"field {col + 1} out of range: {value}"
+    x, y, z = (number(field) for field in record[1:4])
+    return None if (EDGE - 16) ** 2 <= x * x + y * y + z * z <= (EDGE + 16) ** 2 else "length"
+
+
+def read(text):
+    """The names and the rows of a catalogue in ascending id, or the line of its first fault."""
+    found = list(records(text))
+    wrong = header_fault(found[0] if found else [])
+    if wrong:
+        return f"catalogue header: field {wrong}"
+    ids, rows = set(), []
+    for place, record in enumerate(found[1:], 1):
+        fault = row_fault(record, len(found[0]))
+        if not fault and number(record[0]) in ids:
+            fault = f"repeated id {number(record[0])}"
+        if fault:
+            return f"catalogue row {place}: {fault}"
+        ids.add(number(record[0]))
+        rows.append([None if field == b"" else number(field) for field in record])
+    return [name.decode() for name in found[0]], sorted(rows)
+
+
+# ---- texts
+
+
+class Rows:
+    """Draws rows."""
+
+    def __init__(self, draw):
+        self.draw, self.last = draw, 0
+
+    def row(self):
+        """The fields of a row; its id is above those before it."""
+        self.last += self.draw.randint(1, 3)
+        at = demo_files.position(*(self.draw.randrange(1, 2147483647) for _ in range(3)))
+        flux = "" if self.draw.random() < 0.1 else self.draw.randint(-50, 999)
+        return [self.last, *at, flux, self.draw.randrange(8)]
+
+    def lines(self, bytes_wanted):
+        """Lines of at least this length in all."""
+        made, length = [], 0
+        while length < bytes_wanted:
+            made.append(line(self.row()))
+            length += len(made[-1])
+        return made
+
+
+def line(row):
+    return (",".join(map(str, row)) + "\n").encode()
+
+
+def quoted(row, col):
+    """A line with one field in quotes."""
+    fields = row[:-1].split(b",")
+    return b",".join([*fields[:col], b'"' + fields[col] + b'"', *fields[col + 1 :]]) + b"\n"
+
+
+def swept(draw):
+    """Texts with a piece in the middle, cut from each of its bytes on by the threads of 3 workers."""
+    makers = [
+        lambda rows: b"".join(rows),
+        lambda rows: b"".join(rows).replace(b"\n", b"\r"),
+        lambda rows: b"".join(rows).replace(b"\n", b"\r\n"),
+        lambda rows: b"\n\r\n".join([rows[0], rows[1][:-1] + b"\r", rows[2][:-1] + b"\r\r\n\n"]) + rows[3],
+        lambda rows: rows[0] + quoted(rows[1], 0) + quoted(rows[2], 5) + rows[3],
+    ]
+    for number_of, make in enumerate(makers):
+        drawn = Rows(draw)
+        front = b"".join(drawn.lines(LONG // 2))
+        piece = make([line(drawn.row()) for _ in range(4)])
+        rest = b"".join(drawn.lines(LONG // 2 - len(piece)))
+        # lines of 4 threads: the cut is looked for from a half of what follows the header on, rounded down to an even number
+        for at in range(0, len(piece) + 2):
+            more = max(0, 2 * (len(front) + at) - len(front) - len(piece) - len(rest))
+            short = max(0, len(front) + len(piece) + len(rest) - 2 * (len(front) + at))
+            yield f"piece {number_of}, byte {at}", HEADER + b"\n" * short + front + piece + rest + b"\n" * more, at % 2
+
+
+def faults(rows, place):
+    """A text with each kind of fault in one line."""
+    fields = rows[place][:-1].split(b",")
+    for col, wrong in [(0, b"-3"), (1, b"268435473"), (2, b"+5"), (3, b""), (4, b"x"), (5, b"1125899906842625"), (1, b"7")]:
+        changed = [*fields[:col], wrong, *fields[col + 1 :]]
+        yield f"field {col + 1} is {wrong.decode()}", [*rows[:place], b",".join(changed) + b"\n", *rows[place + 1 :]]
+    yield "a field less", [*rows[:place], b",".join(fields[:-1]) + b"\n", *rows[place + 1 :]]
+
+
+def cases(draw):
+    """The cases that the head of this file names."""
+    rows = Rows(draw).lines(5 * LONG)
+    text = HEADER + b"".join(rows)
+    yield "rising", text
+    yield "falling", HEADER + b"".join(reversed(rows))
+    shuffled = draw.sample(rows, len(rows))
+    yield "shuffled", HEADER + b"".join(shuffled)
+    yield "mark in front", b"\xef\xbb\xbf" + text
+    yield "no line feed at the end", text[:-1]
+    yield "carriage return at the end", text[:-1] + b"\r"
+    yield "no line feed", text.replace(b"\n", b"\r")
+    yield "a line feed after the header alone", HEADER + b"".join(rows).replace(b"\n", b"\r")
+    yield "two line feeds", HEADER + b"".join(rows[:9]).replace(b"\n", b"\r") + b"\n" + b"".join(rows[9:]).replace(b"\n", b"\r")
+    yield "CR LF", text.replace(b"\n", b"\r\n")
+    yield "empty lines in front", b"\n" * LONG + text
+    yield "empty lines behind", text + b"\n" * LONG
+    yield "header and empty lines", HEADER + b"\n" * LONG
+    yield "empty lines alone", b"\n" * 2 * LONG
+    yield "header in quotes", b'"objectId"' + text[8:]
+    yield "header in quotes over two lines", b'objectId,x,y,z,flux,"kind\n"\n' + b"".join(rows)
+    yield "few long lines", HEADER + b"1,268435456,0,0,1," + b"0" * LONG + b"\n" + rows[2]
+    yield "wrong header", text.replace(b"flux", b"fl ux", 1)
+    yield "NULL from a row on", HEADER + b"".join(rows[:3000]) + b"".join(b",".join([*row.split(b",")[:4], b"", b"3\n"]) for row in rows[3000:])
+    yield "NULL up to a row", HEADER + b"".join(b",".join([*row.split(b",")[:4], b"", b"3\n"]) for row in rows[:3000]) + b"".join(rows[3000:])
+    for place in range(1, len(rows), len(rows) // 20):
+        fields = rows[place].split(b",")
+        open_quote = b",".join([fields[0], b'"' + fields[1], *fields[2:]])
+        yield f"quote in line {place}", HEADER + b"".join([*rows[:place], quoted(rows[place], 1), *rows[place + 1 :]])
+        yield f"open quote in line {place}", HEADER + b"".join([*rows[:place], open_quote, *rows[place + 1 :]])
+        yield f"mark in front of line {place}", HEADER + b"".join([*rows[:place], b"\xef\xbb\xbf", *rows[place:]])
+        other = draw.randrange(len(rows))
+        twice = b",".join([rows[other].split(b",")[0], *fields[1:]])
+        yield f"id of line {other} in line {place}", HEADER + b"".join([*rows[:place], twice, *rows[place + 1 :]])
+        again = [*rows[:place], twice, *rows[place + 1 :]]
+        yield f"the same, shuffled, line {place}", HEADER + b"".join(draw.sample(again, len(again)))
+        for what, lines in faults(rows, place):
+            yield f"{what}, line {place}", HEADER + b"".join(lines)
+            later = draw.randrange(place, len(lines))
+            yield f"{what}, line {place}, a repeat in {later}", HEADER + b"".join([*lines[:later], rows[0], *lines[later:]])
+    yield "a fault before a quote", HEADER + b"".join([*rows[:9], b"1,2,3\n", *rows[9:5000], b'"', *rows[5000:]])
+
+
+def random_texts(draw, count):
+    for number_of in range(count):
+        rows = Rows(draw).lines(draw.choice([LONG, 3 * LONG, 9 * LONG]))
+        if draw.random() < 0.7:
+            draw.shuffle(rows)
+        text = bytearray(HEADER + b"".join(rows))
+        for _ in range(draw.choice([0, 0, 1, 3])):
+            text[draw.randrange(len(text))] = draw.choice(b"\r\n\",0x-")
+        yield f"random text {number_of}", bytes(text)
+
+
+# ---- runs
+
+
+class Wanted:
+    """What the program has to give for a catalogue. Texts of the same rows that follow each other are computed once."""
+
+    def __init__(self):
+        self.made, self.texts = None, None
+
+    def of(self, text):
+        """Status, transcript, report and line on standard error."""
+        made = read(text)
+        if isinstance(made, str):
+            return 4, "", "", made + "\n"
+        if made != self.made:
+            world = random_worlds.World(SKY, *made)
+            self.made, self.texts = made, (flat_answers.transcript(world, QUERIES), flat_answers.report(world))
+        return 0, *self.texts, ""
+
+
+def differs(program, folder, name, text, workers, wanted, counts):
+    """Whether a run over a text ends otherwise than it has to; says so."""
+    with open(os.path.join(folder, "csv"), "wb") as file:
+        file.write(text)
+    status, transcript, report, line_of = wanted.of(text)
+    counts["fault" if status else "accepted"] += 1
+    asked = [(["query", "sky", "csv", "script", str(count)], transcript) for count in workers]
+    for words, out in [*asked, (["load", "sky", "csv"], report)]:
+        ended = subprocess.run([program, *words], cwd=folder, capture_output=True)
+        if (ended.returncode, ended.stdout.decode("latin-1"), ended.stderr.decode("latin-1")) != (status, out, line_of):
+            print(f"{name}: {' '.join(words)}: status {ended.returncode}, {ended.stderr.decode('latin-1').strip()}; wanted {status}, {line_of.strip()}")
+            return True
+    return False
+
+
+def main():
+    words = program_words.parser(__doc__, texts=20, seed=1).parse_args()
+    os.makedirs(words.folder, exist_ok=True)
+    for name, text in (("sky", SKY), ("script", "".join(query + "\n" for query in QUERIES))):
+        with open(os.path.join(words.folder, name), "w", encoding="ascii") as file:
+            file.write(text)
+    draw, wanted, counts = random.Random(words.seed), Wanted(), collections.Counter()
+    texts = [(name, text, [0, 3] if odd else [1, 3, 16]) for name, text, odd in swept(draw)]
+    texts += [(name, text, WORKERS) for name, text in [*cases(draw), *random_texts(draw, words.texts)]]
+    for name, text, workers in texts:
+        if differs(words.program, words.folder, name, text, workers, wanted, counts):
+            print(f"{name} differs; its texts are in {words.folder}")
+            return 1
+    print(f"{sum(counts.values())} catalogues, {counts['accepted']} accepted and {counts['fault']} refused: none differs")
+    return 0
+
+
+if __name__ == "__main__":
+    sys.exit(main())
