@@ -1,6 +1,6 @@
 //! What no clause says: that an output or an input that fails is a fault, that threads meet, and that queries which run together
 //! share a chunk's scan.
-use sky_io::{Gate, MemShelf, MemSink, NoteGate, OpenGate, PlainShelf, Shelf, StepGate};
+use sky_io::{Gate, ListGate, MemShelf, MemSink, NoteGate, OpenGate, PlainShelf, Shelf, StepGate};
 use std::alloc::Global;
 use std::sync::Wait;
 use std::test::Fail;
@@ -61,24 +61,45 @@ fn run_past<R: Threads + Wait + Sync, G: Gate + Sync>(
     Ok(status_past(rt, alloc, words.as_slice(), &mut shelf, sink, gate))
 }
 
+// The status of the script's run over a sink that fails at one call, and whether its bytes are a prefix of the answer. At the
+// first call they are exactly as many as a put that fails keeps.
+fn run_failing_at<R: Threads + Wait + Sync>(
+    rt: &R,
+    alloc: Global,
+    call: u64,
+    keep: u32,
+) -> Result<(u8, bool), Fail> {
+    let mut sink = MemSink::cutting(alloc, 1000, vec![in alloc; call]?, keep)?;
+    let status = run_past(rt, alloc, "0", SCRIPT, &mut sink, &OpenGate)?;
+    let is_kept = call > 1 || sink.bytes().len() == keep as usize;
+    let is_whole = status > 0 || sink.bytes() == ANSWER;
+    Ok((status, ANSWER.starts_with(sink.bytes()) && is_kept && is_whole))
+}
+
 #[test]
 fn a_sink_that_fails_at_any_call_has_a_prefix_of_the_answer(rt: HostRuntime) -> Result<(), Fail> {
-    let alloc = rt.alloc();
-    let mut full = MemSink::new(alloc, 0, Vec::new(alloc))?;
-    let found = run_past(&rt, alloc, "0", SCRIPT, &mut full, &OpenGate)?;
-    assert_eq!(rt; (found, full.bytes().len()), (8, 0), "no room");
-    for call in 1..1000 {
-        let mut sink = MemSink::new(alloc, 1000, vec![in alloc; call]?)?;
-        let found = run_past(&rt, alloc, "0", SCRIPT, &mut sink, &OpenGate)?;
-        assert!(rt; ANSWER.starts_with(sink.bytes()), "at call {call}");
-        if found == 0 {
-            assert_eq!(rt; sink.bytes(), ANSWER, "before call {call}");
-            assert!(rt; call > 2, "a put and a flush at least");
-            return Ok(());
+    for keep in [0, 3] {
+        let mut call = 1;
+        let mut status = 8;
+        while status == 8 && call < 1000 {
+            let (found, is_prefix) = run_failing_at(&rt, rt.alloc(), call, keep)?;
+            assert!(rt; is_prefix, "at call {call}, {keep} bytes kept");
+            status = found;
+            call += 1;
         }
-        assert_eq!(rt; found, 8, "at call {call}");
+        assert!(rt; status == 0 && call > 3, "a put and a flush at least fail");
     }
-    assert!(rt; false, "no call is the last");
+    Ok(())
+}
+
+#[test]
+fn a_full_sink_has_what_it_has_room_for(rt: HostRuntime) -> Result<(), Fail> {
+    let alloc = rt.alloc();
+    for room in 0..ANSWER.len() {
+        let mut sink = MemSink::cutting(alloc, room, Vec::new(alloc), 1000)?;
+        let status = run_past(&rt, alloc, "0", SCRIPT, &mut sink, &OpenGate)?;
+        assert_eq!(rt; (status, sink.bytes()), (8, &ANSWER[..room]), "room {room}");
+    }
     Ok(())
 }
 
@@ -133,5 +154,39 @@ fn a_chunk_is_passed_once_for_all_queries_that_run(rt: HostRuntime) -> Result<()
         assert_eq!(rt; gate.noted(pass), Some((0, chunk)), "pass {pass}");
     }
     assert_eq!(rt; gate.noted(6), None);
+    Ok(())
+}
+
+// Three queries, the second of which is cancelled.
+const CANCELLING: &[u8] =
+    b"SELECT objectId FROM Object\nSELECT COUNT(*) FROM Object\nSELECT MAX(flux) FROM Object\ncancel 2\nwait 1\n";
+
+const CANCELLED: &[u8] = b"query 2\ncancelled\n";
+
+const COUNTED: &[u8] = b"query 2\nCOUNT(*)\n6\n1 rows, 3 chunks\n";
+
+const LAST: &[u8] = b"query 3\nMAX(flux)\n60\n1 rows, 3 chunks\n";
+
+// Whether it is the transcript of the three queries: the second one is cancelled or answered.
+fn is_transcript(bytes: &[u8]) -> bool {
+    let Some(rest) = bytes.strip_prefix(ANSWER) else {
+        return false;
+    };
+    match rest.strip_suffix(LAST) {
+        Some(second) => second == CANCELLED || second == COUNTED,
+        None => false,
+    }
+}
+
+#[test]
+fn no_order_of_workers_changes_what_is_not_cancelled(rt: HostRuntime) -> Result<(), Fail> {
+    let alloc = rt.alloc();
+    for order in [[1, 2, 1], [2, 2, 0], [0, 0, 0]] {
+        let gate = ListGate::new(order.to_vec(alloc)?, 10000);
+        let mut sink = MemSink::new(alloc, 1000, Vec::new(alloc))?;
+        let found = run_past(&rt, alloc, "2", CANCELLING, &mut sink, &gate)?;
+        assert_eq!(rt; found, 0);
+        assert!(rt; is_transcript(sink.bytes()), "gave up: {}", gate.given_up());
+    }
     Ok(())
 }

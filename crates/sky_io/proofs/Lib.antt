@@ -1,2 +1,3 @@
+pub mod Cuts
 pub mod Fetches
 pub mod Writes

@@ -4,3 +4,4 @@ pub mod MemShelves
 pub mod Sinks
 pub mod MemSinks
 pub mod Stops
+pub mod PassOrders

@@ -1,7 +1,7 @@
 //! A sink in memory with injected failures and a fixed capacity.
-ghost use Rattle.std.specs.Prelude.{◌≡◌, ◌≤◌, ◌↔◌, ◌⊎◌, IfOk};
+ghost use Rattle.std.specs.Prelude.{◌≡◌, ◌+◌, ◌≤◌, ◌↔◌, ◌⊎◌, IfOk, length};
 ghost use Rattle.sky_io.specs.Sinks.{Wrote, Flushed};
-ghost use Rattle.sky_io.specs.MemSinks.{MemSinkState, sink_of, new_sink, IsListed, IsTooLong, after_put, after_flush, after_fault};
+ghost use Rattle.sky_io.specs.MemSinks.{MemSinkState, sink_of, new_sink, cutting_sink, IsListed, IsTooLong, appended, after_put, after_flush, after_fault, after_cut, after_failed_put};
 
 use crate::Memory;
 use crate::calls::Calls;
@@ -14,6 +14,7 @@ use std::marker::Model;
 pub struct MemSink {
     bytes: Vec<u8>,
     room: usize,
+    keep: u32,
     calls: Calls,
     faults: u64,
     dirty: bool,
@@ -28,6 +29,7 @@ impl Model for MemSink {
     ghost view = { λ s. record {
       written = s.bytes.items;
       room = s.room;
+      keep = s.keep;
       calls = s.calls.made;
       failing = s.calls.failing.items;
       faults = s.faults;
@@ -39,13 +41,27 @@ impl Model for MemSink {
 
 impl MemSink {
     /// A sink with room for `room` bytes. Its calls of `put` and `flush_out` are numbered together from 1, and fail if
-    /// they are listed.
+    /// they are listed. A put that fails appends nothing.
     pub fn new(alloc: Global, room: usize, failing: Vec<u64>) -> Result<MemSink, Memory>
         ensures { IfOk result (λ sink. sink ≡ new_sink room failing.items) }
+    {
+        MemSink::cutting(alloc, room, failing, 0)
+    }
+
+    /// A sink as `new` makes it, but a put that fails appends the first `keep` bytes of its piece, or as many of them as
+    /// there are and the room holds.
+    pub fn cutting(
+        alloc: Global,
+        room: usize,
+        failing: Vec<u64>,
+        keep: u32,
+    ) -> Result<MemSink, Memory>
+        ensures { IfOk result (λ sink. sink ≡ cutting_sink room failing.items keep) }
     {
         Ok(MemSink {
             bytes: Vec::with_capacity(alloc, room)?,
             room,
+            keep,
             calls: Calls { made: 0, failing },
             faults: 0,
             dirty: false,
@@ -58,23 +74,46 @@ impl MemSink {
     {
         self.bytes.as_slice()
     }
+
+    // Appends bytes that there is room for.
+    fn append(&mut self, bytes: &[u8])
+        requires { length self.old.written + length bytes.now ≤ self.old.room }
+        ensures { self.new ≡ appended self.old bytes.now }
+    {
+        self.bytes.extend_from_slice(bytes).unwrap();
+        self.dirty = self.dirty || !bytes.is_empty();
+    }
+
+    // Appends what a put that fails keeps of its piece, and counts the fault.
+    fn cut(&mut self, piece: &[u8]) -> Put
+        ensures cut { self.new ≡ after_cut self.old piece.now }
+        ensures answer { result ≡ Put.Failed }
+    {
+        let most = (self.keep as usize).min(self.room - self.bytes.len());
+        let kept = if most < piece.len() {
+            &piece[..most]
+        } else {
+            piece
+        };
+        self.append(kept);
+        fault(&mut self.faults)
+    }
 }
 
 impl Sink for MemSink {
     ghost state = { sink_of };
 
-    /// Appends a piece, or nothing if it fails.
+    /// Appends a piece, or the beginning of it that is kept if it fails.
     fn put(&mut self, piece: &[u8]) -> Put
         ensures wrote { Wrote (sink_of self.old) (sink_of self.new) piece.now result }
         ensures fails { (result ≡ Put.Failed) ↔ (IsListed self.old ⊎ IsTooLong self.old piece.now) }
         ensures done { result ≡ Put.Done → self.new ≡ after_put self.old piece.now }
-        ensures failed { result ≡ Put.Failed → self.new ≡ after_fault self.old }
+        ensures failed { result ≡ Put.Failed → self.new ≡ after_failed_put self.old piece.now }
     {
         if self.calls.next_fails() || piece.len() > self.room - self.bytes.len() {
-            return fault(&mut self.faults);
+            return self.cut(piece);
         }
-        self.bytes.extend_from_slice(piece).unwrap();
-        self.dirty = self.dirty || !piece.is_empty();
+        self.append(piece);
         Put::Done
     }
 
