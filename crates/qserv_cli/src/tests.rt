@@ -73,7 +73,10 @@ fn run_failing_at<R: Threads + Wait + Sync>(
     let status = run_past(rt, alloc, "0", SCRIPT, &mut sink, &OpenGate)?;
     let is_kept = call > 1 || sink.bytes().len() == keep as usize;
     let is_whole = status > 0 || sink.bytes() == ANSWER;
-    Ok((status, ANSWER.starts_with(sink.bytes()) && is_kept && is_whole))
+    Ok((
+        status,
+        ANSWER.starts_with(sink.bytes()) && is_kept && is_whole,
+    ))
 }
 
 #[test]
