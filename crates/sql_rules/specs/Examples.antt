@@ -1,5 +1,5 @@
 -- Texts of worked examples, and their trees.
-use Rattle.std.specs.Prelude.{ℕ, List, false, None}
+use Rattle.std.specs.Prelude.{ℕ, List, [], false, None}
 use Rattle.std.specs.Prelude.{codes}
 use Rattle.sql_tree.specs.declared.expr.Atom.{Atom}
 use Rattle.sql_tree.specs.declared.expr.Atom.TheVariants as atom
