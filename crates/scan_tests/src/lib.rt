@@ -2,13 +2,16 @@
 //! board, threads that meet, visits that no thread loses, and a query whose work fails.
 //!
 //! Callers: none. No crate depends on this one, so that a crate of the scan is proved once, and its tests over what it promises.
-//! Below: `turn_lock` (`turns`), `scan_core` (`machine`), `scan_board` (`boards`), and `scan_session` over `scan_worker` (`sessions`, `teams`).
+//! Below: `turn_lock` (`turns`), `scan_core` (`machine`, `moments`), `scan_board` (`boards`), and `scan_session` over
+//! `scan_worker` (`sessions`, `teams`).
 #![tactic(auto)]
 
 #[cfg(test)]
 mod boards;
 #[cfg(test)]
 mod machine;
+#[cfg(test)]
+mod moments;
 #[cfg(test)]
 mod sessions;
 #[cfg(test)]

@@ -11,7 +11,7 @@ use std::process::Abort;
 
 /// The sum of a query's chunks, each as 1000 times the query's number and the chunk's.
 #[derive(Drop)]
-struct Sum {
+pub(crate) struct Sum {
     total: u64,
 }
 
@@ -44,7 +44,7 @@ fn two_chunks(alloc: Global, first: u32, last: u32) -> Result<ChunkSet, Memory>
 
 // What an attach answered, without what it hands back.
 #[derive(Clone, Copy)]
-enum Answer {
+pub(crate) enum Answer {
     Attached,
     Closed,
     Again,
@@ -64,7 +64,7 @@ fn answer_of(attach: Attach<Sum>) -> Answer {
 }
 
 // Attaches a query to a board of ring 8, and tasks stay in flight.
-fn attach(
+pub(crate) fn attach(
     alloc: Global,
     board: &mut Board<Sum>,
     q: u32,
@@ -83,7 +83,7 @@ fn attach(
 }
 
 // Takes, and other tasks stay in flight.
-fn take(board: &mut Board<Sum>, seat: u32) -> Take
+pub(crate) fn take(board: &mut Board<Sum>, seat: u32) -> Take
     ensures ring { board.new.ring ≡ board.old.ring }
     ensures flies { IfTask result (λ task. InFlight board.new.past seat task) }
     ensures flying { (s : ℕ) (t : TaskState)
@@ -93,7 +93,12 @@ fn take(board: &mut Board<Sum>, seat: u32) -> Take
 }
 
 // Delivers a task, and other tasks stay in flight.
-fn deliver(alloc: Global, board: &mut Board<Sum>, seat: u32, task: Task) -> Result<(), Memory>
+pub(crate) fn deliver(
+    alloc: Global,
+    board: &mut Board<Sum>,
+    seat: u32,
+    task: Task,
+) -> Result<(), Memory>
     requires flight { InFlight board.old.past seat task }
     ensures ring { board.new.ring ≡ board.old.ring }
     ensures flying { (s : ℕ) (t : TaskState) → t.ticket ≢ task.ticket
@@ -102,6 +107,16 @@ fn deliver(alloc: Global, board: &mut Board<Sum>, seat: u32, task: Task) -> Resu
     let sums = sums_of(alloc, &task)?;
     board.deliver(seat, task, sums);
     Ok(())
+}
+
+// Cancels a query, and tells whether it ran; tasks stay in flight.
+pub(crate) fn cancel(board: &mut Board<Sum>, q: u32) -> bool
+    requires ring { board.old.ring ≡ 8 }
+    ensures ring { board.new.ring ≡ 8 }
+    ensures flying { (s : ℕ) (t : TaskState)
+        → InFlight board.old.past s t → InFlight board.new.past s t }
+{
+    board.cancel(0, q)
 }
 
 // Whether the query still runs; tasks stay in flight.
@@ -115,7 +130,7 @@ fn is_not_yet(board: &mut Board<Sum>, q: u32) -> bool
 }
 
 // The sum of a query that is done and not collected.
-fn piece_of(board: &mut Board<Sum>, q: u32) -> Option<u64>
+pub(crate) fn piece_of(board: &mut Board<Sum>, q: u32) -> Option<u64>
     ensures ring { board.new.ring ≡ board.old.ring }
 {
     match board.collect(0, q) {
@@ -252,6 +267,31 @@ fn fill<R: Abort>(rt: &R, alloc: Global, board: &mut Board<Sum>)
 }
 
 // Whether the query was cancelled: its end is collected.
-fn is_cancelled(board: &mut Board<Sum>, q: u32) -> bool {
+pub(crate) fn is_cancelled(board: &mut Board<Sum>, q: u32) -> bool {
     matches!(board.collect(0, q), Collect::Cancelled)
+}
+
+#[test]
+fn a_query_that_got_no_piece_is_spent_once(rt: HostRuntime) {
+    let Ok(mut board) = Board::new(rt.alloc(), 8, 0u8) else {
+        panic!(rt; "a board is made")
+    };
+    lose(&rt, rt.alloc(), &mut board);
+    assert!(rt; matches!(take(&mut board, 1), Take::Idle));
+    assert!(rt; matches!(board.collect(0, 1), Collect::Spent));
+    assert!(rt; matches!(board.collect(0, 1), Collect::Gone));
+    assert!(rt; board.past_len() == 4);
+}
+
+// Query 1 is attached, and its first chunk delivered without a piece.
+fn lose<R: Abort>(rt: &R, alloc: Global, board: &mut Board<Sum>)
+    requires ring { board.old.ring ≡ 8 }
+    ensures ring { board.new.ring ≡ 8 }
+{
+    assert!(rt; matches!(attach(alloc, board, 1, 0, 1), Ok(Answer::Attached)));
+    let Take::Task(task) = take(board, 1) else {
+        panic!(rt; "chunk 0 is next")
+    };
+    assert!(rt; is_task(&task, 0, 0, [1].as_slice()));
+    board.deliver(1, task, Vec::new(alloc));
 }

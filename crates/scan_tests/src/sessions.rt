@@ -8,7 +8,7 @@ use scan_core::{Board, ChunkSet, Work};
 use scan_session::{End, Planned, drive};
 use scan_worker::Engine;
 use session_script::Script;
-use sky_io::{Gate, Memory, OpenGate, StepGate};
+use sky_io::{Gate, ListGate, Memory, OpenGate, StepGate};
 use std::alloc::Global;
 use std::marker::Model;
 use std::sync::Wait;
@@ -228,6 +228,18 @@ fn a_pass_that_is_alone_opens_the_gate_when_its_turns_run_out(rt: HostRuntime) {
     gate.pass(&rt, 0, 5);
     gate.pass(&rt, 0, 6);
     assert_eq!(rt; (gate.met(), gate.given_up()), (false, true));
+}
+
+#[test]
+fn an_order_is_held_until_the_turns_of_a_pass_run_out(rt: HostRuntime) -> Result<(), Fail> {
+    for (workers, gives_up) in [([1, 2, 3], false), ([2, 1, 1], true), ([1, 1, 2], true)] {
+        let gate = ListGate::new([1, 2].to_vec(rt.alloc())?, 10);
+        for worker in workers {
+            gate.pass(&rt, worker, 0);
+        }
+        assert_eq!(rt; gate.given_up(), gives_up, "{workers:?}");
+    }
+    Ok(())
 }
 
 #[test]
