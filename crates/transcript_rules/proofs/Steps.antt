@@ -1,6 +1,6 @@
 -- The block of a query, step by step: its tree, what it is bound to, its refusal or its answer, and its plan.
 use Rattle.std.proofs.Common.{◌≡◌, ℕ, List, Ok, Option, None, Some, ◌++◌, length, ap, ◌∙◌, option_map}
-use Rattle.std.proofs.Common.{refl, sym, codes, false, not, ◌&&◌, ◌∷◌}
+use Rattle.std.proofs.Common.{refl, sym, codes, false, not, ◌&&◌, [], ◌∷◌}
 use Rattle.std.specs.Option.{is_some, option_or}
 use Rattle.table_rules.specs.Objects.{Catalogue}
 use Rattle.sky_rules.specs.Partition.{Partition}
