@@ -186,6 +186,8 @@ class Copy:
 
 
 def facts_of_sources(copy):
+    elsewhere = copy.run("scripts/sources", "hash", CDPATH="/")
+    yield "it is of this tree, whatever the caller's CDPATH is", elsewhere == (0, copy.hash + "\n", "")
     yield "the hash is the one that is stated", copy.run("scripts/sources", "hash") == (0, copy.hash + "\n", "")
     yield "the crates are those below the program", set(copy.run("scripts/sources", "crates")[1].split()) == program_crates(ROOT)
     yield "--check accepts a release of these sources", copy.run("scripts/release", "--check")[0] == 0
@@ -346,6 +348,11 @@ def facts_of_installing(copy):
     yield "what is installed runs", copy.run(f"{prefix}/bin/qserv", "a", "b") == (0, "release: a b\n", "")
     yield "it has a help", "qserv load SKY CSV" in copy.run(f"{prefix}/bin/qserv", "--help")[1]
     yield "it says of which sources it is", f"its sources: {copy.hash}\n" in copy.run(f"{prefix}/bin/qserv", "--version")[1]
+    change_byte(f"{prefix}/lib/qserv/{PROGRAM_NAME}")
+    yield "with a byte changed it says nothing of its sources", copy.run(f"{prefix}/bin/qserv", "--version")[:2] == (1, "qserv 0.1.0\n")
+    change_byte(f"{copy.root}/release/{PROGRAM_NAME}")
+    yield "a changed program is not installed", copy.run("scripts/install", "release", prefix)[0] == 1
+    change_byte(f"{copy.root}/release/{PROGRAM_NAME}")
 
 
 def facts_of_the_man_page(copy):
