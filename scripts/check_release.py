@@ -14,6 +14,7 @@ import concurrent.futures
 import hashlib
 import os
 import re
+import resource
 import shutil
 import subprocess
 import sys
@@ -62,6 +63,12 @@ while [ $# -gt 1 ]; do
     shift
 done
 """
+
+
+def processor_seconds():
+    """What the programs that have ended so far used."""
+    used = resource.getrusage(resource.RUSAGE_CHILDREN)
+    return used.ru_utime + used.ru_stime
 
 
 def write(path, text, mode=0o644):
@@ -383,11 +390,12 @@ def facts_of_the_release(copy):
     shutil.copytree(f"{ROOT}/examples", f"{copy.root}/examples")
     copy.forget()
     words = ["query", "examples/sky.txt", "examples/catalogue.csv", "examples/script.sql", "3"]
-    began = time.monotonic()
+    began, used = time.monotonic(), processor_seconds()
     ended = copy.run("./qserv", *words)
-    seconds = time.monotonic() - began
+    seconds, used = time.monotonic() - began, processor_seconds() - used
     yield "a fresh copy answers the example", ended == (0, read(f"{ROOT}/examples/transcript.txt").decode(), "")
-    yield f"in under a second: {seconds:.2f}", seconds < 1
+    # the clock on the wall is that of a machine that may be busy
+    yield f"in under a second of processor time: {used:.2f} ({seconds:.2f} on the wall)", used < 1
 
 
 FACTS = [
