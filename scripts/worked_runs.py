@@ -45,6 +45,8 @@ def stripes(count):
 
 SKIES = [
     done(LOAD_SKY, OF_SKY, sky=SKY),
+    # the last line may lack its end
+    done(LOAD_SKY, OF_SKY, sky=SKY.removesuffix("\n")),
     done(["load", "own_overlaps.txt", "catalogue.csv"], OF_OWN_OVERLAPS),
     done(LOAD_SKY, OF_OWN_OVERLAPS, sky="version 2\r\nstripe -268435472 4 2 2 5\r\nstripe 0 4 2 2 2\r\n"),
     done(LOAD_SKY, "6 rows, 1 of 1 chunks\nchunk 0: 6 rows, 0 overlap\n", sky=ONE_CHUNK),
@@ -64,11 +66,13 @@ SKIES = [
 # the first fault of a text and its line
 SKY_FAULTS = [
     ("", "1: syntax"),
+    ("overlap", "1: syntax"),
     ("version 3", "1: syntax"),
     ("version 02\nstripe -268435472 4 2 2 5\n", "1: syntax"),
     ("overlap  5\n", "1: syntax"),
     ("overlap 5\r", "1: syntax"),
     ("overlap 5", "2: syntax"),
+    ("overlap 5\nstripe -268435472 4 2", "2: syntax"),
     ("version 2\nstripe -268435472 4 2 2\n", "2: syntax"),
     ("# none\noverlap 5\n", "3: syntax"),
     ("# sky\n \t\n\n", "4: syntax"),
@@ -252,6 +256,8 @@ SCRIPTS = [
         "query 1\nobjectId\n0 rows, 0 chunks\nquery 2\nrefused: unknown name mag\nquery 3\nCOUNT(*)\n6\n1 rows, 3 chunks\n"
         "query 4\nrefused: unknown name mag\n",
     ),
+    # a cut line of a step is a query
+    ("0", "cancel", "query 1\nrefused: not a query\n"),
     # a number on a line has up to 9 digits
     ("0", NO_CHUNK + "wait 000000001\nwait 0000000001\n", "query 1\nobjectId\n0 rows, 0 chunks\nquery 2\nrefused: not a query\n"),
     # a carriage return before a line feed is no part of a line, and one at the very end is

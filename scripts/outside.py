@@ -1,0 +1,232 @@
+#!/usr/bin/env python3
+"""Runs the built program where what is around it fails: outputs, texts and words.
+
+    scripts/outside.py [PROGRAM]
+
+PROGRAM is the built program, by default crates/qserv_cli/out/qserv_cli, where the whole check leaves it.
+
+Standard output is full, closed, or a pipe whose reader is gone at once or after the first bytes; standard error is closed. A text
+is a folder, a device, a named pipe, a file that may not be read, or one that grows or shrinks while it is read; a name has 5,000
+bytes, and words are no UTF-8. What has to come is a row of the table of outcomes in docs/FORMATS.md: a status and its line, with
+nothing on standard output unless it is 0 or 8. No run may end by a signal. Of a text that changes while it is read any state may
+be seen, so there only the statuses that may come are listed, and that a fault has one line and no output.
+
+It prints each run that ended otherwise, what it left out since the machine lacks it, and how many runs it made. The status is 0
+where none ended otherwise, and 1 else, also where there is no program. It writes into a temporary folder alone.
+"""
+import argparse
+import os
+import pwd
+import shutil
+import subprocess
+import sys
+import tempfile
+import threading
+
+import worked_runs
+import worked_streams
+
+HERE = os.path.dirname(os.path.abspath(__file__))
+PROGRAM = os.path.join(HERE, "..", "crates", "qserv_cli", "out", "qserv_cli")
+TEXTS = {"sky": worked_runs.SKY, "csv": "objectId,x,y,z\n1,268435456,0,0\n", "script": worked_streams.SCRIPT}
+LOAD, EXPLAIN, ASK = ["load", "sky", "csv"], ["explain", "sky", "csv", "script"], ["query", "sky", "csv", "script", "2"]
+REPORT = b"1 rows, 1 of 8 chunks\nchunk 4: 1 rows, 0 overlap\n"
+USAGE, FAILED = (worked_runs.USAGE + "\n").encode(), b"output failed\n"
+# a row of the catalogues that change, and how often one is tried; far more seconds than a run takes
+ROW, TIMES, SECONDS = "%d,268435456,0,0\n", 5, 120
+
+
+class Runs:
+    """Runs of a program in a folder, and what is wrong with those that ended otherwise."""
+
+    def __init__(self, program, folder):
+        self.program, self.folder, self.count, self.wrong, self.left_out = program, folder, 0, [], []
+
+    def ended(self, words, out=subprocess.PIPE, closed=None, **more):
+        """The status and the bytes of a run; one of its streams may be closed."""
+        close = None if closed is None else lambda: os.close(closed)
+        streams = {"stdout": out, "stderr": subprocess.PIPE}
+        if closed is not None:
+            streams[{1: "stdout", 2: "stderr"}[closed]] = None
+        end = subprocess.run(
+            [self.program, *words], cwd=self.folder, timeout=SECONDS, preexec_fn=close, check=False, **streams, **more
+        )
+        return end.returncode, end.stdout or b"", end.stderr or b""
+
+    def compare(self, what, told, status, out=b"", err=b""):
+        self.count += 1
+        if told != (status, out, err):
+            self.wrong.append(f"{what}: status {told[0]}, {told[1][:200]!r}, {told[2][:200]!r}; wanted: {status}, {out[:200]!r}, {err!r}")
+
+    def path(self, name):
+        return os.path.join(self.folder, name)
+
+
+# ---- outputs
+
+
+def outputs(runs):
+    """Standard output that takes nothing, and standard error that is closed."""
+    for words in (LOAD, EXPLAIN, ASK):
+        with open("/dev/full", "wb") as full:
+            runs.compare(f"{words[0]}, a full device", runs.ended(words, full), 8, err=FAILED)
+        runs.compare(f"{words[0]}, no standard output", runs.ended(words, closed=1), 8, err=FAILED)
+        runs.compare(f"{words[0]}, a pipe without a reader", to_nobody(runs, words), 8, err=FAILED)
+    runs.compare("a reader that goes", to_a_reader_that_goes(runs), 8, worked_streams.EXPLAINED[:1], FAILED)
+    with open("/dev/full", "wb") as full:
+        runs.compare("a full device, nothing written", runs.ended(["explain", "sky", "csv", os.devnull], full), 0)
+    runs.compare("no standard error", runs.ended(LOAD, closed=2), 0, REPORT)
+    runs.compare("no standard error, no form", runs.ended(["load"], closed=2), 2)
+    runs.compare("no standard error, a fault", runs.ended(["load", "csv", "csv"], closed=2), 3)
+    runs.compare("no standard input", runs.ended(LOAD, stdin=subprocess.DEVNULL), 0, REPORT)
+
+
+def to_nobody(runs, words):
+    """A run whose standard output is a pipe that no one reads."""
+    out, into = os.pipe()
+    os.close(out)
+    try:
+        return runs.ended(words, into)
+    finally:
+        os.close(into)
+
+
+def to_a_reader_that_goes(runs):
+    """A run that writes more than a pipe holds, of which one byte is read."""
+    script = runs.path("long")
+    with open(script, "w", encoding="ascii") as file:
+        # a heading of 1,022 names for each query: 255 of them are more than half a million bytes
+        file.write(("SELECT x" + ",x" * 1021 + " FROM Object LIMIT 0\n") * 255)
+    words = ["query", "sky", "csv", "long", "0"]
+    with subprocess.Popen(
+        [runs.program, *words], cwd=runs.folder, stdout=subprocess.PIPE, stderr=subprocess.PIPE, bufsize=0
+    ) as process:
+        told = process.stdout.read(1)
+        process.stdout.close()
+        err = process.stderr.read()
+        process.wait(SECONDS)
+    return process.returncode, told, err
+
+
+# ---- texts
+
+
+def cannot_be_read(name):
+    return os.fsencode(name) + b": cannot be read\n"
+
+
+def texts(runs):
+    """Names of what is no file, or no file that may be read."""
+    for name in [".", "/", "none", "sky/csv", "n" * 5000, "n/" * 2500]:
+        runs.compare(f"the sky plan {name[:9]}", runs.ended(["load", name, "csv"]), 7, err=cannot_be_read(name))
+        runs.compare(f"the script {name[:9]}", runs.ended(["explain", "sky", "csv", name]), 7, err=cannot_be_read(name))
+    runs.compare("zeros without end", runs.ended(["load", "/dev/zero", "csv"]), 6, err=b"/dev/zero: too long\n")
+    runs.compare("a script of zeros", runs.ended(["explain", "sky", "csv", "/dev/zero"]), 6, err=b"/dev/zero: too long\n")
+    runs.compare("a device without bytes", runs.ended(["load", "/dev/null", "csv"]), 3, err=b"sky line 1: syntax\n")
+    pipes(runs)
+    unreadable(runs)
+
+
+def pipes(runs):
+    """A named pipe: its writer gives the text, or nothing."""
+    for text, want in [(TEXTS["sky"], (0, REPORT)), ("", (3, b"", b"sky line 1: syntax\n"))]:
+        os.mkfifo(runs.path("pipe"))
+        writer = threading.Thread(target=worked_streams.feed, args=(runs.path("pipe"), text.encode()), daemon=True)
+        writer.start()
+        runs.compare(f"a pipe of {len(text)} bytes", runs.ended(["load", "pipe", "csv"]), *want)
+        writer.join()
+        os.remove(runs.path("pipe"))
+
+
+def unreadable(runs):
+    """A file that the user may not read; as root the program is run as nobody."""
+    shutil.copyfile(runs.path("sky"), runs.path("secret"))
+    os.chmod(runs.path("secret"), 0)
+    who = {}
+    if os.getuid() == 0:
+        try:
+            who = {"user": pwd.getpwnam("nobody").pw_uid}
+        except KeyError:
+            runs.left_out.append("there is no user nobody: a file that may not be read is left out")
+            return
+    runs.compare("a file that may not be read", runs.ended(["load", "secret", "csv"], **who), 7, err=cannot_be_read("secret"))
+
+
+def changing(runs):
+    """A catalogue that grows, or is cut, while it is read."""
+    whole = "objectId,x,y,z\n" + "".join(map(ROW.__mod__, range(100000)))
+    for what, change in [("grows", grow), ("shrinks", shrink)]:
+        for _ in range(TIMES):
+            path = runs.path("live")
+            with open(path, "w", encoding="ascii") as file:
+                file.write(whole)
+            going = threading.Event()
+            writer = threading.Thread(target=change, args=(path, going), daemon=True)
+            writer.start()
+            status, out, err = runs.ended(["load", "sky", "live"])
+            going.set()
+            writer.join()
+            runs.count += 1
+            is_told = (status, err) == (0, b"") or status == 4 and not out and err.startswith(b"catalogue ") and err.count(b"\n") == 1
+            if not is_told:
+                runs.wrong.append(f"a catalogue that {what}: status {status}, {out[:200]!r}, {err[:200]!r}")
+
+
+def grow(path, going):
+    """Appends rows, byte by byte, until it is told to stop."""
+    with open(path, "ab", buffering=0) as file:
+        for number in range(100000, 4000000):
+            for byte in (ROW % number).encode():
+                if going.is_set():
+                    return
+                file.write(bytes([byte]))
+
+
+def shrink(path, going):
+    """Takes bytes away until it is told to stop, or none is left."""
+    for size in range(os.path.getsize(path), 0, -1000):
+        if going.is_set():
+            return
+        os.truncate(path, size)
+
+
+# ---- words
+
+
+def words_of_bytes(runs):
+    """Words that are no UTF-8, in each place."""
+    for words in (LOAD, ASK):
+        for place in range(len(words)):
+            other = [os.fsencode(word) for word in words]
+            other[place] += b"\xff"
+            runs.compare(f"{words[0]}, word {place + 1} no UTF-8", runs.ended(other), 2, err=USAGE)
+    runs.compare("a name in UTF-8", runs.ended(["load", "\u03b1", "csv"]), 7, err=cannot_be_read("\u03b1"))
+
+
+def main():
+    words = argparse.ArgumentParser(description=__doc__, formatter_class=argparse.RawDescriptionHelpFormatter)
+    words.add_argument("program", nargs="?", default=PROGRAM)
+    program = os.path.abspath(words.parse_args().program)
+    if not (os.path.isfile(program) and os.access(program, os.X_OK)):
+        print(f"outside: there is no built program at {os.path.relpath(program)}")
+        return 1
+    if not os.path.exists("/dev/full"):
+        print("outside: skipped: there is no /dev/full here")
+        return 0
+    with tempfile.TemporaryDirectory() as folder:
+        # another user runs the program there too
+        os.chmod(folder, 0o755)
+        runs = Runs(shutil.copy(program, os.path.join(folder, "qserv")), folder)
+        for name, text in TEXTS.items():
+            with open(runs.path(name), "w", encoding="ascii") as file:
+                file.write(text)
+        for part in (outputs, texts, changing, words_of_bytes):
+            part(runs)
+    for line in runs.wrong + runs.left_out:
+        print(f"outside: {line}")
+    print(f"outside: {'not ok' if runs.wrong else 'ok'}, {runs.count} runs, {len(runs.wrong)} otherwise")
+    return 1 if runs.wrong else 0
+
+
+if __name__ == "__main__":
+    sys.exit(main())
