@@ -1,19 +1,133 @@
 """Tables in files: FITS, VOTable, ECSV and CSV, read and written by astropy, each fault as one line."""
+import os
+import re
+import sys
+import warnings
+
+import numpy as np
+
 from skyq_lib.errors import SkyqError
 
-ENDINGS = {".fits": "fits", ".fit": "fits", ".vot": "votable", ".xml": "votable", ".ecsv": "ecsv", ".csv": "csv"}
+ENDINGS = {
+    ".fits": "fits", ".fit": "fits", ".fits.gz": "fits", ".vot": "votable", ".vot.gz": "votable", ".xml": "votable",
+    ".ecsv": "ecsv", ".csv": "csv",
+}
+# What astropy calls the formats.
+READERS = {"fits": "fits", "ecsv": "ascii.ecsv", "csv": "ascii.csv"}
 
 
 def format_of(path):
     """The format of a file by its ending; a SkyqError lists the endings if it has another."""
-    raise NotImplementedError
+    for ending, name in ENDINGS.items():
+        if path.lower().endswith(ending):
+            return name
+    raise SkyqError(f"the ending is none of {', '.join(ENDINGS)}", path)
+
+
+def reason(fault):
+    """The first line of what astropy says, without its control codes."""
+    lines = [line.strip() for line in re.sub(r"\x1b\[[0-9;]*m", "", str(fault)).splitlines() if line.strip()]
+    return (lines[0] if lines else type(fault).__name__)[:300]
+
+
+def row_of(text):
+    """The row, from 1, that a message of astropy's readers of text names."""
+    found = re.search(r"data (?:line|row)\s*:?\s*([0-9]+)", text)
+    return int(found[1]) + 1 if found else None
+
+
+def read_votable(path):
+    """The first table of a VOTable, its columns by their names."""
+    from astropy.io.votable import parse
+
+    return parse(path, verify="ignore").get_first_table().to_table(use_names_over_ids=True)
 
 
 def read_table(path):
     """The astropy Table of a file. A SkyqError has the file's name, and the row if the fault is in one."""
-    raise NotImplementedError
+    name = format_of(path)
+    with open(path, "rb"):      # an OSError here names the file by itself
+        pass
+    from astropy.table import Table
+
+    try:
+        with warnings.catch_warnings():
+            warnings.simplefilter("ignore")
+            table = read_votable(path) if name == "votable" else Table.read(path, format=READERS[name])
+    except MemoryError:
+        raise
+    except Exception as fault:      # whatever a reader makes of a faulty file
+        raise SkyqError(f"cannot be read as {name}: {reason(fault)}", path, row_of(str(fault))) from None
+    if not table.colnames:
+        raise SkyqError("has no columns", path)
+    return table
+
+
+def is_null(column):
+    """Where a column has no value."""
+    return np.ma.getmaskarray(np.ma.asarray(column)) if hasattr(column, "mask") else np.zeros(len(column), bool)
+
+
+def for_votable(table):
+    """A copy of a table that astropy writes as a VOTable with its NULLs: whole numbers get a value that stands for NULL."""
+    from astropy.table import MaskedColumn
+
+    copy = table.copy()
+    for name in copy.colnames:
+        column = copy[name]
+        if column.dtype.kind == "U":
+            words = np.char.encode(np.ma.filled(np.ma.asarray(column), ""), "utf-8")
+            copy[name] = MaskedColumn(words, name=name, mask=is_null(column), unit=column.unit, description=column.description)
+        if column.dtype.kind in "iu" and is_null(column).any():
+            copy[name].fill_value = np.iinfo(column.dtype).min if column.dtype.kind == "i" else np.iinfo(column.dtype).max
+    return copy
+
+
+def write_votable(table, path):
+    """Writes a VOTable in BINARY2, which keeps the NULLs of whole numbers."""
+    from astropy.io.votable.tree import VOTableFile
+
+    file = VOTableFile.from_table(for_votable(table))
+    for field, name in zip(file.get_first_table().fields, table.colnames):
+        if table[name].dtype.kind in "iu" and is_null(table[name]).any():
+            field.values.null = int(np.iinfo(table[name].dtype).min)
+    file.to_xml(path, tabledata_format="binary2")
+
+
+def for_fits(table):
+    """A copy of a table whose NULLs FITS can hold: floats as NaN; text and whole numbers are left to astropy."""
+    copy = table.copy()
+    for name in copy.colnames:
+        if copy[name].dtype.kind == "f" and is_null(copy[name]).any():
+            filled = np.ma.filled(np.ma.asarray(copy[name]), np.nan)
+            copy.replace_column(name, type(copy[name])(filled, name=name, unit=copy[name].unit, description=copy[name].description))
+    return copy
+
+
+def write_as(table, target, name):
+    """Writes a table to a file in one of the formats."""
+    if name == "votable":
+        write_votable(table, target)
+    elif name == "fits":
+        for_fits(table).write(target, format="fits")
+    else:
+        table.write(target, format=READERS[name])
 
 
 def write_table(table, path, format=None):
     """Writes an astropy Table beside the path and renames it; path None: CSV to standard output. NULLs stay NULLs."""
-    raise NotImplementedError
+    if path is None:
+        table.write(sys.stdout, format="ascii.csv")
+        return
+    name = format or format_of(path)
+    beside = f"{path}.new-{os.getpid()}"
+    try:
+        with warnings.catch_warnings():
+            warnings.simplefilter("ignore")
+            write_as(table, beside, name)
+        os.replace(beside, path)
+    except (ValueError, TypeError) as fault:
+        raise SkyqError(f"cannot be written as {name}: {reason(fault)}", path) from None
+    finally:
+        if os.path.exists(beside):
+            os.unlink(beside)
