@@ -56,24 +56,19 @@ def tell(command, fault):
 def guarded(command, arguments):
     """Runs one command; each fault that the outside can cause becomes one line and a status."""
     try:
-        status = call(command, arguments)
-        sys.stdout.flush()
-        return status
+        return call(command, arguments)
     except SkyqError as fault:
         return tell(command, fault)
     except BrokenPipeError:
-        os.dup2(os.open(os.devnull, os.O_WRONLY), sys.stdout.fileno())
-        return 1
+        raise
     except OSError as fault:
         return tell(command, ": ".join(str(part) for part in (fault.filename, fault.strerror or fault) if part is not None))
     except MemoryError:
         return tell(command, "out of memory")
-    except KeyboardInterrupt:
-        print(file=sys.stderr)
-        return 130
 
 
-def main(arguments):
+def chosen(arguments):
+    """Runs what the words ask for; returns the status."""
     if not arguments or arguments[0] in ("-h", "--help"):
         print(overview())
         return 0
@@ -81,6 +76,20 @@ def main(arguments):
         print(f"skyq: no command {arguments[0]}; skyq --help lists them", file=sys.stderr)
         return 2
     return guarded(arguments[0], arguments[1:])
+
+
+def main(arguments):
+    try:
+        try:
+            return chosen(arguments)
+        finally:
+            sys.stdout.flush()
+    except BrokenPipeError:     # whoever reads the output has enough
+        os.dup2(os.open(os.devnull, os.O_WRONLY), sys.stdout.fileno())
+        return 1
+    except KeyboardInterrupt:
+        print(file=sys.stderr)
+        return 130
 
 
 if __name__ == "__main__":

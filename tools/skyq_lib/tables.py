@@ -1,4 +1,5 @@
 """Tables in files: FITS, VOTable, ECSV and CSV, read and written by astropy, each fault as one line."""
+import csv
 import os
 import re
 import sys
@@ -43,18 +44,37 @@ def read_votable(path):
     return parse(path, verify="ignore").get_first_table().to_table(use_names_over_ids=True)
 
 
+def check_fields(path):
+    """Refuses a CSV of which a row has another number of fields than the header: astropy would fill up a short row."""
+    with open(path, encoding="utf-8", newline="") as file:
+        records = (record for record in csv.reader(file) if record)
+        width = len(next(records, []))
+        for row, record in enumerate(records, 1):
+            if len(record) != width:
+                raise SkyqError(f"{len(record)} fields; the header has {width}", path, row)
+
+
+def read_as(path, name):
+    """The table of a file of one of the formats."""
+    from astropy.table import Table
+
+    if name == "votable":
+        return read_votable(path)
+    if name == "csv":
+        check_fields(path)
+    return Table.read(path, format=READERS[name])
+
+
 def read_table(path):
     """The astropy Table of a file. A SkyqError has the file's name, and the row if the fault is in one."""
     name = format_of(path)
     with open(path, "rb"):      # an OSError here names the file by itself
         pass
-    from astropy.table import Table
-
     try:
         with warnings.catch_warnings():
             warnings.simplefilter("ignore")
-            table = read_votable(path) if name == "votable" else Table.read(path, format=READERS[name])
-    except MemoryError:
+            table = read_as(path, name)
+    except (MemoryError, SkyqError):
         raise
     except Exception as fault:      # whatever a reader makes of a faulty file
         raise SkyqError(f"cannot be read as {name}: {reason(fault)}", path, row_of(str(fault))) from None
@@ -104,20 +124,34 @@ def for_fits(table):
     return copy
 
 
+def for_csv(table):
+    """A copy of a table whose single floats are their shortest texts: as doubles they would have 17 digits."""
+    from astropy.table import MaskedColumn
+
+    copy = table.copy()
+    for name in copy.colnames:
+        if copy[name].dtype == "f4":
+            texts = np.ma.filled(np.ma.asarray(copy[name]), 0).astype("U")
+            copy.replace_column(name, MaskedColumn(texts, name=name, mask=is_null(copy[name])))
+    return copy
+
+
 def write_as(table, target, name):
     """Writes a table to a file in one of the formats."""
     if name == "votable":
         write_votable(table, target)
     elif name == "fits":
         for_fits(table).write(target, format="fits")
+    elif name == "csv":
+        for_csv(table).write(target, format="ascii.csv")
     else:
-        table.write(target, format=READERS[name])
+        table.write(target, format="ascii.ecsv")
 
 
 def write_table(table, path, format=None):
     """Writes an astropy Table beside the path and renames it; path None: CSV to standard output. NULLs stay NULLs."""
     if path is None:
-        table.write(sys.stdout, format="ascii.csv")
+        write_as(table, sys.stdout, "csv")
         return
     name = format or format_of(path)
     beside = f"{path}.new-{os.getpid()}"
