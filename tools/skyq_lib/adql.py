@@ -7,146 +7,14 @@
 Conditions and values share one grammar, loosest first: OR, AND, NOT, comparisons (with BETWEEN, IN, LIKE, IS NULL), + and -,
 * and /, signs. Numbers are exact fractions. What a tree means is said in `translate`.
 """
-import re
-from dataclasses import dataclass, field
 from fractions import Fraction
 
-from .errors import SkyqError
+from skyq_lib.adql_tree import Between, Binary, Call, In, IsNull, Item, Junction, Like, Name, Negative, Not, Number, Query, Star, Text
+from skyq_lib.adql_words import MISSING, RESERVED, tokens
+from skyq_lib.errors import SkyqError
 
-TOKEN = re.compile(
-    r"""(?P<blank>\s+|--[^\n]*)
-      | (?P<number>(?:\d+\.?\d*|\.\d+)(?:[eE][+-]?\d+)?)
-      | (?P<name>[A-Za-z_][A-Za-z0-9_]*)
-      | (?P<quoted>"(?:[^"]|"")+")
-      | (?P<text>'(?:[^']|'')*')
-      | (?P<sign><=|>=|<>|!=|\|\||[-<>=,()*+/.;])""",
-    re.X,
-)
-RESERVED = set(
-    "ALL AND AS ASC BETWEEN BY CROSS DESC DISTINCT EXCEPT EXISTS FROM FULL GROUP HAVING IN INNER INTERSECT IS JOIN LEFT LIKE"
-    " NATURAL NOT NULL OFFSET ON OR ORDER OUTER RIGHT SELECT TOP UNION USING WHERE WITH CASE ILIKE LIMIT".split()
-)
-# Parts of ADQL that the engine has not, each with what to do instead.
-MISSING = {
-    "DISTINCT": "DISTINCT is not answered here; GROUP BY the same columns gives each combination once",
-    "HAVING": "HAVING is not answered here; filter the groups of the answer instead",
-    "OFFSET": "OFFSET is not answered here; ask for TOP n and leave out the first rows",
-    "UNION": "UNION is not answered here; ask each query by itself",
-    "EXCEPT": "EXCEPT is not answered here; ask each query by itself",
-    "INTERSECT": "INTERSECT is not answered here; ask each query by itself",
-    "WITH": "WITH is not answered here; write the query in one SELECT",
-    "EXISTS": "EXISTS is not answered here; a query has no other query inside",
-    "CASE": "CASE is not answered here; ask a query for each case",
-    "LEFT": "outer joins are not answered here; only pairs of objects that are near each other",
-    "RIGHT": "outer joins are not answered here; only pairs of objects that are near each other",
-    "FULL": "outer joins are not answered here; only pairs of objects that are near each other",
-    "NATURAL": "NATURAL JOIN is not answered here; only pairs of objects that are near each other",
-    "USING": "USING is not answered here; only pairs of objects that are near each other",
-    "LIMIT": "LIMIT is not ADQL; write SELECT TOP n",
-    "ILIKE": "ILIKE is not answered here; LIKE is",
-}
 DEEPEST = 60            # brackets within brackets
-
-
-@dataclass
-class Name:
-    """A column, with its table's alias where one is given; `exact` where it stood in double quotes."""
-    table: str | None
-    name: str
-    exact: bool = False
-
-
-@dataclass
-class Number:
-    value: Fraction
-
-
-@dataclass
-class Text:
-    value: str
-
-
-@dataclass
-class Star:
-    table: str | None = None
-
-
-@dataclass
-class Call:
-    """A function or an aggregate by its name in capitals."""
-    name: str
-    args: list
-
-
-@dataclass
-class Negative:
-    of: object
-
-
-@dataclass
-class Binary:
-    """One of + - * / and the comparisons = <> < <= > >=."""
-    op: str
-    left: object
-    right: object
-
-
-@dataclass
-class Junction:
-    """AND or OR of two or more conditions."""
-    word: str
-    parts: list
-
-
-@dataclass
-class Not:
-    of: object
-
-
-@dataclass
-class Between:
-    value: object
-    low: object
-    high: object
-    no: bool = False
-
-
-@dataclass
-class In:
-    value: object
-    listed: list
-    no: bool = False
-
-
-@dataclass
-class Like:
-    value: object
-    pattern: str
-    no: bool = False
-
-
-@dataclass
-class IsNull:
-    value: object
-    no: bool = False
-
-
-@dataclass
-class Item:
-    value: object
-    alias: str | None = None
-    text: str = ""
-
-
-@dataclass
-class Query:
-    items: list
-    tables: list                    # (name, alias) each
-    where: list                     # conditions, all of which hold
-    group: list = field(default_factory=list)
-    order: object = None            # a value, or a Number: the place of an item from 1
-    down: bool = False
-    top: int | None = None
+MOST_DIGITS = 100       # of a number, and its power of ten
 
 
 def read(text):
@@ -160,28 +28,6 @@ def read_condition(text):
     found = parser.cond()
     parser.end()
     return found
-
-
-@dataclass
-class Token:
-    kind: str
-    text: str
-    at: int
-    end: int
-
-
-def tokens(text):
-    """The tokens of a text, and one of the kind 'end'."""
-    found, at = [], 0
-    while at < len(text):
-        match = TOKEN.match(text, at)
-        if not match:
-            what = "a quote that is not closed" if text[at] in "'\"" else f"the sign {text[at]!r}"
-            raise SkyqError(f"the query has {what} at character {at + 1}")
-        if match.lastgroup != "blank":
-            found.append(Token(match.lastgroup, match[0], at, match.end()))
-        at = match.end()
-    return found + [Token("end", "", at, at)]
 
 
 class Parser:
@@ -406,7 +252,7 @@ class Parser:
             return value
         if token.kind == "number":
             self.at += 1
-            return Number(Fraction(token.text))
+            return Number(number_of(token))
         if token.kind == "text":
             self.at += 1
             return Text(text_of(token))
@@ -433,6 +279,14 @@ class Parser:
             exact = self.next.kind == "quoted"
             names.append(self.name("a column"))
         return Name(names[-2] if len(names) > 1 else None, names[-1], exact)
+
+
+def number_of(token):
+    """The exact value of a number; one of a huge power of ten would not fit in memory."""
+    power = token.text.lower().partition("e")[2]
+    if len(token.text) > MOST_DIGITS or abs(int(power or 0)) > MOST_DIGITS:
+        raise SkyqError(f"the number {token.text[:30]} at character {token.at + 1} is beyond what is answered here")
+    return Fraction(token.text)
 
 
 def text_of(token):
