@@ -4,8 +4,8 @@ import importlib
 import os
 import sys
 
-# The package stands beside this file's folder; the caller's own folder is not searched for modules.
-sys.path[0] = os.path.dirname(os.path.dirname(os.path.abspath(__file__)))
+if __name__ == "__main__":  # run as a folder: the package stands beside it, and no module comes from the caller's own folder
+    sys.path[0] = os.path.dirname(os.path.dirname(os.path.abspath(__file__)))
 
 from skyq_lib.errors import SkyqError  # noqa: E402
 

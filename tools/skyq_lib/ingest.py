@@ -7,9 +7,9 @@ import numpy as np
 from skyq_lib import columns as limits
 from skyq_lib.columns import DEGREES, POSITION, SIDECAR, SKY, Catalogue
 from skyq_lib.errors import SkyqError, need
-from skyq_lib.grid import arcsec_of_text, separation, to_degrees, to_grid
+from skyq_lib.grid import separation, to_degrees, to_grid
 from skyq_lib.names import engine_name, id_column, position_columns
-from skyq_lib.plan import plan_of, summary
+from skyq_lib.plan import asked_overlap, plan_of, summary
 from skyq_lib.progress import Progress
 from skyq_lib.scales import LeftOut, encode
 from skyq_lib.tables import is_null, read_table
@@ -30,7 +30,7 @@ def degrees_of(table, name):
     if column.ndim != 1:
         raise SkyqError(f"column {name} holds arrays, not angles")
     if plain(column).dtype.kind in "USO":
-        words = [str(word) for word in plain(column)]
+        words = [word.decode("utf-8", "replace") if isinstance(word, bytes) else str(word) for word in plain(column)]
         for row, word in enumerate(words, 1):
             try:
                 float(word)
@@ -262,11 +262,11 @@ def run(words):
 
     chosen = None if words.column is None else [with_scale(text, False) for text in words.column]
     scales = {name: scale for name, scale in [*(chosen or []), *(with_scale(text, True) for text in words.scale)] if scale}
-    notes = []
+    notes, overlap = [], asked_overlap(words.overlap)
     table = read_table(words.table)
     try:
         catalogue, plan = ingest(
-            table, words.folder, source=os.path.basename(words.table), overlap_arcsec=arcsec_of_text(words.overlap), id=words.id,
+            table, words.folder, source=os.path.basename(words.table), overlap_arcsec=overlap, id=words.id,
             ra=words.ra, dec=words.dec, columns=None if chosen is None else [name for name, _ in chosen], scales=scales,
             drop=words.drop, degrees=words.degrees, healpix=words.healpix, notes=notes,
         )

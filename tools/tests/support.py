@@ -1,9 +1,13 @@
 """What several tests want: the data, the command line, a temporary folder."""
+import contextlib
+import io
 import os
 import subprocess
 import sys
 import tempfile
 import unittest
+
+from skyq_lib.__main__ import main
 
 HERE = os.path.dirname(os.path.abspath(__file__))
 LIBRARY = os.path.join(os.path.dirname(HERE), "skyq_lib")
@@ -14,6 +18,14 @@ OPENNGC = os.path.join(HERE, "data", "openngc_cut.ecsv")
 def skyq(*words, **more):
     """Runs skyq with these words; the outcome has returncode, stdout and stderr as text."""
     return subprocess.run([sys.executable, LIBRARY, *map(str, words)], capture_output=True, text=True, **more)
+
+
+def skyq_here(*words):
+    """Runs skyq in this process, which spares the start: the same outcome as that of skyq()."""
+    out, err = io.StringIO(), io.StringIO()
+    with contextlib.redirect_stdout(out), contextlib.redirect_stderr(err):
+        status = main([str(word) for word in words])
+    return subprocess.CompletedProcess(words, status, out.getvalue(), err.getvalue())
 
 
 class WithFolder(unittest.TestCase):
