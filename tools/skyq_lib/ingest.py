@@ -10,7 +10,7 @@ from skyq_lib.errors import SkyqError, need
 from skyq_lib.grid import separation, to_degrees, to_grid
 from skyq_lib.names import engine_name, id_column, position_columns
 from skyq_lib.plan import asked_overlap, plan_of, summary
-from skyq_lib.progress import Progress
+from skyq_lib.progress import Progress, working
 from skyq_lib.scales import LeftOut, encode
 from skyq_lib.tables import is_null, read_table
 
@@ -263,7 +263,8 @@ def run(words):
     chosen = None if words.column is None else [with_scale(text, False) for text in words.column]
     scales = {name: scale for name, scale in [*(chosen or []), *(with_scale(text, True) for text in words.scale)] if scale}
     notes, overlap = [], asked_overlap(words.overlap)
-    table = read_table(words.table)
+    with working(f"reading {words.table}"):
+        table = read_table(words.table)
     try:
         catalogue, plan = ingest(
             table, words.folder, source=os.path.basename(words.table), overlap_arcsec=overlap, id=words.id,

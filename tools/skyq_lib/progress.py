@@ -1,4 +1,5 @@
 """A bar on a terminal for long work, and nothing in a pipe."""
+import contextlib
 import sys
 import time
 
@@ -34,3 +35,19 @@ class Progress:
         if self.is_drawn:
             self.stream.write("\r" + " " * (len(self.label) + WIDTH + 10) + "\r")
             self.stream.flush()
+
+
+@contextlib.contextmanager
+def working(label, stream=None):
+    """Shows on a terminal what is being done, where nothing tells how far it is."""
+    stream = sys.stderr if stream is None else stream
+    is_shown = stream.isatty()
+    if is_shown:
+        stream.write(f"{label} ..")
+        stream.flush()
+    try:
+        yield
+    finally:
+        if is_shown:
+            stream.write("\r" + " " * (len(label) + 3) + "\r")
+            stream.flush()
