@@ -69,9 +69,10 @@ class Scope:
             return "id"
         if low in ("x", "y", "z"):
             return low
-        close = difflib.get_close_matches(name.name, self.names, 1)
-        hint = f"did you mean {close[0]}? " if close else ""
-        raise SkyqError(f"there is no column {name.name}: {hint}The columns are {', '.join(self.names)}")
+        by_low = {name.lower(): name for name in self.names}
+        close = difflib.get_close_matches(low, by_low, 1)
+        hint = f" (did you mean {by_low[close[0]]}?)" if close else ""
+        raise SkyqError(f"there is no column {name.name}{hint}; the columns are {', '.join(self.names)}")
 
     def column(self, name):
         """The Value of a column."""

@@ -52,7 +52,7 @@ def read(data):
 
 def answer(number, body):
     """The Answer of a block without its first line."""
-    if body.startswith(b"refused: ") and body.count(b"\n") == 1:
+    if body.startswith(b"refused: ") and body.find(b"\n") == len(body) - 1:
         return Answer(number, "refused", body[9:-1].decode("utf-8", "replace"))
     if body == b"cancelled\n":
         return Answer(number, "cancelled", "cancelled")
@@ -83,12 +83,21 @@ def columns_of(rows, width, count, number):
 def numbers(text, has_null, number):
     """All numbers of a text of rows in a line, as int64 or, if one may pass 64 bits, as Python's ints."""
     plain = text.replace(b"NULL", b"%d" % NULL) if has_null else text
-    if plain.translate(None, b"0123456789-,\n"):
+    if not is_rows(plain):
         raise SkyqError(f"the answer of query {number} has a row that is no row of numbers")
     whole = np.fromstring(plain.replace(b"\n", b","), dtype="i8", sep=",")
     # a number that passes 64 bits is read as the end of their range
     is_long = (whole == MOST).any() or np.count_nonzero(whole == LEAST) != (text.count(b"NULL") if has_null else 0)
     return long_numbers(text) if is_long else whole
+
+
+def is_rows(text):
+    """Whether a text is numbers with a comma or a line's end after each: no other signs, no empty cells, no minus within."""
+    if text.translate(None, b"0123456789-,\n") or text[:1] in (b",", b"\n"):
+        return False
+    if any(pair in text for pair in (b",,", b",\n", b"\n,", b"\n\n", b"--", b"-,", b"-\n")):
+        return False
+    return text.count(b"-") == text.count(b",-") + text.count(b"\n-") + text.startswith(b"-")
 
 
 def averages_of(rows, width):

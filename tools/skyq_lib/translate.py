@@ -43,7 +43,10 @@ def translate(text, catalogue, maxrec=None, exact=False):
     With `maxrec` the engine is asked for one row more, which tells that rows were left out. With `exact` areas and pair
     distances are loosened by the rounding bound, and `exact.keep` has to filter the rows before TOP cuts them.
     """
-    return Translator(adql.read(text), catalogue, grid.SLACK if exact else 0.0).translation(maxrec)
+    try:
+        return Translator(adql.read(text), catalogue, grid.SLACK if exact else 0.0).translation(maxrec)
+    except RecursionError:
+        raise SkyqError("the query is too long; ask it in parts") from None
 
 
 class Translator:

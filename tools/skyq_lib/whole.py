@@ -5,10 +5,9 @@ columns of numbers. A `Value` is a whole divided by a scale, or a number alone: 
 thousandths is 9500 / 1000. All is exact: fractions here, whole numbers there.
 """
 import dataclasses
+import functools
 import math
 from fractions import Fraction
-
-import numpy as np
 
 from skyq_lib.errors import SkyqError
 
@@ -54,7 +53,7 @@ def column(name, bound):
 def number(n):
     if abs(n) > LARGEST:
         raise SkyqError(f"the number {float(n):.6g} is beyond what the engine takes in an expression, some 9.2e18 in units of its column")
-    return Whole(str(n), abs(n), ATOM if n >= 0 else PRODUCT, ("number", n))
+    return Whole(str(n), abs(n), ATOM if n >= 0 else SUM, ("number", n))
 
 
 def made(text, bound, level, parts):
@@ -64,24 +63,20 @@ def made(text, bound, level, parts):
 
 
 def plus(left, right):
-    return made(f"{left.within(SUM)}+{right.within(ATOM)}", left.bound + right.bound, SUM, ("+", left, right))
+    return made(f"{left.within(SUM)}+{right.within(PRODUCT)}", left.bound + right.bound, SUM, ("+", left, right))
 
 
 def minus(left, right):
-    return made(f"{left.within(SUM)}-{right.within(ATOM)}", left.bound + right.bound, SUM, ("-", left, right))
+    return made(f"{left.within(SUM)}-{right.within(PRODUCT)}", left.bound + right.bound, SUM, ("-", left, right))
 
 
 def times(left, right):
-    return made(f"{left.within(ATOM)}*{right.within(ATOM)}", left.bound * right.bound, PRODUCT, ("*", left, right))
+    return made(f"{left.within(PRODUCT)}*{right.within(ATOM)}", left.bound * right.bound, PRODUCT, ("*", left, right))
 
 
 def total(parts):
-    """The sum of several, products without brackets of their own."""
-    found = parts[0]
-    for part in parts[1:]:
-        sign = "" if part.text.startswith("-") else "+"
-        found = made(f"{found.text}{sign}{part.within(PRODUCT)}", found.bound + part.bound, SUM, ("+", found, part))
-    return found
+    """The sum of several."""
+    return functools.reduce(plus, parts)
 
 
 @dataclasses.dataclass(frozen=True)
@@ -153,10 +148,5 @@ def divided(a, b):
 def negated(a):
     if a.const is not None:
         return constant(-a.const)
-    whole = made(f"-{a.whole.within(ATOM)}", a.whole.bound, PRODUCT, ("-", number(0), a.whole))
+    whole = made(f"-{a.whole.within(ATOM)}", a.whole.bound, SUM, ("-", number(0), a.whole))
     return dataclasses.replace(a, whole=whole, column=None)
-
-
-def as_ints(whole):
-    """A column's whole numbers as an array of Python's ints, which no sum or product overflows."""
-    return np.asarray(whole).astype(object)
