@@ -1,82 +1,20 @@
 """From a table to a catalogue folder: sky.txt, catalogue.csv and columns.json."""
 import os
 import re
+import sys
 
 import numpy as np
 
-from skyq_lib import columns as limits
-from skyq_lib.columns import DEGREES, POSITION, SIDECAR, SKY, Catalogue
+from skyq_lib.columns import DEGREES, MOST_COLUMNS, MOST_ROWS, POSITION, Catalogue
 from skyq_lib.errors import SkyqError, need
-from skyq_lib.grid import separation, to_degrees, to_grid
+from skyq_lib.folders import judge_folder, write_folder
+from skyq_lib.grid import to_grid
 from skyq_lib.names import engine_name, id_column, position_columns
 from skyq_lib.plan import asked_overlap, plan_of, summary
-from skyq_lib.progress import Progress, working
+from skyq_lib.positions import ids_of, judge_plain, moved, plain, positions
+from skyq_lib.progress import working
 from skyq_lib.scales import LeftOut, encode
 from skyq_lib.tables import is_null, read_table
-
-BLOCK = 65536       # rows that are written at a time
-
-
-def plain(column):
-    """A table's column as a plain numpy array."""
-    return np.asarray(np.ma.getdata(np.ma.asarray(column)) if hasattr(column, "mask") else column)
-
-
-def degrees_of(table, name):
-    """A column of angles in degrees, NaN where there is none."""
-    import astropy.units as u
-
-    column = table[name]
-    if column.ndim != 1:
-        raise SkyqError(f"column {name} holds arrays, not angles")
-    if plain(column).dtype.kind in "USO":
-        words = [word.decode("utf-8", "replace") if isinstance(word, bytes) else str(word) for word in plain(column)]
-        for row, word in enumerate(words, 1):
-            try:
-                float(word)
-            except ValueError:
-                raise SkyqError(f"column {name} has {word!r}, which is no number of degrees", row=row) from None
-        values = np.array(words, "f8")
-    else:
-        values = np.ma.filled(np.ma.asarray(column, dtype="f8"), np.nan)
-    try:
-        return np.asarray(values) * (1 * (column.unit or u.deg)).to(u.deg).value
-    except u.UnitsError:
-        raise SkyqError(f"column {name} has the unit {column.unit}, which is no angle") from None
-
-
-def positions(table, ra_name, dec_name):
-    """Right ascension within 0 to 360 and declination of each row, in degrees, and the places of the rows that have them."""
-    ra, dec = degrees_of(table, ra_name), degrees_of(table, dec_name)
-    is_there = np.isfinite(ra) & np.isfinite(dec)
-    outside = np.flatnonzero(is_there & (np.abs(np.where(is_there, dec, 0)) > 90))
-    if len(outside):
-        raise SkyqError(f"declination {dec[outside[0]]} is outside -90 to 90", row=int(outside[0]) + 1)
-    turned = np.where((ra >= 0) & (ra < 360), ra, np.mod(ra, 360.0, where=is_there, out=np.zeros(len(ra))))
-    return np.where(turned >= 360, 0.0, turned), dec, np.flatnonzero(is_there)
-
-
-def ids_of(table, name, places):
-    """The objectIds of the rows at places: a column of whole numbers, or the rows' own numbers from 1."""
-    if name is None:
-        return places.astype("i8") + 1
-    values = plain(table[name])
-    hint = "; --id none numbers the rows"
-    if values.dtype.kind not in "iu":
-        raise SkyqError(f"column {name} has no whole numbers for ids{hint}")
-    missing = np.flatnonzero(is_null(table[name])[places])
-    if len(missing):
-        raise SkyqError(f"column {name} has no id{hint}", row=int(places[missing[0]]) + 1)
-    values = values[places]
-    outside = np.flatnonzero((values < 0) | (values > np.uint64(2**63 - 1) if values.dtype == "u8" else values < 0))
-    if len(outside):
-        raise SkyqError(f"column {name} has the id {values[outside[0]]}, outside 0 to 2^63-1{hint}", row=int(places[outside[0]]) + 1)
-    order = np.argsort(values, kind="stable")
-    again = order[1:][values[order][1:] == values[order][:-1]]
-    if len(again):
-        row = int(places[again.min()]) + 1
-        raise SkyqError(f"column {name} repeats the id {values[again.min()]}{hint}", row=row)
-    return values.astype("i8")
 
 
 def degree_columns(ra_name, dec_name, ra, dec, places):
@@ -111,19 +49,22 @@ def chosen_names(table, used, columns, scales, drop):
     return [name for name in table.colnames if name not in used and name not in drop and (columns is None or name in columns)]
 
 
+def further_column(name, column, places, taken, scale, notes):
+    """Encodes one of the table's columns beside the position."""
+    judge_plain(name, column)
+    values, mask = plain(column)[places], is_null(column)[places]
+    if scale is not None and values.dtype.kind != "f":
+        raise SkyqError(f"column {name} holds no floats, so it takes no scale")
+    unit, description = str(column.unit) if column.unit else None, column.description or None
+    return encode(engine_name(name, taken), name, values, mask, unit=unit, description=description, places=places, scale=scale, notes=notes)
+
+
 def further_columns(table, names, places, taken, columns, scales, notes):
-    """Encodes the table's columns beside the position."""
+    """Encodes the table's columns beside the position; one that the engine cannot hold is left out unless it was asked for."""
     made = []
     for name in names:
-        column = table[name]
-        values, mask = plain(column)[places], is_null(column)[places]
-        if name in scales and values.dtype.kind != "f":
-            raise SkyqError(f"column {name} holds no floats, so it takes no scale")
         try:
-            made.append(encode(
-                engine_name(name, taken), name, values, mask, unit=str(column.unit) if column.unit else None,
-                description=column.description or None, places=places, scale=scales.get(name), notes=notes,
-            ))
+            made.append(further_column(name, table[name], places, taken, scales.get(name), notes))
         except LeftOut as why:
             if columns is not None:
                 raise SkyqError(why) from None
@@ -131,67 +72,6 @@ def further_columns(table, names, places, taken, columns, scales, notes):
             continue
         taken.add(made[-1][0].name)
     return made
-
-
-def moved(ra, dec, x, y, z):
-    """By how much the grid moves the positions: the largest and the root of the mean square, in mas."""
-    if not len(ra):
-        return 0.0, 0.0
-    by = separation(ra, dec, *to_degrees(x, y, z)) * 1000
-    return float(by.max()), float(np.sqrt(np.mean(by**2)))
-
-
-def texts(whole, mask, part):
-    """A block of a column as strings, or as ints where no value is NULL."""
-    if not mask[part].any():
-        return whole[part].tolist()
-    return ["" if missing else value for value, missing in zip(whole[part].tolist(), mask[part].tolist())]
-
-
-def write_rows(path, names, arrays):
-    """Writes a catalogue's text: arrays has for each name the whole numbers and the mask of the NULLs."""
-    rows, form = len(arrays[0][0]), ",".join(["%s"] * len(names)) + "\n"
-    with open(path, "w", encoding="ascii", newline="") as file, Progress("write", rows) as bar:
-        file.write(",".join(names) + "\n")
-        for start in range(0, rows, BLOCK):
-            part = slice(start, start + BLOCK)
-            file.write("".join([form % row for row in zip(*(texts(whole, mask, part) for whole, mask in arrays))]))
-            bar.step(BLOCK)
-        size = file.tell()
-    if size > limits.MOST_BYTES:
-        raise SkyqError(f"{size} bytes of text; the engine takes {limits.MOST_BYTES}: leave columns out with --drop, or round them with --scale")
-
-
-def write_folder(folder, catalogue, plan, names, arrays):
-    """Writes the three files beside those of the folder and renames them, the sidecar last; without it there is no catalogue."""
-    is_new = not os.path.isdir(folder)
-    if is_new:
-        os.makedirs(folder)
-    files = [os.path.join(folder, name) for name in (SKY, limits.CSV, SIDECAR)]
-    beside = [f"{file}.new-{os.getpid()}" for file in files]
-    try:
-        with open(beside[0], "w", encoding="ascii") as file:
-            file.write(plan.text())
-        write_rows(beside[1], names, arrays)
-        catalogue.save(beside[2])
-        if os.path.exists(files[2]):
-            os.unlink(files[2])
-        for new, file in zip(beside, files):
-            os.replace(new, file)
-    finally:
-        for new in beside:
-            if os.path.exists(new):
-                os.unlink(new)
-        if is_new and not os.listdir(folder):
-            os.rmdir(folder)
-
-
-def judge_folder(folder):
-    """Refuses a place that is neither free, nor an empty folder, nor a catalogue folder."""
-    if os.path.exists(folder) and not os.path.isdir(folder):
-        raise SkyqError("is there and is no folder", folder)
-    if os.path.isdir(folder) and os.listdir(folder) and not {SIDECAR, limits.CSV} & set(os.listdir(folder)):
-        raise SkyqError("holds other files and is no catalogue folder; name a new one", folder)
 
 
 def ingest(table, folder, *, source="table", overlap_arcsec=60.0, id=None, ra=None, dec=None, columns=None, scales=None,
@@ -208,14 +88,14 @@ def ingest(table, folder, *, source="table", overlap_arcsec=60.0, id=None, ra=No
     names = chosen_names(table, {ra_name, dec_name, id_name}, columns, scales, drop)
     right, declination, places = positions(table, ra_name, dec_name)
     right, declination, ids = right[places], declination[places], ids_of(table, id_name, places)
-    if len(ids) > limits.MOST_ROWS:
-        raise SkyqError(f"{len(ids)} rows; the engine takes {limits.MOST_ROWS}")
+    if len(ids) > MOST_ROWS:
+        raise SkyqError(f"{len(ids)} rows; the engine takes {MOST_ROWS}")
     made = degree_columns(ra_name, dec_name, right, declination, places) if degrees else []
     made += [healpix_column(right, declination, healpix, places)] if healpix is not None else []
     made += further_columns(table, names, places, {*POSITION, *(c.name for c, _, _ in made)}, columns, scales, notes)
-    if len(made) > limits.MOST_COLUMNS:
+    if len(made) > MOST_COLUMNS:
         raise SkyqError(f"{len(made)} columns beside the position, {', '.join(c.source for c, _, _ in made)}; the engine takes "
-                        f"{limits.MOST_COLUMNS}: choose them with --column or leave some out with --drop")
+                        f"{MOST_COLUMNS}: choose them with --column or leave some out with --drop")
     grid = to_grid(right, declination)
     largest, mean = moved(right, declination, *grid)
     catalogue = Catalogue(
@@ -258,8 +138,6 @@ def with_scale(text, needs_scale):
 
 def run(words):
     """Reads the table, writes the folder, and prints what became of each column."""
-    import sys
-
     chosen = None if words.column is None else [with_scale(text, False) for text in words.column]
     scales = {name: scale for name, scale in [*(chosen or []), *(with_scale(text, True) for text in words.scale)] if scale}
     notes, overlap = [], asked_overlap(words.overlap)
@@ -271,6 +149,8 @@ def run(words):
             ra=words.ra, dec=words.dec, columns=None if chosen is None else [name for name, _ in chosen], scales=scales,
             drop=words.drop, degrees=words.degrees, healpix=words.healpix, notes=notes,
         )
+    except LeftOut as why:
+        raise SkyqError(why, words.table) from None
     except SkyqError as fault:
         raise fault if fault.file else SkyqError(fault.what, words.table, fault.row) from None
     for note in notes:

@@ -20,7 +20,7 @@ def by_name_or_ucd(table, names, ucd):
         if name in by_name:
             return by_name[name]
     for name in table.colnames:
-        if str(table[name].meta.get("ucd", "")).lower() == ucd:
+        if str(table[name].info.meta and table[name].info.meta.get("ucd")).lower() == ucd:
             return name
     return None
 
@@ -46,7 +46,7 @@ def id_column(table, name, notes):
             raise SkyqError(f"no column {name} among {', '.join(table.colnames)}")
         return name
     found = by_name_or_ucd(table, ID, "meta.id;meta.main")
-    if found is not None and table[found].dtype.kind not in "iu":
+    if found is not None and getattr(getattr(table[found], "dtype", None), "kind", None) not in ("i", "u"):
         notes.append(f"column {found} has no whole numbers, so the rows are numbered from 1")
         return None
     return found

@@ -13,8 +13,9 @@ ENDINGS = {
     ".fits": "fits", ".fit": "fits", ".fits.gz": "fits", ".vot": "votable", ".vot.gz": "votable", ".xml": "votable",
     ".ecsv": "ecsv", ".csv": "csv",
 }
-# What astropy calls the formats.
-READERS = {"fits": "fits", "ecsv": "ascii.ecsv", "csv": "ascii.csv"}
+READERS = {"fits": "fits", "ecsv": "ascii.ecsv"}       # what astropy calls the formats
+UTF_8 = "utf-8-sig"                                     # a byte order mark at the head is passed over
+NULLS = ("", "NULL", "null")                            # what stands for NULL in a CSV
 
 
 def format_of(path):
@@ -46,7 +47,7 @@ def read_votable(path):
 
 def check_fields(path):
     """Refuses a CSV of which a row has another number of fields than the header: astropy would fill up a short row."""
-    with open(path, encoding="utf-8", newline="") as file:
+    with open(path, encoding=UTF_8, newline="") as file:
         records = (record for record in csv.reader(file) if record)
         width = len(next(records, []))
         for row, record in enumerate(records, 1):
@@ -62,6 +63,7 @@ def read_as(path, name):
         return read_votable(path)
     if name == "csv":
         check_fields(path)
+        return Table.read(path, format="ascii.csv", encoding=UTF_8, fill_values=[(word, "0") for word in NULLS])
     return Table.read(path, format=READERS[name])
 
 

@@ -8,9 +8,12 @@ import astropy.units as u
 import numpy as np
 from astropy.coordinates import SkyCoord
 from astropy.table import Table
+from astropy.time import Time
 from support import OPENNGC, TYCHO2, WithFolder, skyq_here
+from test_tables import with_nulls
 
 from skyq_lib.columns import Catalogue, degrees_of_rows, read_rows
+from skyq_lib.tables import write_table
 
 FILES = ["catalogue.csv", "columns.json", "sky.txt"]
 
@@ -76,11 +79,27 @@ class Values(WithFolder):
             self.assertEqual(texts["fits"], texts["ecsv"])
             self.assertEqual(texts["fits"][0].count(b"\n"), len(table) + 1)
 
+    def test_nulls_of_every_kind_give_one_text_from_every_format(self):
+        table = with_nulls()
+        table.rename_column("id", "key")
+        table["ra"], table["dec"] = [10.5, 20.25, 359.0], [-3.0, 0.5, 89.0]
+        for ending in ("fits", "vot", "ecsv", "csv"):
+            write_table(table, self.path(f"t.{ending}"))
+            self.assertEqual(skyq_here("ingest", self.path(f"t.{ending}"), self.path(ending), "--drop", "key").returncode, 0)
+            rows = content(self.path(ending, "catalogue.csv")).decode().splitlines()
+            self.assertEqual([",".join(row.split(",")[4:]) for row in rows], ["small,mag,low,word,whole", "1,950,1,0,1", ",,,,2", "3,1025,30,1,3"], ending)
+
+    def test_a_csv_of_a_spreadsheet_is_taken(self):
+        with open(self.path("t.csv"), "w", encoding="utf-8-sig", newline="") as file:
+            file.write('id,ra,dec,m,w\r\n1,10,20,NULL,"a, b"\r\n2,10,30,1.5,null\r\n')
+        catalogue, rows = self.ingested(self.path("t.csv"))
+        self.assertEqual((catalogue.id, rows["m"].tolist(), rows["w"].tolist(), catalogue.column("w").words), ("id", [None, 15], [0, None], ["a, b"]))
+
     def test_units_of_angle_are_taken(self):
-        cases = [("rad", [0.1, 6.2], [5.729577951308232, 355.2338329811104]), ("arcmin", [60, 90], [1, 1.5]), ("hourangle", [1, 23.5], [15, 352.5])]
+        cases = [("degrees", [1, 2], [1, 2]), ("", [1, 2], [1, 2]), ("rad", [0.1, 6.2], [5.729577951308232, 355.2338329811104]), ("arcmin", [60, 90], [1, 1.5]), ("hourangle", [1, 23.5], [15, 352.5])]
         for unit, values, want in cases:
             table = Table({"ra": np.array(values, "f8"), "dec": [0.0, 0.5]})
-            table["ra"].unit = u.Unit(unit)
+            table["ra"].unit = u.Unit(unit, parse_strict="silent")
             table.write(self.path("t.ecsv"), overwrite=True)
             catalogue, rows = self.ingested(self.path("t.ecsv"), "--degrees")
             np.testing.assert_allclose(degrees_of_rows(catalogue, rows)[0], want, rtol=0, atol=6e-13)
@@ -92,6 +111,26 @@ class Values(WithFolder):
             catalogue, rows = self.ingested(TYCHO2, *words)
             self.assertEqual(([column.source for column in catalogue.columns], catalogue.column("vtmag").scale), (names, scale), words)
         self.assertEqual(rows["vtmag"][0], 108690)
+
+    def test_columns_are_found_by_their_ucd(self):
+        table = Table({"a": [10.0], "d": [90.0], "n": [7], "m": [1.5]})
+        for name, ucd in (("a", "pos.eq.ra;meta.main"), ("d", "POS.EQ.DEC;META.MAIN"), ("n", "meta.id;meta.main")):
+            table[name].meta["ucd"] = ucd
+        table.write(self.path("t.vot"), format="votable")
+        catalogue, rows = self.ingested(self.path("t.vot"))
+        self.assertEqual((catalogue.ra, catalogue.dec, catalogue.id, rows["objectId"].tolist()), ("a", "d", "n", [7]))
+
+    def test_times_and_coordinates_are_left_out(self):
+        table = Table({"ra": [10.0], "dec": [20.0]})
+        table["when"] = Time(["2000-01-01"])
+        table["where"] = SkyCoord([1.0], [2.0], unit="deg")
+        table.write(self.path("t.ecsv"))
+        outcome = skyq_here("ingest", self.path("t.ecsv"), self.path("c"))
+        self.assertEqual(outcome.stderr, "".join(
+            f"skyq ingest: {self.path('t.ecsv')}: column {name} is a {kind}, which the engine cannot hold: it is left out\n"
+            for name, kind in (("when", "Time"), ("where", "SkyCoord"))))
+        self.assertRefused(skyq_here("ingest", self.path("t.ecsv"), self.path("d"), "--ra", "where"),
+                           f"skyq ingest: {self.path('t.ecsv')}: column where is a SkyCoord, which the engine cannot hold")
 
     def test_healpix_pixels_are_those_of_nested_order(self):
         with open(self.path("t.csv"), "w", encoding="utf-8") as file:
