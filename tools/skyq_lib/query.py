@@ -35,6 +35,8 @@ def result(made, found, catalogue, maxrec=None):
     if found.kind != "answered":
         raise SkyqError(translate.refusal(found.why, made, catalogue))
     columns, count = found.columns, found.count
+    if len(columns) != len(made.places):
+        raise SkyqError(f"the program answered {len(columns)} columns instead of {len(made.places)}")
     if made.tests:
         places = np.flatnonzero(exact.keep(made, found, catalogue))[: made.top]
         columns, count = [taken(values, places) for values in columns], len(places)
@@ -167,16 +169,22 @@ def degrees_of_radius(text):
 def degrees_of_text(text, unit_of_colons):
     """The degrees of a coordinate: a number of degrees, or hours, degrees, minutes and seconds."""
     try:
-        return float(text)
+        found = float(text)
     except ValueError:
-        pass
+        found = degrees_of_parts(text, unit_of_colons)
+    if not np.isfinite(found):
+        raise SkyqError(f"{text} is no coordinate: write degrees, as 161.265, or 10h45m03.6s or -59d41m04s")
+    return found
+
+
+def degrees_of_parts(text, unit_of_colons):
+    """The degrees of hours or degrees, minutes and seconds; NaN of what is none."""
     from astropy.coordinates import Angle
 
     try:
-        found = float(Angle(text, unit=unit_of_colons if ":" in text else None).deg)
+        return float(Angle(text, unit=unit_of_colons if ":" in text else None).deg)
     except Exception:       # whatever astropy makes of a faulty text
-        raise SkyqError(f"{text} is no coordinate: write degrees, as 161.265, or 10h45m03.6s or -59d41m04s") from None
-    return found
+        return np.nan
 
 
 # ---- transcripts
