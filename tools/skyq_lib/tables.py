@@ -55,6 +55,12 @@ def check_fields(path):
                 raise SkyqError(f"{len(record)} fields; the header has {width}", path, row)
 
 
+def has_mark(path):
+    """Whether a text begins with a byte order mark."""
+    with open(path, "rb") as file:
+        return file.read(3) == b"\xef\xbb\xbf"
+
+
 def read_as(path, name):
     """The table of a file of one of the formats."""
     from astropy.table import Table
@@ -63,7 +69,9 @@ def read_as(path, name):
         return read_votable(path)
     if name == "csv":
         check_fields(path)
-        return Table.read(path, format="ascii.csv", encoding=UTF_8, fill_values=[(word, "0") for word in NULLS])
+        # astropy reads five times as long if it is told the encoding
+        more = {"encoding": UTF_8} if has_mark(path) else {}
+        return Table.read(path, format="ascii.csv", fill_values=[(word, "0") for word in NULLS], **more)
     return Table.read(path, format=READERS[name])
 
 
