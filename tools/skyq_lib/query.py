@@ -1,6 +1,5 @@
 """The commands query, cone, pairs and read; `answer` joins translation, engine and table for them and for TAP."""
 import dataclasses
-import os
 import re
 import sys
 
@@ -10,6 +9,9 @@ from skyq_lib import adql, engine, exact, outs, tables, transcript, translate
 from skyq_lib.columns import Catalogue
 from skyq_lib.errors import SkyqError
 from skyq_lib.grid import arcsec_of_text
+from skyq_lib.progress import working
+
+MOST_SHOWN = 200                    # rows on a terminal
 
 
 @dataclasses.dataclass
@@ -104,9 +106,10 @@ def run(words):
     if words.show:
         print(translate.translate(text, catalogue, exact=words.exact).sql)
         return 0
-    found = answer(catalogue, text, lambda sql: engine.ask(words.folder, [sql], words.workers)[0], is_exact=words.exact)
+    with working("asking the program"):
+        found = answer(catalogue, text, lambda sql: engine.ask(words.folder, [sql], words.workers)[0], is_exact=words.exact)
     if words.command != "query":
-        found.table["separation"].convert_unit_to("arcsec")
+        found.table.columns[-1].convert_unit_to("arcsec")
     deliver(found.table, words.output, found.chunks)
     return 0
 
@@ -118,9 +121,8 @@ def deliver(table, path, chunks):
         tables.write_table(table, path)
         print(f"{path}: {told}")
     elif sys.stdout.isatty():
-        if table.colnames:
-            print("\n".join(table.pformat(max_lines=-1, max_width=-1)))
-        print(told)
+        print("\n".join(table[:MOST_SHOWN].pformat(max_lines=-1, max_width=-1)))
+        print(told if len(table) <= MOST_SHOWN else f"..\n{told}; -o FILE writes them all")
     else:
         tables.write_table(table, None)
 
@@ -152,7 +154,7 @@ def cone_text(words, catalogue):
         raise SkyqError(f"the radius {words.radius} is more than 180deg")
     ra, dec = degrees_of_text(words.ra, "hourangle"), degrees_of_text(words.dec, "deg")
     apart = f"DISTANCE({position(catalogue)},POINT({ra!r},{dec!r}))"
-    return f"SELECT *,{apart} AS separation FROM Object WHERE {apart}<={radius!r}{condition(words)} ORDER BY separation"
+    return f"SELECT *,{apart} AS separation FROM Object WHERE {apart}<={radius!r}{condition(words)} ORDER BY {apart}"
 
 
 def pairs_text(words, catalogue):

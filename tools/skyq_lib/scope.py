@@ -12,6 +12,7 @@ from skyq_lib.grid import UNIT
 TABLE = "Object"
 ALIASES = ("a", "b")                # of the two tables of a join, in the engine's text
 LARGEST_ID = 2**63 - 1
+TRUTH = {"true": 1, "false": 0}
 FRAMES = ("", "ICRS", "FK5", "J2000")
 NEED_DEGREES = "is kept as a place on the sphere and not as degrees: ingest the catalogue with --degrees to compare {0} or to order by it"
 
@@ -94,7 +95,9 @@ class Scope:
         if isinstance(node, tree.Number):
             return w.constant(node.value)
         if isinstance(node, tree.Name):
-            return self.column(node)
+            truth = TRUTH.get(node.name.lower()) if node.table is None and not node.exact else None
+            is_column = truth is None or self.catalogue.column(node.name) is not None
+            return self.column(node) if is_column else w.constant(truth)
         if isinstance(node, tree.Negative):
             return w.negated(self.computed(node.of))
         if isinstance(node, tree.Binary) and node.op in "+-*/":

@@ -83,6 +83,19 @@ class Commands(support.WithFolder):
         done = programs.skyq("query", self.path("stars"), "SELECT id FROM Object WHERE mag<5.5", "--show", program="/bin/false")
         self.assertEqual((done.returncode, done.stdout), (0, "SELECT objectId FROM Object WHERE mag<550\n"))
 
+    def test_columns_that_are_called_as_others_are(self):
+        """Names of the engine, of ADQL and of skyq itself; of two that differ in their case alone, which FITS does not tell apart."""
+        with open(self.path("odd.csv"), "w", encoding="utf-8") as file:
+            file.write("id,ra,dec,x,min,separation,Flux,flux,select,is good\n7,10,20,1,2,3,4,5,6,0\n8,10,20.001,11,12,13,14,15,16,1\n")
+        self.assertEqual(programs.skyq("ingest", self.path("odd.csv"), self.path("odd")).returncode, 0)
+        self.assertEqual(self.printed("query", self.path("odd"), 'SELECT x, min, "Flux", "flux", "select", "is good" FROM Object ORDER BY separation DESC'),
+                         ["x,min,Flux,flux_2,select,is good", "11,12,14,15,16,1", "1,2,4,5,6,0"])
+        self.assertEqual(self.printed("query", self.path("odd"), 'SELECT id FROM Object WHERE "is good" = TRUE AND x>1'), ["id", "8"])
+        lines = self.printed("cone", self.path("odd"), "10", "20", "1deg")
+        self.assertEqual([name for name in lines[0].split(",") if name.startswith("separation")], ["separation", "separation_2"])
+        self.assertEqual([(line.split(",")[0], round(float(line.split(",")[-1]), 2)) for line in lines[1:]], [("7", 0.0), ("8", 3.6)])
+        self.assertEqual(len(self.printed("pairs", self.path("odd"), "5arcsec", "--where", "a.min<b.min")), 2)
+
     def test_a_query_from_standard_input(self):
         done = programs.skyq("query", self.path("stars"), "-", stdin="SELECT COUNT(*) AS n\nFROM Object -- all\n")
         self.assertEqual((done.returncode, done.stdout), (0, "n\n4\n"))
