@@ -8,6 +8,7 @@ import warnings
 import numpy as np
 
 from skyq_lib.errors import SkyqError
+from skyq_lib.votable import document
 
 ENDINGS = {
     ".fits": "fits", ".fit": "fits", ".fits.gz": "fits", ".vot": "votable", ".vot.gz": "votable", ".xml": "votable",
@@ -98,32 +99,6 @@ def is_null(column):
     return np.ma.getmaskarray(np.ma.asarray(column)) if hasattr(column, "mask") else np.zeros(len(column), bool)
 
 
-def for_votable(table):
-    """A copy of a table that astropy writes as a VOTable with its NULLs: whole numbers get a value that stands for NULL."""
-    from astropy.table import MaskedColumn
-
-    copy = table.copy()
-    for name in copy.colnames:
-        column = copy[name]
-        if column.dtype.kind == "U":
-            words = np.char.encode(np.ma.filled(np.ma.asarray(column), ""), "utf-8")
-            copy[name] = MaskedColumn(words, name=name, mask=is_null(column), unit=column.unit, description=column.description)
-        if column.dtype.kind in "iu" and is_null(column).any():
-            copy[name].fill_value = np.iinfo(column.dtype).min if column.dtype.kind == "i" else np.iinfo(column.dtype).max
-    return copy
-
-
-def write_votable(table, path):
-    """Writes a VOTable in BINARY2, which keeps the NULLs of whole numbers."""
-    from astropy.io.votable.tree import VOTableFile
-
-    file = VOTableFile.from_table(for_votable(table))
-    for field, name in zip(file.get_first_table().fields, table.colnames):
-        if table[name].dtype.kind in "iu" and is_null(table[name]).any():
-            field.values.null = int(np.iinfo(table[name].dtype).min)
-    file.to_xml(path, tabledata_format="binary2")
-
-
 def for_fits(table):
     """A copy of a table whose NULLs FITS can hold: floats as NaN; text and whole numbers are left to astropy."""
     copy = table.copy()
@@ -149,7 +124,8 @@ def for_csv(table):
 def write_as(table, target, name):
     """Writes a table to a file in one of the formats."""
     if name == "votable":
-        write_votable(table, target)
+        with open(target, "wb") as file:
+            file.write(document(table))     # astropy's own writer takes 25 times as long
     elif name == "fits":
         for_fits(table).write(target, format="fits")
     elif name == "csv":
