@@ -89,6 +89,8 @@ class Writer:
     def box(self):
         a, d = self.spot(1)
         width, height = round(float(10 ** self.rng.uniform(-1, 2.5)), 4), round(float(10 ** self.rng.uniform(-1, 1.5)), 4)
+        if self.rng.random() < 0.3:
+            width = round(float(self.rng.uniform(179, 400)), 3)
         across = np.abs((self.world.ra - a + 180) % 360 - 180) <= width / 2
         return (f"1=CONTAINS(POINT(ra,dec),BOX({a},{d},{width},{height}))", *self.sides(across & (np.abs(self.world.dec - d) <= height / 2)))
 

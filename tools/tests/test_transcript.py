@@ -91,6 +91,7 @@ class Reads(unittest.TestCase):
             (b"query 2\ncancelled\n", "this is no transcript: 'query 1' is missing at byte 0"),
             (b"query 1\nx\n1\n2 rows, 1 chunks\n", "query 1 tells 2 rows of 1 columns, and has others"),
             (b"query 1\nx,y\n1,2\n3\n2 rows, 1 chunks\n", "query 1 tells 2 rows of 2 columns, and has others"),
+            (b"query 1\nx,y\n1,2,3,4\n2 rows, 1 chunks\n", "query 1 tells 2 rows of 2 columns, and has others"),
             (b"query 1\nx\none\n1 rows, 1 chunks\n", "the answer of query 1 has a row that is no row of numbers"),
             (b"query 1\nx\n1\n", "the answer of query 1 has no last line: the transcript is cut off"),
         ]:

@@ -101,6 +101,11 @@ AREAS = [
     # a box of 60 degrees: heights 2^28 sin(30) and directions 2^29 (cos 60, sin 60) and (cos 120, sin 120)
     ("1=CONTAINS(POINT(ra,dec),BOX(90,0,60,60))", f"area_box(-134217727,134217727,268435456,{round(2**29 * math.sqrt(0.75))},-268435456,{round(2**29 * math.sqrt(0.75))})"),
     ("1=CONTAINS(POINT(ra,dec),BOX(0,0,360,60))", "area_band(-134217727,134217727)"),
+    # three quarters of the sky: past the direction (cos -135, sin -135) or short of (cos 135, sin 135), 2^29 times each
+    ("1=CONTAINS(POINT(ra,dec),BOX(0,0,270,180))", "area_band(-268435456,268435456) AND (z>=-268435456 AND z<=268435456 AND "
+     "(379625062*x+(-379625062)*y>=0 OR 379625062*x+379625062*y>=0))"),
+    ("0=CONTAINS(POINT(ra,dec),BOX(0,0,270,180))", "(z<-268435456 OR z>268435456 OR "
+     "(379625062*x+(-379625062)*y<0 AND 379625062*x+379625062*y<0))"),
 ]
 
 REFUSED = [
