@@ -173,14 +173,12 @@ class Where:
         return self.near(place, centre, "<=" if inside else ">", radius)
 
     def box(self, args):
-        if len(args) == 3:
-            centre = self.scope.point(args[0])
-            ra, dec = centre.ra, centre.dec
-        elif len(args) == 4:
-            ra, dec = (float(self.scope.number(arg, "the centre of a BOX")) for arg in args[:2])
-        else:
+        if len(args) not in (3, 4):
             raise SkyqError("BOX takes a centre, a width and a height, in degrees, as in BOX(10,20,2,1)")
-        return areas.Box(ra, dec, *(float(self.scope.number(arg, "the size of a BOX")) for arg in args[-2:]))
+        centre = self.scope.point(args[0]) if len(args) == 3 else self.scope.place(*args[:2])
+        if centre.is_row:
+            raise SkyqError("the centre of a BOX is two numbers")
+        return areas.Box(centre.ra, centre.dec, *(float(self.scope.number(arg, "the size of a BOX")) for arg in args[-2:]))
 
     def corners(self, args):
         """The corners of a POLYGON: points, or numbers two by two."""

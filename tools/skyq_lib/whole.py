@@ -13,6 +13,7 @@ from skyq_lib.errors import SkyqError
 
 LARGEST = 2**63 - 1                 # of a number in the engine's query
 WIDEST = 2**100                     # of what the engine computes
+FARTHEST = Fraction(10**200)        # from 0, of a number that is computed with
 ATOM, PRODUCT, SUM = range(3)       # how loosely an expression holds together
 
 
@@ -100,6 +101,8 @@ class Value:
 
 def constant(n):
     n = Fraction(n)
+    if n and not FARTHEST**-1 <= abs(n) <= FARTHEST:
+        raise SkyqError("the query has a number beyond 1e200, or nearer to 0 than 1e-200")
     return Value(None, Fraction(n.denominator), "int" if n.denominator == 1 else "float", const=n)
 
 
