@@ -7,8 +7,8 @@ Whole numbers throughout, as docs/FORMATS.md has them:
     for number, own, overlap in partition.near_chunks(chunk, x, y, z):
         ...                                         # places of the chunk's rows, and of those near it
 """
-import dataclasses
 import math
+from dataclasses import dataclass, replace
 
 import numpy as np
 
@@ -16,7 +16,7 @@ from skyq_lib.errors import SkyqError
 from skyq_lib.grid import Z_LEAST, Z_MOST
 
 
-@dataclasses.dataclass
+@dataclass
 class Stripe:
     """A stripe: from z_low up to and without z_end; `first` is the number of its first chunk."""
     z_low: int
@@ -37,7 +37,7 @@ class Stripe:
         return [self.z_low + t * (self.z_end - self.z_low) // self.rows for t in range(self.rows + 1)]
 
 
-@dataclasses.dataclass
+@dataclass
 class Region:
     """Heights from low to high, both within, and the two directions between which it lies, or None all round."""
     low: int
@@ -173,11 +173,15 @@ class Partition:
     def near_subs(self, chunk, x, y, z):
         """Which positions are in or near which subchunks of a chunk: two arrays, of places and of subchunks."""
         stripe = self.stripe_of(chunk)
+        # a subchunk is a row and a column, and a position is near it if it is near both
+        across = np.stack([replace(self.sub_region(chunk, j), low=Z_LEAST, high=Z_MOST).is_near(stripe.overlap, x, y, z) for j in range(stripe.columns)])
         places, subs = [], []
-        for sub in range(stripe.columns * stripe.rows):
-            at = np.flatnonzero(self.sub_region(chunk, sub).is_near(stripe.overlap, x, y, z))
-            places.append(at)
-            subs.append(np.full(len(at), sub))
+        for row in range(stripe.rows):
+            region = replace(self.sub_region(chunk, row * stripe.columns), sides=None)
+            at = np.flatnonzero(region.is_near(stripe.overlap, x, y, z))
+            column, which = np.nonzero(across[:, at])
+            places.append(at[which])
+            subs.append(row * stripe.columns + column)
         return np.concatenate(places), np.concatenate(subs)
 
 
