@@ -68,7 +68,7 @@ class Faults(unittest.TestCase):
             self.assertEqual((outcome.returncode, outcome.stdout, outcome.stderr), (status, "", line))
 
     def test_a_missing_module_names_its_package(self):
-        with mock.patch.dict("sys.modules", {"scipy": None}), self.assertRaises(SkyqError) as caught:
+        with mock.patch.dict("sys.modules", {"scipy": None, "scipy.spatial": None}), self.assertRaises(SkyqError) as caught:
             need("scipy.spatial", "skyq check")
         self.assertEqual(str(caught.exception), "skyq check needs scipy: apt-get install python3-scipy")
 
