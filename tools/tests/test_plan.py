@@ -1,9 +1,12 @@
 """Sky plans: each rule of docs/FORMATS.md, and how the rows fall into the chunks, placed here by angles on a square."""
 import json
 import os
+import subprocess
 import unittest
 
 import numpy as np
+import programs
+from astropy.table import Table
 from support import TYCHO2, WithFolder, skyq_here
 
 from skyq_lib.errors import SkyqError
@@ -119,6 +122,22 @@ class Sizes(unittest.TestCase):
             self.assertGreaterEqual((high - low) / stripe.rows, 8 - 1e-6)
             self.assertGreaterEqual(360 * np.cos(np.radians(widest)) / stripe.chunks / stripe.columns, 8 - 1e-6)
         self.assertGreater(max(stripe.columns * stripe.rows for stripe in plan.stripes), 1)
+
+
+class Program(WithFolder):
+    def test_its_report_has_the_same_rows_a_chunk(self):
+        path, is_real = programs.found()
+        if not is_real:
+            self.skipTest("no program is built")
+        folder = self.path("c")
+        skyq_here("ingest", TYCHO2, folder)
+        skyq_here("plan", folder, "--rows", "50")
+        table, plan = Table.read(TYCHO2, format="ascii.csv"), SkyPlan.load(os.path.join(folder, "sky.txt"))
+        words = [path, "load", os.path.join(folder, "sky.txt"), os.path.join(folder, "catalogue.csv")]
+        report = subprocess.run(words, capture_output=True, text=True, check=True).stdout.splitlines()
+        counts = parts(plan, np.asarray(table["ra"]), np.asarray(table["dec"]), False)
+        self.assertEqual(report[0], f"2189 rows, {len(counts)} of {plan.chunks} chunks")
+        self.assertEqual([int(line.split(": ")[1].split(" ")[0]) for line in report[1:]], counts.tolist())
 
 
 class Command(WithFolder):
