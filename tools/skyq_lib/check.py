@@ -99,6 +99,9 @@ class Check:
         at = np.minimum(np.searchsorted(self.ids, ids), len(self.ids) - 1)
         return np.where(self.ids[at] == ids, at, -1)
 
+    def named(self, place):
+        return "an id that no row has" if place < 0 else f"id {self.ids[place]}"
+
     # -- cones
 
     def cones(self, count):
@@ -108,13 +111,13 @@ class Check:
         rows = differ = rounded = 0
         examples = []
         for (ra, dec, radius), table in zip(drawn, self.asked(texts)):
-            apart = flat.distances(self.points, flat.vectors(np.array([ra]), np.array([dec]))[0])
-            want, at = np.flatnonzero(apart <= radius), self.places(np.asarray(table.columns[0]))
+            near, apart = flat.within(self.points, flat.vectors(np.array([ra]), np.array([dec]))[0], radius)
+            want, at = near[apart <= radius], self.places(np.asarray(table.columns[0]))
             rows += len(want)
             differing = np.setxor1d(want, at)
-            is_near = np.array([place >= 0 and abs(apart[place] - radius) <= self.bound for place in differing], bool)
+            is_near = np.isin(differing, near[np.abs(apart - radius) <= self.bound])
             differ, rounded = differ + int((~is_near).sum()), rounded + int(is_near.sum())
-            examples += [f"cone {ra!r} {dec!r} {radius!r}arcsec: id {self.ids[place]}" for place in differing[~is_near]]
+            examples += [f"cone {ra!r} {dec!r} {radius!r}arcsec: {self.named(place)}" for place in differing[~is_near]]
         self.tell(f"{count} cones of 1 to {WIDEST:g} arcsec", rows, differ, rounded, examples)
 
     def cone(self):
@@ -130,8 +133,7 @@ class Check:
         """Pairs within some angles up to the overlap."""
         overlap, tree = self.catalogue.overlap_arcsec, flat.tree_of(self.points)
         angles = [] if overlap <= 0 else [overlap / 12, overlap / 6, overlap / 2, overlap]
-        for angle in angles:
-            estimate = flat.pair_estimate(self.points, angle, self.draw)
+        for angle, estimate in zip(angles, flat.pair_estimates(self.points, angles, self.draw)):
             if estimate > MOST_PAIRS:
                 print(f"pairs within {angle:g} arcsec: left out, some {estimate:,.0f}")
                 continue

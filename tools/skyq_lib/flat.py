@@ -7,6 +7,7 @@ import numpy as np
 from skyq_lib.errors import SkyqError, need
 
 STEP = 2**20                        # pairs of cells that are looked at together
+SAMPLE = 100                        # rows that tell how many pairs there are
 
 
 def vectors(ra, dec):
@@ -24,9 +25,11 @@ def arcsec_of(chords):
     return np.degrees(2 * np.arcsin(np.minimum(1.0, np.asarray(chords) / 2))) * 3600
 
 
-def distances(points, centre):
-    """The angles of points from one place, in arcseconds."""
-    return arcsec_of(np.linalg.norm(points - centre, axis=1))
+def within(points, centre, arcsec):
+    """The places of the points within an angle of one place, and of those just outside, with their angles in arcseconds."""
+    # a scalar product is good to some 1e-15, and tells who is far away; who is near is told by the distance
+    near = np.flatnonzero(points @ centre >= np.cos(np.radians(arcsec / 3600)) - 1e-9)
+    return near, arcsec_of(np.linalg.norm(points[near] - centre, axis=1))
 
 
 def tree_of(points):
@@ -66,8 +69,11 @@ def pairs_of_cells(points, reach):
     return np.concatenate(found)
 
 
-def pair_estimate(points, arcsec, draw):
-    """How many pairs there are, from a sample of the rows."""
-    sample = draw.choice(len(points), min(len(points), 200), replace=False)
-    near = sum(int((np.linalg.norm(points - points[k], axis=1) <= chord(arcsec)).sum()) - 1 for k in sample)
+def pair_estimates(points, angles, draw):
+    """How many pairs there are within each of some angles, from a sample of the rows."""
+    sample = draw.choice(len(points), min(len(points), SAMPLE), replace=False)
+    near = np.zeros(len(angles))
+    for k in sample:
+        products = points @ points[k]
+        near += [int((products >= np.cos(np.radians(angle / 3600)) - 1e-15).sum()) - 1 for angle in angles]
     return near / max(1, len(sample)) * len(points) / 2

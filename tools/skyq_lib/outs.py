@@ -7,7 +7,8 @@ import numpy as np
 from skyq_lib import grid
 
 AVERAGE = 10000                     # the engine writes averages with four decimals
-DIGITS = 7                          # decimals of degrees that come from the grid, which is good to 2e-7 degrees
+DIGITS = 7                          # decimals of a position that comes from the grid, which is good to 2e-7 degrees
+DISTANCE_DIGITS = 8                 # decimals of degrees of a distance, good to 4e-7 degrees
 
 
 @dataclasses.dataclass
@@ -71,7 +72,7 @@ def distance(place):
     def read(answer):
         values = answer[place]
         chord = np.sqrt(values.whole.astype("f8")) / (2 * grid.UNIT)
-        return masked(np.degrees(2 * np.arcsin(np.minimum(1.0, chord))), values.null)
+        return masked(np.round(np.degrees(2 * np.arcsin(np.minimum(1.0, chord))), DISTANCE_DIGITS), values.null)
 
     return read
 

@@ -109,9 +109,16 @@ def run(words):
     with working("asking the program"):
         found = answer(catalogue, text, lambda sql: engine.ask(words.folder, [sql], words.workers)[0], is_exact=words.exact)
     if words.command != "query":
-        found.table.columns[-1].convert_unit_to("arcsec")
+        in_arcsec(found.table, 6 if catalogue.has_degrees else 4)
     deliver(found.table, words.output, found.chunks)
     return 0
+
+
+def in_arcsec(table, decimals):
+    """Brings the last column, a separation, to arcseconds."""
+    last = table.columns[-1]
+    last.convert_unit_to("arcsec")
+    last[:] = np.round(last, decimals)
 
 
 def deliver(table, path, chunks):
