@@ -1,4 +1,4 @@
-"""Decides on the degrees what the grid leaves open: the rows of a superset that really meet areas and distances."""
+"""Decides on the degrees what the grid leaves open: which rows of a superset meet areas and distances, and who is nearer."""
 import numpy as np
 
 from skyq_lib.columns import DEGREES
@@ -41,3 +41,12 @@ def keep(translation, answer, catalogue):
     for test in translation.tests:
         found &= test.truth(rows)
     return found
+
+
+def kept(translation, answer, catalogue):
+    """The places of the rows of an answer that `keep` keeps; where a distance orders them, in its order."""
+    places = np.flatnonzero(keep(translation, answer, catalogue))
+    if translation.by is None:
+        return places
+    apart = np.ma.getdata(translation.by.read(answer.columns))[places]
+    return places[np.argsort(-apart if translation.is_down else apart, kind="stable")]

@@ -24,6 +24,7 @@ class Out:
     description: str | None = None
     key: int | None = None
     table: str | None = None        # the user's name of its table, in a join
+    is_distance: bool = False
 
 
 def masked(values, null):

@@ -39,8 +39,8 @@ def result(made, found, catalogue, maxrec=None):
     columns, count = found.columns, found.count
     if len(columns) != len(made.places):
         raise SkyqError(f"the program answered {len(columns)} columns instead of {len(made.places)}")
-    if made.tests:
-        places = np.flatnonzero(exact.keep(made, found, catalogue))[: made.top]
+    if made.is_filtered:
+        places = exact.kept(made, found, catalogue)[: made.top]
         columns, count = [taken(values, places) for values in columns], len(places)
     is_cut = maxrec is not None and count > maxrec
     if is_cut:

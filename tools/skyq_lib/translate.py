@@ -26,8 +26,8 @@ KEY = "key_"                        # the alias of the item that orders, where o
 class Translation:
     """`sql` is the engine's query on one line; `outs` the columns of the table; `top` the rows asked for, or None.
 
-    `tests` are the conditions that `exact.keep` decides on the degrees, and `places` the answer's columns by name, which it
-    reads; both are empty where the answer is the engine's.
+    `tests` are the conditions that `exact.keep` decides on the degrees, and `by` is the Out of the distance that orders the
+    rows, if it has to be by the degrees too. `places` has the answer's columns by the engine's names.
     """
     sql: str
     outs: list
@@ -35,6 +35,13 @@ class Translation:
     tests: list = dataclasses.field(default_factory=list)
     places: dict = dataclasses.field(default_factory=dict)
     radius: float | None = None     # of the pairs, in arcseconds
+    by: object = None
+    is_down: bool = False
+
+    @property
+    def is_filtered(self):
+        """Whether the engine's rows are more than those of the answer, or in another order."""
+        return bool(self.tests) or self.by is not None
 
 
 def translate(text, catalogue, maxrec=None, exact=False):
@@ -57,6 +64,7 @@ class Translator:
         self.group = [self.scope.column(name).whole.text for name in query.group]
         self.is_grouped = bool(self.group) or any(is_call(item.value, *AGGREGATES) for item in query.items)
         self.items = []             # the engine's items
+        self.by = None              # the Out that orders by the degrees
         self.check_grouping()
 
     def check_grouping(self):
@@ -67,18 +75,19 @@ class Translator:
 
     def translation(self, maxrec):
         tests = [one for one in self.where if one.is_rounded] if self.slack else []
-        if tests:
-            self.check_exact()
         found = outs.named([out for item in self.query.items for out in self.outs_of(item)])
         key = self.order_key(found) if self.query.order is not None else None
+        if tests or self.by:
+            self.check_exact()
         for name in sorted(set().union(*(test.names for test in tests))):
             self.place(name)
         limit = self.query.top
         if maxrec is not None:
             limit = maxrec + 1 if limit is None else min(limit, maxrec + 1)
-        sql = self.text(key, None if tests else limit)
+        sql = self.text(key, None if tests or self.by else limit)
         radius = next((one.arcsec for one in self.where if isinstance(one, areas.Near) and one.is_join), None)
-        return Translation(sql, found, self.query.top, tests, {name: k for k, name in enumerate(self.items)}, radius)
+        places = {name: k for k, name in enumerate(self.items)}
+        return Translation(sql, found, self.query.top, tests, places, radius, self.by, self.query.down)
 
     def check_exact(self):
         if not self.catalogue.has_degrees:
@@ -213,29 +222,34 @@ class Translator:
         name, text = item.alias or "distance", self.chord(item.value).text
         if not self.catalogue.has_degrees:
             place = self.place(text)
-            return outs.Out(name, outs.distance(place), "deg", "from the grid, good to 1.4 mas", place)
+            return outs.Out(name, outs.distance(place), "deg", "from the grid, good to 1.4 mas", place, is_distance=True)
         sides = []
         for there in Where(self.scope).distance(item.value.args):
             kept = [(there.table + name, self.catalogue.column(name).scale) for name in DEGREES] if there.is_row else []
             sides.append([(self.place(column), scale) for column, scale in kept] or [there.ra, there.dec])
-        return outs.Out(name, outs.separation(*sides), "deg", key=text)
+        return outs.Out(name, outs.separation(*sides), "deg", key=text, is_distance=True)
 
     # -- the order
 
     def order_key(self, found):
         """The place of the engine's item that orders."""
+        out = self.ordering(found)
+        if out.key is None:
+            raise SkyqError(f"a position {NEED_DEGREES.format('it')}")
+        if self.slack and out.is_distance:
+            self.by = out
+        return self.place(out.key) if isinstance(out.key, str) else out.key
+
+    def ordering(self, found):
+        """The Out that orders: one of those of the query, by its place or alias, or one of its own."""
         node = self.query.order
         if isinstance(node, tree.Number):
             if not (node.value.denominator == 1 and 1 <= node.value <= len(found)):
                 raise SkyqError(f"ORDER BY {float(node.value):g} is the place of no column; there are {len(found)}")
-            key = found[int(node.value) - 1].key
-        elif isinstance(node, tree.Name) and node.table is None and node.name.lower() in self.aliases():
-            key = found[[out.name.lower() for out in found].index(node.name.lower())].key
-        else:
-            key = self.outs_of(tree.Item(node))[0].key
-        if key is None:
-            raise SkyqError(f"a position {NEED_DEGREES.format('it')}")
-        return self.place(key) if isinstance(key, str) else key
+            return found[int(node.value) - 1]
+        if isinstance(node, tree.Name) and node.table is None and node.name.lower() in self.aliases():
+            return found[[out.name.lower() for out in found].index(node.name.lower())]
+        return self.outs_of(tree.Item(node))[0]
 
     def aliases(self):
         return [item.alias.lower() for item in self.query.items if item.alias]

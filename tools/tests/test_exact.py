@@ -96,6 +96,24 @@ class Exact(support.WithFolder):
         want = [(int(n),) for n in self.ids[apart <= limit][-4:]]
         self.assertEqual((len(want), self.ids_of([text], True)[0]), (4, want))
 
+    def test_the_nearest_first_where_the_grid_cannot_tell(self):
+        rng = np.random.default_rng(8)
+        turns, apart = rng.uniform(0, 2 * np.pi, COUNT), np.full(COUNT, 0.003) + rng.permutation(COUNT) * 0.05 * MAS
+        dec = 2 + apart * np.sin(turns)
+        ra = 150 + apart * np.cos(turns) / np.cos(np.radians(dec))
+        Table({"id": self.ids, "ra": np.round(ra, 12), "dec": np.round(dec, 12)}).write(self.path("ring.fits"))
+        self.assertEqual(support.skyq("ingest", self.path("ring.fits"), self.path("kept"), "--degrees").returncode, 0)
+        order = self.ids[np.argsort(separation(np.round(ra, 12), np.round(dec, 12), 150, 2))].tolist()
+        catalogue = Catalogue.load(self.path("kept"))
+        for order_by, want in (("", order[:9]), (" DESC", order[::-1][:9])):
+            for text in (f"SELECT TOP 9 id FROM Object ORDER BY DISTANCE(POINT(ra,dec),POINT(150,2)){order_by}",
+                         f"SELECT TOP 9 id,DISTANCE(150,2,ra,dec) AS d FROM Object ORDER BY d{order_by}"):
+                ask = lambda sql: engine.ask(catalogue.folder, [sql])[0]  # noqa: E731
+                self.assertEqual(query.answer(catalogue, text, ask, is_exact=True).table["id"].tolist(), want)
+                self.assertNotEqual(query.answer(catalogue, text, ask).table["id"].tolist(), want)
+        with self.assertRaisesRegex(SkyqError, "ingest it with --degrees$"):
+            translate.translate("SELECT TOP 9 id FROM Object ORDER BY DISTANCE(POINT(ra,dec),POINT(150,2))", Catalogue.load(self.path("plain")), exact=True)
+
     def test_without_kept_degrees_exact_says_how_to_keep_them(self):
         with self.assertRaisesRegex(SkyqError, "^--exact decides on the degrees, .* ingest it with --degrees$"):
             translate.translate("SELECT id FROM Object WHERE 1=CONTAINS(POINT(ra,dec),CIRCLE(1,2,3))", Catalogue.load(self.path("plain")), exact=True)
