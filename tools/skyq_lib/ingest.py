@@ -41,12 +41,19 @@ def healpix_column(ra, dec, nside, places):
     return encode("healpix", "healpix", np.asarray(pixels, "i8"), np.zeros(len(ra), bool), unit=None, description=what, places=places)
 
 
-def chosen_names(table, used, columns, scales, drop):
-    """The table's columns that are to be taken; a SkyqError for a name that it has not."""
+def chosen_names(table, position, id_name, columns, scales, drop):
+    """The table's columns that are to be taken; a SkyqError for a name that it has not, or that is the position or the id."""
     for name in [*(columns or []), *scales, *drop]:
         if name not in table.colnames:
             raise SkyqError(f"no column {name} among {', '.join(table.colnames)}")
-    return [name for name in table.colnames if name not in used and name not in drop and (columns is None or name in columns)]
+        if name in position:
+            raise SkyqError(f"column {name} is of the position, which is always taken; --degrees keeps its degrees too")
+        if name == id_name:
+            raise SkyqError(f"column {name} is the objectId, which is always taken; --id none numbers the rows")
+    return [
+        name for name in table.colnames
+        if name not in (*position, id_name, *drop) and (columns is None or name in columns)
+    ]
 
 
 def further_column(name, column, places, taken, scale, notes):
@@ -85,7 +92,7 @@ def ingest(table, folder, *, source="table", overlap_arcsec=60.0, id=None, ra=No
     judge_folder(folder)
     ra_name, dec_name = position_columns(table, ra, dec)
     id_name = id_column(table, id, notes)
-    names = chosen_names(table, {ra_name, dec_name, id_name}, columns, scales, drop)
+    names = chosen_names(table, (ra_name, dec_name), id_name, columns, scales, drop)
     right, declination, places = positions(table, ra_name, dec_name)
     right, declination, ids = right[places], declination[places], ids_of(table, id_name, places)
     if len(ids) > MOST_ROWS:

@@ -103,10 +103,15 @@ def is_number(word):
         return False
 
 
+def text_of_object(word):
+    """A word that a reader made an object: bytes, a string, or None where there is none."""
+    return word.decode("utf-8", "replace") if isinstance(word, bytes) else "" if word is None else str(word)
+
+
 def text_of(values):
     """A column of bytes, strings or objects as unique strings without blanks around them, and each row's number."""
     if values.dtype.kind == "O":
-        values = np.array([word.decode("utf-8", "replace") if isinstance(word, bytes) else str(word) for word in values], "U")
+        values = np.array([text_of_object(word) for word in values], "U")
     unique, number = np.unique(values, return_inverse=True)
     if unique.dtype.kind == "S":
         unique = np.array([word.decode("utf-8", "replace") for word in unique], "U")
@@ -141,7 +146,8 @@ def encode(name, source, values, mask, *, unit, description, places, scale=None,
     column = Column(name, source, "int", unit=unit, description=description)
     mask = np.array(mask, bool)
     kind = values.dtype.kind
-    if values.ndim > 1:
+    is_ragged = kind == "O" and any(isinstance(value, (np.ndarray, list, tuple)) for value in values)
+    if values.ndim > 1 or is_ragged:
         raise LeftOut(f"column {source} holds arrays")
     if kind in "USO":
         column.kind, column.type = "word", "str"

@@ -40,6 +40,8 @@ REFUSED = {
     "unknown_ra": (Table(TWO), ("--ra", "RA2"), "no column RA2 among id, ra, dec"),
     "unknown_id": (Table(TWO), ("--id", "key"), "no column key among id, ra, dec"),
     "scaled_int": (Table({**TWO, "n": [1, 2]}), ("--scale", "n:10"), "column n holds no floats, so it takes no scale"),
+    "column_of_position": (Table(TWO), ("--column", "ra"), "column ra is of the position, which is always taken; --degrees keeps its degrees too"),
+    "drop_of_id": (Table(TWO), ("--drop", "id"), "column id is the objectId, which is always taken; --id none numbers the rows"),
     "large_scale": (Table({**TWO, "mag": [9.5, 8.5]}), ("--scale", "mag:1e15"),
                     "row 1: column mag: 9.5 times 1000000000000000 passes 2^50; give it a smaller scale, or leave it out with --drop mag"),
 }

@@ -1,15 +1,18 @@
 """Catalogue folders: the values of real tables, one text from three formats, and what bad tables get."""
 import json
 import os
+import resource
+import signal
 import subprocess
 import unittest
+from unittest import mock
 
 import astropy.units as u
 import numpy as np
 from astropy.coordinates import SkyCoord
 from astropy.table import Table
 from astropy.time import Time
-from support import OPENNGC, TYCHO2, WithFolder, skyq_here
+from support import OPENNGC, TYCHO2, WithFolder, skyq, skyq_here
 from test_tables import with_nulls
 
 from skyq_lib.columns import Catalogue, degrees_of_rows, read_rows
@@ -185,6 +188,38 @@ class Folders(WithFolder):
         self.assertRefused(skyq_here("ingest", OPENNGC, self.path("file")), f"skyq ingest: {self.path('file')}: is there and is no folder")
         self.assertRefused(skyq_here("ingest", OPENNGC, self.folder), f"skyq ingest: {self.folder}: holds other files and is no catalogue folder; name a new one")
         self.assertEqual(os.listdir(self.folder), ["file"])
+
+    def test_an_ingest_that_was_killed_leaves_nothing_in_the_way(self):
+        ended = subprocess.Popen(["true"])
+        ended.wait()
+        os.makedirs(self.path("c"))
+        for name in (f"catalogue.csv.new-{ended.pid}", f"sky.txt.new-{ended.pid}", f"catalogue.csv.new-{os.getpid()}"):
+            with open(self.path("c", name), "w", encoding="utf-8") as file:
+                file.write("half")
+        self.assertEqual(skyq_here("ingest", OPENNGC, self.path("c")).returncode, 0)
+        self.assertEqual(sorted(os.listdir(self.path("c"))), FILES)
+
+    def test_a_disk_that_is_full_leaves_nothing(self):
+        def no_large_files():
+            resource.setrlimit(resource.RLIMIT_FSIZE, (20000, 20000))
+            signal.signal(signal.SIGXFSZ, signal.SIG_IGN)
+
+        before = self.path("before")
+        skyq_here("ingest", OPENNGC, before)
+        for folder in (self.path("c"), before):
+            self.assertRefused(skyq("ingest", TYCHO2, folder, preexec_fn=no_large_files), "skyq ingest: File too large")
+        self.assertEqual((os.path.exists(self.path("c")), sorted(os.listdir(before)), Catalogue.load(before).rows), (False, FILES, 200))
+
+    def test_limits_of_the_engine_are_told(self):
+        path = self.path("t.csv")
+        with open(path, "w", encoding="utf-8") as file:
+            file.write("ra,dec\n1,2\n3,4\n")
+        cases = [("skyq_lib.ingest.MOST_ROWS", 1, "2 rows; the engine takes 1"), ("skyq_lib.folders.MOST_BYTES", 60, "73 bytes of text; the engine takes 60: "
+                  "leave columns out with --drop, or round them with --scale")]
+        for name, limit, want in cases:
+            with mock.patch(name, limit):
+                self.assertRefused(skyq_here("ingest", path, self.path("c")), f"skyq ingest: {path}: {want}")
+            self.assertFalse(os.path.exists(self.path("c")))
 
     def test_a_sidecar_is_plain_json(self):
         skyq_here("ingest", OPENNGC, self.path("c"))

@@ -88,7 +88,7 @@ class Others(unittest.TestCase):
         self.assertEqual((whole.tolist(), mask.tolist(), column.nulls), ([7, 0], [False, True], 1))
 
     def test_words_are_numbered_in_their_order(self):
-        for values in (np.array(["G2 ", "", "A0", "G2"]), np.array([b"G2 ", b"", b"A0", b"G2"]), np.array(["G2 ", "", "A0", "G2"], object)):
+        for values in (np.array(["G2 ", "", "A0", "G2"]), np.array([b"G2 ", b"", b"A0", b"G2"]), np.array(["G2 ", None, b"A0", "G2"], object)):
             column, whole, mask = encoded(values)
             self.assertEqual((column.words, whole.tolist(), mask.tolist()), (["A0", "G2"], [1, 0, 0, 1], [False, True, False, False]))
             self.assertEqual(column.values(whole, mask).tolist(), ["G2", None, "A0", "G2"])
@@ -100,7 +100,8 @@ class Others(unittest.TestCase):
         self.assertEqual(notes, ["column c is taken as words: row 3 has 'n/a' among numbers"])
 
     def test_what_does_not_fit_may_be_left_out(self):
-        for values, want in [(np.zeros((2, 2)), "column c holds arrays"), (np.array([1j]), "column c has the type complex128, which the engine cannot hold"),
+        ragged = np.array([np.zeros(1), None, np.zeros(2)], object)
+        for values, want in [(np.zeros((2, 2)), "column c holds arrays"), (ragged, "column c holds arrays"), (np.array([1j]), "column c has the type complex128, which the engine cannot hold"),
                              (np.array([f"w{k}" for k in range(4097)]), "column c has 4097 different words, more than 4096")]:
             with self.assertRaises(LeftOut) as caught:
                 encoded(values)
