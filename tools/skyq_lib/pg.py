@@ -35,7 +35,7 @@ def add_words(parser, command):
 
 def run(words):
     """Runs `pg load` or `pg query`."""
-    psycopg = need("psycopg", "skyq pg")
+    psycopg = need("psycopg", "PostgreSQL")
     catalogue = Catalogue.load(words.folder)
     if not re.fullmatch(r"[A-Za-z_][A-Za-z0-9_]{0,49}", words.schema):
         raise SkyqError("--schema is a name of letters, digits and _")
@@ -72,7 +72,7 @@ def ask(catalogue, words):
 
 def connected(dsn, catalogue, schema):
     """A connection to the database that holds the catalogue's tables; a SkyqError if it holds none, or those of another."""
-    psycopg = need("psycopg", "skyq pg")
+    psycopg = need("psycopg", "PostgreSQL")
     base = psycopg.connect(dsn, autocommit=True)
     found = pg_load.mark_of(base, schema)
     if found != pg_load.mark(catalogue):

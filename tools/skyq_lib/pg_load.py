@@ -71,7 +71,7 @@ class Rows:
 
 def load(catalogue, dsn, schema, far):
     """Makes the tables; returns a line that says what there is."""
-    psycopg = need("psycopg", "skyq pg")
+    psycopg = need("psycopg", "PostgreSQL")
     rows = Rows(catalogue)
     with contextlib.ExitStack() as stack:
         bases = [stack.enter_context(psycopg.connect(one)) for one in (dsn, *far)]

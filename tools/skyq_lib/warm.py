@@ -1,8 +1,7 @@
 """One program that has read a catalogue and waits for its script at a named pipe."""
-import ctypes
 import itertools
 import os
-import signal
+import shutil
 import subprocess
 import threading
 import time
@@ -11,16 +10,15 @@ from skyq_lib import engine, transcript
 from skyq_lib.columns import CSV, SKY
 from skyq_lib.errors import SkyqError
 
-LOOK = 0.005                # seconds between two looks at whether the pipe opens
-PART = 65536                # bytes that a pipe is given at a time
-DEATH_SIGNAL = 1            # Linux: prctl's PR_SET_PDEATHSIG
+LOOK, LONGEST_LOOK = 0.002, 0.02    # seconds between two looks at whether the pipe opens, at first and later
+PART = 65536                        # bytes that a pipe is given at a time
 NUMBERS = itertools.count(1)
-LIBRARY = ctypes.CDLL(None, use_errno=True)
 
 
-def end_with_the_caller():
-    """In the new process: it ends when the thread that started it does, even if that is killed."""
-    LIBRARY.prctl(DEATH_SIGNAL, signal.SIGTERM)
+def bound_to_the_caller():
+    """Words before a command that let it end when the thread that started it does, even if that is killed."""
+    setpriv = shutil.which("setpriv")
+    return [setpriv, "--pdeathsig", "TERM", "--"] if setpriv else []
 
 
 class Warm:
@@ -33,8 +31,7 @@ class Warm:
         os.mkfifo(self.pipe, 0o600)
         words = [engine.program(), "query", os.path.join(catalogue, SKY), os.path.join(catalogue, CSV), self.pipe, str(workers)]
         self.process = subprocess.Popen(
-            words, stdin=subprocess.DEVNULL, stdout=subprocess.PIPE, stderr=subprocess.PIPE, env=engine.environment(),
-            preexec_fn=end_with_the_caller if hasattr(LIBRARY, "prctl") else None,
+            bound_to_the_caller() + words, stdin=subprocess.DEVNULL, stdout=subprocess.PIPE, stderr=subprocess.PIPE, env=engine.environment()
         )
         self.told = []
         self.reader = threading.Thread(target=engine.pass_on, args=(self.process.stderr, self.told), daemon=True)
@@ -42,6 +39,7 @@ class Warm:
 
     def wait_until_ready(self):
         """Returns when the program has accepted the catalogue; a SkyqError if it ends instead."""
+        look = LOOK
         while self.script is None:
             status = self.process.poll()
             if status is not None:
@@ -50,7 +48,8 @@ class Warm:
             try:        # fails as long as no one reads the other end
                 self.script = os.open(self.pipe, os.O_WRONLY | os.O_NONBLOCK)
             except OSError:
-                time.sleep(LOOK)
+                time.sleep(look)
+                look = min(look * 1.1, LONGEST_LOOK)
         os.set_blocking(self.script, True)
 
     def answers(self, queries):

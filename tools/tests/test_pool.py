@@ -23,7 +23,7 @@ def is_alive(pid):
         return False
 
 
-def until(holds, seconds=10.0):
+def until(holds, seconds=60.0):
     """Waits for something; whether it came to hold."""
     end = time.monotonic() + seconds
     while time.monotonic() < end:
@@ -57,7 +57,7 @@ class Programs(support.WithFolder):
         with open(self.path("log"), encoding="utf-8") as file:
             return [tuple(int(number) for number in line.split()[1:]) for line in file if line.startswith(word)]
 
-    def asked(self, pool, queries, seconds=20.0):
+    def asked(self, pool, queries, seconds=60.0):
         """Asks queries at once; what each got, by query: a number, or the fault."""
         found = {}
 
@@ -78,7 +78,7 @@ class Programs(support.WithFolder):
 class Scripts(Programs):
     def test_queries_that_wait_together_share_a_script(self):
         pool = self.pool()
-        first = threading.Thread(target=self.asked, args=(pool, ["sleep 0.5"]))
+        first = threading.Thread(target=self.asked, args=(pool, ["sleep 2"]))
         first.start()
         self.assertTrue(until(lambda: self.log("script")))
         words = {f"say {'x' * k}": k for k in range(20)}
@@ -96,12 +96,12 @@ class Scripts(Programs):
 
     def test_a_program_stands_ready_while_another_works(self):
         pool = self.pool(programs=2)
-        slow = threading.Thread(target=self.asked, args=(pool, ["sleep 3"]))
+        slow = threading.Thread(target=self.asked, args=(pool, ["sleep 90"], 100.0))
         slow.start()
         self.assertTrue(until(lambda: self.log("script")))
-        begun = time.monotonic()
         self.assertEqual(self.asked(pool, ["say abc"]), {"say abc": 3})
-        self.assertLess(time.monotonic() - begun, 2.5)
+        self.assertTrue(slow.is_alive())
+        pool.close()
         slow.join()
 
     def test_a_script_longer_than_a_pipe_holds(self):
@@ -111,7 +111,7 @@ class Scripts(Programs):
 
     def test_a_query_that_ends_the_program_takes_no_other_with_it(self):
         pool = self.pool()
-        first = threading.Thread(target=self.asked, args=(pool, ["sleep 0.5"]))
+        first = threading.Thread(target=self.asked, args=(pool, ["sleep 2"]))
         first.start()
         self.assertTrue(until(lambda: self.log("script")))
         found = self.asked(pool, ["say a", "crash", "say abc"])
@@ -127,15 +127,15 @@ class Scripts(Programs):
 class Limits(Programs):
     def test_a_query_that_takes_too_long_ends_its_program(self):
         pool = self.pool()
-        found = self.asked(pool, ["sleep 30"], 0.5)
-        self.assertEqual(str(found["sleep 30"]), "the query took more than 0.5 s; ask for less, or give it more time as an asynchronous job")
+        found = self.asked(pool, ["sleep 90"], 2)
+        self.assertEqual(str(found["sleep 90"]), "the query took more than 2 s; ask for less, or give it more time as an asynchronous job")
         [(pid, _)] = self.log("script")
         self.assertTrue(until(lambda: not is_alive(pid)))
         self.assertEqual(self.asked(pool, ["say abc"]), {"say abc": 3})
 
     def test_the_queue_has_a_length(self):
         pool = self.pool(most_waiting=3)
-        slow = threading.Thread(target=self.asked, args=(pool, ["sleep 1"]))
+        slow = threading.Thread(target=self.asked, args=(pool, ["sleep 3"]))
         slow.start()
         self.assertTrue(until(lambda: self.log("script")))
         words = [f"say {'x' * k}" for k in range(5)]
@@ -148,8 +148,8 @@ class Limits(Programs):
     def test_a_client_that_goes_away_ends_its_query(self):
         pool, begun = self.pool(), time.monotonic()
         with self.assertRaises(Cancelled):
-            pool.ask("sleep 30", 60, is_wanted=lambda: time.monotonic() - begun < 0.5)
-        self.assertLess(time.monotonic() - begun, 10)
+            pool.ask("sleep 90", 80, is_wanted=lambda: time.monotonic() - begun < 2)
+        self.assertLess(time.monotonic() - begun, 60)
         [(pid, _)] = self.log("script")
         self.assertTrue(until(lambda: not is_alive(pid)))
 
@@ -157,14 +157,14 @@ class Limits(Programs):
 class Cancels(Programs):
     def test_a_cancelled_query_ends_its_program_and_the_others_are_asked_again(self):
         pool, held = self.pool(), []
-        first = threading.Thread(target=self.asked, args=(pool, ["sleep 0.5"]))
+        first = threading.Thread(target=self.asked, args=(pool, ["sleep 2"]))
         first.start()
         self.assertTrue(until(lambda: self.log("script")))
         faults = []
 
         def hold():
             try:
-                pool.ask("sleep 30", 60, hold=held.append)
+                pool.ask("sleep 90", 80, hold=held.append)
             except Cancelled as fault:
                 faults.append(fault)
 
@@ -182,7 +182,7 @@ class Cancels(Programs):
 
     def test_a_query_that_waits_is_taken_out(self):
         pool, held = self.pool(), []
-        first = threading.Thread(target=self.asked, args=(pool, ["sleep 0.7"]))
+        first = threading.Thread(target=self.asked, args=(pool, ["sleep 2"]))
         first.start()
         self.assertTrue(until(lambda: self.log("script")))
         second = threading.Thread(target=lambda: self.assertRaises(Cancelled, pool.ask, "say a", 20, held.append))
@@ -215,7 +215,7 @@ class Starts(Programs):
         pool = Pool(self.folder, 3, 0)
         pool.start()
         self.assertTrue(until(lambda: len(self.log("start")) == 3))
-        slow = threading.Thread(target=self.asked, args=(pool, ["sleep 30"]))
+        slow = threading.Thread(target=self.asked, args=(pool, ["sleep 90"]))
         slow.start()
         self.assertTrue(until(lambda: self.log("script")))
         pool.close()

@@ -24,7 +24,7 @@ def plain_answer(catalogue, text, ask, maxrec=None, is_exact=False):
 
 
 class Jobs(Programs):
-    limits = Limits(job_seconds=30, longest=50)
+    limits = Limits(job_seconds=80, longest=100)
 
     def setUp(self):
         super().setUp()
@@ -46,10 +46,10 @@ class Jobs(Programs):
         return self.log("script")[-1][0]
 
     def test_a_job_goes_through_its_phases(self):
-        path = self.tap.job(QUERY="sleep 0.7", RUNID="mine")
+        path = self.tap.job(QUERY="sleep 2", RUNID="mine")
         job = self.job(path)
-        self.assertEqual((job.find(TAP + "phase").text, job.find(TAP + "runId").text, job.find(TAP + "executionDuration").text), ("PENDING", "mine", "30"))
-        self.assertEqual({one.get("id"): one.text for one in job.find(TAP + "parameters")}, {"LANG": "ADQL", "QUERY": "sleep 0.7", "RUNID": "mine"})
+        self.assertEqual((job.find(TAP + "phase").text, job.find(TAP + "runId").text, job.find(TAP + "executionDuration").text), ("PENDING", "mine", "80"))
+        self.assertEqual({one.get("id"): one.text for one in job.find(TAP + "parameters")}, {"LANG": "ADQL", "QUERY": "sleep 2", "RUNID": "mine"})
         self.assertEqual(self.tap.post(path + "/phase", PHASE="RUN").status, 303)
         self.assertTrue(until(lambda: self.tap.get(path + "/phase").body == b"EXECUTING"))
         self.assertEqual(self.tap.get(path + "/results/result").status, 404)
@@ -76,7 +76,7 @@ class Jobs(Programs):
             self.assertEqual(self.tap.get(path + "/results/result").status, 404)
 
     def test_an_aborted_job_ends_its_program(self):
-        path = self.tap.job(QUERY="sleep 30", PHASE="RUN")
+        path = self.tap.job(QUERY="sleep 90", PHASE="RUN")
         pid = self.pid()
         self.assertTrue(is_alive(pid))
         self.tap.post(path + "/phase", PHASE="ABORT")
@@ -87,7 +87,7 @@ class Jobs(Programs):
 
     def test_a_deleted_job_ends_its_program_and_is_gone(self):
         for end in (lambda path: self.tap.request("DELETE", path), lambda path: self.tap.post(path, ACTION="DELETE")):
-            path = self.tap.job(QUERY="sleep 30", PHASE="RUN")
+            path = self.tap.job(QUERY="sleep 90", PHASE="RUN")
             count = len(self.log("script"))
             self.assertTrue(until(lambda: self.tap.get(path + "/phase").body == b"EXECUTING"))
             self.assertTrue(until(lambda: len(self.log("script")) >= max(1, count)))
@@ -97,8 +97,8 @@ class Jobs(Programs):
             self.assertTrue(until(lambda: not is_alive(pid)))
 
     def test_the_time_of_a_job(self):
-        path = self.tap.job(QUERY="sleep 30")
-        for word, seconds in (("7", "7"), ("1000", "50"), ("0", "50"), ("1", "1")):
+        path = self.tap.job(QUERY="sleep 90")
+        for word, seconds in (("7", "7"), ("1000", "100"), ("0", "100"), ("3", "3")):
             self.tap.post(path + "/executionduration", EXECUTIONDURATION=word)
             self.assertEqual(self.tap.get(path + "/executionduration").body.decode(), seconds)
         for word in ("-1", "x", "nan", "inf"):
@@ -106,7 +106,7 @@ class Jobs(Programs):
         self.tap.post(path + "/phase", PHASE="RUN")
         pid = self.pid()
         self.assertEqual(self.tap.phase(path), "ERROR")
-        self.assertIn("took more than 1 s", self.job(path).find(f"{TAP}errorSummary/{TAP}message").text)
+        self.assertIn("took more than 3 s", self.job(path).find(f"{TAP}errorSummary/{TAP}message").text)
         self.assertTrue(until(lambda: not is_alive(pid)))
 
     def test_a_job_is_forgotten_when_its_time_is_over(self):
