@@ -13,6 +13,7 @@ import uuid
 from skyq_lib.errors import SkyqError
 from skyq_lib.markup import HEAD, attributes, element, text
 from skyq_lib.pool import Busy, Cancelled
+from skyq_lib.votable import MIME, fault_document
 
 ACTIVE, ENDED = ("PENDING", "QUEUED", "EXECUTING"), ("COMPLETED", "ERROR", "ABORTED")
 SPACES = (' xmlns:uws="http://www.ivoa.net/xml/UWS/v1.0" xmlns:xlink="http://www.w3.org/1999/xlink"'
@@ -83,7 +84,9 @@ class Job:
                 self.changed.wait_for(lambda: self.phase != before, seconds)
 
     def result(self):
-        """The bytes of the result."""
+        """The bytes of the result, or of the fault."""
+        if self.path is None:
+            return fault_document(self.why)
         with open(self.path, "rb") as file:
             return file.read()
 
@@ -171,7 +174,11 @@ class Jobs:
                 found = self.work(job.parameters, job.seconds, lambda question: self.hold(job, question), lambda: job.turn("EXECUTING"))
             except Cancelled:
                 return
-        self.finish(job, found)
+        try:
+            self.finish(job, found)
+        except OSError as fault:        # the disk is full
+            job.why, job.kind = f"the result cannot be kept: {fault.strerror}", MIME
+            job.turn("ERROR")
 
     def finish(self, job, found):
         """Keeps what came of a job."""

@@ -1,4 +1,5 @@
 """One program that has read a catalogue and waits for its script at a named pipe."""
+import contextlib
 import itertools
 import os
 import shutil
@@ -84,7 +85,8 @@ class Warm:
         self.process.wait()
         self.reader.join()
         self.process.stdout.close()
-        os.unlink(self.pipe)
+        with contextlib.suppress(FileNotFoundError):    # the pool has closed, and removed its folder
+            os.unlink(self.pipe)
 
 
 def write_all(pipe, text):

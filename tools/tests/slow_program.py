@@ -3,7 +3,7 @@
 
     slow_program.py query SKY CSV SCRIPT WORKERS
 
-`sleep N` takes N seconds, `crash` ends the program with status 9, `say WORD` is answered by the length of WORD. It adds a
+`sleep N` takes N seconds, `hold NAME` as long as no file NAME is beside CSV, `crash` ends the program with status 9, `say WORD` is answered by the length of WORD. It adds a
 line to the file `log` beside CSV when it starts, `start PID`, and for each script, `script PID N` with its N queries. A
 CSV that begins with `bad` is refused as the program does.
 """
@@ -17,8 +17,10 @@ def note(path, *words):
         file.write(" ".join(str(word) for word in words) + "\n")
 
 
-def answer(number, query):
+def answer(number, query, folder):
     word, _, more = query.partition(" ")
+    while word == "hold" and not os.path.exists(os.path.join(folder, more)):
+        time.sleep(0.02)
     if word == "sleep":
         time.sleep(float(more))
     if word == "crash":
@@ -30,7 +32,8 @@ def answer(number, query):
 
 
 def main(_, sky, catalogue, script, workers):
-    log = os.path.join(os.path.dirname(catalogue), "log")
+    folder = os.path.dirname(catalogue)
+    log = os.path.join(folder, "log")
     note(log, "start", os.getpid())
     with open(catalogue, encoding="utf-8") as file:
         if file.read().startswith("bad"):
@@ -39,7 +42,7 @@ def main(_, sky, catalogue, script, workers):
     with open(script, encoding="utf-8") as file:
         queries = file.read().splitlines()
     note(log, "script", os.getpid(), len(queries))
-    sys.stdout.write("".join(answer(number, query) for number, query in enumerate(queries, 1)))
+    sys.stdout.write("".join(answer(number, query, folder) for number, query in enumerate(queries, 1)))
 
 
 if __name__ == "__main__":

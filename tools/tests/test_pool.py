@@ -9,7 +9,7 @@ import unittest
 
 import support
 from skyq_lib.errors import SkyqError
-from skyq_lib.pool import Busy, Cancelled, Pool
+from skyq_lib.pool import Busy, Cancelled, Pool, Question
 
 SLOW = os.path.join(support.HERE, "slow_program.py")
 
@@ -75,15 +75,29 @@ class Programs(support.WithFolder):
         return found
 
 
+    def held(self, pool):
+        """Lets a pool's program work until self.let_go(thread, count): until so many queries wait."""
+        thread = threading.Thread(target=self.asked, args=(pool, ["hold go"]))
+        thread.start()
+        self.assertTrue(until(lambda: self.log("script")))
+        return thread
+
+    def let_go(self, pool, thread, count):
+        self.assertTrue(until(lambda: len(pool.waiting) >= count))
+        self.write("go", "")
+        thread.join()
+
+
 class Scripts(Programs):
     def test_queries_that_wait_together_share_a_script(self):
         pool = self.pool()
-        first = threading.Thread(target=self.asked, args=(pool, ["sleep 2"]))
-        first.start()
-        self.assertTrue(until(lambda: self.log("script")))
+        first, found = self.held(pool), {}
         words = {f"say {'x' * k}": k for k in range(20)}
-        self.assertEqual(self.asked(pool, words), words)
-        first.join()
+        second = threading.Thread(target=lambda: found.update(self.asked(pool, words)))
+        second.start()
+        self.let_go(pool, first, 20)
+        second.join()
+        self.assertEqual(found, words)
         self.assertEqual([count for _, count in self.log("script")], [1, 20])
 
     def test_no_script_has_more_than_64(self):
@@ -111,11 +125,11 @@ class Scripts(Programs):
 
     def test_a_query_that_ends_the_program_takes_no_other_with_it(self):
         pool = self.pool()
-        first = threading.Thread(target=self.asked, args=(pool, ["sleep 2"]))
-        first.start()
-        self.assertTrue(until(lambda: self.log("script")))
-        found = self.asked(pool, ["say a", "crash", "say abc"])
-        first.join()
+        first, found = self.held(pool), {}
+        second = threading.Thread(target=lambda: found.update(self.asked(pool, ["say a", "crash", "say abc"])))
+        second.start()
+        self.let_go(pool, first, 3)
+        second.join()
         self.assertEqual((found["say a"], found["say abc"]), (1, 3))
         self.assertEqual(str(found["crash"]), "the program failed: out of memory")
         self.assertEqual([count for _, count in self.log("script")], [1, 3, 1, 1, 1])
@@ -127,23 +141,27 @@ class Scripts(Programs):
 class Limits(Programs):
     def test_a_query_that_takes_too_long_ends_its_program(self):
         pool = self.pool()
-        found = self.asked(pool, ["sleep 90"], 2)
-        self.assertEqual(str(found["sleep 90"]), "the query took more than 2 s; ask for less, or give it more time as an asynchronous job")
+        for seconds in (1, 10, 60):     # a busy machine may not have begun by then
+            found = self.asked(pool, ["sleep 90"], seconds)
+            self.assertEqual(str(found["sleep 90"]), f"the query took more than {seconds} s; ask for less, or give it more time as an asynchronous job")
+            if self.log("script"):
+                break
         [(pid, _)] = self.log("script")
         self.assertTrue(until(lambda: not is_alive(pid)))
         self.assertEqual(self.asked(pool, ["say abc"]), {"say abc": 3})
 
     def test_the_queue_has_a_length(self):
         pool = self.pool(most_waiting=3)
-        slow = threading.Thread(target=self.asked, args=(pool, ["sleep 3"]))
-        slow.start()
-        self.assertTrue(until(lambda: self.log("script")))
-        words = [f"say {'x' * k}" for k in range(5)]
-        found = self.asked(pool, words)
-        slow.join()
-        busy = [fault for fault in found.values() if isinstance(fault, Busy)]
-        self.assertEqual([str(fault) for fault in busy], ["3 queries wait already; ask again later"] * 2)
-        self.assertTrue(all(found[word] == len(word) - 4 for word in words if not isinstance(found[word], Busy)))
+        slow, questions = self.held(pool), [Question(f"say {'x' * k}") for k in range(3)]
+        for one in questions:
+            pool.put(one)
+        with self.assertRaises(Busy) as caught:
+            pool.ask("say a", 20)
+        self.assertEqual(str(caught.exception), "3 queries wait already; ask again later")
+        self.let_go(pool, slow, 3)
+        for length, one in enumerate(questions):
+            self.assertTrue(one.done.wait(60))
+            self.assertEqual(one.answer.columns[0].whole.tolist(), [length])
 
     def test_a_client_that_goes_away_ends_its_query(self):
         pool, begun = self.pool(), time.monotonic()
@@ -157,9 +175,7 @@ class Limits(Programs):
 class Cancels(Programs):
     def test_a_cancelled_query_ends_its_program_and_the_others_are_asked_again(self):
         pool, held = self.pool(), []
-        first = threading.Thread(target=self.asked, args=(pool, ["sleep 2"]))
-        first.start()
-        self.assertTrue(until(lambda: self.log("script")))
+        first = self.held(pool)
         faults = []
 
         def hold():
@@ -172,25 +188,24 @@ class Cancels(Programs):
         threads = [threading.Thread(target=hold), threading.Thread(target=lambda: found.update(self.asked(pool, ["say a", "say abc"])))]
         for thread in threads:
             thread.start()
+        self.let_go(pool, first, 3)
         self.assertTrue(until(lambda: len(self.log("script")) == 2))
         self.assertEqual(self.log("script")[1][1], 3)
         pool.cancel(held[0])
-        for thread in [first, *threads]:
+        for thread in threads:
             thread.join()
         self.assertEqual((len(faults), found), (1, {"say a": 1, "say abc": 3}))
         self.assertEqual([count for _, count in self.log("script")], [1, 3, 2])
 
     def test_a_query_that_waits_is_taken_out(self):
         pool, held = self.pool(), []
-        first = threading.Thread(target=self.asked, args=(pool, ["sleep 2"]))
-        first.start()
-        self.assertTrue(until(lambda: self.log("script")))
+        first = self.held(pool)
         second = threading.Thread(target=lambda: self.assertRaises(Cancelled, pool.ask, "say a", 20, held.append))
         second.start()
         self.assertTrue(until(lambda: held))
         pool.cancel(held[0])
         second.join()
-        first.join()
+        self.let_go(pool, first, 0)
         self.assertEqual(self.asked(pool, ["say abc"]), {"say abc": 3})
         self.assertEqual([count for _, count in self.log("script")], [1, 1])
 

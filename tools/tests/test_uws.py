@@ -163,6 +163,13 @@ class Jobs(Programs):
             self.assertEqual(self.tap.phase(second), "COMPLETED")
         self.assertEqual((self.tap.get(first).status, self.tap.get(second).status), (404, 200))
 
+    def test_a_result_that_cannot_be_kept_is_an_error(self):
+        path = self.tap.job(QUERY="say a")
+        with mock.patch.object(self.tap.jobs, "make_room", side_effect=OSError(28, "No space left on device")):
+            self.tap.post(path + "/phase", PHASE="RUN")
+            self.assertEqual(self.tap.phase(path), "ERROR")
+        self.assertEqual(status_of(self.tap.get(path + "/error")), [("ERROR", "the result cannot be kept: No space left on device")])
+
     def test_moments(self):
         self.assertEqual(uws.stamp(uws.moment_of("2026-11-29T18:00:00.25Z")), "2026-11-29T18:00:00.250Z")
         self.assertEqual(uws.stamp(uws.moment_of("2026-11-29T20:00:00+02:00")), "2026-11-29T18:00:00.000Z")
