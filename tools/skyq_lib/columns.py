@@ -4,12 +4,13 @@ The engine holds whole numbers. A float column is held as its values times a sca
 the words' numbers in a list; all this is in the sidecar `columns.json` of the catalogue folder:
 
     catalogue = Catalogue.load(folder)
-    column = catalogue.column("vtmag")          # by the user's name, whatever the case, or by the engine's
+    column = catalogue.column("vtmag")          # by the user's name, whatever the case, or else by the engine's
     column.values(whole_numbers, mask)          # what the whole numbers stand for: a numpy masked array
 """
 import dataclasses
 import json
 import os
+import re
 
 import numpy as np
 
@@ -24,7 +25,8 @@ MOST_ROWS = 4194304
 MOST_BYTES = 2**29                  # of a catalogue's text
 MOST_WORDS = 4096
 POSITION = ("objectId", "x", "y", "z")
-DEGREES = ("ra_deg", "dec_deg")     # the engine's names of the columns that keep the degrees (ingest --degrees)
+DEGREES = ("ra_deg", "dec_deg")     # the engine's names of the columns that keep the degrees (ingest --degrees), and of no others
+NAME = re.compile(r"[A-Za-z_][A-Za-z0-9_]{0,31}")   # of the engine
 NULL = -(2**63)                     # stands for an empty field while the text is read; no value can be it
 
 
@@ -52,10 +54,23 @@ class Column:
         if self.kind == "float":
             found = (whole / float(self.scale)).astype(self.type)
         elif self.kind == "word":
-            found = np.array(self.words or [""])[np.where(mask, 0, whole)]
+            numbers, words = np.where(mask, 0, whole), np.array(self.words or [""])
+            if numbers.min(initial=0) < 0 or numbers.max(initial=0) >= len(words):
+                raise SkyqError(f"column {self.source} has words that its sidecar does not list; ingest the table again")
+            found = words[numbers]
         else:
             found = whole.astype(self.type)
         return np.ma.MaskedArray(found, mask=mask)
+
+    def judge(self):
+        """A ValueError where the fields, whose types are right, are those of no column."""
+        is_word = self.kind == "word"
+        is_right = self.kind in ("float", "int", "bool", "word") and NAME.fullmatch(self.name) and self.scale >= 1
+        is_right = is_right and (self.scale == 1 or self.kind == "float") and is_word == (self.words is not None)
+        if not is_right or not all(isinstance(word, str) for word in self.words or []) or is_word != (self.type == "str"):
+            raise ValueError
+        if np.dtype(self.type).kind not in {"float": "f", "int": "iu", "bool": "b", "word": "U"}[self.kind]:
+            raise ValueError
 
     def number_of_word(self, word):
         """The number of a word, or -1 if no row has it."""
@@ -92,13 +107,17 @@ class Catalogue:
         return DEGREES[0] in [column.name for column in self.columns]
 
     def column(self, name):
-        """The column of the user's name, whatever the case of its letters, or of the engine's name; None if there is none."""
-        tests = (lambda c: c.source == name, lambda c: c.source.lower() == name.lower(), lambda c: c.name == name)
-        for test in tests:
-            for column in self.columns:
-                if column.name not in DEGREES and test(column) or column.name == name:
+        """The column of the user's name, whatever the case of its letters, or else of the engine's name; None if there is none."""
+        own = [column for column in self.columns if column.name not in DEGREES]
+        for test in (lambda c: c.source == name, lambda c: c.source.lower() == name.lower()):
+            for column in own:
+                if test(column):
                     return column
-        return None
+        return self.engine_column(name)
+
+    def engine_column(self, name):
+        """The column of the engine's name; None if there is none."""
+        return next((column for column in self.columns if column.name == name), None)
 
     @staticmethod
     def load(folder):
@@ -112,8 +131,13 @@ class Catalogue:
                 fields = json.load(file)
             if fields.pop("format") != FORMAT:
                 raise SkyqError(f"is not of the format {FORMAT}; ingest the table again", path)
-            columns = [Column(**column) for column in fields.pop("columns")]
-            return Catalogue(**fields, columns=columns, folder=folder)
+            columns = [Column(**column) for column in list_of(fields.pop("columns"))]
+            found = Catalogue(**fields, columns=columns, folder=folder)
+            for part in (found, *columns):
+                judge_types(part)
+            for column in columns:
+                column.judge()
+            return found
         except (ValueError, TypeError, KeyError, AttributeError):
             raise SkyqError("is no sidecar of a catalogue; ingest the table again", path) from None
 
@@ -124,6 +148,21 @@ class Catalogue:
         with open(path, "w", encoding="utf-8") as file:
             json.dump(fields, file, indent=1, ensure_ascii=False, allow_nan=False)
             file.write("\n")
+
+
+def list_of(value):
+    if not isinstance(value, list):
+        raise ValueError
+    return value
+
+
+def judge_types(part):
+    """A ValueError where a field of a dataclass has another type than it says; a whole number may stand for a float."""
+    for field in dataclasses.fields(part):
+        value = getattr(part, field.name)
+        is_right = isinstance(value, (int, float) if field.type is float else field.type)
+        if not is_right or isinstance(value, bool) and field.type is not bool:
+            raise ValueError
 
 
 def numbers_of_text(text, path):
@@ -154,4 +193,4 @@ def degrees_of_rows(catalogue, rows):
     """Right ascensions and declinations of rows that read_rows gave: those kept by --degrees, else those of the grid."""
     if not catalogue.has_degrees:
         return to_degrees(rows["x"].data, rows["y"].data, rows["z"].data)
-    return tuple(catalogue.column(name).values(rows[name].data).data for name in DEGREES)
+    return tuple(catalogue.engine_column(name).values(rows[name].data).data for name in DEGREES)

@@ -28,6 +28,11 @@ class SkyqError(Exception):
         return ": ".join([*place, self.what])
 
 
+def count_of(number, noun):
+    """A number of things, as in 1 row and 2 rows; `noun` is of one."""
+    return f"{number} {noun}" if number == 1 else f"{number} {noun[:-1]}ies" if noun.endswith("y") else f"{number} {noun}s"
+
+
 def need(module, what_for):
     """Imports a module that only some commands want; a SkyqError names its Debian package if it is missing."""
     try:

@@ -30,7 +30,7 @@ class Rows:
 
     def degrees(self, prefix):
         """The right ascensions and declinations of a table."""
-        scales = [self.catalogue.column(name).scale for name in DEGREES]
+        scales = [self.catalogue.engine_column(name).scale for name in DEGREES]
         return tuple(self.columns[prefix + name].whole / float(scale) for name, scale in zip(DEGREES, scales))
 
 

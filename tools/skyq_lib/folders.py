@@ -54,27 +54,33 @@ def sweep(folder):
             os.unlink(os.path.join(folder, name))
 
 
+def replace_files(folder, writers, is_anew=False):
+    """Writes files beside those of a folder, each by its function of a path, and renames them in this order; a fault before
+    that leaves the folder as it was. With is_anew there is no sidecar, and so no catalogue, while they are renamed."""
+    beside = {name: os.path.join(folder, f"{name}.new-{os.getpid()}") for name in writers}
+    sidecar = os.path.join(folder, SIDECAR)
+    try:
+        for name, write in writers.items():
+            write(beside[name])
+        if is_anew and os.path.exists(sidecar):
+            os.unlink(sidecar)
+        for name, new in beside.items():
+            os.replace(new, os.path.join(folder, name))
+    finally:
+        for new in beside.values():
+            if os.path.exists(new):
+                os.unlink(new)
+
+
 def write_folder(folder, catalogue, plan, names, arrays):
     """Writes the three files beside those of the folder and renames them, the sidecar last; without it there is no catalogue."""
     is_new = not os.path.isdir(folder)
     if is_new:
         os.makedirs(folder)
     sweep(folder)
-    files = [os.path.join(folder, name) for name in FILES]
-    beside = [f"{file}.new-{os.getpid()}" for file in files]
     try:
-        with open(beside[0], "w", encoding="ascii") as file:
-            file.write(plan.text())
-        write_rows(beside[1], names, arrays)
-        catalogue.save(beside[2])
-        if os.path.exists(files[2]):
-            os.unlink(files[2])
-        for new, file in zip(beside, files):
-            os.replace(new, file)
+        replace_files(folder, {SKY: plan.save, CSV: lambda path: write_rows(path, names, arrays), SIDECAR: catalogue.save}, is_anew=True)
     finally:
-        for new in beside:
-            if os.path.exists(new):
-                os.unlink(new)
         if is_new and not os.listdir(folder):
             os.rmdir(folder)
 

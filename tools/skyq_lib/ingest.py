@@ -6,7 +6,7 @@ import sys
 import numpy as np
 
 from skyq_lib.columns import DEGREES, MOST_COLUMNS, MOST_ROWS, POSITION, Catalogue
-from skyq_lib.errors import SkyqError, need
+from skyq_lib.errors import SkyqError, count_of, need
 from skyq_lib.folders import judge_folder, write_folder
 from skyq_lib.grid import to_grid
 from skyq_lib.names import engine_name, id_column, position_columns
@@ -98,6 +98,8 @@ def ingest(table, folder, *, source="table", overlap_arcsec=60.0, id=None, ra=No
     if len(ids) > MOST_ROWS:
         raise SkyqError(f"{len(ids)} rows; the engine takes {MOST_ROWS}")
     made = degree_columns(ra_name, dec_name, right, declination, places) if degrees else []
+    if healpix is not None and "healpix" in [name.lower() for name in names]:
+        raise SkyqError("--healpix adds a column healpix, and the table has one: leave it out with --drop, or do without --healpix")
     made += [healpix_column(right, declination, healpix, places)] if healpix is not None else []
     made += further_columns(table, names, places, {*POSITION, *(c.name for c, _, _ in made)}, columns, scales, notes)
     if len(made) > MOST_COLUMNS:
@@ -156,8 +158,6 @@ def run(words):
             ra=words.ra, dec=words.dec, columns=None if chosen is None else [name for name, _ in chosen], scales=scales,
             drop=words.drop, degrees=words.degrees, healpix=words.healpix, notes=notes,
         )
-    except LeftOut as why:
-        raise SkyqError(why, words.table) from None
     except SkyqError as fault:
         raise fault if fault.file else SkyqError(fault.what, words.table, fault.row) from None
     for note in notes:
@@ -167,15 +167,15 @@ def run(words):
 
 def report(catalogue, plan):
     """The lines that say what an ingest made."""
-    yield f"{catalogue.folder}: {catalogue.rows} rows, {len(catalogue.columns)} columns, {summary(plan, catalogue)}"
+    yield f"{catalogue.folder}: {count_of(catalogue.rows, 'row')}, {count_of(len(catalogue.columns), 'column')}, {summary(plan, catalogue)}"
     if catalogue.dropped:
-        yield f"{catalogue.dropped} rows without a position are left out"
+        yield f"{count_of(catalogue.dropped, 'row')} without a position {'is' if catalogue.dropped == 1 else 'are'} left out"
     yield f"objectId: {catalogue.id or 'the number of the row in the table, from 1'}"
     yield f"position: {catalogue.ra}, {catalogue.dec}, moved by at most {catalogue.largest_move_mas:.3f} mas"
     for column in catalogue.columns:
         parts = [column.kind, column.unit, f"scale {column.scale}" if column.kind == "float" else None]
         parts.append(None if column.kind != "float" else "exact" if column.exact else f"largest error {column.largest_error:.3g}")
-        parts.append(f"{len(column.words)} words" if column.words is not None else None)
+        parts.append(count_of(len(column.words), "word") if column.words is not None else None)
         parts.append(f"{column.nulls} NULL" if column.nulls else None)
         alias = "" if column.name == column.source else f" ({column.name} in the engine)"
         yield f"{column.source}{alias}: {', '.join(part for part in parts if part)}"

@@ -1,6 +1,7 @@
 """Which columns of a table are the position and the id, and what the engine calls the others."""
 import re
 
+from skyq_lib.columns import DEGREES, POSITION
 from skyq_lib.errors import SkyqError
 
 RA = "ra raj2000 ra_icrs _ra _raj2000 ra_j2000 coord_ra ramean ra_deg radeg".split()
@@ -30,6 +31,8 @@ def position_columns(table, ra, dec):
     for name in (ra, dec):
         if name is not None and name not in table.colnames:
             raise SkyqError(f"no column {name} among {', '.join(table.colnames)}")
+    if ra is not None and ra == dec:
+        raise SkyqError(f"column {ra} is named both as right ascension and as declination")
     ra = ra or by_name_or_ucd(table, RA, "pos.eq.ra;meta.main")
     dec = dec or by_name_or_ucd(table, DEC, "pos.eq.dec;meta.main")
     if ra is None or dec is None:
@@ -56,7 +59,7 @@ def engine_name(name, taken):
     """A name that the engine takes and that is not taken: letters, digits and _, at most 32."""
     made = re.sub(r"[^A-Za-z0-9_]", "_", name)
     made = (made if re.match(r"[A-Za-z_]", made) else "c_" + made)[:LONGEST]
-    if made.upper() in RESERVED or made in ("objectId", "x", "y", "z"):
+    if made.upper() in RESERVED or made in (*POSITION, *DEGREES):
         made = made[: LONGEST - 1] + "_"
     stem, count = made, 2
     while made in taken:

@@ -4,7 +4,8 @@ import os
 
 from skyq_lib.columns import SIDECAR, SKY, Catalogue, read_rows
 from skyq_lib.cuts import LEAST_OVERLAPS, cuts_of
-from skyq_lib.errors import SkyqError
+from skyq_lib.errors import SkyqError, count_of
+from skyq_lib.folders import replace_files, sweep
 from skyq_lib.grid import MAX_OVERLAP, arcsec_of_text, overlap_arcsec, overlap_for, text_of_arcsec, to_degrees
 
 
@@ -34,6 +35,11 @@ class SkyPlan:
         """The plan as the engine reads it (docs/FORMATS.md)."""
         lines = [f"stripe {s.z_low} {s.chunks} {s.columns} {s.rows}" for s in self.stripes]
         return "\n".join([f"overlap {self.overlap}", *lines]) + "\n"
+
+    def save(self, path):
+        """Writes the plan to a file."""
+        with open(path, "w", encoding="ascii") as file:
+            file.write(self.text())
 
     @staticmethod
     def load(path):
@@ -82,19 +88,11 @@ def run(words):
     rows = read_rows(catalogue, ["x", "y", "z"])
     ra, dec = to_degrees(rows["x"].data, rows["y"].data, rows["z"].data)
     plan = plan_of(ra, dec, catalogue.overlap_arcsec, words.rows, words.subrows)
-    write_text(catalogue.sky_path, plan.text())
-    catalogue.save(os.path.join(words.folder, SIDECAR + ".new"))
-    os.replace(os.path.join(words.folder, SIDECAR + ".new"), os.path.join(words.folder, SIDECAR))
+    sweep(words.folder)
+    replace_files(words.folder, {SKY: plan.save, SIDECAR: catalogue.save})
     print(f"{os.path.join(words.folder, SKY)}: {summary(plan, catalogue)}")
-
-
-def write_text(path, text):
-    """Writes a text beside a path and renames it."""
-    with open(path + ".new", "w", encoding="ascii") as file:
-        file.write(text)
-    os.replace(path + ".new", path)
 
 
 def summary(plan, catalogue):
     """One line on a sky plan."""
-    return f"{len(plan.stripes)} stripes, {plan.chunks} chunks, overlap {text_of_arcsec(catalogue.overlap_arcsec)}"
+    return f"{count_of(len(plan.stripes), 'stripe')}, {count_of(plan.chunks, 'chunk')}, overlap {text_of_arcsec(catalogue.overlap_arcsec)}"

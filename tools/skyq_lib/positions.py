@@ -12,16 +12,19 @@ def plain(column):
     return np.asarray(np.ma.getdata(np.ma.asarray(column)) if hasattr(column, "mask") else column)
 
 
+def unit_text(column):
+    return str(column.unit or "").strip().lower()
+
+
 def angle_unit(name, column):
     """How many degrees the unit of a column of angles is; a column without a unit is in degrees."""
     import astropy.units as u
 
-    text = str(column.unit or "").strip().lower()
-    if text in ("", "degree", "degrees"):
+    if unit_text(column) in ("", "deg", "degree", "degrees"):
         return 1.0
     try:
         return (1 * column.unit).to(u.deg).value
-    except u.UnitsError:
+    except (u.UnitsError, ValueError, TypeError):       # a unit of something else, or one that astropy does not know
         raise SkyqError(f"column {name} has the unit {column.unit}, which is no angle") from None
 
 
@@ -52,9 +55,16 @@ def positions(table, ra_name, dec_name):
     is_there = np.isfinite(ra) & np.isfinite(dec)
     outside = np.flatnonzero(is_there & (np.abs(np.where(is_there, dec, 0)) > 90))
     if len(outside):
-        raise SkyqError(f"declination {dec[outside[0]]} is outside -90 to 90", row=int(outside[0]) + 1)
+        raise SkyqError(outside_text(table[dec_name], dec, outside[0]), row=int(outside[0]) + 1)
     turned = np.where((ra >= 0) & (ra < 360), ra, np.mod(ra, 360.0, where=is_there, out=np.zeros(len(ra))))
     return np.where(turned >= 360, 0.0, turned), dec, np.flatnonzero(is_there)
+
+
+def outside_text(column, dec, place):
+    """What is wrong with a declination, in its own unit and in degrees."""
+    if dec[place] == float(column[place]):
+        return f"declination {dec[place]} is outside -90 to 90"
+    return f"declination {column[place]} {column.unit}, {dec[place]:.10g} degrees, is outside -90 to 90"
 
 
 def ids_of(table, name, places):

@@ -9,13 +9,14 @@ import math
 import numpy as np
 
 from skyq_lib.columns import MOST, MOST_WORDS, Column
-from skyq_lib.errors import SkyqError
+from skyq_lib.errors import SkyqError, count_of
 
 MOST_DIGITS = 40            # the largest power of ten that is tried
 LEAST_ACCURACY = 1e-3       # the largest relative error that is taken without being asked for
+KEPT_AS = {"float16": "float32", "float128": "float64"}     # the types of floats that no file but ECSV has
 
 
-class LeftOut(Exception):
+class LeftOut(SkyqError):
     """A column that the engine cannot hold and that nobody asked for; the message says why."""
 
 
@@ -109,13 +110,14 @@ def text_of_object(word):
 
 
 def text_of(values):
-    """A column of bytes, strings or objects as unique strings without blanks around them, and each row's number."""
+    """A column of bytes, strings or objects as unique strings without blanks at their ends, which FITS does not keep, and each
+    row's number."""
     if values.dtype.kind == "O":
         values = np.array([text_of_object(word) for word in values], "U")
     unique, number = np.unique(values, return_inverse=True)
     if unique.dtype.kind == "S":
         unique = np.array([word.decode("utf-8", "replace") for word in unique], "U")
-    stripped, again = np.unique(np.char.strip(unique), return_inverse=True)
+    stripped, again = np.unique(np.char.rstrip(unique), return_inverse=True)
     return stripped, again[number]
 
 
@@ -156,13 +158,18 @@ def encode(name, source, values, mask, *, unit, description, places, scale=None,
         column.kind = {"f": "float", "b": "bool"}.get(kind, "int")
         column.type = values.dtype.newbyteorder("=").name
         if kind == "f":
+            column.type = KEPT_AS.get(column.type, column.type)
+            if values.dtype.itemsize > 8:
+                notes.append(f"column {source} is kept as float64, not as {values.dtype}")
+            values = values.astype(column.type)
             is_infinite = ~mask & np.isinf(values)
             column.infinite = int(is_infinite.sum())
             mask |= ~np.isfinite(values)
             if column.infinite:
                 row = at(places, np.flatnonzero(is_infinite)[0])
-                notes.append(f"column {source}: {column.infinite} infinite values become NULL, the first in row {row}")
-            whole = whole_of_floats(column, values.astype(column.type), mask, places, scale)
+                become = "becomes" if column.infinite == 1 else "become"
+                notes.append(f"column {source}: {count_of(column.infinite, 'infinite value')} {become} NULL, the first in row {row}")
+            whole = whole_of_floats(column, values, mask, places, scale)
         else:
             whole = whole_of_ints(column, values, mask, places)
     else:

@@ -85,7 +85,7 @@ class Scope:
         if what in ("ra", "dec"):
             if not self.catalogue.has_degrees:
                 raise SkyqError(f"{name.name} " + NEED_DEGREES.format(name.name))
-            what = self.catalogue.column(DEGREES[what == "dec"])
+            what = self.catalogue.engine_column(DEGREES[what == "dec"])
         return w.Value(w.column(prefix + what.name, MOST), Fraction(what.scale), what.kind, what.unit, what)
 
     # -- values

@@ -7,7 +7,7 @@ import warnings
 
 import numpy as np
 
-from skyq_lib.errors import SkyqError
+from skyq_lib.errors import SkyqError, count_of
 from skyq_lib.votable import document
 
 ENDINGS = {
@@ -28,7 +28,9 @@ def format_of(path):
 
 
 def reason(fault):
-    """The first line of what astropy says, without its control codes."""
+    """The first line of what astropy says, without its control codes; what Python alone could understand is told as damage."""
+    if isinstance(fault, (TypeError, LookupError, AttributeError)):
+        return "it is damaged"
     lines = [line.strip() for line in re.sub(r"\x1b\[[0-9;]*m", "", str(fault)).splitlines() if line.strip()]
     return (lines[0] if lines else type(fault).__name__)[:300]
 
@@ -47,13 +49,19 @@ def read_votable(path):
 
 
 def check_fields(path):
-    """Refuses a CSV of which a row has another number of fields than the header: astropy would fill up a short row."""
+    """Refuses a CSV of which a row has another number of fields than the header, which astropy would fill up if it is short,
+    or of which two columns have one name."""
     with open(path, encoding=UTF_8, newline="") as file:
         records = (record for record in csv.reader(file) if record)
-        width = len(next(records, []))
+        header = [name.strip() for name in next(records, [])]
+        if header and header[0].startswith("#"):
+            raise SkyqError("begins with a comment, and a CSV begins with its header: take the lines with # away", path)
+        twice = [name for place, name in enumerate(header) if name and name in header[:place]]
+        if twice:
+            raise SkyqError(f"the header has {twice[0]} twice", path)
         for row, record in enumerate(records, 1):
-            if len(record) != width:
-                raise SkyqError(f"{len(record)} fields; the header has {width}", path, row)
+            if len(record) != len(header):
+                raise SkyqError(f"{count_of(len(record), 'field')}; the header has {len(header)}", path, row)
 
 
 def has_mark(path):
@@ -100,13 +108,45 @@ def is_null(column):
 
 
 def for_fits(table):
-    """A copy of a table whose NULLs FITS can hold: floats as NaN; text and whole numbers are left to astropy."""
-    copy = table.copy()
-    for name in copy.colnames:
-        if copy[name].dtype.kind == "f" and is_null(copy[name]).any():
-            filled = np.ma.filled(np.ma.asarray(copy[name]), np.nan)
-            copy.replace_column(name, type(copy[name])(filled, name=name, unit=copy[name].unit, description=copy[name].description))
-    return copy
+    """A table as a unit of FITS; a SkyqError if a name or a word is no ASCII.
+
+    astropy by itself takes int8 for truths, NULL of a truth for TRUE, and in a table with any NULL each 999999 for one. So int8
+    is int16 here, NULL is NaN or the least number of a type that has it to spare, and truths with NULLs are 0, 1 and NULL.
+    """
+    from astropy.io.fits import table_to_hdu
+    from astropy.table import Column, Table
+
+    plain, nulls = Table(meta=table.meta), {}
+    for name in table.colnames:
+        judge_ascii(name, table[name])
+        values = np.ma.asarray(table[name])
+        if values.dtype == "i1" or values.dtype.kind in "iub" and np.ma.is_masked(values):
+            values, least = with_room(values)
+            nulls.update({name: least} if np.ma.is_masked(values) else {})
+        blank = nulls.get(name, {"f": np.nan, "U": ""}.get(values.dtype.kind, 0))
+        plain[name] = Column(values.filled(blank), unit=table[name].unit, description=table[name].description)
+    unit = table_to_hdu(plain)
+    for name, least in nulls.items():
+        unit.columns[name].null = least
+    return unit
+
+
+def with_room(values):
+    """Whole numbers, a masked array, in a signed type whose least number none of them is, and this number, which is for NULL."""
+    bits = 8 * values.dtype.itemsize * (1 if values.dtype.kind == "i" else 2)
+    for form in ("i2", "i4", "i8"):
+        least = int(np.iinfo(form).min)
+        if 8 * np.dtype(form).itemsize >= bits and not (values.compressed() == least).any():
+            break
+    return values.astype(form), least
+
+
+def judge_ascii(name, column):
+    """Refuses for FITS a column whose name or whose words are not of ASCII."""
+    words = np.unique(np.ma.asarray(column).compressed()).tolist() if column.dtype.kind == "U" else []
+    for word in (name, *words):
+        if not word.isascii():
+            raise SkyqError(f"FITS holds ASCII alone, and column {name} has {word!r}: VOTable, ECSV and CSV hold it")
 
 
 def for_csv(table):
@@ -127,7 +167,7 @@ def write_as(table, target, name):
         with open(target, "wb") as file:
             file.write(document(table))     # astropy's own writer takes 25 times as long
     elif name == "fits":
-        for_fits(table).write(target, format="fits")
+        for_fits(table).writeto(target)
     elif name == "csv":
         for_csv(table).write(target, format="ascii.csv")
     else:
@@ -146,6 +186,10 @@ def write_table(table, path, format=None):
             warnings.simplefilter("ignore")
             write_as(table, beside, name)
         os.replace(beside, path)
+    except SkyqError as fault:
+        raise SkyqError(fault.what, path) from None
+    except OSError as fault:        # the name of the file beside says nothing to the user
+        raise SkyqError(fault.strerror or str(fault), path) from None
     except (ValueError, TypeError) as fault:
         raise SkyqError(f"cannot be written as {name}: {reason(fault)}", path) from None
     finally:

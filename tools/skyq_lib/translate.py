@@ -225,7 +225,7 @@ class Translator:
             return outs.Out(name, outs.distance(place), "deg", "from the grid, good to 1.4 mas", place, is_distance=True)
         sides = []
         for there in Where(self.scope).distance(item.value.args):
-            kept = [(there.table + name, self.catalogue.column(name).scale) for name in DEGREES] if there.is_row else []
+            kept = [(there.table + name, self.catalogue.engine_column(name).scale) for name in DEGREES] if there.is_row else []
             sides.append([(self.place(column), scale) for column, scale in kept] or [there.ra, there.dec])
         return outs.Out(name, outs.separation(*sides), "deg", key=text, is_distance=True)
 

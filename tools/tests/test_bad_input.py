@@ -32,6 +32,9 @@ REFUSED = {
              "choose them with --column or leave some out with --drop"),
     "metres": (with_units(u.m, u.arcmin), (), "column ra has the unit m, which is no angle"),
     "hours": (with_units(u.deg, u.h), (), "column dec has the unit h, which is no angle"),
+    "radians": (with_units(u.rad, u.rad), (), "row 1: declination 60.0 rad, 3437.746771 degrees, is outside -90 to 90"),
+    "one_for_two": (Table(TWO), ("--ra", "dec", "--dec", "dec"), "column dec is named both as right ascension and as declination"),
+    "drop_of_position": (Table(TWO), ("--drop", "ra"), "column ra is of the position, which is always taken; --degrees keeps its degrees too"),
     "word_ids": (Table({**TWO, "name": ["a", "b"]}), ("--id", "name"), "column name has no whole numbers for ids; --id none numbers the rows"),
     "text_ra": (Table({**TWO, "ra": ["1.5", "05:34:32"]}), (), "row 2: column ra has '05:34:32', which is no number of degrees"),
     "array_ra": (Table({"ra": [[1.0, 2.0]], "dec": [1.0]}), (), "column ra holds arrays, not angles"),
@@ -50,7 +53,7 @@ REFUSED = {
 TAKEN = {
     "nan_ra": (Table({"id": [1, 2, 3], "ra": [0.0, np.nan, 90.0], "dec": [0.0, 1.0, 0.0]}), (), "objectId,x,y,z;1,268435456,0,0;3,0,268435456,0", []),
     "inf": (Table({**TWO, "ra": [0.0, 90.0], "dec": [0.0, 0.0], "flux": [np.inf, 1.0]}), (), "objectId,x,y,z,flux;1,268435456,0,0,;2,0,268435456,0,1",
-            ["column flux: 1 infinite values become NULL, the first in row 1"]),
+            ["column flux: 1 infinite value becomes NULL, the first in row 1"]),
     "array": (Table({"id": [5], "ra": [180.0], "dec": [0.0], "v": [[1, 2]]}), (), "objectId,x,y,z;5,-268435456,0,0", ["column v holds arrays: it is left out"]),
     "bool_word": (Table({"id": [1, 2], "ra": [0.0, 0.0], "dec": [90.0, -90.0], "ok": [True, False], "w": ["a", ""]}), (),
                   "objectId,x,y,z,ok,w;1,0,0,268435456,1,0;2,0,0,-268435456,0,", []),
@@ -88,7 +91,7 @@ class BadTables(WithFolder):
     def test_a_row_without_a_position_is_told(self):
         table, path = TAKEN["nan_ra"][0], self.path("nan.fits")
         table.write(path)
-        self.assertIn("\n1 rows without a position are left out\n", skyq("ingest", path, self.path("c")).stdout)
+        self.assertIn("\n1 row without a position is left out\n", skyq("ingest", path, self.path("c")).stdout)
 
     def test_a_row_of_a_message_is_the_tables_own(self):
         path = self.path("t.csv")

@@ -15,7 +15,8 @@ from astropy.time import Time
 from support import OPENNGC, TYCHO2, WithFolder, skyq, skyq_here
 from test_tables import with_nulls
 
-from skyq_lib.columns import Catalogue, degrees_of_rows, read_rows
+from skyq_lib.columns import Catalogue, Column, degrees_of_rows, read_rows
+from skyq_lib.errors import SkyqError
 from skyq_lib.tables import write_table
 
 FILES = ["catalogue.csv", "columns.json", "sky.txt"]
@@ -99,13 +100,39 @@ class Values(WithFolder):
         self.assertEqual((catalogue.id, rows["m"].tolist(), rows["w"].tolist(), catalogue.column("w").words), ("id", [None, 15], [0, None], ["a, b"]))
 
     def test_units_of_angle_are_taken(self):
-        cases = [("degrees", [1, 2], [1, 2]), ("", [1, 2], [1, 2]), ("rad", [0.1, 6.2], [5.729577951308232, 355.2338329811104]), ("arcmin", [60, 90], [1, 1.5]), ("hourangle", [1, 23.5], [15, 352.5])]
+        cases = [("degrees", [1, 2], [1, 2]), ("DEG", [1, 2], [1, 2]), ("", [1, 2], [1, 2]), ("rad", [0.1, 6.2], [5.729577951308232, 355.2338329811104]), ("arcmin", [60, 90], [1, 1.5]), ("hourangle", [1, 23.5], [15, 352.5])]
         for unit, values, want in cases:
             table = Table({"ra": np.array(values, "f8"), "dec": [0.0, 0.5]})
             table["ra"].unit = u.Unit(unit, parse_strict="silent")
             table.write(self.path("t.ecsv"), overwrite=True)
             catalogue, rows = self.ingested(self.path("t.ecsv"), "--degrees")
             np.testing.assert_allclose(degrees_of_rows(catalogue, rows)[0], want, rtol=0, atol=6e-13)
+
+    def test_a_unit_that_nobody_knows_is_no_angle(self):
+        table = Table({"ra": [1.0], "dec": [0.0]})
+        table["ra"].unit = u.Unit("furlongs", parse_strict="silent")
+        table.write(self.path("t.ecsv"))
+        self.assertRefused(skyq_here("ingest", self.path("t.ecsv"), self.path("c")),
+                           f"skyq ingest: {self.path('t.ecsv')}: column ra has the unit furlongs, which is no angle")
+
+    def test_a_column_that_is_called_as_the_kept_degrees_are(self):
+        with open(self.path("t.csv"), "w", encoding="utf-8") as file:
+            file.write("ra,dec,ra_deg,dec_deg,g-r,g_r\n10.25,20.5,7,8,1,2\n10.25,20.75,9,11,3,4\n")
+        own = {"ra_deg": [7, 9], "dec_deg": [8, 11], "g-r": [1, 3], "g_r": [2, 4]}
+        for words in ((), ("--degrees",)):
+            catalogue, rows = self.ingested(self.path("t.csv"), *words)
+            self.assertEqual(catalogue.has_degrees, bool(words))
+            for name, want in own.items():
+                column = catalogue.column(name)
+                self.assertEqual((column.source, column.values(rows[column.name].data).tolist()), (name, want), words)
+            ra, dec = degrees_of_rows(catalogue, rows)
+            np.testing.assert_allclose([ra, dec], [[10.25, 10.25], [20.5, 20.75]], rtol=0, atol=0 if words else 2e-7)
+
+    def test_a_column_healpix_is_not_hidden_by_the_one_that_is_added(self):
+        with open(self.path("t.csv"), "w", encoding="utf-8") as file:
+            file.write("ra,dec,HEALPix\n90,0,7\n")
+        self.assertRefused(skyq_here("ingest", self.path("t.csv"), self.path("c"), "--healpix", "1"), f"skyq ingest: {self.path('t.csv')}: "
+                           "--healpix adds a column healpix, and the table has one: leave it out with --drop, or do without --healpix")
 
     def test_columns_are_chosen_scaled_and_left_out(self):
         cases = [((), ["vtmag", "sweep"], 1000), (("--column", "vtmag"), ["vtmag"], 1000), (("--column", "vtmag:10", "--column", "sweep"), ["vtmag", "sweep"], 10),
@@ -159,7 +186,7 @@ class Values(WithFolder):
             "type: int",
             "name: word, 200 words",
         ])
-        self.assertRegex(outcome.stdout.splitlines()[0], f"^{self.path('c')}: 200 rows, 6 columns, [0-9]+ stripes, [0-9]+ chunks, overlap 60 arcsec$")
+        self.assertRegex(outcome.stdout.splitlines()[0], f"^{self.path('c')}: 200 rows, 6 columns, [0-9]+ stripes?, [0-9]+ chunks?, overlap 60 arcsec$")
 
 
 class Folders(WithFolder):
@@ -237,6 +264,31 @@ class Folders(WithFolder):
             outcome = skyq_here("plan", self.path("c"))
             self.assertEqual((outcome.returncode, outcome.stderr.count("\n")), (2, 1), text)
             self.assertTrue(outcome.stderr.startswith(f"skyq plan: {path}: is "), outcome.stderr)
+
+    def test_a_sidecar_with_a_wrong_value_is_refused(self):
+        skyq_here("ingest", OPENNGC, self.path("c"))
+        path = self.path("c", "columns.json")
+        with open(path, encoding="utf-8") as file:
+            right = json.load(file)
+        of_catalogue = [("rows", "200"), ("rows", True), ("id", 3), ("ra", None), ("overlap_arcsec", "60"), ("columns", {}), ("columns", [3])]
+        of_column = [("name", "a b"), ("name", 1), ("source", None), ("kind", "date"), ("unit", 1), ("scale", 0), ("scale", 10.5), ("scale", "10"), ("exact", 1),
+                     ("words", "abc"), ("words", ["a"]), ("type", "complex128"), ("type", "nothing"), ("type", "str"), ("description", [])]
+        cases = [{**right, name: value} for name, value in of_catalogue]
+        cases += [{**right, "columns": [{**right["columns"][0], name: value}]} for name, value in of_column]
+        cases += [{**right, "columns": [{**right["columns"][-1], "words": value}]} for value in (None, [1, 2])]
+        self.assertEqual((right["columns"][0]["kind"], right["columns"][-1]["kind"]), ("float", "word"))
+        for number, sidecar in enumerate(cases):
+            with open(path, "w", encoding="utf-8") as file:
+                json.dump(sidecar, file)
+            with self.subTest(number):
+                self.assertRefused(skyq_here("plan", self.path("c")), f"skyq plan: {path}: is no sidecar of a catalogue; ingest the table again")
+
+    def test_a_word_that_the_sidecar_does_not_list_is_told(self):
+        column = Column("w", "w", "word", words=["a", "b"], type="str")
+        self.assertEqual(column.values([1, 9], [False, True]).tolist(), ["b", None])
+        for number in (2, -1):
+            with self.assertRaises(SkyqError):
+                column.values([number])
 
 
 if __name__ == "__main__":

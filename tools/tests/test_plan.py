@@ -3,6 +3,7 @@ import json
 import os
 import subprocess
 import unittest
+from unittest import mock
 
 import numpy as np
 import programs
@@ -150,6 +151,18 @@ class Command(WithFolder):
         self.assertGreater(plan.chunks, 30)
         with open(os.path.join(folder, "columns.json"), encoding="utf-8") as file:
             self.assertEqual(json.load(file)["overlap_arcsec"], 300)
+        self.assertEqual(sorted(os.listdir(folder)), ["catalogue.csv", "columns.json", "sky.txt"])
+
+    def test_a_plan_that_fails_leaves_the_folder_as_it_was(self):
+        folder = self.path("c")
+        skyq_here("ingest", TYCHO2, folder)
+        with open(os.path.join(folder, "sky.txt"), encoding="ascii") as file:
+            before = file.read()
+        with mock.patch("skyq_lib.columns.Catalogue.save", side_effect=OSError(28, "No space left on device")):
+            outcome = skyq_here("plan", folder, "--overlap", "5arcmin", "--rows", "50")
+        self.assertRefused(outcome, "skyq plan: No space left on device")
+        with open(os.path.join(folder, "sky.txt"), encoding="ascii") as file:
+            self.assertEqual(file.read(), before)
         self.assertEqual(sorted(os.listdir(folder)), ["catalogue.csv", "columns.json", "sky.txt"])
 
     def test_a_plan_of_no_catalogue_is_refused(self):

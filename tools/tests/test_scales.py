@@ -63,6 +63,15 @@ class Floats(unittest.TestCase):
         self.assertEqual((mask.tolist(), whole[1], column.nulls, column.infinite), ([True, False, True, True], 15, 3, 2))
         self.assertEqual(notes, ["column c: 2 infinite values become NULL, the first in row 3"])
 
+    def test_short_and_long_floats_are_kept_as_those_that_files_have(self):
+        notes = []
+        column, whole, mask = encoded(np.array([0.5, 65504, 0.25], "f2"), notes=notes)
+        self.assertEqual((column.type, column.scale, whole.tolist(), column.values(whole, mask).tolist()), ("float32", 100, [50, 6550400, 25], [0.5, 65504, 0.25]))
+        self.assertEqual(notes, [])
+        column, whole, mask = encoded(np.array([0.5, 1.25], np.longdouble), notes=notes)
+        self.assertEqual((column.type, column.values(whole, mask).tolist()), ("float64", [0.5, 1.25]))
+        self.assertEqual(notes, [f"column c is kept as float64, not as {np.dtype(np.longdouble)}"])
+
     def test_bytes_of_either_order_are_the_same(self):
         for form in (">f4", "<f4", ">f8", "<f8"):
             column, whole, _ = encoded(np.array([0.25, 8.125], form))
@@ -93,6 +102,16 @@ class Others(unittest.TestCase):
             self.assertEqual((column.words, whole.tolist(), mask.tolist()), (["A0", "G2"], [1, 0, 0, 1], [False, True, False, False]))
             self.assertEqual(column.values(whole, mask).tolist(), ["G2", None, "A0", "G2"])
             self.assertEqual([column.number_of_word(word) for word in ("A0", "G2", "M5")], [0, 1, -1])
+
+    def test_a_blank_before_a_word_is_of_the_word(self):
+        for values in (np.array([" a", "a", "  "]), np.array([b" a", b"a ", b""])):
+            column, whole, mask = encoded(values)
+            self.assertEqual((column.words, whole.tolist(), mask.tolist()), ([" a", "a"], [0, 1, 0], [False, False, True]))
+
+    def test_one_infinite_value_is_one(self):
+        notes = []
+        encoded([1.0, np.inf], notes=notes)
+        self.assertEqual(notes, ["column c: 1 infinite value becomes NULL, the first in row 2"])
 
     def test_a_word_among_numbers_is_told(self):
         notes = []

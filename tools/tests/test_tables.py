@@ -41,6 +41,41 @@ class Written(WithFolder):
                 self.assertEqual(back["mag"].unit, u.mag, ending)
         self.assertEqual(sorted(os.listdir(self.folder)), ["t.csv", "t.ecsv", "t.fits", "t.vot"])
 
+    def test_fits_keeps_every_type_with_its_nulls(self):
+        """With numbers that astropy by itself would write for NULL, and the least of each type."""
+        for form in ("?", "i1", "u1", "i2", "u2", "i4", "u4", "i8", "u8", "f4", "f8", "U3"):
+            kind = np.dtype(form).kind
+            values = ["abc", "b", "c"] if kind == "U" else [True, False, True] if kind == "b" else [1, 63, 100]
+            values += [] if kind in "Ub" or form in ("i1", "u1") else [16959]
+            values += [999999] if form in ("i4", "u4", "i8", "u8", "f4", "f8") else []
+            values += [np.iinfo(form).min] if form in ("i1", "i2", "i4") else []
+            values = np.array([*values, values[0]], form)
+            for mask in (np.zeros(len(values), bool), np.arange(len(values)) == len(values) - 1):
+                table = Table({"c": MaskedColumn(values, mask=mask), "other": MaskedColumn([0.5] * len(values), mask=~mask)})
+                write_table(table, self.path("t.fits"))
+                back = Table.read(self.path("t.fits"))["c"]
+                want = [None if missing else value for value, missing in zip(values.tolist(), mask)]
+                found = [None if value != value or value == "" else value for value in back.tolist()]
+                self.assertEqual(found, want, (form, mask))
+                self.assertEqual(back.dtype.kind == "b", kind == "b" and not mask.any(), form)
+
+    def test_what_fits_cannot_hold_is_told(self):
+        path = self.path("t.fits")
+        for table, want in ((Table({"a": ["x", "δ"]}), "column a has 'δ'"), (Table({"δ": [1]}), "column δ has 'δ'")):
+            with self.assertRaises(SkyqError) as caught:
+                write_table(table, path)
+            self.assertEqual(str(caught.exception), f"{path}: FITS holds ASCII alone, and {want}: VOTable, ECSV and CSV hold it")
+            for ending in ("vot", "ecsv", "csv"):
+                write_table(table, self.path(f"t.{ending}"))
+                self.assertEqual(read_table(self.path(f"t.{ending}")).colnames, table.colnames)
+        self.assertFalse(os.path.exists(path))
+
+    def test_a_folder_that_is_missing_is_told_by_the_files_own_name(self):
+        path = self.path("none", "t.csv")
+        with self.assertRaises(SkyqError) as caught:
+            write_table(Table({"a": [1]}), path)
+        self.assertEqual(str(caught.exception), f"{path}: No such file or directory")
+
     def test_a_file_that_is_there_is_replaced_and_a_fault_leaves_it(self):
         path = self.path("t.fits")
         write_table(Table({"a": [1]}), path)
@@ -92,6 +127,20 @@ class Read(WithFolder):
             self.assertNotIn("\n", line)
             self.assertTrue(line.startswith(self.path(name) + ": "), line)
             self.assertEqual(caught.exception.row, row, line)
+
+    def test_what_is_wrong_with_a_text_is_told_in_plain_words(self):
+        cases = [
+            ("twice.csv", b"ra,dec,m,m\n1,2,3,4\n", "the header has m twice"),
+            ("comment.csv", b"# of a survey\nra,dec\n1,2\n", "begins with a comment, and a CSV begins with its header: take the lines with # away"),
+            ("one.csv", b"ra,dec\n1\n", "row 1: 1 field; the header has 2"),
+            ("damaged.ecsv", b"# %ECSV 1.0\n# ---\n# datatype:\n# - ra\nra\n1\n", "cannot be read as ecsv: it is damaged"),
+        ]
+        for name, content, want in cases:
+            with open(self.path(name), "wb") as file:
+                file.write(content)
+            with self.assertRaises(SkyqError, msg=name) as caught:
+                read_table(self.path(name))
+            self.assertEqual(str(caught.exception), f"{self.path(name)}: {want}")
 
     def test_a_file_that_is_missing_or_a_folder_is_an_error_of_the_system(self):
         for name in (self.path("none.fits"),):
