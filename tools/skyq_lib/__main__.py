@@ -2,7 +2,10 @@
 import argparse
 import importlib
 import os
+import re
+import signal
 import sys
+import traceback
 
 if __name__ == "__main__":  # run as a folder: the package stands beside it, and no module comes from the caller's own folder
     sys.path[0] = os.path.dirname(os.path.dirname(os.path.abspath(__file__)))
@@ -26,7 +29,11 @@ COMMANDS = {
 
 
 class Parser(argparse.ArgumentParser):
-    """A parser whose faults are one line."""
+    """A parser whose faults are one line, and to which -20:00:00 and -5deg are values as -20 is: no option begins with a digit."""
+
+    def __init__(self, **more):
+        super().__init__(**more)
+        self._negative_number_matcher = re.compile(r"-\.?[0-9]")
 
     def error(self, message):
         raise SkyqError(f"{message}; see {self.prog} --help")
@@ -65,6 +72,11 @@ def guarded(command, arguments):
         return tell(command, ": ".join(str(part) for part in (fault.filename, fault.strerror or fault) if part is not None))
     except MemoryError:
         return tell(command, "out of memory")
+    except Exception as fault:      # a fault of skyq itself
+        if os.environ.get("SKYQ_TRACEBACK"):
+            traceback.print_exc()
+        tell(command, f"a fault of skyq itself, which SKYQ_TRACEBACK=1 shows: {type(fault).__name__}: {' '.join(str(fault).split())}")
+        return 1
 
 
 def chosen(arguments):
@@ -92,5 +104,11 @@ def main(arguments):
         return 130
 
 
+def ended(*_):
+    """Ends the process by way of what it has to clear away: the program that it started, and files that are half written."""
+    sys.exit(143)
+
+
 if __name__ == "__main__":
+    signal.signal(signal.SIGTERM, ended)
     sys.exit(main(sys.argv[1:]))

@@ -10,7 +10,7 @@ import numpy as np
 
 from skyq_lib import engine, flat, grid, query, translate
 from skyq_lib.columns import Catalogue, degrees_of_rows, read_rows
-from skyq_lib.errors import SkyqError
+from skyq_lib.errors import SkyqError, count_of
 from skyq_lib.ingest import ids_of, positions
 from skyq_lib.progress import Progress
 from skyq_lib.tables import read_table
@@ -32,12 +32,15 @@ def add_words(parser, command):
 
 def run(words):
     """Prints what was compared and what differs; status 1 where anything does."""
+    if words.queries < 1 or words.seed < 0:
+        raise SkyqError("--queries is at least 1, and --seed at least 0")
+    engine.judge_workers(words.workers)
     check = Check(words)
     check.cones(words.queries)
     check.pairs()
     for column in check.catalogue.columns:
         check.ranges(column)
-    print("check: ok" if check.wrong == 0 else f"check: {check.wrong} rows differ")
+    print("check: ok" if check.wrong == 0 else f"check: {count_of(check.wrong, 'row')} differ{'s' if check.wrong == 1 else ''}")
     return 1 if check.wrong else 0
 
 
@@ -65,8 +68,11 @@ class Check:
         missing = [name for name in (cat.ra, cat.dec, cat.id) if name is not None and name not in table.colnames]
         if missing:
             raise SkyqError(f"has no column {missing[0]}; is it the table that was ingested?", self.words.source)
-        ra, dec, places = positions(table, cat.ra, cat.dec)
-        ids = ids_of(table, cat.id, places)
+        try:
+            ra, dec, places = positions(table, cat.ra, cat.dec)
+            ids = ids_of(table, cat.id, places)
+        except SkyqError as fault:
+            raise SkyqError(fault.what, self.words.source, fault.row) from None
         order = np.argsort(ids)
         if not np.array_equal(ids[order], self.ids):
             raise SkyqError(f"has other rows than the catalogue {cat.folder}", self.words.source)
@@ -90,7 +96,7 @@ class Check:
     def tell(self, what, rows, differ, rounded, examples):
         """Prints a line of the report, and some of the rows that differ."""
         self.wrong += differ
-        print(f"{what}: {rows:,} rows, {differ} differ" + (f", {rounded} more within the rounding of positions" if rounded else ""))
+        print(f"{what}: {rows:,} {'row' if rows == 1 else 'rows'}, {differ} differ" + (f", {rounded} more within the rounding of positions" if rounded else ""))
         for example in examples[:5]:
             print(f"  {example}")
 
@@ -160,7 +166,7 @@ class Check:
         whole = self.rows[column.name]
         values, mask = whole.compressed(), np.ma.getmaskarray(whole)
         limits = np.unique(np.quantile(values, np.linspace(0, 1, RANGES + 1), method="nearest")) if len(values) else np.zeros(0, "i8")
-        name = query.quoted(column.source if self.catalogue.column(column.source) is column else column.name)
+        name = query.quoted(column.source)
         texts, wanted = [f"SELECT COUNT(*) FROM Object WHERE {name} IS NULL"], [int(mask.sum())]
         for low, high in zip(limits, [*limits[1:], None]):
             below = "" if high is None else f" AND {name}<{text_of(high, column)}"

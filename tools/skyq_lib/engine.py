@@ -1,5 +1,6 @@
 """Runs the program over a catalogue folder: `sky.txt` and `catalogue.csv`."""
 import os
+import signal
 import subprocess
 import sys
 import tempfile
@@ -11,6 +12,7 @@ from skyq_lib.errors import SkyqError
 
 CHECKOUT = os.path.dirname(os.path.dirname(os.path.dirname(os.path.abspath(__file__))))
 MOST_QUERIES = 255                  # of a script
+BUILDING = "qserv: crate "          # how the launcher's lines begin that tell how far it has built
 # What the launcher sets for the program's memory.
 MEMORY = {"MALLOC_TOP_PAD_": "67108864", "MALLOC_TRIM_THRESHOLD_": "2000000000", "GLIBC_TUNABLES": "glibc.malloc.hugetlb=1"}
 
@@ -31,6 +33,12 @@ def environment():
 def default_workers():
     """The number of worker threads where nothing is said: one less than the processors, 0 to 16."""
     return max(0, min(16, (os.cpu_count() or 1) - 1))
+
+
+def judge_workers(number):
+    """Refuses what is no number of worker threads; None is the default."""
+    if number is not None and not 0 <= number <= 16:
+        raise SkyqError("--workers is 0 to 16")
 
 
 def run(command, folder, script=None, workers=None, timeout=None):
@@ -56,10 +64,10 @@ def finished(words, timeout):
     told = []
     reader = threading.Thread(target=pass_on, args=(process.stderr, told), daemon=True)
     timer = threading.Timer(timeout, process.kill) if timeout else None
-    reader.start()
-    if timer:
-        timer.start()
     try:
+        reader.start()
+        if timer:
+            timer.start()
         out = process.stdout.read()
         status = process.wait()
         reader.join()
@@ -88,12 +96,22 @@ def pass_on(stream, told):
 
 def fault(status, told):
     """What a status of the program means for who runs skyq; the program's last line says what was at fault."""
-    line = next((text for text in reversed(told) if text), f"it ended with status {status}")
+    line = next((text for text in reversed(told) if text and not text.startswith(BUILDING)), end_of(status))
     if status == 2:
         return f"the program does not know its words; is {program()} the right one?"
     if status in (3, 4):
         return f"the catalogue folder is not as skyq ingest makes it ({line}); ingest the table again"
     return f"the program failed: {line}"
+
+
+def end_of(status):
+    """How a program ended that has said nothing."""
+    if status >= 0:
+        return f"it ended with status {status}"
+    try:
+        return f"it was ended by {signal.Signals(-status).name}"
+    except ValueError:
+        return f"it was ended by signal {-status}"
 
 
 def ask(folder, queries, workers=None, timeout=None):

@@ -7,7 +7,7 @@ import numpy as np
 
 from skyq_lib import adql, engine, exact, outs, tables, transcript, translate
 from skyq_lib.columns import Catalogue
-from skyq_lib.errors import SkyqError
+from skyq_lib.errors import SkyqError, count_of
 from skyq_lib.grid import arcsec_of_text
 from skyq_lib.progress import working
 
@@ -38,7 +38,7 @@ def result(made, found, catalogue, maxrec=None):
         raise SkyqError(translate.refusal(found.why, made, catalogue))
     columns, count = found.columns, found.count
     if len(columns) != len(made.places):
-        raise SkyqError(f"the program answered {len(columns)} columns instead of {len(made.places)}")
+        raise SkyqError(f"the program answered {count_of(len(columns), 'column')} instead of {len(made.places)}")
     if made.is_filtered:
         places = exact.kept(made, found, catalogue)[: made.top]
         columns, count = [taken(values, places) for values in columns], len(places)
@@ -82,7 +82,7 @@ def add_words(parser, command):
         add("adql", metavar="ADQL", help="SELECT .. FROM Object .., or - for standard input")
     if command == "cone":
         add("ra", metavar="RA", help="right ascension: degrees, or as 10h45m03.6s")
-        add("dec", metavar="DEC", help="declination: degrees, or as 59d41m04s; behind -- if it is negative and not plain degrees")
+        add("dec", metavar="DEC", help="declination: degrees, or as 59d41m04s")
     if command in ("cone", "pairs"):
         add("radius", metavar="RADIUS", help="an angle with its unit, as 30arcsec, 5arcmin or 1deg")
         add("--where", metavar="COND", help="a condition of ADQL" + (" on a and b" if command == "pairs" else ""))
@@ -101,8 +101,7 @@ def run(words):
         return read(words)
     catalogue = Catalogue.load(words.folder)
     text = {"query": query_text, "cone": cone_text, "pairs": pairs_text}[words.command](words, catalogue)
-    if words.workers is not None and not 0 <= words.workers <= 16:
-        raise SkyqError("--workers is 0 to 16")
+    engine.judge_workers(words.workers)
     if words.show:
         print(translate.translate(text, catalogue, exact=words.exact).sql)
         return 0
@@ -123,7 +122,7 @@ def in_arcsec(table, decimals):
 
 def deliver(table, path, chunks):
     """Writes a table to a file; or on a terminal for people, and in a pipe as CSV."""
-    told = f"{len(table)} rows, {chunks} chunks scanned"
+    told = f"{count_of(len(table), 'row')}, {count_of(chunks, 'chunk')} scanned"
     if path:
         tables.write_table(table, path)
         print(f"{path}: {told}")
@@ -208,6 +207,8 @@ def read(words):
             data = file.read()
     try:
         found = transcript.read(data)
+        if not found:
+            raise SkyqError("there is no query in it")
     except SkyqError as fault:
         raise SkyqError(fault.what, None if words.transcript == "-" else words.transcript) from None
     catalogue = Catalogue.load(words.folder) if words.folder else None
@@ -247,12 +248,12 @@ def plain_table(one, catalogue):
 def out_of(heading, place, one, catalogue):
     """The Out of a heading: a column, MIN, MAX, SUM or AVG of one, or anything else, whose numbers stay as they are."""
     form = re.fullmatch(r"(?:(MIN|MAX|SUM|AVG)\()?(?:[A-Za-z_]\w*\.)?([A-Za-z_]\w*)\)?", heading)
-    column = catalogue.column(form[2]) if catalogue and form else None
+    column = catalogue.engine_column(form[2]) if catalogue and form else None
     is_average = one.columns[place].is_average
     scale = 1 if column is None or column.kind == "word" else column.scale
     if is_average:
         return outs.Out(heading, outs.average(place, scale), column and column.unit)
-    if column is None or column.name != form[2]:
+    if column is None:
         return outs.Out(heading, outs.whole(place))
     if form[1] == "SUM":
         return outs.Out(heading, outs.scaled(place, scale), column.unit)

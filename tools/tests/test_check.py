@@ -4,7 +4,10 @@ import os
 import sys
 import unittest
 
+import astropy.units as u
 import numpy as np
+from astropy.table import Table
+from astropy.time import Time
 
 import programs
 import support
@@ -85,6 +88,30 @@ class Check(support.WithFolder):
         done = programs.skyq("check", self.path("stars"), "--queries", "12", program=self.path("loser"))
         self.assertEqual(done.returncode, 1, done.stdout + done.stderr)
         self.assertRegex(done.stdout, r"12 cones .* rows, [1-9]\d* differ")
+
+    def test_a_column_that_is_called_as_the_kept_degrees_are(self):
+        self.header, self.table = [*self.header, "ra_deg"], [[*row, str(place)] for place, row in enumerate(self.table)]
+        self.write(self.table)
+        self.ingest("--degrees")
+        done = self.check()
+        self.assertEqual((done.returncode, done.stderr), (0, ""), done.stdout)
+        for name in ("ra", "dec", "ra_deg"):
+            self.assertRegex(done.stdout, rf"counts of {name}: {len(self.table):,} rows, 0 differ")
+
+    def test_words_and_tables_that_are_none(self):
+        self.ingest()
+        for words in (("--queries", "0"), ("--queries", "-1"), ("--seed", "-1")):
+            self.assertRefused(programs.skyq("check", self.path("stars"), *words), "skyq check: --queries is at least 1, and --seed at least 0")
+        self.assertRefused(programs.skyq("check", self.path("stars"), "--workers", "17"), "skyq check: --workers is 0 to 16")
+        path = self.path("t.ecsv")
+        table = Table({"id": [1], "dec": [0.0]})
+        table["ra"] = Time(["2000-01-01"])
+        table.write(path)
+        self.assertRefused(self.check("--source", path), f"skyq check: {path}: column ra is a Time, which the engine cannot hold")
+        table["ra"] = [1.0]
+        table["ra"].unit = u.Unit("furlongs", parse_strict="silent")
+        table.write(path, overwrite=True)
+        self.assertRefused(self.check("--source", path), f"skyq check: {path}: column ra has the unit furlongs, which is no angle")
 
     def test_an_empty_catalogue(self):
         self.write([])

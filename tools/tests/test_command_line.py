@@ -8,7 +8,7 @@ from unittest import mock
 from support import TYCHO2, WithFolder, skyq_here
 
 from skyq_lib import progress
-from skyq_lib.errors import SkyqError, need
+from skyq_lib.errors import SkyqError, count_of, need
 
 TOOLS = os.path.dirname(os.path.dirname(os.path.abspath(__file__)))
 LAUNCHER = os.path.join(TOOLS, "skyq")
@@ -60,12 +60,22 @@ class Faults(unittest.TestCase):
             (SkyqError("wrong", "t.fits", 3), "skyq plan: t.fits: row 3: wrong\n", 2), (SkyqError("two\nlines"), "skyq plan: two lines\n", 2),
             (FileNotFoundError(2, "No such file or directory", "f"), "skyq plan: f: No such file or directory\n", 2),
             (OSError(28, "No space left on device"), "skyq plan: No space left on device\n", 2), (OSError("broken"), "skyq plan: broken\n", 2),
+            (KeyError("x"), "skyq plan: a fault of skyq itself, which SKYQ_TRACEBACK=1 shows: KeyError: 'x'\n", 1),
             (MemoryError(), "skyq plan: out of memory\n", 2), (KeyboardInterrupt(), "\n", 130),
         ]
         for fault, line, status in cases:
             with mock.patch("skyq_lib.plan.run", side_effect=fault):
                 outcome = skyq_here("plan", "c")
             self.assertEqual((outcome.returncode, outcome.stdout, outcome.stderr), (status, "", line))
+
+    def test_a_fault_of_skyq_itself_is_shown_where_it_is_asked_for(self):
+        with mock.patch("skyq_lib.plan.run", side_effect=KeyError("x")), mock.patch.dict("os.environ", {"SKYQ_TRACEBACK": "1"}):
+            outcome = skyq_here("plan", "c")
+        self.assertRegex(outcome.stderr, "^Traceback (?s:.*)\nskyq plan: a fault of skyq itself")
+
+    def test_numbers_of_things(self):
+        self.assertEqual([count_of(number, noun) for number, noun in ((0, "row"), (1, "row"), (2, "row"), (1, "query"), (2, "query"))],
+                         ["0 rows", "1 row", "2 rows", "1 query", "2 queries"])
 
     def test_a_missing_module_names_its_package(self):
         with mock.patch.dict("sys.modules", {"scipy": None, "scipy.spatial": None}), self.assertRaises(SkyqError) as caught:

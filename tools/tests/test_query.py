@@ -1,6 +1,9 @@
 """The commands query, cone, pairs and read: what they print and write, and what each failure of the program is told as."""
 import os
 import stat
+import subprocess
+import sys
+import time
 
 import numpy as np
 from astropy.table import Table
@@ -73,7 +76,7 @@ class Commands(support.WithFolder):
         for ending in ("fits", "vot", "ecsv", "csv"):
             path = self.path(f"out.{ending}")
             lines = self.printed("query", self.path("stars"), "SELECT id, ra, mag, sp FROM Object", "-o", path)
-            self.assertRegex(lines[0], rf"^{path}: 4 rows, \d+ chunks scanned$")
+            self.assertRegex(lines[0], rf"^{path}: 4 rows, \d+ chunks? scanned$")
             table = Table.read(path, **({"format": "votable"} if ending == "vot" else {}))
             self.assertEqual(np.asarray(table["id"]).tolist(), [1, 2, 3, 4])
             self.assertEqual([None if np.ma.is_masked(m) or np.isnan(m) else float(m) for m in table["mag"]], [5.25, 7.5, None, -1.5])
@@ -96,6 +99,43 @@ class Commands(support.WithFolder):
         self.assertEqual([(line.split(",")[0], round(float(line.split(",")[-1]), 2)) for line in lines[1:]], [("7", 0.0), ("8", 3.6)])
         self.assertEqual(len(self.printed("pairs", self.path("odd"), "5arcsec", "--where", "a.min<b.min")), 2)
 
+    def test_a_column_that_is_called_as_the_kept_degrees_are(self):
+        with open(self.path("kept.csv"), "w", encoding="utf-8") as file:
+            file.write("id,ra,dec,ra_deg,dec_deg,g-r,g_r\n1,10.5,20.25,7,8,1,2\n2,10.5,20.5,9,11,3,4\n")
+        self.assertEqual(programs.skyq("ingest", self.path("kept.csv"), self.path("kept"), "--degrees").returncode, 0)
+        self.assertEqual(self.printed("query", self.path("kept"), 'SELECT ra, dec, ra_deg, dec_deg, "g-r", g_r FROM Object WHERE ra_deg>8 AND g_r=4 AND dec<21'),
+                         ["ra,dec,ra_deg,dec_deg,g-r,g_r", "10.5,20.5,9,11,3,4"])
+        self.assertEqual(self.printed("query", self.path("kept"), "SELECT * FROM Object WHERE id=1"), ["id,ra,dec,ra_deg,dec_deg,g-r,g_r", "1,10.5,20.25,7,8,1,2"])
+        self.assertEqual(self.printed("cone", self.path("kept"), "10.5", "20.25", "1arcmin", "--exact"),
+                         ["id,ra,dec,ra_deg,dec_deg,g-r,g_r,separation", "1,10.5,20.25,7,8,1,2,0.0"])
+
+    def test_a_declination_may_begin_with_a_sign(self):
+        for dec in ("-90", "-90:00:00", "-90d", "-89d59m", "-90.0deg"):
+            lines = self.printed("cone", self.path("stars"), "10", dec, "2arcmin", "--where", "mag<0")
+            self.assertEqual([line.split(",")[0] for line in lines], ["id", "4"], dec)
+        self.assertEqual(self.refused("cone", self.path("stars"), "10", "20", "-5deg"),
+                         "skyq cone: -5deg is no angle: write it as 60arcsec, 5arcmin or 1deg")
+
+    def test_an_end_of_skyq_ends_its_program(self):
+        path, words = self.program('sleep 1; echo $$ > "$0.pid"; exec sleep 60'), [sys.executable, support.LIBRARY, "query", self.path("stars"), "SELECT id FROM Object"]
+        started = subprocess.Popen(words, env={**os.environ, "SKYQ_PROGRAM": path}, stdout=subprocess.PIPE, stderr=subprocess.PIPE)
+        number = self.number_in(f"{path}.pid")
+        started.terminate()
+        self.assertEqual((started.communicate(timeout=60), started.returncode), ((b"", b""), 143))
+        with self.assertRaises(ProcessLookupError):
+            os.kill(number, 0)
+
+    def number_in(self, path):
+        """The number that a file holds once it is written."""
+        for _ in range(600):
+            if os.path.exists(path):
+                with open(path, encoding="ascii") as file:
+                    text = file.read()
+                if text.endswith("\n"):
+                    return int(text)
+            time.sleep(0.1)
+        raise AssertionError(f"nothing was written to {path}")
+
     def test_a_query_from_standard_input(self):
         done = programs.skyq("query", self.path("stars"), "-", stdin="SELECT COUNT(*) AS n\nFROM Object -- all\n")
         self.assertEqual((done.returncode, done.stdout), (0, "n\n4\n"))
@@ -112,6 +152,7 @@ class Commands(support.WithFolder):
             (("query", stars, "SELECT nope FROM Object"), "skyq query: there is no column nope; the columns are id, ra, dec, mag, sp"),
             (("query", self.path(), "SELECT id FROM Object"), f"skyq query: {self.path()}: no catalogue folder: columns.json is missing; skyq ingest makes one"),
             (("query", stars, "SELECT id FROM Object", "-o", "x.pdf"), "skyq query: x.pdf: the ending is none of .fits, .fit, .fits.gz, .vot, .vot.gz, .xml, .ecsv, .csv"),
+            (("query", stars, "SELECT id FROM Object", "-o", self.path("none", "x.csv")), f"skyq query: {self.path('none', 'x.csv')}: No such file or directory"),
             (("query", stars, "SELECT id FROM Object", "--workers", "17"), "skyq query: --workers is 0 to 16"),
             (("cone", stars, "10", "20", "5"), "skyq cone: 5 has no unit of angle: write it as 5arcsec, 5arcmin or 5deg"),
             (("cone", stars, "ten", "20", "5deg"), "skyq cone: ten is no coordinate: write degrees, as 161.265, or 10h45m03.6s or -59d41m04s"),
@@ -144,7 +185,7 @@ class Commands(support.WithFolder):
             ("echo 'x: cannot be read' >&2; exit 7", "the program failed: x: cannot be read"),
             ("echo 'output failed' >&2; exit 8", "the program failed: output failed"),
             ("echo 'out of memory' >&2; exit 9", "the program failed: out of memory"),
-            ("kill -9 $$", "the program failed: it ended with status -9"),
+            ("kill -9 $$", "the program failed: it was ended by SIGKILL"),
             ("printf 'query 1\\nobjectId\\n1\\n'", "the answer of query 1 has no last line: the transcript is cut off"),
             ("printf ''", "the program answered 0 of 1 queries"),
             ("printf 'query 1\\nout of memory\\n'", "the engine was out of memory in this query; ask for fewer rows"),
@@ -158,6 +199,12 @@ class Commands(support.WithFolder):
         done = programs.skyq("query", self.path("stars"), "SELECT id FROM Object",
                          program=self.program("echo 'qserv: crate 3 of 59: sky_io' >&2; printf 'query 1\\nobjectId\\n7\\n1 rows, 1 chunks\\n'"))
         self.assertEqual((done.returncode, done.stdout, done.stderr), (0, "id\n7\n", "qserv: crate 3 of 59: sky_io\n"))
+
+    def test_how_far_the_launcher_is_is_no_fault(self):
+        for end, want in (("kill $$", "it was ended by SIGTERM"), ("exit 1", "it ended with status 1"), ("echo 'qserv: no rt' >&2; exit 1", "qserv: no rt")):
+            done = programs.skyq("query", self.path("stars"), "SELECT id FROM Object", program=self.program(f"echo 'qserv: crate 3 of 59: sky_io' >&2; {end}"))
+            self.assertEqual((done.returncode, done.stderr.splitlines()[0], done.stderr.splitlines()[-1]),
+                             (2, "qserv: crate 3 of 59: sky_io", f"skyq query: the program failed: {want}"))
 
     def test_no_program(self):
         line = self.refused("query", self.path("stars"), "SELECT id FROM Object", program=self.path("none"))
@@ -183,12 +230,13 @@ class Commands(support.WithFolder):
 
     def test_one_answer_goes_to_a_file(self):
         path = self.path("one.ecsv")
-        self.assertEqual(self.printed("read", self.transcript(), "--query", "1", "-o", path), [f"{path}: 2 rows, 1 chunks scanned"])
+        self.assertEqual(self.printed("read", self.transcript(), "--query", "1", "-o", path), [f"{path}: 2 rows, 1 chunk scanned"])
         self.assertEqual(np.asarray(Table.read(path)["objectId"]).tolist(), [1, 3])
         self.assertEqual(self.refused("read", self.transcript(), "-o", path), "skyq read: 2 queries are answered, and a file holds one table: choose it with --query K")
         self.assertEqual(self.refused("read", self.transcript(), "--query", "2", "-o", path), "skyq read: query 2 has no table: refused: unknown name flx")
         self.assertEqual(self.refused("read", self.transcript(), "--query", "4"), "skyq read: the transcript has no query 4")
         self.assertEqual(self.refused("read", self.path("stars.csv")), f"skyq read: {self.path('stars.csv')}: this is no transcript: 'query 1' is missing at byte 0")
+        self.assertEqual(self.refused("read", "/dev/null"), "skyq read: /dev/null: there is no query in it")
         self.assertEqual(self.refused("read", self.path("none.txt")), f"skyq read: {self.path('none.txt')}: No such file or directory")
 
 
