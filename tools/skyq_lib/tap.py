@@ -1,7 +1,6 @@
 """The command tap: a TAP 1.1 service of a catalogue folder, for pyvo, TOPCAT, STILTS and others."""
 import email.parser
 import email.policy
-import re
 import select
 import signal
 import socket
@@ -14,24 +13,16 @@ from skyq_lib import tap_jobs, uws, vosi
 from skyq_lib.columns import Catalogue
 from skyq_lib.errors import SkyqError
 from skyq_lib.pool import Busy, Cancelled, Pool
+from skyq_lib.tap_guard import HOST, Fault, judge, methods_of
 from skyq_lib.tap_service import Limits, Service, refused
 from skyq_lib.uws import Outcome
 
-ROOT = "/tap"
-HOST = re.compile(r"[A-Za-z0-9.\-]{1,255}(:\d{1,5})?|\[[0-9A-Fa-f:.]{2,45}\](:\d{1,5})?")
+ROOT, PLAIN = "/tap", "text/plain; charset=utf-8"
 HELP = """A TAP service (IVOA, TAP 1.1) of the catalogue {0}: {1} objects in the table Object.
   {2}/sync  {2}/async  {2}/tables  {2}/capabilities  {2}/availability
 TOPCAT: VO, Table Access Protocol, TAP URL: {2}
 pyvo:   pyvo.dal.TAPService("{2}").search("SELECT TOP 5 * FROM Object")
 """
-
-
-class Fault(Exception):
-    """A request that is no request: a status of HTTP and a reason."""
-
-    def __init__(self, status, why):
-        super().__init__(why)
-        self.status = status
 
 
 class Server(ThreadingHTTPServer):
@@ -84,23 +75,28 @@ class Handler(BaseHTTPRequestHandler):
         pass
 
     def do_GET(self):
-        self.reply(urllib.parse.urlsplit(self.path).query, {})
-
-    do_HEAD = do_DELETE = do_GET
-
-    def do_POST(self):
         try:
+            judge(self.command, self.headers, self.server.server_address)
             body = self.body()
-            parameters = posted(self.headers.get("Content-Type", ""), body)
+            parameters = posted(self.headers.get("Content-Type", ""), body) if self.command == "POST" else {}
         except Fault as fault:
             self.close_connection = True
             return self.send(refused(str(fault), fault.status))
         return self.reply(urllib.parse.urlsplit(self.path).query, parameters)
 
+    do_HEAD = do_POST = do_DELETE = do_PUT = do_OPTIONS = do_PATCH = do_GET
+
+    def send_error(self, code, message=None, explain=None):
+        """What Python's server refuses by itself, as a line and not as its page."""
+        self.close_connection = True
+        self.send(Outcome(code, PLAIN, f"{message or 'this is no request'}\n".encode()))
+
     def body(self):
-        """The bytes of a request, if they are not too many."""
+        """The bytes of a request, if they are not too many; of any method, since the next request is behind them."""
         word, most = self.headers.get("Content-Length"), self.server.service.limits.request
-        if word is None or not word.isdigit():
+        if word is None and self.command != "POST" and "Transfer-Encoding" not in self.headers:
+            return b""
+        if word is None or not (word.isascii() and word.isdigit()) or "Transfer-Encoding" in self.headers:
             raise Fault(411, "the request does not say how long it is")
         if len(word) > 12 or int(word) > most:
             raise Fault(413, f"the request is longer than {most} bytes")
@@ -110,7 +106,7 @@ class Handler(BaseHTTPRequestHandler):
         """Answers a request with the parameters of its path and of its body."""
         try:
             parameters = {**named(parsed(query)), **more}
-            outcome = self.outcome(urllib.parse.unquote(urllib.parse.urlsplit(self.path).path), parameters)
+            outcome = self.outcome(parameters)
         except Fault as fault:
             outcome = refused(str(fault), fault.status)
         except Busy as fault:
@@ -118,7 +114,7 @@ class Handler(BaseHTTPRequestHandler):
         except SkyqError as fault:
             outcome = refused(str(fault))
         except tap_jobs.Missing as fault:
-            outcome = Outcome(404, "text/plain; charset=utf-8", f"{fault}\n".encode())
+            outcome = Outcome(404, PLAIN, f"{fault}\n".encode())
         except tap_jobs.Moved as moved:
             return self.move(f"{self.base()}/{moved.path}")
         except Cancelled:               # the client has gone
@@ -126,12 +122,19 @@ class Handler(BaseHTTPRequestHandler):
             return None
         return self.send(outcome)
 
-    def outcome(self, path, parameters):
-        """The Outcome of a path."""
-        service, words = self.server.service, path.strip("/").split("/")
+    def words(self):
+        """The words of the path."""
+        return urllib.parse.unquote(urllib.parse.urlsplit(self.path).path).strip("/").split("/")
+
+    def outcome(self, parameters):
+        """The Outcome of the request."""
+        service, words = self.server.service, self.words()
+        path = "/" + "/".join(words)
+        if self.command not in methods_of(words):
+            raise Fault(405, f"{path} takes {', '.join(methods_of(words))}")
         if words == [""] or words == ["tap"]:
             catalogue = service.catalogue
-            return Outcome(200, "text/plain; charset=utf-8", HELP.format(catalogue.source, catalogue.rows, self.base()).encode())
+            return Outcome(200, PLAIN, HELP.format(catalogue.source, catalogue.rows, self.base()).encode())
         if words[0] != "tap" or not (len(words) == 2 or words[1] == "async"):
             raise tap_jobs.Missing(f"there is no {path} here; there is {ROOT}")
         if words[1] == "async":
@@ -167,6 +170,8 @@ class Handler(BaseHTTPRequestHandler):
         self.send_header("Content-Length", str(len(outcome.body)))
         if outcome.status == 503:
             self.send_header("Retry-After", "5")
+        if outcome.status == 405:
+            self.send_header("Allow", ", ".join(methods_of(self.words())))
         if self.close_connection:
             self.send_header("Connection", "close")
         self.end_headers()
@@ -262,19 +267,27 @@ def run(words):
     jobs = uws.Jobs(service.outcome, pool.cancel, limits.job_seconds, limits.longest)
     signal.signal(signal.SIGTERM, interrupted)
     try:
-        server = Server((words.host, words.port), service, jobs)
+        server = bound((words.host, words.port), service, jobs)
         with server:
             pool.start()
             print(f"http://{address_text(server.server_address)}{ROOT} serves {words.folder}: {catalogue.rows} rows; end it with Ctrl-C", flush=True)
             server.serve_forever()
     except KeyboardInterrupt:
         return 0
-    except (socket.gaierror, OverflowError) as fault:
-        raise SkyqError(f"{words.host} is no address: {fault}") from None
     finally:
         jobs.close()
         pool.close()
     return 0
+
+
+def bound(address, service, jobs):
+    """The Server at an address; a SkyqError names one that it cannot have."""
+    try:
+        return Server(address, service, jobs)
+    except (socket.gaierror, OverflowError, ValueError) as fault:
+        raise SkyqError(f"{address[0]} is no address: {fault}") from None
+    except OSError as fault:
+        raise SkyqError(f"{address_text(address)}: {fault.strerror or fault}") from None
 
 
 def interrupted(*_):

@@ -28,7 +28,7 @@ def answer(jobs, method, words, parameters, base):
     job = jobs.find(words[0])
     if job is None:
         raise Missing(f"there is no job {words[0]}")
-    if method == "DELETE" or parameters.get("ACTION", "").upper() == "DELETE":
+    if method == "DELETE" or method == "POST" and parameters.get("ACTION", "").upper() == "DELETE":
         jobs.delete(job)
         raise Moved("async")
     if method == "POST":
@@ -88,7 +88,7 @@ def listed(jobs, parameters, base):
         after = uws.moment_of(parameters["AFTER"])
         found = [job for job in found if job.created > after]
     last = parameters.get("LAST", str(MOST_LISTED))
-    if not last.isdigit():
+    if not (last.isascii() and last.isdigit()):
         raise SkyqError("LAST is a number of jobs")
     return Outcome(200, XML, uws.list_document(found[: int(last)], base).encode())
 

@@ -24,7 +24,11 @@ SCHEMA = {
 KEYS = [("tables", "schemas", "schema_name"), ("columns", "tables", "table_name"), ("keys", "tables", "from_table", "table_name"),
         ("keys", "tables", "target_table", "table_name"), ("key_columns", "keys", "key_id")]
 MOST_STEPS = 2000               # of 10,000 instructions of sqlite, a query of TAP_SCHEMA
+LONGEST_TEXT = 10**5            # bytes of a value or a row of it
+MOST_BYTES = 10**7              # of the answer's texts
+MOST_MEMORY = 2**26             # bytes that sqlite has
 FUNCTIONS = set("count min max sum avg total lower upper length like abs coalesce ifnull nullif round substr trim".split())
+TOO_LARGE = "the answer of TAP_SCHEMA is too large; ask for less of it"
 READS = (sqlite3.SQLITE_SELECT, sqlite3.SQLITE_READ)
 # As ADQL reserves them, beside those that the parser knows; a column that is called so is quoted.
 MORE_RESERVED = set("SIZE DATE TIME TIMESTAMP YEAR MONTH DAY HOUR MINUTE SECOND VALUE VALUES TABLE COLUMN INDEX USER POSITION POINT"
@@ -43,7 +47,7 @@ def fields_of(catalogue):
     """The columns of the one table as votable.Fields, as `SELECT *` gives them."""
     kinds = ["float64", "float64"]
     if catalogue.has_degrees:
-        kinds = [catalogue.column(name).type for name in DEGREES]
+        kinds = [catalogue.engine_column(name).type for name in DEGREES]
     found = [votable.Field(catalogue.id or "objectId", "long", None, None, "meta.id;meta.main", "the number of the object")]
     for name, kind, ucd, what in ((catalogue.ra, kinds[0], "pos.eq.ra", "right ascension"), (catalogue.dec, kinds[1], "pos.eq.dec", "declination")):
         found.append(votable.Field(name, *votable.type_of(kind), "deg", f"{ucd};meta.main", what))
@@ -64,6 +68,9 @@ class Tables:
         self.steps = 0
         self.base = sqlite3.connect(":memory:", check_same_thread=False)
         self.fill()
+        self.base.setlimit(sqlite3.SQLITE_LIMIT_LENGTH, LONGEST_TEXT)
+        self.base.execute("PRAGMA temp_store=MEMORY")
+        self.base.execute(f"PRAGMA hard_heap_limit={MOST_MEMORY}")
         self.base.set_authorizer(allowed)
         self.base.set_progress_handler(self.step, 10000)
 
@@ -118,7 +125,9 @@ class Tables:
             self.steps = 0
             try:
                 cursor = self.base.execute(f"SELECT * FROM ({inner}\n) LIMIT {most}")
-                rows = cursor.fetchall()
+                rows = some_rows(cursor)
+            except MemoryError:
+                raise SkyqError(TOO_LARGE) from None
             except (sqlite3.Error, sqlite3.Warning) as fault:
                 raise SkyqError(f"the query of TAP_SCHEMA is not answered: {fault}") from None
         names = [one[0] for one in cursor.description]
@@ -162,6 +171,17 @@ class Tables:
             f"<foreignKey><targetTable>{target}</targetTable><fkColumn><fromColumn>{a}</fromColumn><targetColumn>{b}</targetColumn></fkColumn></foreignKey>"
             for target, a, b in rows
         )
+
+
+def some_rows(cursor):
+    """The rows of a query, if they are not too large."""
+    rows, size = [], 0
+    for row in cursor:
+        rows.append(row)
+        size += sum(len(value) for value in row if isinstance(value, (str, bytes)))
+        if size > MOST_BYTES:
+            raise SkyqError(TOO_LARGE)
+    return rows
 
 
 def allowed(action, first, second, base, _):

@@ -11,7 +11,8 @@ from astropy.io import fits
 
 import programs
 import support
-from skyq_lib import tap
+from skyq_lib import tap, tap_guard
+from skyq_lib.errors import SkyqError
 from skyq_lib.tap_service import Limits
 from tap_client import Running, status_of, votable
 
@@ -111,6 +112,11 @@ class Answers(Served):
             got = connection.getresponse()
             self.assertEqual((got.status, bool(got.read())), (status, method != "HEAD"))
 
+    def test_an_address_of_another_machine_is_named(self):
+        with self.assertRaises(SkyqError) as caught:
+            tap.bound(("192.0.2.1", 8080), self.tap.service, self.tap.jobs)
+        self.assertEqual(str(caught.exception), "192.0.2.1:8080: Cannot assign requested address")
+
     def test_it_binds_to_the_loopback_address(self):
         parser = argparse.ArgumentParser()
         tap.add_words(parser, "tap")
@@ -153,7 +159,7 @@ class Refusals(Served):
         self.assertRefused(self.tap.request("POST", "/tap/sync", b"QUERY=\xff\xfe", form),
                            "the parameters are no form: they have bytes that are no ASCII")
         self.assertEqual(self.tap.request("POST", "/tap/sync", b"QUERY=%ff%fe", form).status, 400)
-        self.assertEqual(self.tap.request("POST", "/tap/sync", iter([b"QUERY=x"]), form).status, 411)
+        self.assertEqual(self.tap.request("POST", "/tap/sync", None, {**form, "Transfer-Encoding": "chunked"}).status, 411)
         self.assertEqual(self.tap.request("POST", "/tap/sync", None, {**form, "Content-Length": "-5"}).status, 411)
         self.assertEqual(self.tap.request("POST", "/tap/sync", b"", {"Content-Type": "multipart/form-data"}).status, 400)
         self.assertEqual(self.tap.get("/tap/sync?" + "&".join(f"p{k}=1" for k in range(300))).status, 400)
@@ -165,12 +171,60 @@ class Refusals(Served):
     def test_paths_that_are_none(self):
         for method, path in (("GET", "/nothing"), ("GET", "/tap/x/y"), ("GET", "/tap/async/nojob"), ("POST", "/tap/async/nojob/phase"), ("GET", "/tap/sync/x")):
             self.assertEqual(self.tap.request(method, path, None if method == "GET" else "").status, 404)
-        self.assertEqual(self.tap.request("PUT", "/tap/sync", b"").status, 501)
 
-    def test_a_host_that_is_none_stays_out_of_the_documents(self):
-        got = self.tap.request("GET", "/tap/capabilities", None, {"Host": 'evil"><x>'})
-        self.assertNotIn(b"evil", got.body)
-        self.assertIn(b"http://127.0.0.1:", got.body)
+    def test_methods_that_a_path_does_not_take(self):
+        for method, path, allowed in (
+            ("DELETE", "/tap/sync", "GET, HEAD, POST"), ("DELETE", "/tap/tables", "GET, HEAD"), ("DELETE", "/tap/async/nojob/phase", "GET, HEAD, POST"), ("POST", "/tap/tables", "GET, HEAD"),
+            ("DELETE", "/tap/async", "GET, HEAD, POST"), ("PUT", "/tap/async/nojob", "GET, HEAD, POST, DELETE"), ("OPTIONS", "/tap/sync", "GET, HEAD, POST"),
+        ):
+            got = self.tap.request(method, path, b"")
+            self.assertEqual((got.status, got.headers["Allow"]), (405, allowed), (method, path))
+            self.assertRefused(got, f"{path} takes {allowed}", 405)
+        got = self.tap.request("BREW", "/tap/sync", b"")
+        self.assertEqual((got.status, got.headers["Content-Type"]), (501, "text/plain; charset=utf-8"))
+        self.assertEqual(got.body, b"Unsupported method ('BREW')\n")
+
+    def test_a_body_of_any_method_is_read(self):
+        """The next request on the connection begins behind it."""
+        connection = http.client.HTTPConnection("127.0.0.1", self.tap.server.server_address[1], timeout=60)
+        self.addCleanup(connection.close)
+        for method, path, status in (("GET", "/tap/availability", 200), ("DELETE", "/tap/async/nojob", 404), ("GET", "/tap/nothing", 404), ("GET", "/tap", 200)):
+            connection.request(method, path, b"GET /tap/sync HTTP/1.1\r\n\r\n")
+            got = connection.getresponse()
+            self.assertEqual((got.status, len(got.read()) > 0), (status, True), method)
+        self.assertEqual(self.tap.request("GET", "/tap", None, {"Content-Length": "3001"}).status, 413)
+        self.assertEqual(self.tap.request("GET", "/tap", None, {"Transfer-Encoding": "chunked"}).status, 411)
+        self.assertEqual(self.tap.request("POST", "/tap/sync", None, {"Content-Length": "7", "Transfer-Encoding": "chunked"}).status, 411)
+        self.assertEqual(self.tap.request("GET", "/tap", None, {"Content-Length": "\u00b2"}).status, 411)
+
+    def test_a_foreign_host_is_refused_on_the_loopback_address(self):
+        """A web page's own name may be turned to 127.0.0.1, and its requests are then to this service."""
+        for host in ("evil.example", "evil.example:8080", "127.0.0.1.evil.example", 'evil"><x>', "localhost@evil.example", ""):
+            got = self.tap.request("GET", "/tap/capabilities", None, {"Host": host})
+            self.assertEqual(got.status, 403, host)
+            self.assertNotIn(b"evil", got.body)
+        for host in ("localhost", "LocalHost:9", "127.0.0.1:8080", "127.3.2.1", "[::1]:80"):
+            self.assertIn(f"http://{host}/tap".encode(), self.tap.request("GET", "/tap/capabilities", None, {"Host": host}).body)
+
+    def test_a_page_of_another_site_changes_nothing(self):
+        own = f"127.0.0.1:{self.tap.server.server_address[1]}"
+        form = {"Content-Type": "application/x-www-form-urlencoded"}
+        path = self.tap.job(QUERY="SELECT id FROM Object")
+        for origin in ("http://evil.example", "http://[evil", "null", "http://127.0.0.1:1", f"http://{own}.evil.example", ""):
+            for method, at, body in (("POST", "/tap/sync", "QUERY=SELECT+id+FROM+Object"), ("POST", path, "ACTION=DELETE"), ("DELETE", path, "")):
+                self.assertRefused(self.tap.request(method, at, body, {**form, "Origin": origin}), "a page of another site asks for a change", 403)
+        self.assertEqual(self.tap.get(path, ACTION="DELETE").status, 200)       # which an image of a page could ask for
+        self.assertEqual(self.tap.get(path).status, 200)
+        self.assertEqual(self.tap.request("DELETE", path, None, {"Origin": f"http://{own}"}).status, 303)
+        self.assertEqual(self.tap.get(path).status, 404)
+
+    def test_a_service_of_a_whole_net_answers_to_any_name(self):
+        heads = {"Host": "sky.example:8080", "Origin": "http://sky.example:8080"}
+        tap_guard.judge("POST", heads, ("0.0.0.0", 8080))
+        with self.assertRaises(tap_guard.Fault):
+            tap_guard.judge("POST", {**heads, "Origin": "http://other.example"}, ("0.0.0.0", 8080))
+        with self.assertRaises(tap_guard.Fault):
+            tap_guard.judge("POST", heads, ("127.0.0.1", 8080))
 
 
 class Metadata(Served):
@@ -198,6 +252,19 @@ class Metadata(Served):
             got = self.tap.get("/tap/sync", LANG="ADQL", QUERY=query)
             self.assertEqual((got.status, status_of(got)[0][0]), (400, "ERROR"), query)
         self.assertEqual(self.tap.rows("SELECT COUNT(*) AS n FROM tap_schema.tables"), [["6"]])
+
+    def test_an_answer_of_tap_schema_has_a_largest_size(self):
+        def doubled(times):
+            query = "SELECT description AS d FROM tap_schema.columns WHERE table_name='Object' AND column_name='id'"
+            for _ in range(times):
+                query = f"SELECT d||d AS d FROM ({query})"
+            return query
+
+        crossed = f"SELECT d FROM ({doubled(10)}) a, tap_schema.columns b, tap_schema.columns c"
+        large, too_long = "the answer of TAP_SCHEMA is too large; ask for less of it", "the query of TAP_SCHEMA is not answered: string or blob too big"
+        for query, want in ((doubled(13), too_long), (crossed, large)):
+            self.assertEqual(status_of(self.tap.post("/tap/sync", LANG="ADQL", QUERY=query)), [("ERROR", want)])
+        self.assertEqual([row[0] for row in self.tap.rows(doubled(10))], ["the number of the object" * 2**10])
 
     def test_documents(self):
         tables = xml.etree.ElementTree.fromstring(self.tap.get("/tap/tables").body)
