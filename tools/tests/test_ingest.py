@@ -277,10 +277,10 @@ class Folders(WithFolder):
         cases += [{**right, "columns": [{**right["columns"][0], name: value}]} for name, value in of_column]
         cases += [{**right, "columns": [{**right["columns"][-1], "words": value}]} for value in (None, [1, 2])]
         self.assertEqual((right["columns"][0]["kind"], right["columns"][-1]["kind"]), ("float", "word"))
-        for sidecar in cases:
+        for number, sidecar in enumerate(cases):
             with open(path, "w", encoding="utf-8") as file:
                 json.dump(sidecar, file)
-            with self.subTest(sidecar["columns"]):
+            with self.subTest(number):
                 self.assertRefused(skyq_here("plan", self.path("c")), f"skyq plan: {path}: is no sidecar of a catalogue; ingest the table again")
 
     def test_a_word_that_the_sidecar_does_not_list_is_told(self):

@@ -46,13 +46,15 @@ class Jobs(Programs):
         return self.log("script")[-1][0]
 
     def test_a_job_goes_through_its_phases(self):
-        path = self.tap.job(QUERY="sleep 2", RUNID="mine")
+        path = self.tap.job(QUERY="hold go", RUNID="mine")
         job = self.job(path)
         self.assertEqual((job.find(TAP + "phase").text, job.find(TAP + "runId").text, job.find(TAP + "executionDuration").text), ("PENDING", "mine", "80"))
-        self.assertEqual({one.get("id"): one.text for one in job.find(TAP + "parameters")}, {"LANG": "ADQL", "QUERY": "sleep 2", "RUNID": "mine"})
+        self.assertEqual({one.get("id"): one.text for one in job.find(TAP + "parameters")}, {"LANG": "ADQL", "QUERY": "hold go", "RUNID": "mine"})
         self.assertEqual(self.tap.post(path + "/phase", PHASE="RUN").status, 303)
         self.assertTrue(until(lambda: self.tap.get(path + "/phase").body == b"EXECUTING"))
         self.assertEqual(self.tap.get(path + "/results/result").status, 404)
+        with open(os.path.join(self.folder, "go"), "w", encoding="ascii"):
+            pass                        # lets the query end
         self.assertEqual(self.tap.phase(path), "COMPLETED")
         job = self.job(path)
         [result] = job.find(TAP + "results")
@@ -60,7 +62,7 @@ class Jobs(Programs):
         moments = [job.find(TAP + name).text for name in ("creationTime", "startTime", "endTime", "destruction")]
         self.assertEqual(moments, sorted(moments))
         got = self.tap.get(path + "/results/result")
-        self.assertEqual((status_of(got), votable(got).get_first_table().array["length"].tolist()), ([("OK", None)], [3]))
+        self.assertEqual((status_of(got), votable(got).get_first_table().array["length"].tolist()), ([("OK", None)], [len("go")]))
         self.assertEqual(self.tap.get(path + "/error").status, 404)
 
     def test_a_job_that_is_run_at_once(self):
