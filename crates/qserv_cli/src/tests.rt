@@ -2,6 +2,7 @@
 //! share a chunk's scan.
 use sky_io::{Gate, ListGate, MemShelf, MemSink, NoteGate, OpenGate, PlainShelf, Shelf, StepGate};
 use std::alloc::Global;
+use std::process::Abort;
 use std::sync::Wait;
 use std::test::Fail;
 use std::thread::Threads;
@@ -79,18 +80,28 @@ fn run_failing_at<R: Threads + Wait + Sync>(
     ))
 }
 
+// The first call at which a sink may fail and the script's run is done all the same: it makes fewer calls.
+fn calls_until_done<R: Abort + Threads + Wait + Sync>(
+    rt: &R,
+    alloc: Global,
+    keep: u32,
+) -> Result<u64, Fail> {
+    for call in 1..1000 {
+        let (status, is_prefix) = run_failing_at(rt, alloc, call, keep)?;
+        assert!(rt; is_prefix, "at call {call}, {keep} bytes kept");
+        if status == 0 {
+            return Ok(call);
+        }
+        assert_eq!(rt; status, 8, "at call {call}");
+    }
+    Err(Fail::new("no call is the last"))
+}
+
 #[test]
 fn a_sink_that_fails_at_any_call_has_a_prefix_of_the_answer(rt: HostRuntime) -> Result<(), Fail> {
     for keep in [0, 3] {
-        let mut call = 1;
-        let mut status = 8;
-        while status == 8 && call < 1000 {
-            let (found, is_prefix) = run_failing_at(&rt, rt.alloc(), call, keep)?;
-            assert!(rt; is_prefix, "at call {call}, {keep} bytes kept");
-            status = found;
-            call += 1;
-        }
-        assert!(rt; status == 0 && call > 3, "a put and a flush at least fail");
+        let call = calls_until_done(&rt, rt.alloc(), keep)?;
+        assert!(rt; call > 2, "a put and a flush at least");
     }
     Ok(())
 }
