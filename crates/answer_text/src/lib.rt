@@ -4,8 +4,7 @@
 //! Callers see what a call writes as its text, appended to the sink. `specs/Report.antt` defines the text of the
 //! report, and `transcript_rules` the others. Below: `transcript_rules` for the texts, `sql_print` for parts of
 //! queries, `partial_merge` for the table of an answer, `chunk_store` for the rows of each chunk, `sky_text` for
-//! numbers, `sky_io` for the sink. Above: the czar and the top call. This crate computes nothing but lengths and
-//! positions, and allocates nothing.
+//! numbers, `sky_io` for the sink. This crate computes nothing but lengths and positions, and allocates nothing.
 #![tactic(auto)]
 
 mod chunk_items;

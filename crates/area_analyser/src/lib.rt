@@ -2,8 +2,8 @@
 //!
 //! Callers see a plan as the ascending list that `plan_of` of `answer_rules` defines over the flat table. A chunk is
 //! tested by its bounds, as `sky_plan` gives them, and by the chunks and rows that `object_index` finds for the ids.
-//! Below: `answer_rules` for the definition of a plan, `scan_rules` for a set of chunks. Above: the czar, which plans
-//! each query. Only those rows are read whose ids a lookup inspects, and no chunk without rows is considered.
+//! Below: `answer_rules` for the definition of a plan, `scan_rules` for a set of chunks. Only those rows are read whose
+//! ids a lookup inspects, and no chunk without rows is considered.
 #![tactic(auto)]
 
 mod area;

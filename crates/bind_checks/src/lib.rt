@@ -4,8 +4,7 @@
 //! also contains what both the checks and the building of a bound query need: a walk over the tests of WHERE (`walk`);
 //! the qualifier of a table; whether a query is a join, or is grouped; the alias that an order key refers to; an int as
 //! a number, and the test of an area function with its arguments. Below: `sql_tree` for the written query, `sky_row`
-//! for the schema, `bind_rules` for the faults and the checks. Above: `sql_bind`, which builds the bound query if no
-//! check fails. No bound query: nothing is built here.
+//! for the schema, `bind_rules` for the faults and the checks. No bound query: nothing is built here.
 #![tactic(auto)]
 
 mod area_forms;

@@ -6,8 +6,7 @@
 //!
 //! Below: `sql_token` for spans, `sql_tree` for the written query, `sql_rules` for its text, `sql_bound` for the bound
 //! query and `value_rules` for well-formed ones; `table_rules` for the columns and their bounds, and `sky_vector` for
-//! positions and directions. Above: the binder. This crate has no algorithms: the faults, definitions, worked examples
-//! and lemmas.
+//! positions and directions. This crate has no algorithms: the faults, definitions, worked examples and lemmas.
 #![tactic(auto)]
 
 pub mod examples;

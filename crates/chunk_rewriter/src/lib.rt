@@ -1,9 +1,8 @@
 //! The rewriter: a bound query is split into the query of each chunk and the merge of the chunks' results.
 //!
 //! Callers see `rewrite` as the split that `answer_rules` defines, and a copy as equal to what it copies. Below:
-//! `sql_bound` for the query's trees, `answer_rules` for the meaning of the two parts. Above: the czar, which plans
-//! each query and copies the chunk query for the scans. The two parts have trees of their own, so that they outlive the
-//! query. Which chunks are scanned is not decided here.
+//! `sql_bound` for the query's trees, `answer_rules` for the meaning of the two parts. The two parts have trees of
+//! their own, so that they outlive the query. Which chunks are scanned is not decided here.
 #![tactic(auto)]
 
 mod cond;

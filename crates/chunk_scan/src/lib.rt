@@ -1,10 +1,10 @@
 //! The scan of a chunk: which of its rows meet the conditions of a chunk query, and the piece of the answer that they
 //! are.
 //!
-//! Callers see `mask` as a flag for each row, and `scan` as a piece that represents the chunk alone (`PieceFor`).
-//! Conditions that are vectorizable predicates are evaluated first by the kernels of `lane_filter`, each of which
-//! clears a mask. Then the numbers of the remaining rows are listed, and `column_eval` evaluates the other conditions
-//! on these alone.
+//! Callers see `mask` as a flag for each row, and `scan` as a piece that represents the chunk alone (`PieceFor`). The
+//! program calls `scan`; nothing in it calls `mask`. Conditions that are vectorizable predicates are evaluated first by
+//! the kernels of `lane_filter`, each of which clears a mask. Then the numbers of the remaining rows are listed, and
+//! `column_eval` evaluates the other conditions on these alone.
 //!
 //! For a grouped query the selected rows are brought into an order in which rows with the same key are adjacent
 //! (`key_order`). The values of the first key column are copied in that order (`lead`), and the values of the
@@ -16,8 +16,8 @@
 //! its piece is in a `Scratch`, which its caller keeps for the next scan.
 //!
 //! Below: `chunk_store` for the rows of a chunk and their columns, `lane_filter` and `column_eval` for what is computed
-//! a column at a time, `expr_eval` for the values of one row, and `partial_merge` for the piece. Above: `czar`, which
-//! calls for the piece of each chunk. This crate has no pairs of rows, no threads and no other chunk.
+//! a column at a time, `expr_eval` for the values of one row, and `partial_merge` for the piece. This crate has no
+//! pairs of rows, no threads and no other chunk.
 #![tactic(auto)]
 
 mod all_rows;

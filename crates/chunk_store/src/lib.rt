@@ -3,8 +3,7 @@
 //! Callers see a `Store` as its `Survey` (`specs/Survey.antt`), and each list as a filter of the flat table
 //! (`specs/Places.antt`): ascending row numbers, and the columns of a chunk's rows as a `Block`. Below: `sky_plan` for
 //! the chunk of a position, `overlap_tables` for near regions, `sky_row` for rows, `column_block` for a chunk's
-//! columns. Above: the scans and joins of a chunk, the czar, which plans over the chunks that have rows, and the
-//! report. No queries and no ids: a row is identified by its number in the table.
+//! columns. No queries and no ids: a row is identified by its number in the table.
 #![tactic(auto)]
 
 mod blocks;

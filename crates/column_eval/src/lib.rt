@@ -13,8 +13,7 @@
 //!
 //! Below: `column_block` for the columns, `sql_bound` for the trees, `value_rules` for their meaning; `lane_filter` for
 //! comparisons with one number; `expr_eval`, which evaluates one row at a time, for area tests and for lemmas on the
-//! levels of the trees. Above: `chunk_scan`, which asks for rows of a chunk, and `judge`, which calls it on rows of its
-//! own. Not in it: pairs of rows, and tests of a column that `lane_filter` does faster.
+//! levels of the trees. Not in it: pairs of rows, and tests of a column that `lane_filter` does faster.
 #![tactic(auto)]
 
 mod aggregate;

@@ -5,8 +5,8 @@
 //! answer is that of the flat table, whose definition does not mention chunks. Below: `sql_reader` and `sql_bind` for
 //! the meaning of a query, `area_analyser` over an `object_index` for its chunks, `chunk_rewriter` for its two parts,
 //! `scan_session` for the session over a shared board, `chunk_scan` and `near_join` for a chunk's work, `partial_merge`
-//! for the merge, and `answer_text` for its text. Above: the program's top call. No file: texts are slices that the
-//! caller holds. Threads come from the caller.
+//! for the merge, and `answer_text` for its text. No file: texts are slices that the caller holds. Threads come from
+//! the caller.
 #![tactic(auto)]
 
 mod attach;

@@ -1,9 +1,8 @@
 //! The demo's input: a catalogue made from a count and a seed, a sky plan and a script.
 //!
 //! Callers see the catalogue as the rows of `specs/DemoRows.antt`, and the two texts as bytes (`specs/DemoTexts.antt`).
-//! Below: `table_rules` for rows, `sky_vector` for points. Above: `sky_generate`, which makes the three, and
-//! `demo_answers`, for the meaning of the two texts. This crate has no algorithms: definitions, lemmas, and worked
-//! examples that the checker evaluates.
+//! Below: `table_rules` for rows, `sky_vector` for points. This crate has no algorithms: definitions, lemmas, and
+//! worked examples that the checker evaluates.
 #![tactic(auto)]
 
 pub mod examples;

@@ -3,9 +3,8 @@
 //!
 //! Callers see a value as an integer or NULL, and a truth value as true, false or unknown. `value_rules` defines them
 //! for the row, for the two rows of a pair (`specs/Picks.antt`), or for the columns of a key. Below: `sky_row` for
-//! rows, `sql_bound` for the trees, `value_rules` for their meaning. Above: the scans and the merge. Nothing here
-//! allocates memory or fails: what is evaluated is well-formed, so each column is there and each number fits. Not in
-//! it: totals and orders.
+//! rows, `sql_bound` for the trees, `value_rules` for their meaning. Nothing here allocates memory or fails: what is
+//! evaluated is well-formed, so each column is there and each number fits. Not in it: totals and orders.
 #![tactic(auto)]
 
 mod area;

@@ -14,8 +14,7 @@
 //! It is for checks from outside: `scripts/random_queries.py` and `scripts/compare_places.py` compute the same results
 //! independently, and `bench/kernels.py` measures runs. Below: `sql_reader` and `sql_print` for texts, `sql_bind` for
 //! queries, `sky_plan` and `overlap_tables` for positions, `lane_filter` and `column_eval` for kernels, over rows of
-//! `sky_generate`. Above: nothing, this is a program. It has no rows but the demo's. No clause is about what it writes,
-//! so nothing is proved of that.
+//! `sky_generate`. It has no rows but the demo's. No clause is about what it writes, so nothing is proved of that.
 #![tactic(auto)]
 
 mod bound;

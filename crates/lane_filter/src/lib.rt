@@ -4,8 +4,7 @@
 //! loop here goes over equal slices with no branch and no call that is not inlined, since the compiler turns such loops
 //! into vector code. It handles one row an iteration, and for a comparison or a range sixteen (`wide`, and `narrow` for
 //! 32 bits). The selection vector of the rows that are left is built without a branch too. Below: `sky_vector` for
-//! positions and chords, `sql_tree` and `value_rules` for the meaning of a comparison. Above: `chunk_scan`, and
-//! `column_eval` for comparisons with one number.
+//! positions and chords, `sql_tree` and `value_rules` for the meaning of a comparison.
 #![tactic(auto)]
 
 mod compare;

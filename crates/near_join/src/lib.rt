@@ -11,8 +11,8 @@
 //! (`asked`, `reach`; `rising`, `bare`).
 //!
 //! Below: `chunk_store` for the rows of a chunk, of its overlap and of its subchunks, `overlap_tables` for whether a
-//! subchunk holds a row, `expr_eval` for conditions and items, and `partial_merge` for the piece. Above: `czar`, which
-//! asks for the piece of each chunk. This crate merges nothing: an order and a LIMIT are left to the piece.
+//! subchunk holds a row, `expr_eval` for conditions and items, and `partial_merge` for the piece. This crate merges
+//! nothing: an order and a LIMIT are left to the piece.
 #![tactic(auto)]
 
 mod asked;

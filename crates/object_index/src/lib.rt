@@ -2,8 +2,7 @@
 //!
 //! Callers see an `Index` as the partition and the rows that it indexes (`specs/Indexes.antt`). It is sparse: the rows
 //! are in ascending id, so it stores an entry for each granule of them instead of one for each row. Below: `sky_row`
-//! stores the rows, `sky_plan` finds the chunk of a position, `indexmap` stores the entries. Above: the choice of a
-//! query's chunks by ids.
+//! stores the rows, `sky_plan` finds the chunk of a position, `indexmap` stores the entries.
 #![tactic(auto)]
 
 pub mod granules;

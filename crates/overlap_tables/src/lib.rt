@@ -1,9 +1,7 @@
 //! Near regions and overlap: which chunks and subchunks a position is near, and which chunks need it as overlap.
 //!
 //! Callers see a near region as the test of `sky_rules`, and the chunks that need a position as a list of their numbers
-//! (`specs/Overlaps.antt`). Below: `sky_plan` for bounds and locations. Above: `chunk_store`, which gives each chunk its
-//! overlap and tests for a subchunk's; `near_join`, which tests whether a part contains a position; and `judge`, which
-//! writes the chunks near a position. No rows and no tables: one position at a time.
+//! (`specs/Overlaps.antt`). Below: `sky_plan` for bounds and locations. No rows and no tables: one position at a time.
 #![tactic(auto)]
 
 mod chunks;

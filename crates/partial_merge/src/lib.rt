@@ -17,8 +17,7 @@
 //! sorted (`lines`), and their items merged (`merged`, `average`).
 //!
 //! Below: `answer_rules` for the meaning of pieces and the lemmas, `expr_eval` for expressions of keys, and `scan_core`
-//! for `Work`, by which a board joins pieces (`work`). Above: the scans fill pieces, a board joins them, and the czar
-//! finishes them. This crate has no chunks, no scans and no threads.
+//! for `Work`, by which a board joins pieces (`work`). This crate has no chunks, no scans and no threads.
 #![tactic(auto)]
 
 mod average;

@@ -1,8 +1,7 @@
 //! Answers or explains a script of queries over a sky plan and a catalogue, by the words of its command line.
 //!
-//! The words, the files of the current folder and the standard streams are handed to the top call, `top_call::qserv`, and
-//! what its outcome says goes to standard error.
-//! Below: `top_call`, and the adapters of `sky_io`. Above: nothing, this is the program.
+//! The words, the files of the current folder and the standard streams are handed to the top call, `top_call::qserv`,
+//! and what its outcome says goes to standard error. Below: `top_call`, and the adapters of `sky_io`.
 #![tactic(auto)]
 
 #[cfg(test)]

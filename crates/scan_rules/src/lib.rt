@@ -5,9 +5,8 @@
 //! The chunks of a `ChunkSet` and the queries of a `QuerySet` are ascending lists.
 //!
 //! Below: `sky_io` because an allocation can fail; the limits are those of scripts (`text_rules`) and skies
-//! (`sky_rules`). Above: the board, whose journal is a run, and its callers, which rely on the lemmas about every run.
-//! There is no board, no thread and no work on chunks here: a lemma is a function without a body whose clause is the
-//! lemma.
+//! (`sky_rules`). There is no board, no thread and no work on chunks here: a lemma is a function without a body whose
+//! clause is the lemma.
 #![tactic(auto)]
 
 pub mod chunk_set;

@@ -2,8 +2,7 @@
 //!
 //! Callers give the plan of each query of a script, and get the end of each. The lines that the participant has seen
 //! show what was done (`specs/Drove.antt`). Below: `scan_board` for the calls, `scan_worker` for the work,
-//! `session_script` for the steps. Above: `czar`, which knows what a plan and a piece are. No rows and no SQL: a piece
-//! of work is any `P: Work`.
+//! `session_script` for the steps. No rows and no SQL: a piece of work is any `P: Work`.
 #![tactic(auto)]
 
 mod crew;

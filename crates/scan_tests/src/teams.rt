@@ -12,7 +12,8 @@ use std::test::Fail;
 use std::thread;
 use std::thread::Threads;
 
-/// Marks chunks, and stays with a piece on chunk 0 until another is made there too, or for so many turns.
+/// Marks chunks, and stays with a piece on chunk 0 until another is made there too, or for the given number
+/// of turns.
 #[derive(Drop)]
 struct Meeting {
     marker: Marker,

@@ -1,9 +1,8 @@
 //! The ends that a session may give to the queries of a script.
 //!
 //! Callers see the ends as a list, and a query as the facts about it that hold in every session (`specs/Ends.antt`).
-//! Below: `session_script` for the steps of a script. Above: `transcript_rules`, which defines those facts of each
-//! query, and `scan_session`, whose ends fit. No session is run here: definitions, their lemmas, and worked examples
-//! that the checker evaluates.
+//! Below: `session_script` for the steps of a script. No session is run here: definitions, their lemmas, and worked
+//! examples that the checker evaluates.
 #![tactic(auto)]
 
 pub mod end;

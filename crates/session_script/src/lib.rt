@@ -1,8 +1,7 @@
 //! Scripts: each line is a query, a wait or a cancel.
 //!
 //! Callers see a script as its text and its list of steps (`specs/Scripts.antt`). Below: `sky_text` for lines and
-//! numbers, `sql_token` for spans. Above: the czar, which executes the steps. The text of a query is not inspected
-//! here: a line that is no other step is a query.
+//! numbers, `sql_token` for spans. The text of a query is not inspected here: a line that is no other step is a query.
 #![tactic(auto)]
 
 pub mod examples;

@@ -3,7 +3,7 @@
 //! Callers see the rows and the texts as those of `demo_rules`. An object takes five draws of the generator
 //! `minstd_rand` of the C++ standard; its position on the sphere is computed from three of them with integer square
 //! roots. Below: `sky_vector` for positions and roots, `sky_row` for rows, `demo_rules` for the definition of the demo.
-//! Above: the program. Nothing is read, and no number is drawn from outside.
+//! Nothing is read, and no number is drawn from outside.
 #![tactic(auto)]
 
 mod draws;

@@ -4,9 +4,8 @@
 //! content, if that is observable, and what has failed. The content is observable in memory, and not in files and
 //! streams.
 //!
-//! Below: std, and `arrayvec` for the records of a gate. Above: every crate that reads, writes or may run out of
-//! memory; `proofs/Writes.antt` is for those. There are no formats, no SQL and no sky here: a text is bytes, and a gate
-//! does not inspect the work that passes it.
+//! Below: std, and `arrayvec` for the records of a gate. There are no formats, no SQL and no sky here: a text is bytes,
+//! and a gate does not inspect the work that passes it.
 #![tactic(auto)]
 
 ghost use Rattle.std.specs.Prelude.{◌≡◌};

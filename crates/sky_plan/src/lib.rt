@@ -2,9 +2,8 @@
 //! division.
 //!
 //! Callers see a `SkyPlan` as a `Partition`, a `Stripe` as a stripe of it, and a `Region` as its bounds
-//! (`specs/Regions.antt`). Below: `sky_rules` for the definition of a partition, `wedge_rules` for wedges. Above:
-//! overlaps, chunks and the choice of chunks. No rows and no overlap: which positions are near a chunk is not decided
-//! here.
+//! (`specs/Regions.antt`). Below: `sky_rules` for the definition of a partition, `wedge_rules` for wedges. No rows and
+//! no overlap: which positions are near a chunk is not decided here.
 #![tactic(auto)]
 
 mod heights;

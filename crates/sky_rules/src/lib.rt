@@ -2,9 +2,8 @@
 //!
 //! Callers see a partition as its list of stripes (`specs/Partition.antt`) and a part of the sky as its bounds
 //! (`specs/Bounds.antt`). They see a sky text as the partition or the fault that it spells (`specs/SkyText.antt`).
-//! Below: `wedge_rules` for wedges, `text_rules` for lines and numbers. Above: the code that reads a sky text or finds
-//! the chunk of a position, and every definition about chunks. This crate has no algorithms: definitions, worked
-//! examples and lemmas.
+//! Below: `wedge_rules` for wedges, `text_rules` for lines and numbers. This crate has no algorithms: definitions,
+//! worked examples and lemmas.
 #![tactic(auto)]
 
 pub mod examples;

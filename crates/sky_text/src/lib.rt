@@ -1,8 +1,8 @@
 //! Numbers, lines and words of a text: read from bytes, and numbers written to a sink.
 //!
 //! Callers see what is read by the definitions of `text_rules`, and what is written as bytes appended to the sink.
-//! Below: `text_rules` for what a number is, `sky_io` for the sink. Above: every reader and writer of a format. There
-//! are no files, and nothing is allocated: a text is a slice that the caller holds.
+//! Below: `text_rules` for what a number is, `sky_io` for the sink. There are no files, and nothing is allocated: a
+//! text is a slice that the caller holds.
 #![tactic(auto)]
 
 mod decimal4;

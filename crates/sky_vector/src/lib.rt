@@ -1,8 +1,8 @@
 //! Positions in the sky, directions of its plane and the numbers of queries, as integers.
 //!
 //! Callers see a `Pos` as its `Point`, a `Dir` by its two parts and a `Num` as a whole number (`specs/`). Below:
-//! nothing. Above: everything that has positions in the sky or computes a query's numbers. There are no angles and no
-//! floating point: distances are compared by their squares. The integer square root is for the positions of the demo.
+//! nothing. There are no angles and no floating point: distances are compared by their squares. The integer square root
+//! is for the positions of the demo.
 #![tactic(auto)]
 
 pub mod direction;

@@ -2,8 +2,8 @@
 //!
 //! Callers see one call, `bind`, whose result is the meaning of a query as `bind_rules` defines it (`bound_of`). Below:
 //! `sql_tree` for the written query, `sky_row` for the schema, `sql_bound` for the bound query, `bind_rules` for its
-//! meaning, `bind_checks` for the six checks, `sky_io` for out of memory. Above: code that plans and runs a query binds
-//! it first. No text, no rows and no plan: the bound query is built only if no check fails.
+//! meaning, `bind_checks` for the six checks, `sky_io` for out of memory. No text, no rows and no plan: the bound query
+//! is built only if no check fails.
 #![tactic(auto)]
 
 mod areas;

@@ -2,9 +2,7 @@
 //!
 //! Callers see its trees as plain values and its lists as lists, so that a contract can state that one query is
 //! another. Below: `sky_vector` for positions and directions, `sql_tree` for comparisons, the kit's `sqlite_items` for
-//! lists and boxes inside a tree. Above: the binder, which makes it; `value_rules`, which defines the meaning of its
-//! expressions and conditions, and `answer_rules`, which defines its answer. It has no names, spans or texts, and no
-//! code but the making of a squared radius.
+//! lists and boxes inside a tree. It has no names, spans or texts, and no code but the making of a squared radius.
 #![tactic(auto)]
 
 pub mod area;

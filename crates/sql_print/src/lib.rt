@@ -1,9 +1,8 @@
 //! The printer of queries: writes the one printed text of a tree to a sink.
 //!
 //! Callers see what a call writes as the printed text that `sql_rules` defines, appended to the sink. Below: `sql_tree`
-//! for trees, `sql_rules` for their printed texts, `sky_text` for numbers, `sky_io` for the sink. Above: the texts of
-//! answers, which write chunk queries and tables by the same rules. One function writes one rule of the printed syntax,
-//! and does not allocate.
+//! for trees, `sql_rules` for their printed texts, `sky_text` for numbers, `sky_io` for the sink. One function writes
+//! one rule of the printed syntax, and does not allocate.
 #![tactic(auto)]
 
 mod conds;

@@ -2,8 +2,8 @@
 //!
 //! Callers see a text as its one tree or its first fault (`specs/Trees.antt`). That agrees with the grammar of
 //! `specs/Spelling.antt`, `specs/SpellingConds.antt` and `specs/Queries.antt`, and a lemma states it in both
-//! directions. Below: `sql_token` for tokens, `sql_tree` for trees. Above: the reader, the binder and the printer of
-//! queries. This crate has no code that reads: definitions, worked examples and lemmas.
+//! directions. Below: `sql_token` for tokens, `sql_tree` for trees. This crate has no code that reads: definitions,
+//! worked examples and lemmas.
 #![tactic(auto)]
 
 pub mod examples;

@@ -1,8 +1,7 @@
 //! The tokens of SQL text.
 //!
 //! Callers see the tokens of a text as a list, each with its kind and its span (`specs/Tokens.antt`). Below:
-//! `text_rules` for the numbers that digits write. Above: `sql_tree` and `sql_reader`, which need no more of the text
-//! than its names. There is no grammar here: any sequence of tokens is accepted.
+//! `text_rules` for the numbers that digits write. There is no grammar here: any sequence of tokens is accepted.
 #![tactic(auto)]
 
 mod byte;

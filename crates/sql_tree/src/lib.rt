@@ -2,9 +2,8 @@
 //!
 //! Callers see a tree as plain data: a list for each `Items`, a value for each `Boxed`. Names and the words that a
 //! fault may point at keep their span. `same` compares trees without their spans, and takes `-0` for `0` in a list of
-//! integers (`specs/Bare.antt`). Below: `sql_token` for spans, `sqlite_items` for lists that contracts see as lists.
-//! Above: `sql_rules`, which defines which text spells a tree, and every crate that reads or writes one. There is no
-//! grammar and no meaning here.
+//! integers (`specs/Bare.antt`); the program does not call it. Below: `sql_token` for spans, `sqlite_items` for lists
+//! that contracts see as lists. There is no grammar and no meaning here.
 #![tactic(auto)]
 
 pub mod cond;

@@ -2,9 +2,8 @@
 //!
 //! Callers see a row as an `Obj` and the rows of a catalogue as a `Catalogue` (`specs/Objects.antt`). They see a
 //! catalogue's text as its records, which are a catalogue or have a first fault (`specs/Records.antt`). Below:
-//! `sky_vector` for positions, `text_rules` for numbers. Above: `sky_row` stores rows, `catalogue_load` reads them, and
-//! every answer is defined over their flat list. This crate has no algorithms and no chunks: definitions, worked
-//! examples and lemmas.
+//! `sky_vector` for positions, `text_rules` for numbers. This crate has no algorithms and no chunks: definitions,
+//! worked examples and lemmas.
 #![tactic(auto)]
 
 pub mod examples;

@@ -4,8 +4,7 @@
 //! and its text (`specs/Lines.antt`). `specs/Words.antt` defines the bytes of a word, and `specs/Readings.antt` a text
 //! that is read part by part.
 //!
-//! Below: nothing. Above: `sky_text`, which reads and writes them, and the definitions of all formats. This crate has
-//! no algorithms, only worked examples that the checker evaluates.
+//! Below: nothing. This crate has no algorithms, only worked examples that the checker evaluates.
 #![tactic(auto)]
 
 pub mod examples;

@@ -2,9 +2,8 @@
 //!
 //! Callers see a `Turn`, the lock, as its identity. They see a `Seat`, a participant, as what it has seen of that
 //! history (`specs/Seats.antt`), and a `Pass`, a guard, as the value and the participant that holds the lock. Below:
-//! `sky_io` for `Lineage`, a value that only grows, and `atomic_table` for the atomic steps. Above: whatever shares
-//! such a value among threads, as the board of the shared scan. Not in it: what the value is, which participant enters
-//! next, or that the lock is ever free.
+//! `sky_io` for `Lineage`, a value that only grows, and `atomic_table` for the atomic steps. Not in it: what the value
+//! is, which participant enters next, or that the lock is ever free.
 //!
 //! An ordinary lock does not show its holder what others did meanwhile. This one does, by an atomic word, a slot and a
 //! view for each participant. The word is 2c while the lock is free and 2c + 1 while it is held, where c is the number
