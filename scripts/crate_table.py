@@ -4,7 +4,8 @@
     scripts/crate_table.py            fails where the table is not what it would write, and says in which line
     scripts/crate_table.py --write    writes it
 
-The table stands between two marks of the page, a line for each crate, grouped as crates.txt groups them, lowest first.
+The table is between two marks of the page. It has a line for each crate, grouped as crates.txt groups them, lowest first. Its last
+column has the crates that name the crate in crates.txt, in the same order; more than 12 are only counted.
 """
 import argparse
 import os
@@ -14,18 +15,20 @@ import sys
 PAGE = "docs/ARCHITECTURE.md"
 BEGIN = "<!-- the crates: written by scripts/crate_table.py -->"
 END = "<!-- end of the crates -->"
-CRATE = re.compile(r"([a-z0-9_]+)[ :]")
+LISTED_MOST = 12
+CRATE = re.compile(r"([a-z0-9_]+)[^:]*:(.*)")
 
 
 def groups():
-    """The crates of crates.txt, as (words of the group, names)."""
+    """The crates of crates.txt, as (words of the group, pairs of a name and the names that it uses)."""
     found = []
     with open("crates.txt", encoding="utf-8") as file:
         for line in file:
             if line.startswith("#"):
                 found.append((line.strip("# \n"), []))
             elif CRATE.match(line):
-                found[-1][1].append(CRATE.match(line)[1])
+                name, uses = CRATE.match(line).groups()
+                found[-1][1].append((name, uses.split()))
     return found
 
 
@@ -38,14 +41,22 @@ def sentence(crate):
     return re.split(r"\.(?: |$)", head)[0]
 
 
+def used_by(crate, crates):
+    """The crates among these that use a crate, or their number, as the text of a cell."""
+    users = [name for name, uses in crates if crate in uses]
+    return f"{len(users)} crates" if len(users) > LISTED_MOST else ", ".join(users) or "-"
+
+
 def table():
     """The lines of the table."""
-    yield "| Crate | What it is |"
-    yield "|---|---|"
-    for words, crates in groups():
-        yield f"| *{words}* | |"
-        for crate in crates:
-            yield f"| `{crate}` | {sentence(crate)} |"
+    grouped = groups()
+    every = [crate for _, crates in grouped for crate in crates]
+    yield "| Crate | What it is | Used by |"
+    yield "|---|---|---|"
+    for words, crates in grouped:
+        yield f"| *{words}* | | |"
+        for crate, _ in crates:
+            yield f"| `{crate}` | {sentence(crate)} | {used_by(crate, every)} |"
 
 
 def main():

@@ -34,8 +34,7 @@ import session_ends
 import demo_files
 import program_words
 
-# Counts the requests for memory in a file that it is given, and refuses those that it is told to. It asks nothing of how the
-# program ends.
+# Counts the requests for memory in a given file, and refuses the given ones. It does not depend on how the program ends.
 REFUSER = r"""
 #include <errno.h>
 #include <stdatomic.h>

@@ -233,7 +233,7 @@ SCRIPTS = [
         COUNT + "SELECT x FROM Galaxy\nSELECT MAX(flux) FROM Object\n",
         COUNTED_FIRST + "query 2\nrefused: unknown name Galaxy\n" + LARGEST,
     ),
-    # a cancel of a query that is refused, and of one that needs no chunk, is passed over
+    # a cancel of a query that is refused, and of one that needs no chunk, is skipped
     ("0 1 4 16", "SELECT mag FROM Object\ncancel 1\nwait 1\n", NO_NAME),
     (
         "0 1 4 16",
@@ -266,7 +266,7 @@ SCRIPTS = [
     # a line of as many bytes as there may be, and as many queries
     ("0", "q" * 16384, "query 1\nrefused: not a query\n"),
     ("0", "q\n" * 255, "".join(f"query {number}\nrefused: not a query\n" for number in range(1, 256))),
-    # a cancel behind a wait for its query comes too late
+    # a cancel after a wait for its query is too late
     ("0 4", THREE + "wait 2\ncancel 2\nwait 2\n", COUNTED),
 ]
 STEPS = [
@@ -407,11 +407,11 @@ def more_rows():
 LAPS = {"sky": worked_laps.SKY, "csv": worked_laps.CSV, "script": worked_laps.SCRIPT}
 LIMITS = [
     done(LOAD_SKY, REPORT_OF_MOST_CHUNKS, sky=worked_laps.SKY),
-    # a chunk more, on the line behind the 17 there are
+    # one chunk too many, on the line after the 17
     fault(LOAD_SKY, 3, "sky line 18: too many", sky=worked_laps.SKY + "stripe 960 1 1 1\n"),
     # as many queries as there may be, over a row in each chunk
     *(done(["query", "sky", "csv", "script", workers], worked_laps.TRANSCRIPT, **LAPS) for workers in ["0", "4"]),
-    # the row is told without its number
+    # the row's number is not written
     fault(LOAD_CSV, 4, "catalogue: too many rows", csv=more_rows()),
     # a text of as many bytes as there may be is read: notes ask nothing, and zeros are no header
     done(EXPLAIN, "", script=MOST_NOTES),

@@ -27,7 +27,7 @@ def arcsec_of(chords):
 
 def within(points, centre, arcsec):
     """The places of the points within an angle of one place, and of those just outside, with their angles in arcseconds."""
-    # a scalar product is good to some 1e-15, and tells who is far away; who is near is told by the distance
+    # a scalar product is good to some 1e-15: it excludes what is far away, and the distance decides on the rest
     near = np.flatnonzero(points @ centre >= np.cos(np.radians(arcsec / 3600)) - 1e-9)
     return near, arcsec_of(np.linalg.norm(points[near] - centre, axis=1))
 

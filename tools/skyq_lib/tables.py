@@ -78,7 +78,7 @@ def read_as(path, name):
         return read_votable(path)
     if name == "csv":
         check_fields(path)
-        # astropy reads five times as long if it is told the encoding
+        # astropy reads five times as long if it is given the encoding
         more = {"encoding": UTF_8} if has_mark(path) else {}
         return Table.read(path, format="ascii.csv", fill_values=[(word, "0") for word in NULLS], **more)
     return Table.read(path, format=READERS[name])

@@ -7,7 +7,7 @@ use Rattle.sky_rules.specs.Partition.{Partition, chunk_count, overlap_at, sub_co
 use Rattle.sky_rules.specs.Limits.{IsSky}
 use Rattle.chunk_store.specs.Places.{chunk_rows, sub_rows, sub_overlap_rows}
 
--- The one subchunk of a chunk whose rows include the row number.
+-- The one subchunk of a chunk whose rows include the given row number.
 pub record IsOnlySub (g : Partition) (objects : List Obj) (c place s : ℕ) : Type 0 where
   pub there : s < sub_count g c
   pub has : Contains (sub_rows g objects c s) place

@@ -1,4 +1,4 @@
--- The lists of row numbers that a store keeps, one for each chunk.
+-- The lists of row numbers in a store, one for each chunk.
 use Rattle.std.specs.Prelude.{◌≡◌, ◌≢◌, ℕ, ◌<◌, ◌≤◌, ◌==◌, Bool, true, false, List, [], ◌∷◌, ◌++◌, if◌then◌else◌, length, get_or}
 use Rattle.std.specs.Prelude.{All, slice_get, filter, map}
 use Rattle.std.specs.List.{range_with_len}
@@ -19,11 +19,11 @@ abbrev pub has_some : List ℕ → Bool
 has_some [] = false
 has_some (place ∷ rest) = true
 
--- the number alone if `is` is true, and else nothing
+-- the number alone if `is` is true, otherwise nothing
 abbrev pub kept_if : Bool → ℕ → List ℕ
 kept_if is n = if is then n ∷ [] else []
 
--- the row number, as often as the chunk is among these
+-- the row number, once for each time that the chunk is among the given ones
 abbrev pub as_often : ℕ → ℕ → List ℕ → List ℕ
 as_often place c chunks = map (λ d. place) (filter (λ d. d == c) chunks)
 
@@ -32,7 +32,7 @@ pub record Pushed (chunks : List ℕ) (place : ℕ) (old new : List (List ℕ)) 
   pub same : length new ≡ length old
   pub each : (c : ℕ) → c < length old → get_or new c [] ≡ get_or old c [] ++ as_often place c chunks
 
--- of n row numbers, from one on, those whose object passes the test
+-- among n row numbers that begin with `from`, those whose object passes the test
 abbrev pub places_from : (from n : ℕ) → (Obj → Bool) → List Obj → List ℕ
 places_from from n test objects = filter (λ i. passes test (slice_get objects i)) (range_with_len from n)
 
@@ -40,12 +40,13 @@ places_from from n test objects = filter (λ i. passes test (slice_get objects i
 abbrev pub places_below : ℕ → (Obj → Bool) → List Obj → List ℕ
 places_below n test objects = places_from 0 n test objects
 
--- A list for each of the given number of chunks, of those of n row numbers, from one on, whose object passes the chunk's test.
+-- A list for each of the given number of chunks: among n row numbers that begin with `from`, those whose object passes
+-- the chunk's test.
 pub record AreListsFrom (test : ℕ → Obj → Bool) (count : ℕ) (objects : List Obj) (from n : ℕ) (lists : List (List ℕ)) : Type 0 where
   pub all : length lists ≡ count
   pub each : (c : ℕ) → c < count → get_or lists c [] ≡ places_from from n (test c) objects
 
--- a list for each of the given number of chunks, of the row numbers below n whose object passes the chunk's test
+-- a list for each of the given number of chunks: the row numbers below n whose object passes the chunk's test
 abbrev pub AreLists : (test : ℕ → Obj → Bool) (count : ℕ) (objects : List Obj) (n : ℕ) (lists : List (List ℕ)) → Type 0
 AreLists test count objects n lists = AreListsFrom test count objects 0 n lists
 
@@ -57,7 +58,7 @@ own_test g c o = in_chunk g c o.at
 abbrev pub overlap_test : Partition → ℕ → Obj → Bool
 overlap_test g c o = in_full_overlap g c o.at
 
--- A list for each chunk of those of n rows, from one on, that it contains, and one of those in its full overlap.
+-- Two lists for each chunk, among n rows that begin with number `from`: its rows, and those in its full overlap.
 pub record AreRowLists (g : Partition) (objects : List Obj) (from n : ℕ) (rows near : List (List ℕ)) : Type 0 where
   pub own : AreListsFrom (own_test g) (chunk_count g) objects from n rows
   pub overlap : AreListsFrom (overlap_test g) (chunk_count g) objects from n near
@@ -74,7 +75,7 @@ pub record AreAppendedBelow (n : ℕ) (old more new : List (List ℕ)) : Type 0 
   pub below : (c : ℕ) → c < n → get_or new c [] ≡ get_or old c [] ++ get_or more c []
   pub above : (c : ℕ) → n ≤ c → get_or new c [] ≡ get_or old c []
 
--- A list for each of a chunk's subchunks, of those of these row numbers whose object the subchunk contains.
+-- A list for each of a chunk's subchunks: among the given row numbers, those whose object the subchunk contains.
 pub record AreParts (g : Partition) (objects : List Obj) (c : ℕ) (places : List ℕ) (lists : List (List ℕ)) : Type 0 where
   pub all : length lists ≡ sub_count g c
   pub each : (s : ℕ) → s < sub_count g c → get_or lists s [] ≡ filter (λ i. passes (λ o. in_sub g c s o.at) (slice_get objects i)) places
@@ -88,12 +89,12 @@ pub record AreThere (lists : List (List ℕ)) (objects : List Obj) (wanted : Lis
   pub chunks : All (λ chunk. chunk < length lists) wanted
   pub rows : All (λ list. All (λ place. place < length objects) list) lists
 
--- For each of the chunks the columns of the first of its rows.
+-- For each of the chunks, the columns of its first rows.
 pub record AreBegunBlocks (table : Parts) (lists : List (List ℕ)) (chunks : List ℕ) (blocks : List Parts) : Type 0 where
   pub count : length blocks ≡ length chunks
   pub each : (k : ℕ) → k < length chunks → AreBegun table (get_or lists (get_or chunks k 0) []) (get_or blocks k (no_rows 0))
 
--- What a store keeps besides the plan and the rows: each list is as it is defined over the table, and so is each block.
+-- What a store has besides the plan and the rows: each list and each block is as it is defined over the table.
 pub record IsStored (g : Partition) (table : Catalogue) (rows near : List (List ℕ)) (kept : List ℕ) (columns : List Stored) : Type 0 where
   pub sky : IsSky g
   pub own : AreLists (own_test g) (chunk_count g) table.objects (length table.objects) rows

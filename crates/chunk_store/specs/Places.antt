@@ -31,8 +31,8 @@ sub_rows g objects c s = places_by (λ o. in_sub g c s o.at) objects
 abbrev pub sub_lists : Partition → List Obj → ℕ → List (List ℕ)
 sub_lists g objects c = map (λ s. sub_rows g objects c s) (range_with_len 0 (sub_count g c))
 
--- the overlap of a subchunk: those rows of its chunk and of the chunk's full overlap that are in the subchunk's near
--- region and not in the subchunk
+-- the overlap of a subchunk: rows of its chunk or of the chunk's full overlap, in the subchunk's near region and not in
+-- the subchunk
 abbrev pub sub_overlap_rows : Partition → List Obj → ℕ → ℕ → List ℕ
 sub_overlap_rows g objects c s = places_by (λ o. in_sub_overlap g c s o.at) objects
 

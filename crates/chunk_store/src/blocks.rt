@@ -1,9 +1,9 @@
 //! The blocks of the chunks that have rows.
 //!
-//! Rows of one chunk are far apart in the table. So all blocks are filled in turns from a part of the table that stays
-//! in the processor's cache meanwhile. A block gets those of its rows that are in the part, some tens, and then the
-//! next block does. Each thread makes the blocks of neighbouring chunks, which are cut by their numbers of rows: one
-//! chunk may have a quarter of all rows.
+//! Rows of one chunk are far apart in the table, so the table is read in parts that fit the processor's cache. From
+//! each part, every block is given its rows there, some tens, before the next part is read. Each thread builds the
+//! blocks of consecutive chunks. The chunks are shared among the threads by their numbers of rows, since one chunk may
+//! have a quarter of all rows.
 
 ghost use Rattle.std.specs.Thread.{IsSync};
 ghost use Rattle.std.specs.Prelude.{◌≡◌, ◌<◌, ◌≤◌, [], IfOk, OnOk, All, AllPairs, drop, get_or, length, map, take};
@@ -20,15 +20,15 @@ use std::alloc::Global;
 use std::thread::{Threads, join};
 use table_rules::limits::FIRST_COLUMNS;
 
-/// The number of rows of a part of the table, for each block: few, so that the part stays in the cache, and enough to
-/// pay for the walk over all blocks.
+/// The number of rows in a part of the table for each block. It is small, so that the part stays in the cache, and
+/// large enough to pay for the traversal of all blocks.
 const ROWS_A_TURN: usize = 64;
 
-/// Fewer chunks are gathered by one thread: to start another costs more than it gains.
+/// Fewer chunks are gathered by one thread: starting another costs more than it gains.
 const SHORT: usize = 4;
 
-/// Returns the block of each of the chunks, in their order, made by the given number of threads. Allocates memory for
-/// their columns. A thread that cannot be started costs time alone.
+/// Returns the block of each of the chunks, in their order, built by the given number of threads. Allocates memory for
+/// their columns. A thread that cannot be started costs only time.
 pub(crate) fn blocks_of<R: Threads + Sync>(
     rt: &R,
     alloc: Global,
@@ -46,7 +46,8 @@ pub(crate) fn blocks_of<R: Threads + Sync>(
     blocks_by(rt, alloc, threads, rows, own, chunks, part)
 }
 
-/// Returns the block of each of the chunks, made by the given number of threads from parts of `part` rows of the table.
+/// Returns the block of each of the chunks, built by the given number of threads from parts of `part` rows of the
+/// table.
 fn blocks_by<R: Threads + Sync>(
     rt: &R,
     alloc: Global,
@@ -96,7 +97,8 @@ fn rows_in(own: &Lists, chunks: &[u32]) -> usize
     count
 }
 
-/// Returns how many of the first chunks have about as many of all rows as `some` of the threads are of all.
+/// Returns the number of first chunks that together have the rows of `some` of the threads, about `some / threads` of
+/// all rows.
 fn cut_of(own: &Lists, chunks: &[u32], threads: u32, some: u32) -> usize
     requires chunks { All (λ chunk. chunk < length own.now) chunks.now }
     requires threads { 0 < threads }
@@ -113,7 +115,7 @@ fn cut_of(own: &Lists, chunks: &[u32], threads: u32, some: u32) -> usize
     chunks.len()
 }
 
-/// Returns the blocks of all chunks, from those of the first ones and of the others.
+/// Returns the blocks of all chunks, given those of the first ones and those of the others.
 #[tactic(auto, using(crate::proofs::Begun::blocks_both))]
 fn both_blocks(
     rows: &Rows,
@@ -136,7 +138,7 @@ fn both_blocks(
     Ok(blocks)
 }
 
-/// Returns the block of each of the chunks, made by this thread from parts of `part` rows of the table.
+/// Returns the block of each of the chunks, built by this thread from parts of `part` rows of the table.
 fn blocks_from(
     alloc: Global,
     rows: &Rows,
@@ -160,7 +162,7 @@ fn blocks_from(
     Ok(blocks)
 }
 
-/// Returns the block of the chunk with this number, from 0, among the chunks, from the columns of its first rows.
+/// Returns the block of the chunk with index `k`, from 0, among the chunks, from the columns of its first rows.
 fn finished(
     table: &RowLists,
     own: &Lists,
@@ -181,8 +183,8 @@ fn finished(
     Block::finish(table, own.of(chunks[k]), begun)
 }
 
-/// Returns for each of the chunks the columns of its first rows: those that are in a whole part of the table. What
-/// follows the last of these parts is less than a part.
+/// Returns, for each of the chunks, the columns of its first rows: those in the whole parts of the table. The rest of
+/// the table is less than a part.
 fn begun_blocks(
     alloc: Global,
     rows: &Rows,
@@ -212,7 +214,7 @@ fn begun_blocks(
     Ok(blocks)
 }
 
-/// Returns for each of the chunks columns without rows, with room for its rows.
+/// Returns, for each of the chunks, columns without rows, with room for its rows.
 fn empty_blocks(
     alloc: Global,
     table: &RowLists,
@@ -231,7 +233,7 @@ fn empty_blocks(
     Ok(blocks)
 }
 
-/// Appends to the rows of each of the chunks those of its next ones whose row numbers are below this one.
+/// Appends, to the rows of each of the chunks, its next ones whose row numbers are below `end`.
 fn fill_turn(
     table: &RowLists,
     own: &Lists,
@@ -251,7 +253,7 @@ fn fill_turn(
     Ok(())
 }
 
-/// Appends to the rows of a chunk the next of its rows whose row numbers are below this one.
+/// Appends, to the rows of a chunk, its next ones whose row numbers are below `end`.
 fn fill_before(
     table: &RowLists,
     places: &[u32],

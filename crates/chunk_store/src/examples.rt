@@ -32,8 +32,8 @@ pub fn overlaps_of_each_stripe()
     ensures last { length (full_overlap_rows two_overlaps six_rows 7) ≡ 4 }
 {}
 
-/// The first subchunk of chunk 4 contains three of its rows, and needs two of the chunk's overlap; the fourth row, at
-/// the pole, is far from it.
+/// The first subchunk of chunk 4 contains three of the chunk's rows, and needs two of the chunk's overlap. The fourth
+/// row, at the pole, is far from it.
 #[tactic(auto, unfolding(wedge_rules::specs::Heading::heading, wedge_rules::specs::Heading::walk))]
 pub fn rows_of_a_subchunk()
     ensures rows { sub_rows halves six_rows 4 0 ≡ 0 ∷ 1 ∷ 2 ∷ [] }

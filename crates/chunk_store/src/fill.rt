@@ -1,7 +1,7 @@
-//! Fills the lists of a store, in one traversal of the rows: a row's chunk is searched for once.
+//! Fills the lists of a store, in one traversal of the rows: each row's chunk is searched for once.
 //!
-//! Each thread fills lists of its own from a range of the rows. The lists of a later range are then appended to those of
-//! the earlier one, chunk by chunk.
+//! Each thread fills lists of its own from a range of the rows. The lists of a later range are then appended to those
+//! of the earlier one, chunk by chunk.
 
 ghost use Rattle.std.specs.Prelude.{◌≡◌, ◌<◌, ◌≤◌, ◌+◌, ◌∷◌, [], IfOk, OnOk, length, replicate};
 ghost use Rattle.std.specs.Thread.{IsSync};
@@ -21,7 +21,7 @@ use sky_vector::Pos;
 use std::alloc::Global;
 use std::thread::{Threads, join};
 
-/// Fewer rows are listed by one thread: to start another costs more than it gains.
+/// Fewer rows are listed by one thread: starting another costs more than it gains.
 const SHORT: u32 = 1 << 12;
 
 /// Returns an empty list for each chunk.
@@ -64,7 +64,7 @@ fn push_near(
     lists.push_all(near.as_slice(), place)
 }
 
-/// Returns for each chunk those of `count` rows, from one on, that it contains, and those in its full overlap.
+/// Returns, for each chunk, its rows and those in its full overlap, among `count` rows that begin with number `from`.
 fn range_lists(
     alloc: Global,
     plan: &SkyPlan,
@@ -91,7 +91,7 @@ fn range_lists(
     Ok((own, overlap))
 }
 
-/// Returns about as many of the rows as `some` of the threads are of all threads.
+/// Returns the number of rows for `some` of the threads, about `some / threads` of all rows.
 fn share(count: u32, threads: u32, some: u32) -> u32
     requires { 0 < threads }
     ensures { result ≤ count }
@@ -99,7 +99,7 @@ fn share(count: u32, threads: u32, some: u32) -> u32
     (count / threads).saturating_mul(some).min(count)
 }
 
-/// Returns the lists of a range of rows, from those of its two parts, of which the first has `at` rows.
+/// Returns the lists of a range of rows, given those of its two parts, of which the first has `at` rows.
 fn both_lists(
     plan: &SkyPlan,
     rows: &Rows,
@@ -121,8 +121,8 @@ fn both_lists(
     Ok((own, overlap))
 }
 
-/// Returns the lists of a range of rows, made by the given number of threads. A thread that cannot be started costs time
-/// alone.
+/// Returns the lists of a range of rows, made by the given number of threads. A thread that cannot be started costs
+/// only time.
 fn lists_by<R: Threads + Sync>(
     rt: &R,
     alloc: Global,
@@ -161,8 +161,8 @@ fn lists_by<R: Threads + Sync>(
     both_lists(plan, rows, from, at, more, first?, second?)
 }
 
-/// Returns for each chunk the row numbers of its rows, and those of the rows in its full overlap. They are found by the
-/// given number of threads.
+/// Returns, for each chunk, the row numbers of its rows, and those of the rows in its full overlap. They are found by
+/// the given number of threads.
 pub(crate) fn row_lists<R: Threads + Sync>(
     rt: &R,
     alloc: Global,

@@ -13,7 +13,7 @@ pub fn sub_rows_are_the_chunks()
     ensures { SubRowsAreTheChunks }
 {}
 
-/// A row no farther than the overlap radius from a row of a subchunk is a row of the subchunk or of its overlap: so a
+/// A row no farther than the overlap radius from a row of a subchunk is a row of the subchunk or of its overlap. So a
 /// near-neighbour join of a subchunk needs no other rows.
 pub fn near_rows_are_there()
     ensures { NearRowsAreThere }

@@ -16,7 +16,7 @@ fn takes_first(first: &[u32], second: &[u32]) -> bool
     }
 }
 
-/// What is left of two ascending lists, whose elements are returned in ascending order.
+/// The rest of two ascending lists, whose elements are returned in ascending order.
 #[derive(Drop)]
 pub(crate) struct Merged<'a> {
     first: &'a [u32],

@@ -23,8 +23,8 @@ use std::alloc::Global;
 use std::marker::Model;
 use std::thread::Threads;
 
-/// A survey's rows by chunk: for each chunk the row numbers of its rows and of its full overlap, the chunks that have
-/// rows, and the columns of each of those. A row number is the row's number in the table, from 0.
+/// A survey's rows by chunk: for each chunk, the row numbers of its rows and of its full overlap. It also has the
+/// chunks that have rows, and the columns of each of those. A row number is the row's number in the table, from 0.
 #[derive(Drop)]
 pub struct Store {
     plan: SkyPlan,
@@ -48,9 +48,9 @@ impl Model for Store {
 }
 
 impl Store {
-    /// Creates the store of a catalogue's rows under a plan, by the given number of threads, this one among them. Allocates
-    /// memory for a number a row and for each chunk that it is near, and for each column once more. If an allocation
-    /// fails, plan and rows are dropped. A thread that cannot be started costs time alone.
+    /// Creates the store of a catalogue's rows under a plan, by the given number of threads, the calling one included.
+    /// Allocates memory for a row number for each row and for each chunk that it is near, and for each column once
+    /// more. If an allocation fails, plan and rows are dropped. A thread that cannot be started costs only time.
     pub fn build<R: Threads + Sync>(
         rt: &R,
         alloc: Global,
@@ -167,8 +167,8 @@ impl Store {
         Ok(places)
     }
 
-    /// Returns the row numbers of the rows of each of a chunk's subchunks, ascending, by the subchunks' numbers: in one
-    /// traversal of the chunk's rows. Allocates memory for a list a subchunk, and for the row numbers.
+    /// Returns the row numbers of the rows of each of a chunk's subchunks, ascending, by the subchunks' numbers. The
+    /// chunk's rows are traversed once. Allocates memory for a list for each subchunk, and for the row numbers.
     pub fn subs(&self, alloc: Global, chunk: u32) -> Result<Lists, Memory>
         requires { chunk < chunk_count self.now.plan }
         ensures value { IfOk result (λ subs.

@@ -45,9 +45,9 @@ impl Block {
         Block::finish(rows.lists(), places, begun)
     }
 
-    /// Creates the block of a table's rows with these numbers, counted from 0, in the order of the list. The first of
-    /// them have been gathered already; the others are appended. Allocates memory if the room for them is missing, or
-    /// if a NULL is a column's first. If an allocation fails, the first ones are dropped.
+    /// Creates the block of a table's rows with these numbers, counted from 0, in the order of the list. `begun` has
+    /// the first of them; the others are appended. Allocates memory if the room for them is missing, or for a column's
+    /// first NULL. If an allocation fails, `begun` is dropped.
     pub fn finish(table: &Lists, places: &[u32], begun: Lists) -> Result<Block, Memory>
         requires rows { AreRows table.now }
         requires there { All (λ place. place < length table.now.ids) places.now }

@@ -2,13 +2,13 @@
 
 ghost use Rattle.record_parts.specs.Lines.{FirstLinesStandApart, LinesStandApart};
 
-/// The records of whole lines and of what follows them are those of the lines, and then those of what follows.
+/// The records of whole lines and of a text after them are those of the lines, followed by those of that text.
 pub fn lines_stand_apart()
     ensures { LinesStandApart }
 {}
 
-/// The records of a text that begins with whole lines, without its byte order mark, are those of the lines, and then those of
-/// what follows.
+/// A text that begins with whole lines has the records of the lines, followed by those of the text after them. The byte
+/// order mark of the whole text is left out on both sides.
 pub fn first_lines_stand_apart()
     ensures { FirstLinesStandApart }
 {}

@@ -14,7 +14,7 @@ cell_at values present i = if get_or present i true then Some (get_or values i (
 abbrev pub cells_of : List ℤ → List Bool → List (Option ℤ)
 cells_of values present = map (cell_at values present) (range_with_len 0 (length values))
 
--- the number that is stored for a value, and 0 for NULL
+-- the number that is stored for a value, or 0 for NULL
 abbrev pub or_zero : Option ℤ → ℤ
 or_zero cell = unwrap_or cell (pos 0)
 
@@ -97,7 +97,7 @@ rows_appended p q = record {
   further = columns_appended p.further q.further;
 }
 
--- The presence of a column with another's appended: none, or one for each row.
+-- The validity of a column with another's appended: none at all, or a flag for each row.
 pub record IsPresenceOfBoth (count more : ℕ) (present shown found : List Bool) : Type 0 where
   pub presence : (found ≡ []) ⊎ (length found ≡ count + more)
   pub front : (k : ℕ) → k < count → get_or found k true ≡ get_or present k true
@@ -120,11 +120,11 @@ pub record AreAligned (p : Parts) : Type 0 where
   pub zs : length p.zs ≡ length p.ids
   pub further : All (λ column. length column ≡ length p.ids) p.further
 
--- the list `whole` begins with `front`
+-- the list `front` is a prefix of `whole`
 abbrev pub IsFront : {X : Type 0} → List X → List X → Type 0
 IsFront {X} front whole = take (length front) whole ≡ front
 
--- The new columns begin as the old ones do: their first rows, as many as the old ones have, are the same.
+-- the first rows of the new columns are the rows of the old ones
 abbrev pub Begins : Parts → Parts → Type 0
 Begins old new = first_rows (length old.ids) new ≡ old
 

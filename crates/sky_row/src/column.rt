@@ -16,7 +16,7 @@ use std::marker::Model;
 /// The values of rows in an extra column, each a value or `None` for NULL.
 #[derive(Drop)]
 pub struct Column {
-    /// A number for each row, and 0 for NULL.
+    /// A number for each row: its value, or 0 for NULL.
     values: Vec<i64>,
     /// Which rows have a value, or empty if all have.
     present: Vec<bool>,
@@ -59,7 +59,7 @@ impl Column {
         value_at(self.values.as_slice(), self.present.as_slice(), i)
     }
 
-    /// Returns a number for each row: its value, and 0 for NULL. Does not allocate.
+    /// Returns a number for each row: its value, or 0 for NULL. Does not allocate.
     pub fn values(&self) -> &[i64]
         ensures { result.now ≡ map or_zero self.now }
     {
@@ -114,7 +114,7 @@ impl Column {
     }
 
     /// Appends the values of the next rows of the list to those of the first ones, up to `count` in all. Allocates
-    /// memory if the room is missing, or if a NULL is the first. If an allocation fails, nothing changes.
+    /// memory if the room is missing, or for the column's first NULL. If an allocation fails, nothing changes.
     pub(crate) fn fill(
         &mut self,
         table: &Column,
@@ -140,7 +140,8 @@ impl Column {
         )
     }
 
-    /// The column with another's values appended. Allocates; if memory is out, it is dropped.
+    /// Returns the column with another's values appended. Allocates memory. If an allocation fails, the column is
+    /// dropped.
     pub(crate) fn followed_by(self, alloc: Global, other: &Column) -> Result<Column, Memory>
         ensures { IfOk result (λ column. column ≡ self ++ other.now) }
     {

@@ -142,8 +142,8 @@ impl Columns {
         self.lists.further(col as usize - FIRST_COLUMNS)
     }
 
-    /// The rows with those of another table appended, which has as many extra columns. Allocates for each column; if memory is
-    /// out, the rows are dropped.
+    /// Returns the rows with those of another table appended, which has equally many extra columns. Allocates memory
+    /// for each column. If an allocation fails, the rows are dropped.
     pub fn followed_by(self, alloc: Global, other: &Columns) -> Result<Columns, Memory>
         requires wide { length other.now.names ≡ length self.names }
         requires few { length self.objects + length other.now.objects ≤ ROWS_MOST }

@@ -45,7 +45,7 @@ pub(crate) fn columns_at(
     Ok(found)
 }
 
-/// The columns, each with the values of its counterpart appended.
+/// Returns the columns, each with the values of its counterpart appended.
 pub(crate) fn columns_appended(
     alloc: Global,
     columns: Vec<Column>,

@@ -130,9 +130,9 @@ impl Lists {
     }
 
     /// Appends the next rows of a list of row numbers to those of the first ones, from a table, up to `count` in all.
-    /// So rows can be gathered in turns, for one list after the other, while the rows that they are copied from are in
-    /// the processor's cache. Allocates memory if the room is missing, or if a NULL is a column's first. If an
-    /// allocation fails, some columns have the next values and some do not.
+    /// So many lists can be gathered from one part of the table, one after the other, while that part is in the
+    /// processor's cache. Allocates memory if the room is missing, or for a column's first NULL. If an allocation
+    /// fails, some columns have the next values and some do not.
     pub fn fill(&mut self, table: &Lists, places: &[u32], count: usize) -> Result<(), Memory>
         requires aligned { AreAligned table.now }
         requires there { All (λ place. place < length table.now.ids) places.now }
@@ -149,7 +149,8 @@ impl Lists {
         fill_columns(&mut self.further, table.further.as_slice(), places, count)
     }
 
-    /// The columns with the rows of another table appended. Allocates for each column; if memory is out, they are dropped.
+    /// Returns the columns with the rows of another table appended. Allocates memory for each column. If an allocation
+    /// fails, the columns are dropped.
     pub(crate) fn followed_by(self, alloc: Global, other: &Lists) -> Result<Lists, Memory>
         requires { length other.now.further ≡ length self.further }
         ensures { IfOk result (λ lists. lists ≡ rows_appended self other.now) }
@@ -218,7 +219,7 @@ impl Lists {
     }
 }
 
-/// A list with another appended. Allocates; if memory is out, the list is dropped.
+/// Returns a list with another appended. Allocates memory. If the allocation fails, the list is dropped.
 fn extended<T: Copy>(list: Vec<T>, other: &[T]) -> Result<Vec<T>, Memory>
     ensures { IfOk result (λ found. found.items ≡ list.items ++ other.now) }
 {

@@ -45,7 +45,7 @@ pub(crate) fn presence_at(
     Ok(unless_whole(found))
 }
 
-/// A presence for each of `count` rows: those for which none was kept have a value.
+/// Returns the validity of `count` rows, a flag for each: a row for which none was stored has a value.
 #[tactic(auto, using(crate::proofs::Filling::push_true))]
 fn padded(present: Vec<bool>, count: usize) -> Result<Vec<bool>, Memory>
     requires few { length present.items ≤ count }
@@ -60,7 +60,7 @@ fn padded(present: Vec<bool>, count: usize) -> Result<Vec<bool>, Memory>
     Ok(found)
 }
 
-/// The presence of `count` rows with that of `more` others appended, and none if neither list keeps one.
+/// Returns the validity of `count` rows with that of `more` others appended; it is empty if both lists are.
 #[tactic(auto, using(crate::proofs::Appended::presence_of_both, crate::proofs::Appended::none_of_both, crate::proofs::Appended::no_more_rows))]
 pub(crate) fn presence_appended(
     alloc: Global,
@@ -101,7 +101,7 @@ pub(crate) fn is_whole(present: &[bool], places: &[u32], from: usize, count: usi
 }
 
 /// Appends the validity of the next rows of the list to that of the first ones, up to `count` in all. If no validity
-/// list was stored, one is from now on. Does not allocate.
+/// list was stored, one is afterwards. Does not allocate.
 #[tactic(auto, using(crate::proofs::Filling::push_true, crate::proofs::Filling::no_more))]
 pub(crate) fn fill_presence(
     found: &mut Vec<bool>,
