@@ -15,7 +15,7 @@ struct Passes {
 }
 
 impl Passes {
-    // Returns whether a worker may pass now: the order names it next, or has ended. Counts the pass.
+    // Whether a worker may pass now: the order names it next, or has come to its end. Counts the pass.
     fn lets(&mut self, worker: u32) -> bool
         ensures value { result ≡ may_pass self.old.order.items self.old.made worker }
         ensures counted { self.new ≡ record self.old {
@@ -33,9 +33,9 @@ impl Passes {
     }
 }
 
-/// A gate that lets the k-th pass be that of worker `order[k]`, and holds others until it is their turn. After the
-/// whole order all pass. A held pass yields the processor at most `turns` times. When one has used up its turns, all
-/// pass from then on, so no test hangs.
+/// A gate that lets the k-th pass be that of worker `order[k]`, and holds others until it is their turn. After the whole
+/// order all pass. A held pass yields the processor at most `turns` times. When one has used up its turns, all pass from
+/// then on, so no test hangs.
 #[derive(Drop)]
 pub struct ListGate {
     passes: Mutex<Passes>,
