@@ -3,7 +3,7 @@
 use column_eval::{Pool, Scratch as Columns};
 use std::alloc::Global;
 
-/// What scans reuse from one chunk and one query to the next. It begins with no vectors. It comes to hold as many
+/// What scans reuse from one chunk and one query to the next. It begins with no vectors. It grows to as many
 /// vectors of each kind as a scan used at one time. Each has room for the most rows that it was used for.
 #[derive(Drop)]
 pub struct Scratch {

@@ -1,7 +1,7 @@
-//! Answers or explains a script of queries over a sky plan and a catalogue, by the words of its command line.
+//! The program `qserv`: executes the command of its command line, and exits with the status of the outcome.
 //!
-//! The words, the files of the current folder and the standard streams are handed to the top call, `top_call::qserv`,
-//! and what its outcome says goes to standard error. Below: `top_call`, and the adapters of `sky_io`.
+//! It gives the top call, `top_call::qserv`, the words, the files of the current folder and standard output. The line
+//! of the outcome goes to standard error. Below: `top_call`, and the adapters of `sky_io`. No work of its own.
 #![tactic(auto)]
 
 #[cfg(test)]
@@ -33,7 +33,7 @@ fn main(rt: HostRuntime) -> ExitCode {
     tell(&rt, &outcome, words.as_slice())
 }
 
-// The words behind the program's own name. Words that aren't text are an error.
+// Returns the words after the program's own name. Words that are not UTF-8 are an error.
 fn words_of<R: Env + AllocGlobal>(rt: &R) -> io::Result<Vec<String>> {
     let mut words = Vec::new(rt.alloc());
     for word in env::args(rt)?.skip(1) {
@@ -42,7 +42,7 @@ fn words_of<R: Env + AllocGlobal>(rt: &R) -> io::Result<Vec<String>> {
     Ok(words)
 }
 
-// The outcome where the words could not be had.
+// Returns the outcome if the words could not be read.
 fn without_words(error: io::Error) -> Outcome {
     match error.kind() {
         ErrorKind::OutOfMemory => Outcome::Memory,
@@ -50,7 +50,7 @@ fn without_words(error: io::Error) -> Outcome {
     }
 }
 
-// Writes the outcome's line on standard error, and gives its status whether or not that could be written.
+// Writes the outcome's line to standard error, and returns its status whether or not that succeeds.
 fn tell(rt: &HostRuntime, outcome: &Outcome, words: &[String]) -> ExitCode {
     let mut sink = ErrSink::new(rt);
     put_outcome(&mut sink, outcome, words);

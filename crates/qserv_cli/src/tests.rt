@@ -1,5 +1,5 @@
-//! What no clause says: that an output or an input that fails is a fault, that threads meet, and that queries which run together
-//! share a chunk's scan.
+//! What no clause says: that a failing output or input is a fault, that threads meet, and that queries which run
+//! together share a chunk's scan.
 use sky_io::{Gate, ListGate, MemShelf, MemSink, NoteGate, OpenGate, PlainShelf, Shelf, StepGate};
 use std::alloc::Global;
 use std::process::Abort;
@@ -62,8 +62,8 @@ fn run_past<R: Threads + Wait + Sync, G: Gate + Sync>(
     Ok(status_past(rt, alloc, words.as_slice(), &mut shelf, sink, gate))
 }
 
-// The status of the script's run over a sink that fails at one call, and whether its bytes are a prefix of the answer. At the
-// first call they are exactly as many as a put that fails keeps.
+// The status of the script's run over a sink that fails at one call, and whether its bytes are a prefix of the answer.
+// If the first call fails, their number is exactly what a failing put keeps.
 fn run_failing_at<R: Threads + Wait + Sync>(
     rt: &R,
     alloc: Global,
@@ -80,7 +80,7 @@ fn run_failing_at<R: Threads + Wait + Sync>(
     ))
 }
 
-// The first call at which a sink may fail and the script's run is done all the same: it makes fewer calls.
+// The number of the first call that the script's run does not make: a sink that fails there changes nothing.
 fn calls_until_done<R: Abort + Threads + Wait + Sync>(
     rt: &R,
     alloc: Global,

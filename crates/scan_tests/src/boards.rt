@@ -52,7 +52,7 @@ fn two_chunks(alloc: Global, first: u32, last: u32) -> Result<ChunkSet, Memory>
     Ok(set)
 }
 
-// Attaches a query for two chunks to a board of ring 8. True where it is attached.
+// Attaches a query for two chunks to a board of ring 8. Returns whether it is attached.
 fn attach<R: Wait>(
     alloc: Global,
     rt: &R,
@@ -79,7 +79,7 @@ fn attach<R: Wait>(
     }
 }
 
-// Takes a task, and delivers it without a piece. Gives its chunk and how many queries it had.
+// Takes a task, and delivers it without a piece. Returns its chunk and how many queries it had.
 fn take_and_deliver<R: Wait>(
     alloc: Global,
     rt: &R,

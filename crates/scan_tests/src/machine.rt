@@ -109,7 +109,7 @@ pub(crate) fn deliver(
     Ok(())
 }
 
-// Cancels a query, and tells whether it ran; tasks stay in flight.
+// Cancels a query, and returns whether it ran. Tasks stay in flight.
 pub(crate) fn cancel(board: &mut Board<Sum>, q: u32) -> bool
     requires ring { board.old.ring ≡ 8 }
     ensures ring { board.new.ring ≡ 8 }

@@ -9,7 +9,7 @@ use scan_core::{Board, Take};
 use std::alloc::Global;
 use std::process::Abort;
 
-// At its moment query 1 is cancelled, which tells whether it runs: after its attach, and before its last deliver.
+// At its moment query 1 is cancelled. The call returns whether it runs: after its attach, and before its last deliver.
 fn cancel_at<R: Abort>(rt: &R, board: &mut Board<Sum>, moment: u32, now: u32)
     requires ring { board.old.ring ≡ 8 }
     ensures ring { board.new.ring ≡ 8 }
@@ -90,7 +90,8 @@ fn finish<R: Abort>(rt: &R, alloc: Global, board: &mut Board<Sum>, moment: u32)
     assert!(rt; matches!(take(board, 1), Take::Idle), "moment {moment}");
 }
 
-// Query 1 has its sum where it was not cancelled in time, and query 2 has its sum: 1000 times its number for each chunk, and 4.
+// Query 1 has its sum if it was not cancelled in time, and query 2 has its sum: 1000 times its number for each chunk,
+// and 4.
 fn end<R: Abort>(rt: &R, board: &mut Board<Sum>, moment: u32)
     requires ring { board.old.ring ≡ 8 }
 {

@@ -1,5 +1,5 @@
-//! Whole sessions over short scripts: that workers run at one time, and that a query that is out of memory is spent alone.
-//! A query's work on a chunk is a mark of both, so each piece shows whose it is and what it was made of.
+//! Whole sessions over short scripts: that workers run at one time, and that a query that is out of memory is spent
+//! alone. A query's work on a chunk is a mark of both, so each piece shows whose it is and what it was made of.
 ghost use Rattle.std.specs.Prelude.{◌≡◌, ◌<◌, ◌≤◌, [], All, IfOk, IfSome, length, vec_len};
 ghost use Rattle.session_rules.specs.declared.limits.TheConstants.{WORKERS_MOST};
 
@@ -73,7 +73,7 @@ impl Engine<Marks> for Marker {
     }
 }
 
-/// What a query wants: the chunks from one to before another; None where it is not planned.
+/// What a query wants: the chunks from one to before another, or None if it is not planned.
 type Want = Option<(u32, u32)>;
 
 // The chunks of the ring from one to before another.
@@ -125,7 +125,7 @@ fn is_whole(marks: &[u32], q: u32, first: u32, end: u32) -> bool {
     marks.len() == end.saturating_sub(first) as usize
 }
 
-// A letter for how a query ended: A where it was answered with what it wants.
+// A letter for how a query ended: A if it was answered with what it wants.
 fn letter(end: &End<Marks>, q: u32, want: &Want) -> u8 {
     match (end, want) {
         (End::Answered(piece), Some((first, end))) => {
@@ -204,8 +204,8 @@ pub(crate) fn marker_of(alloc: Global, starved: u32) -> Marker
     }
 }
 
-/// A gate in front of chunks 0 to 3 and another in front of those behind: of three who stand in one at one time, one at
-/// most is the czar.
+/// A gate before the work on chunks 0 to 3 and another before that on the others. Of three participants that are in one
+/// gate at one time, at most one is the czar.
 #[derive(Drop)]
 struct TwoGates {
     low: StepGate,

@@ -1,5 +1,6 @@
-//! That a worker that finds nothing to take makes pieces of another's task: two pieces of one task are made at one time. If the
-//! queries on the chunk were taken apart, two tasks may have met: such a session shows nothing and is run again.
+//! That a worker that finds nothing to take makes pieces of another's task: two pieces of one task are made at one
+//! time. If the queries on the chunk were taken apart, two tasks may have met: such a session shows nothing and is run
+//! again.
 ghost use Rattle.std.specs.Prelude.{◌≡◌};
 
 use crate::sessions::{Marker, Marks, marker_of, session};
@@ -58,7 +59,7 @@ impl Engine<Marks> for Meeting {
     }
 }
 
-// Whether the queries on chunk 0 were taken together: of the first passes one alone was in front of it.
+// Whether the queries on chunk 0 were taken together: only one of the first passes was before work on it.
 fn is_one_task(gate: &mut NoteGate) -> bool {
     let mut passes = 0u32;
     for pass in 0..4 {
@@ -69,8 +70,8 @@ fn is_one_task(gate: &mut NoteGate) -> bool {
     passes == 1
 }
 
-// Whether two pieces on chunk 0 were made at one time in a session with one worker; None where the three queries on it were
-// taken apart.
+// Whether two pieces on chunk 0 were made at one time in a session with one worker, or None if the three queries on it
+// were taken apart.
 fn met_in_one_task<R: Threads + Wait + Sync>(alloc: Global, rt: &R) -> Result<Option<bool>, Fail> {
     let meeting = Meeting {
         marker: marker_of(alloc, 0),

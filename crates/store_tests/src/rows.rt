@@ -1,4 +1,5 @@
-//! What no clause says: that rows are pushed with ample memory, and that a column keeps a validity mask only for a NULL.
+//! What no clause says: that rows are pushed with ample memory, and that a column keeps a validity mask only for a
+//! NULL.
 ghost use Rattle.std.specs.Prelude.{◌≡◌, pos, IsTrue, length};
 ghost use Rattle.sky_vector.specs.Points.{is_admissible};
 ghost use Rattle.sky_vector.specs.Pos.{point};
@@ -8,14 +9,14 @@ use sky_vector::Pos;
 use std::alloc::Global;
 use std::test::Fail;
 
-// Where the first axis meets the sphere.
+// The position at which the x axis meets the sphere.
 fn place() -> Pos
     ensures { IsTrue (is_admissible (point result)) }
 {
     Pos::new(1 << 28, 0, 0).unwrap()
 }
 
-// A row with no further value.
+// A row without extra values.
 fn bare(id: u32) -> Row
     ensures id { result.id ≡ pos id }
     ensures narrow { length result.further ≡ 0 }

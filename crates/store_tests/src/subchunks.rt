@@ -12,7 +12,7 @@ use std::thread::Threads;
 /// Two stripes of four chunks, each with two columns and two rows, below and above the equator.
 const SKY: &[u8] = b"overlap 5\nstripe -268435472 4 2 2\nstripe 0 4 2 2\n";
 
-/// The ids and positions of the rows: the first where the x axis meets the sphere, four near it, and one at the pole.
+/// The ids and positions of the rows: the first is on the x axis, four are near it, and one is at the pole.
 const ROWS: [(u32, i64, i64, i64); 6] = [
     (1, 268435456, 0, 0),
     (2, 268435456, 3, 0),
@@ -55,7 +55,7 @@ fn store_of<R: Threads + Sync>(
     Ok(Some(Store::build(rt, alloc, 3, plan, rows)?))
 }
 
-// Whether a subchunk has these rows, and those beside it.
+// Whether these are the rows of a subchunk, and those of its overlap.
 fn has(
     alloc: Global,
     store: &Store,

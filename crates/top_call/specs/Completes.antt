@@ -37,8 +37,7 @@ pub record Completes (names : Names) (shown : Shown) (outcome : Outcome) (texts 
       AreAccepted names texts → AreAllStill names shown.shelf_old.failed shown.shelf_new.failed →
       (Rose shown.sink_old.faults shown.sink_new.faults → ⊥) → IsDoneOrMemory outcome
 
--- the outcome that must occur for a command occurs, if the shelf's texts are observable; a demo names no text, so the
--- shelf is not used
+-- the outcome that must occur for a command occurs, if the shelf's texts are observable; a demo does not use the shelf
 abbrev pub CompleteOf : Form → Shown → Outcome → Type 0
 CompleteOf (Load sky catalogue) shown outcome =
     IfTold shown.shelf_old.texts (Completes (names_of (Load sky catalogue)) shown outcome)

@@ -55,8 +55,8 @@ pub record IsSinkFault (form : Form) (shown : Shown) (ends : List EndKind) : Typ
   pub written : AppendedPart shown.sink_old.written (text_of_job job ends) shown.sink_new.written
   pub cause : Rose shown.sink_old.faults shown.sink_new.faults
 
--- A text is refused, for a reason that holds of it: it was reached, as each earlier one is accepted and no fetch has
--- failed, and nothing was written.
+-- A text is refused, for a reason that holds of it. It was reached: each earlier text is accepted, and no fetch has
+-- failed. Nothing was written.
 pub record IsRefused (names : Names) (shown : Shown) (which : Which) (Why : List ℕ → Type 0) : Type 0 where
   pub has : HasText names which
   pub earlier : IfTold shown.shelf_old.texts (λ texts. AreEarlierAccepted names texts which)

@@ -18,8 +18,8 @@ pub data Form : Type 0 where
   Load : (sky catalogue : List ℕ) → Form
   -- to answer or to explain the queries of a script over them
   Asks : (task : Task) (sky catalogue script : List ℕ) → Form
-  -- to answer the queries of the demo's script over its sky plan and the given number of objects, drawn from a seed,
-  -- with the given number of workers
+  -- to answer the queries of the demo's script with a number of workers, over its sky plan and a number of objects
+  -- drawn from a seed
   Demo : (count seed workers : ℕ) → Form
 
 -- The names of the texts of a command, of those that it has.
@@ -64,7 +64,7 @@ demo_of (Some count) (Some seed) None = None
 demo_of (Some count) None workers = None
 demo_of None seed workers = None
 
--- the demo of a count up to 2^22, a seed from 1 to 2^31 - 2 and a number of workers, of 1 to 10 digits each
+-- the demo of a count up to 2^22, a seed from 1 to 2^31 - 2 and a number of workers, each of 1 to 10 digits
 abbrev pub demo_by : (count seed workers : List ℕ) → Option Form
 demo_by count seed workers =
     demo_of (number_between 0 ROWS_MOST (natural WORD_DIGITS_MOST count))

@@ -20,8 +20,8 @@ use std::alloc::Global;
 use std::sync::Wait;
 use std::thread::Threads;
 
-/// Answers the queries of the demo's script over its sky plan and the given number of objects, drawn from a seed, with
-/// the given number of workers. Allocates memory, and waits. The shelf is not used.
+/// Answers the queries of the demo's script with the given number of workers. They range over the demo's sky plan and
+/// the given number of objects, drawn from a seed. Allocates memory, and waits. The shelf is not used.
 pub fn run_demo<R: Threads + Wait + Sync, K: Sink, G: Gate + Sync>(
     alloc: Global,
     rt: &R,
@@ -47,7 +47,7 @@ pub fn run_demo<R: Threads + Wait + Sync, K: Sink, G: Gate + Sync>(
     }
 }
 
-// The store of the demo's catalogue under its sky plan, built by the given number of threads.
+// Returns the store of the demo's catalogue under its sky plan, built by the given number of threads.
 fn demo_store<R: Threads + Sync>(
     alloc: Global,
     rt: &R,

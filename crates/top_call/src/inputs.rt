@@ -1,9 +1,9 @@
 //! The texts of a command, each fetched and read before the next is fetched: sky, catalogue, script.
 //!
-//! A text is fetched to one byte past its limit, so that a longer one shows itself; it is refused as too long. The raw
-//! texts of the sky plan and of the catalogue are dropped before the next is fetched. The store is built before the script is
-//! fetched, so a script that arrives late, through a pipe, is answered at once. A script borrows its text, so its text is
-//! returned raw, and its owner reads it.
+//! A text is fetched to one byte past its limit: one that has this byte is refused as too long. The raw texts of the
+//! sky plan and of the catalogue are dropped before the next is fetched. The store is built before the script is
+//! fetched, so a script that arrives late, through a pipe, is answered at once. A script borrows its text, so its text
+//! is returned raw, and its owner reads it.
 ghost use Rattle.std.specs.Prelude.{◌≡◌, ◌≤◌, ◌^◌, IfOk, IfErr, length, Some};
 ghost use Rattle.catalogue_load.specs.Catalogue.{catalogue_of};
 ghost use Rattle.top_call.specs.Jobs.{IsSurveyOf};
@@ -21,8 +21,8 @@ use std::alloc::Global;
 use std::thread::Threads;
 use text_rules::limits::{SCRIPT_TEXT_MOST, SKY_TEXT_MOST, TEXT_MOST};
 
-/// Fetches and reads the sky plan and the catalogue of these names, and builds the store of its rows, both by the given number of
-/// threads. Allocates. If it stops, the shelf alone explains the outcome.
+/// Fetches and reads the sky plan and the catalogue of these names, and builds the store of its rows. The given number
+/// of threads read and build. Allocates memory. If it stops, the shelf alone explains the outcome.
 pub fn fetch_survey<R: Threads + Sync, S: Shelf>(
     alloc: Global,
     rt: &R,
@@ -41,9 +41,9 @@ pub fn fetch_survey<R: Threads + Sync, S: Shelf>(
     stored(alloc, rt, threads, plan, rows)
 }
 
-/// Fetches the texts of these names, reads the sky plan and the catalogue, and builds the store of its rows before the script is
-/// fetched, which is given as its text; reads and builds by the given number of threads. Allocates. If it stops, the shelf alone
-/// explains the outcome.
+/// Fetches the texts of these names, reads the sky plan and the catalogue, and builds the store of its rows. Then it
+/// fetches the script, and returns it as its text. The given number of threads read and build. Allocates memory. If it
+/// stops, the shelf alone explains the outcome.
 pub fn fetch_all<R: Threads + Sync, S: Shelf>(
     alloc: Global,
     rt: &R,
@@ -70,7 +70,7 @@ pub fn fetch_all<R: Threads + Sync, S: Shelf>(
     }
 }
 
-// The store of a catalogue's rows under a plan, built by the given number of threads.
+// Returns the store of a catalogue's rows under a plan, built by the given number of threads.
 fn stored<R: Threads + Sync>(
     alloc: Global,
     rt: &R,

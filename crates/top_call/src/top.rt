@@ -17,12 +17,14 @@ use std::alloc::Global;
 use std::sync::Wait;
 use std::thread::Threads;
 
-/// Executes the command that the arguments give. It fetches the texts from the shelf. It reports how the rows are
-/// distributed over the chunks, or answers or explains the queries of the script. It writes to the sink. The chunks are
-/// made before the script is fetched. All texts are accepted and all answers computed before the first byte is written,
-/// and writing does not allocate. Allocates memory for the texts, the rows and their chunks, and the answers. Queries are
-/// answered by as many threads beside this one as the arguments ask for, and these read the texts too; a thread that takes
-/// a chunk passes the gate before the work on it. Waits for the threads. A thread that cannot be started costs no answer.
+/// Executes the command that the arguments give: reports how the rows are distributed over the chunks, or answers or
+/// explains the queries of a script. The texts are fetched from the shelf one by one. The chunks are built before the
+/// script is fetched. All texts are accepted and all answers computed before the first byte is written to the sink.
+///
+/// Allocates memory for the texts, the rows and their chunks, and the answers; writing does not allocate. Queries are
+/// answered by this thread and as many workers as the arguments ask for, and these read the catalogue too. A command
+/// without workers reads it with a thread for each processor. A thread passes the gate before its work on a chunk.
+/// Waits for the other threads. One that cannot be started costs no answer.
 pub fn qserv<R: Threads + Wait + Sync, S: Shelf, K: Sink, G: Gate + Sync>(
     rt: &R,
     alloc: Global,

@@ -1,8 +1,7 @@
 //! The work of a command whose texts were fetched, and its writing.
 //!
-//! What holds the rows is dropped by name. That is one call; what goes out of scope is dropped part by part. All that
-//! allocates memory is created before the first byte is written: the store, the answers, and the list of how the
-//! queries ended.
+//! The store is dropped by name, which is one call; a value that goes out of scope is dropped part by part. All memory
+//! is allocated before the first byte is written: for the store, the answers, and the list of how the queries ended.
 ghost use Rattle.std.specs.Prelude.{◌≡◌, ◌≤◌, ◌^◌, ℕ, [], length, map};
 ghost use Rattle.text_rules.specs.declared.limits.TheConstants.{SCRIPT_TEXT_MOST};
 ghost use Rattle.session_script.specs.Views.{query_lines};
