@@ -1,5 +1,5 @@
--- What a driven session tells of its ends.
-use Rattle.std.proofs.Common.{◌≡◌, ◌∙◌, sym, ap, subst, ℕ, List, map, Ok, Err, Result, IfOk, Option, Vec, vec_len}
+-- What a session leaves once its workers were joined.
+use Rattle.std.proofs.Common.{◌≡◌, ◌∙◌, sym, ap, subst, ℕ, arith, List, map, Ok, Err, Result, IfOk, Option, Vec, vec_len}
 use Rattle.table_rules.specs.Objects.{Catalogue}
 use Rattle.sky_io.specs.declared.Memory.{Memory}
 use Rattle.sky_rules.specs.Partition.{Partition, chunk_count}
@@ -15,34 +15,62 @@ use Rattle.scan_session.specs.KnownEnds.{plan_in}
 use Rattle.scan_session.specs.declared.end.End.{End as BoardEnd}
 use Rattle.scan_session.specs.declared.end.Planned.{Planned as Attachable}
 use Rattle.czar.specs.Attached.{attached, base_of, chunk_query}
-use Rattle.czar.specs.Driven.{IsDriven}
+use Rattle.czar.specs.Driven.{IsDriven, IsJoined, IsOver}
 use Rattle.czar.specs.declared.plan.Plan.{Plan}
 
--- the seat has seen the journal that bears the ends out
-pub driven : {Y Z : Type 0} (workers : ℕ) (g : Partition) (c : Catalogue) (steps ran : List Step)
+-- the participants that were split off have ended in the czar's
+joined : (g : Partition) (base : Base) (old new : BoardSeat Base) → old.made ≡ 1
+    → old.root ≡ record { root = base; ring = chunk_count g } → Manned Asks old new → IsJoined g new
+joined g base old new one root manned = record {
+  first = manned.first;
+  known = manned.known;
+  ended = record {
+    each = λ n low high. let kept = manned.crew n (omega (arith, one, low)) high in (kept.lines, kept.kept);
+  };
+  ring = ap (λ b. b.ring) manned.root ∙ ap (λ b. b.ring) root;
+}
+
+-- the czar's participant has seen the journal that justifies the ends
+pub over : {Y Z : Type 0} (workers : ℕ) (g : Partition) (c : Catalogue) (steps ran : List Step)
     (queries : List (Option ChunkQuery)) (planned : Vec (Option (Attachable PieceView)) Y) (old new : BoardSeat Base)
-    (r : Result (Vec (BoardEnd PieceView) Z) Memory) → ran ≡ steps
+    (r : Result (Vec (BoardEnd PieceView) Z) Memory) → ran ≡ steps → old.made ≡ 1
     → old.root ≡ record { root = base_of g c queries; ring = chunk_count g } → Manned Asks old new
     → IfOk r (λ v. Drove workers (plan_in planned.items) ran new.seen)
     → IfOk r (λ v. vec_len v ≡ vec_len planned)
     → IfOk r (λ v. AreEnds (StandsFor old.root.root) (plan_in planned.items) new.seen v.items)
-    → IfOk r (λ v. IsDriven workers g c steps queries planned.items v.items)
-driven workers g c steps ran queries planned old new (Ok v) same root manned drove each ends = record {
-  seen = new.seen;
-  run = subst (λ n. IsRun n new.seen) (ap (λ b. b.ring) manned.root ∙ ap (λ b. b.ring) root) manned.lawful.run.run;
-  drove = subst (λ (ss : List Step). Drove workers (plan_in planned.items) ss new.seen) same drove;
-  each = sym v.ok.0 ∙ each ∙ planned.ok.0;
-  are = subst (λ (b : Base). AreEnds (StandsFor b) (plan_in planned.items) new.seen v.items) (ap (λ b. b.root) root) ends;
+    → IfOk r (λ v. IsOver workers g c steps queries planned.items new v.items)
+over workers g c steps ran queries planned old new (Ok v) same one root manned drove each ends = record {
+  joined = joined g (base_of g c queries) old new one root manned;
+  by = record {
+    run = subst (λ n. IsRun n new.seen) (ap (λ b. b.ring) manned.root ∙ ap (λ b. b.ring) root) manned.lawful.run.run;
+    drove = subst (λ (ss : List Step). Drove workers (plan_in planned.items) ss new.seen) same drove;
+    each = sym v.ok.0 ∙ each ∙ planned.ok.0;
+    are = subst (λ (b : Base). AreEnds (StandsFor b) (plan_in planned.items) new.seen v.items) (ap (λ b. b.root) root) ends;
+  };
 }
-driven workers g c steps ran queries planned old new (Err m) same root manned drove each ends = tt
+over workers g c steps ran queries planned old new (Err m) same one root manned drove each ends = tt
 
 -- so of the queries with these plans, where both lists are made of them
-pub driven_by_plans : {Z : Type 0} (workers : ℕ) (g : Partition) (c : Catalogue) (steps : List Step) (plans : List Plan)
+pub over_by_plans : {V : Type 0} (workers : ℕ) (g : Partition) (c : Catalogue) (steps : List Step) (plans : List Plan)
     (queries : List (Option ChunkQuery)) (planned : List (Option (Attachable PieceView)))
-    (r : Result (Vec (BoardEnd PieceView) Z) Memory) → queries ≡ map chunk_query plans → planned ≡ map attached plans
-    → IfOk r (λ v. IsDriven workers g c steps queries planned v.items)
-    → IfOk r (λ v. IsDriven workers g c steps (map chunk_query plans) (map attached plans) v.items)
-driven_by_plans workers g c steps plans queries planned (Ok v) made is driven =
-    subst (λ (qs : List (Option ChunkQuery)). IsDriven workers g c steps qs (map attached plans) v.items) made
-    (subst (λ (l : List (Option (Attachable PieceView))). IsDriven workers g c steps queries l v.items) is driven)
-driven_by_plans workers g c steps plans queries planned (Err m) made is driven = tt
+    (seat : V → BoardSeat Base) (ends : V → List (BoardEnd PieceView)) (r : Result V Memory)
+    → queries ≡ map chunk_query plans → planned ≡ map attached plans
+    → IfOk r (λ v. IsOver workers g c steps queries planned (seat v) (ends v))
+    → IfOk r (λ v. IsOver workers g c steps (map chunk_query plans) (map attached plans) (seat v) (ends v))
+over_by_plans workers g c steps plans queries planned seat ends (Ok v) made is over =
+    subst (λ (qs : List (Option ChunkQuery)). IsOver workers g c steps qs (map attached plans) (seat v) (ends v)) made
+    (subst (λ (l : List (Option (Attachable PieceView))). IsOver workers g c steps queries l (seat v) (ends v)) is over)
+over_by_plans workers g c steps plans queries planned seat ends (Err m) made is over = tt
+
+-- what holds of an Ok result holds of its value
+pub of_value : {V : Type 0} {r : Result V Memory} {v : V} (holds : V → Type 0) → r ≡ Ok v → IfOk r holds → holds v
+of_value {V} holds is h = subst (λ (r : Result V Memory). IfOk r holds) is h
+
+-- some journal justifies the ends of a session that is over, under any names of its plans and its ends
+pub is_driven : {workers : ℕ} {g : Partition} {c : Catalogue} {steps : List Step} {plans same : List Plan} {seat : BoardSeat Base}
+    {ends told : List (BoardEnd PieceView)} → IsOver workers g c steps (map chunk_query plans) (map attached plans) seat ends
+    → plans ≡ same → ends ≡ told → IsDriven workers g c steps (map chunk_query same) (map attached same) told
+is_driven {workers} {g} {c} {steps} {plans} {same} {seat} {ends} {told} over is are =
+    subst (λ (l : List Plan). IsDriven workers g c steps (map chunk_query l) (map attached l) told) is
+    (subst (λ (l : List (BoardEnd PieceView)). IsDriven workers g c steps (map chunk_query plans) (map attached plans) l) are
+    (record { seen = seat.seen; by = over.by }))

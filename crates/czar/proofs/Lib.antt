@@ -15,3 +15,4 @@ pub mod Understood
 pub mod EndBlocks
 pub mod PlanBlocks
 pub mod BlocksByPlace
+pub mod Tracing

@@ -225,7 +225,7 @@ as_many g c S k (t ∷ texts) (p ∷ plans) (e ∷ ends) are is = ap suc (as_man
 -- what they are, plan by plan
 driven_ends : (workers : ℕ) (g : Partition) (c : Catalogue) (steps : List Step) (plans : List Plan) (ends : List (BoardEnd PieceView))
     (d : IsDriven workers g c steps (map chunk_query plans) (map attached plans) ends) → AreEndsFor g c d.seen 1 plans ends
-driven_ends workers g c steps plans ends d = ends_for g c d.seen plans ends (d.each ∙ length-map plans attached) d.are
+driven_ends workers g c steps plans ends d = ends_for g c d.seen plans ends (d.by.each ∙ length-map plans attached) d.by.are
 
 pub session_may_end : (workers : ℕ) (g : Partition) (c : Catalogue) (s : ScriptView) (plans : List Plan) (ends : List (BoardEnd PieceView))
     → IsSky g → IsCatalogue c → ArePlans g c (query_lines s) plans → IsDriven workers g c s.steps (map chunk_query plans) (map attached plans) ends → AllMayEnd plans ends
@@ -251,7 +251,7 @@ session_fits workers g c s plans ends sky rows numbered are d =
     let judged : length (map (judged_of g c) lines) ≡ length lines = length-map lines (judged_of g c) in
     let kinds : length (map kind_of (all_ended plans ends)) ≡ length lines = length-map (all_ended plans ends) kind_of ∙ as_many g c d.seen 1 lines plans ends are is in
     drove_fits workers (plan_in (map attached plans)) s.steps (chunk_count g) d.seen (map (judged_of g c) lines) (map kind_of (all_ended plans ends))
-    numbered d.run d.drove (judged ∙ spans) (kinds ∙ sym judged)
+    numbered d.by.run d.by.drove (judged ∙ spans) (kinds ∙ sym judged)
     (λ i j there. let on : suc (0 + i) ≡ i + 1 = omega arith in
     subst (λ n. IsJudgedBy (plan_in (map attached plans) n) j) on
     (judged_at g c plans 0 lines plans i j (from_first plans) are there))

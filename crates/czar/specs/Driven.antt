@@ -2,11 +2,15 @@
 use Rattle.std.specs.Prelude.{◌≡◌, ℕ, List, Option, length}
 use Rattle.table_rules.specs.Objects.{Catalogue}
 use Rattle.sky_rules.specs.Partition.{Partition, chunk_count}
+use Rattle.scan_rules.specs.Lines.{seat_of}
 use Rattle.scan_rules.specs.Queries.{Journal}
 use Rattle.scan_rules.specs.Runs.{IsRun}
 use Rattle.answer_rules.specs.declared.rewritten.ChunkQuery.{ChunkQuery}
-use Rattle.answer_rules.specs.Bases.{StandsFor}
+use Rattle.answer_rules.specs.Bases.{Base, StandsFor}
 use Rattle.answer_rules.specs.Pieces.{PieceView}
+use Rattle.turn_lock.specs.Ends.{AllHaveEnded}
+use Rattle.turn_lock.specs.Seats.{Knows}
+use Rattle.scan_board.specs.Calls.{BoardSeat}
 use Rattle.session_script.specs.declared.step.Step.{Step}
 use Rattle.scan_session.specs.Drove.{AreEnds, Drove}
 use Rattle.scan_session.specs.KnownEnds.{plan_in}
@@ -14,12 +18,31 @@ use Rattle.scan_session.specs.declared.end.End.{End as BoardEnd}
 use Rattle.scan_session.specs.declared.end.Planned.{Planned as Attachable}
 use Rattle.czar.specs.Attached.{base_of}
 
--- Some journal of the board justifies these ends, in a session with the given number of workers. Its queries have these
+-- This journal of the board justifies these ends, in a session with the given number of workers. Its queries have these
 -- chunk queries, and this is attached for them.
-pub record IsDriven (workers : ℕ) (g : Partition) (c : Catalogue) (steps : List Step) (queries : List (Option ChunkQuery))
-    (planned : List (Option (Attachable PieceView))) (ends : List (BoardEnd PieceView)) : Type 0 where
-  pub seen : Journal
+pub record IsDrivenBy (workers : ℕ) (g : Partition) (c : Catalogue) (steps : List Step) (queries : List (Option ChunkQuery))
+    (planned : List (Option (Attachable PieceView))) (seen : Journal) (ends : List (BoardEnd PieceView)) : Type 0 where
   pub run : IsRun (chunk_count g) seen
   pub drove : Drove workers (plan_in planned) steps seen
   pub each : length ends ≡ length planned
   pub are : AreEnds (StandsFor (base_of g c queries)) (plan_in planned) seen ends
+
+-- some journal of the board justifies these ends
+pub record IsDriven (workers : ℕ) (g : Partition) (c : Catalogue) (steps : List Step) (queries : List (Option ChunkQuery))
+    (planned : List (Option (Attachable PieceView))) (ends : List (BoardEnd PieceView)) : Type 0 where
+  pub seen : Journal
+  pub by : IsDrivenBy workers g c steps queries planned seen ends
+
+-- the czar's participant of a board over the chunks of a sky plan, once all others have ended in it
+pub record IsJoined (g : Partition) (seat : BoardSeat Base) : Type 0 where
+  pub first : seat.number ≡ 0
+  pub known : Knows seat_of seat
+  pub ended : AllHaveEnded seat
+  pub ring : seat.root.ring ≡ chunk_count g
+
+-- A session that is over: all others have ended in the czar's participant, and the journal that it has seen justifies
+-- the ends.
+pub record IsOver (workers : ℕ) (g : Partition) (c : Catalogue) (steps : List Step) (queries : List (Option ChunkQuery))
+    (planned : List (Option (Attachable PieceView))) (seat : BoardSeat Base) (ends : List (BoardEnd PieceView)) : Type 0 where
+  pub joined : IsJoined g seat
+  pub by : IsDrivenBy workers g c steps queries planned seat.seen ends

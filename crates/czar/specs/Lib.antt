@@ -4,4 +4,5 @@ pub mod Ends
 pub mod Attached
 pub mod Ended
 pub mod Driven
+pub mod Traces
 pub mod Running

@@ -2,11 +2,11 @@
 //! are written.
 //!
 //! Callers see a script's plans as `ArePlans` (`specs/Plans.antt`) and its ends as `EndsShow` (`specs/Ends.antt`): an
-//! answer is that of the flat table, whose definition does not mention chunks. Below: `sql_reader` and `sql_bind` for
-//! the meaning of a query, `area_analyser` over an `object_index` for its chunks, `chunk_rewriter` for its two parts,
-//! `scan_session` for the session over a shared board, `chunk_scan` and `near_join` for a chunk's work, `partial_merge`
-//! for the merge, and `answer_text` for its text. No file: texts are slices that the caller holds. Threads come from
-//! the caller.
+//! answer is that of the flat table, whose definition does not mention chunks. They see the journal of its session as
+//! `IsTraceOf` (`specs/Traces.antt`). Below: `sql_reader` and `sql_bind` for the meaning of a query, `area_analyser`
+//! over an `object_index` for its chunks, `chunk_rewriter` for its two parts, `scan_session` for the session over a
+//! shared board, `chunk_scan` and `near_join` for a chunk's work, `partial_merge` for the merge, and `answer_text` for
+//! its text. No file: texts are slices that the caller holds. Threads come from the caller.
 #![tactic(auto)]
 
 mod attach;
@@ -22,5 +22,5 @@ pub mod understanding;
 pub use end::End;
 pub use explained::put_explained;
 pub use plan::{Plan, explain};
-pub use session::run_session;
+pub use session::{run_session, run_traced};
 pub use transcript::put_transcript;

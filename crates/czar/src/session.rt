@@ -14,9 +14,11 @@ ghost use Rattle.session_script.specs.Scripts.{query_count};
 ghost use Rattle.session_script.specs.Views.{query_lines};
 ghost use Rattle.transcript_rules.specs.Transcripts.{FitEnds};
 ghost use Rattle.czar.specs.Attached.{IsSoundIfThere, attached, base_of, chunk_query};
-ghost use Rattle.czar.specs.Driven.{IsDriven};
+ghost use Rattle.czar.specs.Driven.{IsDriven, IsJoined, IsOver};
+ghost use Rattle.czar.specs.Ended.{all_ended};
 ghost use Rattle.czar.specs.Ends.{EndsShow, kind_of};
 ghost use Rattle.czar.specs.Plans.{ArePlans};
+ghost use Rattle.czar.specs.Traces.{IsTraceOf};
 ghost use Rattle.table_rules.specs.declared.limits.TheConstants.{FIRST_COLUMNS};
 
 use crate::attach::{prepared, seated};
@@ -28,6 +30,7 @@ use answer_rules::ChunkQuery;
 use chunk_store::Store;
 use partial_merge::Piece;
 use scan_board::{Board, Seat, SharedBoard};
+use scan_rules::Journal;
 use scan_session::{End as BoardEnd, Planned, drive};
 use session_script::Script;
 use sky_io::{Gate, Memory};
@@ -61,8 +64,49 @@ pub fn run_session<R: Threads + Wait + Sync, G: Gate + Sync>(
         workers,
         gate,
     };
-    match explain(alloc, world, script) {
-        Ok(plans) => session.run(plans),
+    match session.plan_and_drive() {
+        Ok((plans, Driven { board, seat, ends })) => {
+            drop((board, seat));
+            session.told(plans, ends)
+        }
+        Err(Memory) => Err(Memory),
+    }
+}
+
+/// Runs the queries of a script as `run_session` does, and returns the journal of the board beside their ends. The
+/// journal is read once the workers have ended, when no line is added any more. Allocates memory for it too: if that
+/// fails, the call returns Memory.
+pub fn run_traced<R: Threads + Wait + Sync, G: Gate + Sync>(
+    alloc: Global,
+    rt: &R,
+    world: &Store,
+    script: &Script<'_>,
+    workers: u32,
+    gate: &G,
+) -> Result<(Vec<End>, Journal), Memory>
+    requires few { workers ≤ WORKERS_MOST }
+    ensures fit { IfOk result (λ r.
+        FitEnds workers world.now.plan world.now.rows script.now (map kind_of r.0.items)) }
+    ensures shown { IfOk result (λ r.
+        EndsShow world.now.plan world.now.rows (query_lines script.now) r.0.items) }
+    ensures trace { IfOk result (λ r. IsTraceOf workers
+        world.now.plan world.now.rows script.now (map kind_of r.0.items) r.1) }
+{
+    let session = Session {
+        alloc,
+        rt,
+        world,
+        script,
+        workers,
+        gate,
+    };
+    match session.plan_and_drive() {
+        Ok((plans, Driven { board, seat, ends })) => {
+            let journal = session.journal(&board, seat);
+            drop(board);
+            let ends = session.told(plans, ends)?;
+            Ok((ends, journal?))
+        }
         Err(Memory) => Err(Memory),
     }
 }
@@ -78,23 +122,49 @@ struct Session<'s, 't, R, G> {
     gate: &'s G,
 }
 
+/// A session whose workers were joined: its board, the czar's participant, and the end of each query at the board.
+#[derive(Drop)]
+struct Driven<'s> {
+    board: SharedBoard<Piece<'s>>,
+    seat: Seat<Board<Piece<'s>>>,
+    ends: Vec<BoardEnd<Piece<'s>>>,
+}
+
 impl<'s, 't, R: Threads + Wait + Sync, G: Gate + Sync> Session<'s, 't, R, G> {
-    /// Runs the queries with these plans.
-    fn run(&self, plans: Vec<Plan>) -> Result<Vec<End>, Memory>
+    /// Plans the queries of the script, and drives them.
+    fn plan_and_drive(&self) -> Result<(Vec<Plan>, Driven<'s>), Memory>
         requires few { self.now.workers ≤ WORKERS_MOST }
-        requires plans { ArePlans self.now.world.now.plan self.now.world.now.rows
-            (query_lines self.now.script.now) plans.items }
-        ensures fit { IfOk result (λ ends. FitEnds self.now.workers
-            self.now.world.now.plan self.now.world.now.rows self.now.script.now
-            (map kind_of ends.items)) }
-        ensures shown { IfOk result (λ ends. EndsShow
+        ensures plans { IfOk result (λ r. ArePlans
             self.now.world.now.plan self.now.world.now.rows (query_lines self.now.script.now)
-            ends.items) }
+            r.0.items) }
+        ensures own { IfOk result (λ r. r.1.seat.turn ≡ r.1.board) }
+        ensures over { IfOk result (λ r. IsOver self.now.workers
+            self.now.world.now.plan self.now.world.now.rows self.now.script.now.steps
+            (map chunk_query r.0.items) (map attached r.0.items) r.1.seat r.1.ends.items) }
     {
+        let plans = explain(self.alloc, self.world, self.script)?;
         match self.driven(plans.as_slice()) {
-            Ok(ends) => self.told(plans, ends),
+            Ok(driven) => Ok((plans, driven)),
             Err(Memory) => Err(Memory),
         }
+    }
+
+    /// Reads the journal of the board, once its workers were joined. Allocates memory, and waits for the lock.
+    fn journal(
+        &self,
+        board: &SharedBoard<Piece<'s>>,
+        seat: Seat<Board<Piece<'s>>>,
+    ) -> Result<Journal, Memory>
+        requires own { seat.turn ≡ board.now }
+        requires joined { IsJoined self.now.world.now.plan seat }
+        ensures { IfOk result (λ journal. journal ≡ record {
+          ring = chunk_count self.now.world.now.plan;
+          lines = seat.entry.seen;
+        }) }
+    {
+        let (journal, seat) = board.journal(self.rt, seat);
+        drop(seat);
+        journal
     }
 
     /// Returns the end of each query, by its plan and by how it ended at the board.
@@ -110,6 +180,8 @@ impl<'s, 't, R: Threads + Wait + Sync, G: Gate + Sync> Session<'s, 't, R, G> {
         ensures shown { IfOk result (λ ends. EndsShow
             self.now.world.now.plan self.now.world.now.rows (query_lines self.now.script.now)
             ends.items) }
+        ensures ended { IfOk result (λ told.
+            told.items ≡ all_ended plans.items ends.entry.items) }
     {
         know(self.world);
         let _ = self.script.steps();
@@ -117,13 +189,14 @@ impl<'s, 't, R: Threads + Wait + Sync, G: Gate + Sync> Session<'s, 't, R, G> {
     }
 
     /// Prepares the queries with these plans, and drives them.
-    fn driven(&self, plans: &[Plan]) -> Result<Vec<BoardEnd<Piece<'s>>>, Memory>
+    fn driven(&self, plans: &[Plan]) -> Result<Driven<'s>, Memory>
         requires few { self.now.workers ≤ WORKERS_MOST }
         requires plans { ArePlans self.now.world.now.plan self.now.world.now.rows
             (query_lines self.now.script.now) plans.now }
-        ensures { IfOk result (λ ends. IsDriven self.now.workers self.now.world.now.plan
+        ensures own { IfOk result (λ r. r.seat.turn ≡ r.board) }
+        ensures over { IfOk result (λ r. IsOver self.now.workers self.now.world.now.plan
             self.now.world.now.rows self.now.script.now.steps
-            (map chunk_query plans.now) (map attached plans.now) ends.items) }
+            (map chunk_query plans.now) (map attached plans.now) r.seat r.ends.items) }
     {
         know(self.world);
         let _ = self.script.queries();
@@ -138,7 +211,7 @@ impl<'s, 't, R: Threads + Wait + Sync, G: Gate + Sync> Session<'s, 't, R, G> {
         &self,
         queries: &[Option<ChunkQuery>],
         planned: Vec<Option<Planned<Piece<'s>>>>,
-    ) -> Result<Vec<BoardEnd<Piece<'s>>>, Memory>
+    ) -> Result<Driven<'s>, Memory>
         requires few { self.now.workers ≤ WORKERS_MOST }
         requires queries { length queries.now ≤ QUERY_MOST }
         requires sound { All (IsSoundIfThere (FIRST_COLUMNS + length self.now.world.now.rows.names))
@@ -146,12 +219,13 @@ impl<'s, 't, R: Threads + Wait + Sync, G: Gate + Sync> Session<'s, 't, R, G> {
         requires each { length planned.items ≡ query_count self.now.script.now.steps }
         requires fit { PlansFit StandsFor Asks (chunk_count self.now.world.now.plan)
             (base_of self.now.world.now.plan self.now.world.now.rows queries.now) planned.items }
-        ensures { IfOk result (λ ends. IsDriven self.now.workers self.now.world.now.plan
+        ensures own { IfOk result (λ r. r.seat.turn ≡ r.board) }
+        ensures over { IfOk result (λ r. IsOver self.now.workers self.now.world.now.plan
             self.now.world.now.rows self.now.script.now.steps
-            queries.now planned.entry.items ends.items) }
+            queries.now planned.entry.items r.seat r.ends.items) }
     {
         match seated(self.alloc, self.world, queries) {
-            Ok((board, seat)) => self.driven_at(queries, &board, seat, planned),
+            Ok((board, seat)) => self.driven_at(queries, board, seat, planned),
             Err(Memory) => Err(Memory),
         }
     }
@@ -160,21 +234,22 @@ impl<'s, 't, R: Threads + Wait + Sync, G: Gate + Sync> Session<'s, 't, R, G> {
     fn driven_at(
         &self,
         queries: &[Option<ChunkQuery>],
-        board: &SharedBoard<Piece<'s>>,
+        board: SharedBoard<Piece<'s>>,
         seat: Seat<Board<Piece<'s>>>,
         planned: Vec<Option<Planned<Piece<'s>>>>,
-    ) -> Result<Vec<BoardEnd<Piece<'s>>>, Memory>
+    ) -> Result<Driven<'s>, Memory>
         requires few { self.now.workers ≤ WORKERS_MOST }
         requires each { length planned.items ≡ query_count self.now.script.now.steps }
         requires fit { PlansFit StandsFor Asks (chunk_count self.now.world.now.plan)
             (base_of self.now.world.now.plan self.now.world.now.rows queries.now) planned.items }
-        requires seat { seat ≡ first_seat board.now (record {
+        requires seat { seat ≡ first_seat board (record {
           root = base_of self.now.world.now.plan self.now.world.now.rows queries.now;
           ring = chunk_count self.now.world.now.plan;
         }) }
-        ensures { IfOk result (λ ends. IsDriven self.now.workers self.now.world.now.plan
+        ensures own { IfOk result (λ r. r.seat.turn ≡ r.board) }
+        ensures over { IfOk result (λ r. IsOver self.now.workers self.now.world.now.plan
             self.now.world.now.rows self.now.script.now.steps
-            queries.now planned.entry.items ends.items) }
+            queries.now planned.entry.items r.seat r.ends.items) }
     {
         know(self.world);
         let _ = self.script.queries();
@@ -186,7 +261,7 @@ impl<'s, 't, R: Threads + Wait + Sync, G: Gate + Sync> Session<'s, 't, R, G> {
         let (ends, seat) = drive(
             self.alloc,
             self.rt,
-            board,
+            &board,
             seat,
             &engine,
             self.gate,
@@ -194,8 +269,13 @@ impl<'s, 't, R: Threads + Wait + Sync, G: Gate + Sync> Session<'s, 't, R, G> {
             self.script.steps(),
             self.workers,
         );
-        drop(seat);
-        ends
+        match ends {
+            Ok(ends) => Ok(Driven { board, seat, ends }),
+            Err(Memory) => {
+                drop((board, seat));
+                Err(Memory)
+            }
+        }
     }
 }
 

@@ -3,7 +3,7 @@ use Rattle.std.proofs.lemmas.List.{length-map}
 use Rattle.scan_rules.specs.declared.limits.TheConstants.{QUERY_MOST}
 use Rattle.session_script.specs.Views.{query_lines}
 use Rattle.czar.specs.Attached.{attached, chunk_query}
-use Rattle.czar.proofs.Driving.{driven_by_plans}
+use Rattle.czar.proofs.Driving.{over_by_plans}
 use Rattle.czar.proofs.Fitting.{all_fit, sound_queries}
 use Rattle.czar.proofs.PlanBlocks.{a_plan_each}
 use Rattle.czar.proofs.session.Session.driven.Goals as goal
@@ -30,8 +30,8 @@ driven_by-requires-clause-fit g c = λ κs lives.
     omega (arith, ap length (c.as_slice.ensures.value ∙ c.in-Ok.ensures.queries), length-map c.args.plans.now chunk_query, a_plan_each s.world.now.plan s.world.now.rows s.script.now c.args.plans.now c.requires.plans, c.queries.ensures.count, c.queries.ensures.few) in
     all_fit s.world.now.plan s.world.now.rows (query_lines s.script.now) c.args.plans.now c.as_slice.result.now _ c.know.ensures.sky c.know.ensures.rows few c.requires.plans (c.as_slice.ensures.value ∙ c.in-Ok.ensures.queries) c.in-Ok.ensures.attached
 
-pub returns-in-Ok : goal.returns-in-Ok
-returns-in-Ok g c =
+pub returns-in-Ok-clause-over : goal.returns-in-Ok-clause-over
+returns-in-Ok-clause-over g c =
     let s = c.args.self.now in
-    driven_by_plans s.workers s.world.now.plan s.world.now.rows s.script.now.steps c.args.plans.now c.as_slice.result.now c.in-Ok.planned.items c.driven_by.result
-    (c.as_slice.ensures.value ∙ c.in-Ok.ensures.queries) c.in-Ok.ensures.attached c.driven_by.ensures
+    over_by_plans s.workers s.world.now.plan s.world.now.rows s.script.now.steps c.args.plans.now c.as_slice.result.now c.in-Ok.planned.items _ _ c.driven_by.result
+    (c.as_slice.ensures.value ∙ c.in-Ok.ensures.queries) c.in-Ok.ensures.attached c.driven_by.ensures.over

@@ -1,7 +1,7 @@
-use Rattle.std.proofs.Common.{sym, ap, subst, ℕ, ◌≤◌}
+use Rattle.std.proofs.Common.{sym, ap, ◌∙◌, subst, ℕ, ◌≤◌}
 use Rattle.scan_rules.specs.declared.limits.TheConstants.{RING_MOST}
 use Rattle.czar.proofs.Crossing.{crossing}
-use Rattle.czar.proofs.Driving.{driven}
+use Rattle.czar.proofs.Driving.{of_value, over}
 use Rattle.czar.proofs.session.Session.driven_at.Goals as goal
 
 pub drive-ends-requires-send-P-Root : goal.drive-ends-requires-send-P-Root
@@ -14,8 +14,11 @@ drive-ends-requires-clause-ring g c = λ κs lives.
 pub drive-ends-requires-sync-E : goal.drive-ends-requires-sync-E
 drive-ends-requires-sync-E g c = λ κs lives. search crossing depth 60 fits 20000
 
-pub returns : goal.returns
-returns g c =
+pub returns-in-Ok-clause-own : goal.returns-in-Ok-clause-own
+returns-in-Ok-clause-own g c = c.drive-ends.ensures.manned.turn ∙ ap (λ s. s.turn) c.requires.seat
+
+pub returns-in-Ok-clause-over : goal.returns-in-Ok-clause-over
+returns-in-Ok-clause-over g c =
     let s = c.args.self.now in
-    driven s.workers s.world.now.plan s.world.now.rows s.script.now.steps c.steps.result.now c.args.queries.now c.args.planned c.args.seat c.drive-ends.result.1 _
-    c.steps.ensures.steps (ap (λ s. s.root) c.requires.seat) c.drive-ends.ensures.manned c.drive-ends.ensures.drove c.drive-ends.ensures.len c.drive-ends.ensures.ends
+    of_value _ c.in-Ok.is (over s.workers s.world.now.plan s.world.now.rows s.script.now.steps c.steps.result.now c.args.queries.now c.args.planned c.args.seat c.drive-ends.result.1 _
+    c.steps.ensures.steps (ap (λ s. s.made) c.requires.seat) (ap (λ s. s.root) c.requires.seat) c.drive-ends.ensures.manned c.drive-ends.ensures.drove c.drive-ends.ensures.len c.drive-ends.ensures.ends)
