@@ -15,6 +15,7 @@ pub mod Ascending
 pub mod Apart
 pub mod RowsFinish
 pub mod LinesMerged
+pub mod Rounding
 pub mod Merging
 pub mod Finishing
 pub mod Chunks

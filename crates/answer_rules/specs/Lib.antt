@@ -4,6 +4,7 @@ pub mod Ranks
 pub mod Rows
 pub mod Keys
 pub mod Aggregates
+pub mod Rounding
 pub mod Groups
 pub mod Answers
 pub mod Plans

@@ -5,6 +5,7 @@ ghost use Rattle.answer_rules.specs.KeyLaws.{KeysAscend, NoKeyTwice, RowsAreGrou
 ghost use Rattle.answer_rules.specs.Laws.{AgainLaw, CutLaw, EndLaw, JoinLaw, OnlyOrder};
 ghost use Rattle.answer_rules.specs.Laws.{RanksAreKeys, SublistLaw};
 ghost use Rattle.answer_rules.specs.PlaceLaws.{ChunkIsTheOne, LiesInOne, LiesSomewhere};
+ghost use Rattle.answer_rules.specs.Rounding.{AveragesAreNearest};
 ghost use Rattle.answer_rules.specs.RangeLaws.{ChunkIsInRange, KeyItemIsInRange, OrderIsInRange};
 ghost use Rattle.answer_rules.specs.PieceLaws.{CutPieceFinishes, EmptyPiece, JoinsAlone, KeptStands};
 ghost use Rattle.answer_rules.specs.PieceLaws.{PieceFinishes, PieceIsForASet, PiecesJoin, RowsAreApart};
@@ -57,6 +58,12 @@ pub fn keys_are_in_range()
     ensures order { OrderIsInRange }
     ensures chunk { ChunkIsInRange }
     ensures item { KeyItemIsInRange }
+{}
+
+/// An average is the ten-thousandth nearest to the quotient of total and count, halves away from zero, and only that.
+#[tactic(auto, using(crate::proofs::Rounding::averages_are_nearest))]
+pub fn averages_are_nearest()
+    ensures { AveragesAreNearest }
 {}
 
 /// Partial results over disjoint sets of chunks, combined, are a partial result over both sets.

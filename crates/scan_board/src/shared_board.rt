@@ -12,10 +12,10 @@ ghost use Rattle.scan_core.specs.Answers.{AnswersAttach, AnswersTake, AnswersCol
 ghost use Rattle.scan_core.specs.Delivering.{DeliversTask, PiecesFit};
 ghost use Rattle.turn_lock.specs.Seats.{Knows, first_seat, joined_with, next_seat, one_more_made};
 ghost use Rattle.scan_core.specs.Boards.{IsLawful};
-ghost use Rattle.scan_board.specs.Calls.{AnswersCancel, AnswersClose, Called, HasTask};
+ghost use Rattle.scan_board.specs.Calls.{AnswersCancel, AnswersClose, AnswersJournal, Called, HasTask};
 ghost use Rattle.scan_board.specs.Calls.{IsAskedFor, IsOwed};
 
-use scan_core::{Attach, Board, BoardRoot, ChunkSet, Collect, Take, Task, Work};
+use scan_core::{Attach, Board, BoardRoot, ChunkSet, Collect, Journal, Take, Task, Work};
 use sky_io::Memory;
 use std::alloc::Global;
 use std::marker::Model;
@@ -149,6 +149,21 @@ impl<P: Work> SharedBoard<P> {
         let mut pass = self.turn.enter(rt, seat);
         pass.value().close(number);
         pass.leave()
+    }
+
+    /// Copies the number of chunks and the lines that the participant has seen after it. Adds no line. Waits for the lock.
+    /// Allocates memory.
+    pub fn journal<R: Wait>(
+        &self,
+        rt: &R,
+        seat: Seat<Board<P>>,
+    ) -> (Result<Journal, Memory>, Seat<Board<P>>)
+        requires own { seat.turn ≡ self.now }
+        ensures called { Called P.asks (AnswersJournal result.0) seat result.1 }
+    {
+        let mut pass = self.turn.enter(rt, seat);
+        let journal = pass.value().journal();
+        (journal, pass.leave())
     }
 
     /// Makes one more participant, with the next number, out of participant 0. Does not allocate.

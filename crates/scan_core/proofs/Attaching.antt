@@ -1,11 +1,11 @@
 -- What a board's slots say after an Attach.
-use Rattle.std.proofs.Common.{filter, AllPairs, ◌≡◌, ℕ, ◌+◌, ◌<◌, ◌≤◌, ◌==◌, List, [], ◌∷◌, ◌++◌, length, get_or, Bool, true, false, not, cond, zero, suc, ⊎_elim, refl, sym, ◌∙◌, ap, subst, arith, count_by, ne_eqb, eq-eqb, eqb-true}
-use Rattle.std.proofs.lemmas.Bool.{and_parts, or_parts, or_cases, cases_Bool, cases_eq, false_from_ne_true, both_ways, or_left, false≢true, cond-true, cond-false}
+use Rattle.std.proofs.Common.{filter, AllPairs, ◌≡◌, ℕ, ◌+◌, ◌<◌, ◌≤◌, ◌==◌, List, [], ◌∷◌, ◌++◌, length, get_or, Bool, true, false, not, cond, zero, suc, ⊎_elim, refl, sym, ◌∙◌, ap, subst, arith, count_by, ne_eqb, eq-eqb}
+use Rattle.std.proofs.lemmas.Bool.{or_parts, cases_Bool, cases_eq, false_from_ne_true, both_ways, or_left, cond-true, cond-false}
 use Rattle.scan_rules.specs.declared.journal_line.JournalLine.{JournalLine}
 use Rattle.scan_rules.specs.declared.journal_line.JournalLine.TheVariants.{Attach, Take, Deliver, Cancel, Collect, Close}
 use Rattle.scan_rules.proofs.Giving.{is_given_same}
-use Rattle.scan_rules.proofs.Lists.{any_cases, any_later, any_none, any_stays, count_cons, count_push, flat_push}
-use Rattle.scan_rules.proofs.Runs.{run_ind, run_more}
+use Rattle.scan_rules.proofs.Lists.{any_later, any_none, count_cons, count_push, flat_push}
+use Rattle.scan_rules.proofs.Runs.{run_more}
 use Rattle.scan_rules.proofs.Scan.{needs_from, place_other}
 use Rattle.scan_rules.proofs.Serving.{given_is_served, lost_named, named_attached, needs_tells, served_is_wanted}
 use Rattle.scan_rules.specs.Lines.{attaches, cancels, chunks_for, closes, collects, loses, serves}

@@ -61,7 +61,7 @@ entry_stands stands c queries entries fit turn piece e = ⊎_elim
 
 module _ {ring here tickets : ℕ} {closed : Bool} {slots : List Slot} {past : Journal} where
   -- a slot that runs is a query that runs
-  run_told : Kept ring here tickets closed slots past → (q : ℕ) → q < 256 → (d : Slot) → runs (get_or slots q d) ≡ is_running past q
+  pub run_told : Kept ring here tickets closed slots past → (q : ℕ) → q < 256 → (d : Slot) → runs (get_or slots q d) ≡ is_running past q
   run_told k q low d = runs_is past q (get_or slots q d) (k.each q d low).words
 
   -- each query of a task in flight is owed a chunk
@@ -119,7 +119,7 @@ module _ {ring here tickets : ℕ} {closed : Bool} {slots : List Slot} {past : J
       }
 
   -- so each slot fits
-  kept_deliver : Kept ring here tickets closed slots past → (s t c : ℕ) (queries lost : List ℕ) → Flight past s t c queries → MayFollow ring past (Deliver s t lost) → ((q : ℕ) → has lost q ≡ true → has queries q ≡ true) → (after : List Slot) → PaidAll queries lost slots after (length queries) → Kept ring here tickets closed after (past ++ Deliver s t lost ∷ [])
+  pub kept_deliver : Kept ring here tickets closed slots past → (s t c : ℕ) (queries lost : List ℕ) → Flight past s t c queries → MayFollow ring past (Deliver s t lost) → ((q : ℕ) → has lost q ≡ true → has queries q ≡ true) → (after : List Slot) → PaidAll queries lost slots after (length queries) → Kept ring here tickets closed after (past ++ Deliver s t lost ∷ [])
   kept_deliver k s t c queries lost f m among after p =
       let line : JournalLine = Deliver s t lost in
       let few : running_count past ≤ 64 = k.few in

@@ -1,20 +1,18 @@
 -- What a Deliver gives, and to whom.
-use Rattle.std.proofs.Common.{◌≡◌, ℕ, ◌+◌, ◌*◌, ◌<◌, ◌≤◌, ◌==◌, List, [], ◌∷◌, ◌++◌, AllPairs, Contains, length, get_or, Bool, true, false, not, ◌&&◌, ◌||◌, cond, zero, suc, ⊎_elim, refl, sym, ◌∙◌, ap, subst, arith, count_by, ne_eqb, eq-eqb, eqb-true}
+use Rattle.std.proofs.Common.{◌≡◌, ℕ, ◌+◌, ◌<◌, ◌≤◌, ◌==◌, List, [], ◌∷◌, ◌++◌, AllPairs, Contains, length, get_or, Bool, true, false, not, ◌&&◌, ◌||◌, refl, sym, ◌∙◌, ap, subst, arith, count_by, eq-eqb}
 use Rattle.std.specs.List.{list_any}
-use Rattle.std.proofs.lemmas.Bool.{and_from, and_parts, both_ways, cases_eq, false_from_ne_true, false≢true, not-true, or_cases, or_left, or_parts}
+use Rattle.std.proofs.lemmas.Bool.{and_from}
 use Rattle.std.proofs.lemmas.List.Kept.{AllPairs-filter}
 use Rattle.scan_rules.specs.declared.journal_line.JournalLine.{JournalLine}
-use Rattle.scan_rules.specs.declared.journal_line.JournalLine.TheVariants.{Attach, Take, Deliver, Cancel, Collect, Close}
-use Rattle.scan_rules.proofs.Ends.{ended_now, ended_stays}
+use Rattle.scan_rules.specs.declared.journal_line.JournalLine.TheVariants.{Take, Deliver}
 use Rattle.scan_rules.proofs.Giving.{is_given_deliver, not_given_before, served_is}
-use Rattle.scan_rules.proofs.Lengths.{delivered_once, ticket_low, took_ticket}
-use Rattle.scan_rules.proofs.Lists.{any_cases, any_later, any_none, any_stays, any_there, any_weaker, count_cons, cover, flat_none}
-use Rattle.scan_rules.proofs.Runs.{follows_here, front_runs, run_ind, run_more, wanted_stays}
-use Rattle.scan_rules.proofs.Scan.{attached_low, needs_from}
+use Rattle.scan_rules.proofs.Lists.{any_there, flat_none}
+use Rattle.scan_rules.proofs.Runs.{follows_here, front_runs, wanted_stays}
+use Rattle.scan_rules.proofs.Scan.{attached_low}
 use Rattle.scan_rules.proofs.Serving.{Needs, needs_tells, taker_needs}
-use Rattle.scan_rules.specs.Lines.{attaches, cancels, chunks_for, collects, delivers, has_ticket, is_deliver, loses, names_with, serves, serves_with, takes, took}
+use Rattle.scan_rules.specs.Lines.{chunks_for, names_with, serves_with, took}
 use Rattle.scan_rules.specs.Numbers.{are_distinct, below, has}
-use Rattle.scan_rules.specs.Queries.{Journal, is_attached, is_collected, is_delivered, is_given, is_running, state_of, wanted}
+use Rattle.scan_rules.specs.Queries.{Journal, is_delivered, is_given, wanted}
 use Rattle.scan_rules.specs.Runs.{IsRun, MayFollow}
 use Rattle.scan_rules.specs.Scan.{needs}
 use Rattle.scan_core.specs.Delivering.{AreTasked}

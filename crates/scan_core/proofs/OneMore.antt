@@ -1,5 +1,5 @@
 -- What is listed with one more chunk.
-use Rattle.std.proofs.Common.{◌≡◌, ℕ, ◌==◌, ◌∷◌, Bool, true, false, ◌||◌, refl, sym, ◌∙◌}
+use Rattle.std.proofs.Common.{◌≡◌, ◌==◌, ◌∷◌, Bool, true, false, ◌||◌, refl, sym, ◌∙◌}
 use Rattle.std.proofs.lemmas.List.Sorted.{list_any-IsPermutation}
 use Rattle.scan_rules.specs.Numbers.{has}
 use Rattle.scan_core.specs.Pieces.{OneMoreHas}

@@ -1,14 +1,13 @@
 -- How each line uses up the room that is left for it.
-use Rattle.std.proofs.Common.{◌≡◌, ℕ, ◌+◌, ◌<◌, ◌≤◌, ◌==◌, List, [], ◌∷◌, ◌++◌, Bool, true, false, not, cond, ⊎_elim, refl, sym, ◌∙◌, ap, subst, arith, count_by, eq-eqb, eqb-true}
-use Rattle.std.proofs.lemmas.Bool.{and_parts, cases_Bool, and_from, false_from_ne_true, both_ways, not-true, not_from_false, or_left, cond-true, cond-false, true≢false}
+use Rattle.std.proofs.Common.{◌≡◌, ℕ, ◌+◌, ◌<◌, ◌≤◌, ◌==◌, List, [], ◌∷◌, ◌++◌, Bool, true, false, not, cond, ⊎_elim, refl, sym, ◌∙◌, subst, arith, count_by, eq-eqb, eqb-true}
+use Rattle.std.proofs.lemmas.Bool.{and_parts, cases_Bool, and_from, false_from_ne_true, both_ways, not-true, not_from_false, or_left, cond-true, cond-false}
 use Rattle.scan_rules.specs.declared.journal_line.JournalLine.{JournalLine}
-use Rattle.scan_rules.specs.declared.journal_line.JournalLine.TheVariants.{Attach, Take, Deliver, Cancel, Collect, Close}
-use Rattle.scan_rules.proofs.Ends.{complete_stays}
-use Rattle.scan_rules.proofs.Lists.{any_front, any_later, any_none, any_stays, any_weaker, count_push, flat_none}
+use Rattle.scan_rules.specs.declared.journal_line.JournalLine.TheVariants.{Take, Deliver, Cancel, Collect, Close}
+use Rattle.scan_rules.proofs.Lists.{any_front, any_later, any_none, any_stays, any_weaker, count_push}
 use Rattle.scan_rules.proofs.Numbers.{but, count_le, count_less}
 use Rattle.scan_rules.proofs.Scan.{attached_low, needed_query}
-use Rattle.scan_rules.proofs.Serving.{needs_takes, needs_tells, standing_from}
-use Rattle.scan_rules.specs.Lines.{attaches, cancels, chunks_for, closes, collects, is_attach, loses, serves, takes}
+use Rattle.scan_rules.proofs.Serving.{needs_takes, needs_tells}
+use Rattle.scan_rules.specs.Lines.{attaches, cancels, closes, collects, is_attach, takes}
 use Rattle.scan_rules.specs.Numbers.{below, has}
 use Rattle.scan_rules.specs.Queries.{Journal, is_attached, is_cancelled, is_closed, is_running, is_standing}
 use Rattle.scan_rules.specs.Runs.{IsRun, MayFollow}

@@ -1,13 +1,11 @@
 -- The order in which the scan comes to ascending chunks.
-use Rattle.std.proofs.Common.{◌≡◌, ℕ, ◌+◌, ◌-◌, ◌<◌, ◌≤◌, ◌==◌, nat_lt, List, [], ◌∷◌, ◌++◌, ◌||◌, All, AllPairs, Bool, true, false, not, cond, filter, reverse, length, get_or, zero, suc, ⊎_elim, refl, sym, ◌∙◌, ap, subst, arith, eq-eqb, eqb-true, ne_eqb, ltb-true, append_assoc}
+use Rattle.std.proofs.Common.{◌≡◌, ℕ, ◌+◌, ◌-◌, ◌<◌, ◌≤◌, ◌==◌, nat_lt, List, [], ◌∷◌, ◌++◌, AllPairs, true, false, not, filter, reverse, ⊎_elim, sym, ◌∙◌, ap, subst, arith, ltb-true, append_assoc}
 use Rattle.std.proofs.lemmas.List.{reverse-append, reverse-reverse}
-use Rattle.std.proofs.lemmas.Bool.{and_from, false_from_ne_true, not_from_false, cases_lt, lt-ltb, cases_Bool, cond-true, cond-false, false≢true, both_ways, or_cases, or_left, or_right, not-true}
-use Rattle.std.proofs.lemmas.List.Kept.{AllPairs-cons, AllPairs-filter}
-use Rattle.std.proofs.lemmas.List.Elements.{filter-append}
-use Rattle.std.proofs.lemmas.List.Quantifiers.{all_pairs_push}
-use Rattle.scan_rules.proofs.Lists.{any_finds, any_push, any_there, any_cases, any_later, any_stays}
-use Rattle.scan_rules.proofs.Numbers.{below_has, filter_has, has_contains, has_filter, kept_there}
-use Rattle.scan_rules.specs.Numbers.{are_distinct, below, has}
+use Rattle.std.proofs.lemmas.Bool.{cases_lt, lt-ltb, cases_Bool, cond-true, cond-false, both_ways, not-true}
+use Rattle.std.proofs.lemmas.List.Kept.{AllPairs-filter}
+use Rattle.scan_rules.proofs.Lists.{any_cases, any_later, any_stays}
+use Rattle.scan_rules.proofs.Numbers.{filter_has, has_filter, kept_there}
+use Rattle.scan_rules.specs.Numbers.{has}
 use Rattle.scan_core.specs.Attaching.{ahead_in, is_behind, is_onward}
 use Rattle.scan_core.specs.Kept.{IsAhead}
 use Rattle.scan_rules.proofs.Ascending.{has_reverse, pairs_append, pairs_cut, pairs_weaker, same_test}

@@ -306,25 +306,29 @@ module _ {P : Type 0} {asks : ℕ → ℕ → Type 0} {stands : ℕ → List ℕ
         room = omega (arith, flying, t, d, l, u, r, k, o, room);
       }
 
+-- the fields of a board without lines
+pub kept_new : (ring : ℕ) (slots : List Slot) → ring ≤ 16384 → AreBlank slots 256 → Kept ring 0 0 false slots []
+kept_new ring slots small blank = record {
+  small = small;
+  low = omega arith;
+  run = no_lines_run ring;
+  stands = refl;
+  counted = refl;
+  closes = refl;
+  full = blank.len;
+  few = subst (λ n. n ≤ 64) (sym (none_in (is_running []) (below 256) (λ q. refl))) (omega arith);
+  each = λ q d low. let b = blank.each q d low in record {
+    words = record { attached = b.attached; cancelled = b.cancelled; lost = b.lost; collected = b.collected; owed = b.owed };
+    ahead = λ c. ap (λ (l : List ℕ). has l c) b.ahead;
+    ordered = subst (IsAhead ring (place ring [])) (sym b.ahead) (empty_ahead ring (place ring []));
+  };
+  ascend = λ q i j d l m. absurd (omega (arith, m));
+}
+
 -- what may be said of no lines
 pub stored_new : {P : Type 0} (asks : ℕ → ℕ → Type 0) (stands : ℕ → List ℕ → P → Type 0) (ring : ℕ) (slots : List Slot) (pieces : List (Option P)) (capacity : ℕ) → ring ≤ 16384 → AreBlank slots 256 → length pieces ≡ 256 → 1 ≤ capacity → Stored asks stands ring 0 0 0 false slots pieces capacity []
 stored_new asks stands ring slots pieces capacity small blank full room = record {
-  kept = record {
-    small = small;
-    low = omega arith;
-    run = no_lines_run ring;
-    stands = refl;
-    counted = refl;
-    closes = refl;
-    full = blank.len;
-    few = subst (λ n. n ≤ 64) (sym (none_in (is_running []) (below 256) (λ q. refl))) (omega arith);
-    each = λ q d low. let b = blank.each q d low in record {
-      words = record { attached = b.attached; cancelled = b.cancelled; lost = b.lost; collected = b.collected; owed = b.owed };
-      ahead = λ c. ap (λ (l : List ℕ). has l c) b.ahead;
-      ordered = subst (IsAhead ring (place ring [])) (sym b.ahead) (empty_ahead ring (place ring []));
-    };
-    ascend = λ q i j d l m. absurd (omega (arith, m));
-  };
+  kept = kept_new ring slots small blank;
   asked = λ k d l. absurd (omega (arith, l));
   held = record { full = full; each = λ q d low up out. absurd (false≢true up) };
   flying = refl;

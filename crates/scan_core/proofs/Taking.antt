@@ -1,22 +1,22 @@
 -- The least step over the slots leads to the chunk that the scan takes next, and its slots to the takers.
-use Rattle.std.proofs.Common.{IfSome, length-append, ◌≡◌, ℕ, ◌+◌, ◌^◌, ◌-◌, ◌<◌, ◌≤◌, ◌==◌, ◌||◌, List, [], ◌∷◌, ◌++◌, length, get_or, Bool, true, false, not, ◌&&◌, cond, Option, Some, None, min, zero, suc, ◌⊎◌, inl, inr, ⊎_elim, refl, sym, ◌∙◌, ap, subst, arith, count_by, filter, find, option_map, option_to_list, slice_get, ne_eqb, eq-eqb, eqb-true, append_assoc}
-use Rattle.std.specs.List.{list_any, last_or}
-use Rattle.std.proofs.lemmas.Bool.{and_parts, or_cases, cases_Bool, cases_eq, cases_lt, and_from, false_from_ne_true, both_ways, not-true, not_from_false, or_left, false≢true, cond-true, cond-false}
+use Rattle.std.proofs.Common.{IfSome, length-append, ◌≡◌, ℕ, ◌+◌, ◌^◌, ◌-◌, ◌<◌, ◌≤◌, ◌==◌, List, [], ◌∷◌, ◌++◌, length, get_or, Bool, true, false, not, ◌&&◌, cond, Option, Some, None, min, zero, suc, ◌⊎◌, inl, inr, ⊎_elim, refl, sym, ◌∙◌, ap, subst, arith, count_by, option_map, option_to_list, slice_get, ne_eqb, eq-eqb, eqb-true, append_assoc}
+use Rattle.std.specs.List.{last_or}
+use Rattle.std.proofs.lemmas.Bool.{and_parts, or_cases, cases_Bool, cases_eq, cases_lt, and_from, false_from_ne_true, both_ways, not-true, not_from_false, or_left, false≢true}
 use Rattle.std.proofs.lemmas.List.Elements.{filter-append}
 use Rattle.std.proofs.lemmas.List.Sums.{length-filter}
 use Rattle.scan_rules.specs.declared.journal_line.JournalLine.{JournalLine}
 use Rattle.scan_rules.specs.declared.journal_line.JournalLine.TheVariants.{Take}
 use Rattle.scan_rules.proofs.Lengths.{run_is_short}
-use Rattle.scan_rules.proofs.Lists.{any_cases, any_later, any_none, any_push, any_stays, count_cons, count_push, flat_none, last_push}
-use Rattle.scan_rules.proofs.Numbers.{IsFirst, below_has, count_le, kept_there}
+use Rattle.scan_rules.proofs.Lists.{any_cases, any_later, any_none, any_stays, count_push, last_push}
+use Rattle.scan_rules.proofs.Numbers.{below_has, count_le, kept_there}
 use Rattle.scan_rules.proofs.Ring.{at_at, at_off, at_within, next_low, off_at, off_within}
 use Rattle.scan_rules.proofs.Runs.{run_more}
-use Rattle.scan_rules.proofs.Scan.{attached_low, chosen, needed_from, needed_query, place_low, place_take, wanted_low}
+use Rattle.scan_rules.proofs.Scan.{attached_low, needed_from, needed_query, place_low, place_take, wanted_low}
 use Rattle.scan_rules.proofs.Serving.{needs_takes, needs_tells}
-use Rattle.scan_rules.specs.Lines.{chunks_for, closes, serves, takes}
+use Rattle.scan_rules.specs.Lines.{closes, takes}
 use Rattle.scan_rules.specs.Numbers.{below, has}
-use Rattle.scan_rules.specs.Queries.{Journal, is_running, is_served, wanted}
-use Rattle.scan_rules.specs.Runs.{IsRun, MayFollow}
+use Rattle.scan_rules.specs.Queries.{Journal, is_running}
+use Rattle.scan_rules.specs.Runs.{MayFollow}
 use Rattle.scan_rules.specs.Scan.{running_count, chunk_at, is_needed, needs, next_chunk, place, takers}
 use Rattle.scan_core.specs.declared.slot.Slot.{Slot}
 use Rattle.scan_core.specs.Kept.{Fits, Kept, IsAhead}

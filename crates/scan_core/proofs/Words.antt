@@ -1,19 +1,19 @@
 -- What a line leaves as it was; the slots after a Close, a Cancel and a Collect.
-use Rattle.std.proofs.Common.{rules, AllPairs, ◌≡◌, ℕ, ◌+◌, ◌<◌, ◌≤◌, ◌==◌, ◌||◌, List, [], ◌∷◌, ◌++◌, length, get_or, Bool, true, false, not, ◌&&◌, cond, nat_lt, ⊎_elim, refl, sym, ◌∙◌, ap, subst, arith, count_by, ne_eqb, eq-eqb}
+use Rattle.std.proofs.Common.{rules, ◌≡◌, ℕ, ◌+◌, ◌<◌, ◌≤◌, ◌==◌, ◌||◌, List, [], ◌∷◌, ◌++◌, length, get_or, Bool, true, false, not, ◌&&◌, cond, nat_lt, ⊎_elim, refl, sym, ◌∙◌, ap, subst, arith, count_by, ne_eqb, eq-eqb}
 use Rattle.std.specs.List.{list_all}
 use Rattle.std.proofs.lemmas.Bool.{cases_lt, and_parts, cases_eq, and_from, false_from_ne_true, both_ways, not-true, not_from_false, or_left}
 use Rattle.scan_rules.specs.declared.journal_line.JournalLine.{JournalLine}
 use Rattle.scan_rules.specs.declared.journal_line.JournalLine.TheVariants.{Cancel, Collect, Close}
 use Rattle.scan_rules.proofs.Giving.{is_given_same}
-use Rattle.scan_rules.proofs.Lists.{any_later, any_none, any_push, count_cons, count_push, flat_none}
+use Rattle.scan_rules.proofs.Lists.{any_later, any_none, any_push, count_cons, flat_none}
 use Rattle.scan_rules.proofs.Numbers.{count_le}
 use Rattle.scan_rules.proofs.Runs.{run_more}
 use Rattle.scan_rules.proofs.Scan.{attached_low, place_other}
-use Rattle.scan_rules.specs.Lines.{attaches, cancels, chunk_of, chunks_for, closes, collects, is_deliver, loses, serves, takes}
+use Rattle.scan_rules.specs.Lines.{attaches, cancels, chunk_of, chunks_for, closes, collects, is_deliver, loses, serves}
 use Rattle.scan_rules.specs.Numbers.{below, has}
 use Rattle.scan_rules.specs.Queries.{Journal, is_attached, is_cancelled, is_closed, is_collected, is_complete, is_given, is_lost, is_running, is_served, is_standing, wanted}
 use Rattle.scan_rules.specs.Runs.{IsRun, MayFollow}
-use Rattle.scan_rules.specs.Scan.{needs, place, running_count}
+use Rattle.scan_rules.specs.Scan.{place, running_count}
 use Rattle.scan_core.specs.declared.slot.Slot.{Slot}
 use Rattle.scan_core.specs.Slots.{runs, waits}
 use Rattle.scan_core.specs.Kept.{owed_in, Words, Fits, Kept, IsAhead}

@@ -1,9 +1,9 @@
 -- What a deliver is given, and how it changes the pieces and the slots.
 use Rattle.std.specs.Prelude.{◌≡◌, ℕ, ◌+◌, ◌<◌, ◌≤◌, List, [], ◌∷◌, AllPairs, Contains, length, get_or}
-use Rattle.std.specs.Prelude.{Bool, true, false, ◌||◌, Option, Some, None, IfSome}
+use Rattle.std.specs.Prelude.{Bool, true, false, ◌||◌, Option, Some, IfSome}
 use Rattle.scan_rules.specs.declared.journal_line.JournalLine.TheVariants.{Take, Deliver}
 use Rattle.scan_rules.specs.Numbers.{has}
-use Rattle.scan_rules.specs.Queries.{Journal, is_delivered, is_running}
+use Rattle.scan_rules.specs.Queries.{Journal, is_delivered}
 use Rattle.scan_rules.specs.Delivers.{LosesWithoutPiece, entry_of, query_of}
 use Rattle.scan_rules.specs.Runs.{MayDeliver}
 use Rattle.scan_core.specs.declared.limits.TheConstants.{SLOTS}

@@ -1,6 +1,6 @@
 -- What the fields of a board say about its journal.
-use Rattle.std.specs.Prelude.{◌≡◌, ℕ, ◌+◌, ◌-◌, ◌<◌, ◌≤◌, List, ◌∷◌, ◌++◌}
-use Rattle.std.specs.Prelude.{AllPairs, length, get_or, Bool, true, not, cond, nat_lt, count_by}
+use Rattle.std.specs.Prelude.{◌≡◌, ℕ, ◌<◌, ◌≤◌, List, ◌∷◌, ◌++◌}
+use Rattle.std.specs.Prelude.{AllPairs, length, get_or, Bool, true, not, count_by}
 use Rattle.scan_rules.specs.declared.limits.TheConstants.{RING_MOST, RUNNING_MOST}
 use Rattle.scan_rules.specs.Lines.{takes}
 use Rattle.scan_rules.specs.Numbers.{has}

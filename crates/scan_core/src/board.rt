@@ -29,7 +29,7 @@ use crate::slots::{
 use crate::task::Task;
 use crate::work::Work;
 use scan_rules::limits::{QUERY_MOST, RUNNING_MOST};
-use scan_rules::{ChunkSet, JournalLine};
+use scan_rules::{ChunkSet, Journal, JournalLine, JournalLines};
 use sky_io::{Lineage, Memory};
 use std::alloc::Global;
 use std::marker::Model;
@@ -100,6 +100,19 @@ impl<P: Work> Board<P> {
         ensures lawful { IsLawful P.asks self.now }
     {
         self.ring
+    }
+
+    /// Copies the number of chunks and the lines so far. Allocates memory.
+    pub fn journal(&self) -> Result<Journal, Memory>
+        ensures journal { IfOk result (λ journal.
+            journal ≡ record { ring = self.now.ring; lines = self.now.past }) }
+        ensures lawful { IsLawful P.asks self.now }
+    {
+        let lines = JournalLines::copy_of(*self.journal.allocator(), self.journal.as_slice())?;
+        Ok(Journal {
+            ring: self.ring,
+            lines,
+        })
     }
 
     /// Attaches a query with the chunks that it wants and an empty piece. Allocates memory, also for the lines of later

@@ -17,3 +17,4 @@ pub mod Wishes
 pub mod Asked
 pub mod ChunkSets
 pub mod QuerySets
+pub mod Listing

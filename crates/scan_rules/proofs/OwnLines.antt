@@ -37,7 +37,7 @@ at_cut s u t before l rest h none k = ⊎_elim
     (or_cases (took u t l) (list_any (took u t) rest) c))
     (any_cases (took u t) before (l ∷ rest) k)
 
-same_taker : {ring : ℕ} (past : Journal) (s u t : ℕ) → IsRun ring past → list_any (took s t) past ≡ true
+pub same_taker : {ring : ℕ} (past : Journal) (s u t : ℕ) → IsRun ring past → list_any (took s t) past ≡ true
     → list_any (took u t) past ≡ true → s ≡ u
 same_taker past s u t r h k =
     let f = any_finds (took s t) past h in

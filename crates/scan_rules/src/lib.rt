@@ -11,11 +11,13 @@
 
 pub mod chunk_set;
 pub mod examples;
+pub mod journal;
 pub mod journal_line;
 pub mod laws;
 pub mod limits;
 pub mod query_set;
 
 pub use chunk_set::ChunkSet;
+pub use journal::{Journal, JournalLines};
 pub use journal_line::JournalLine;
 pub use query_set::QuerySet;

@@ -9,6 +9,9 @@ pub const RING_MOST: u32 = CHUNKS_MOST;
 /// The largest number of a query. Queries are numbered from 1, as in their script.
 pub const QUERY_MOST: u32 = QUERIES_MOST;
 
+/// The number of query numbers and of 0, which is no query's.
+pub const QUERY_NUMBERS: usize = QUERY_MOST as usize + 1;
+
 /// The most queries that run at once.
 pub const RUNNING_MOST: u32 = 64;
 

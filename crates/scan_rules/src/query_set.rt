@@ -1,9 +1,11 @@
 //! A set of query numbers, as a bitmap of four 64-bit integers.
-ghost use Rattle.std.specs.Prelude.{◌≡◌, ℕ, ◌<◌, ◌≤◌, List, [], ◌∷◌, ◌++◌, Contains, IfSome, None, IsTrue, ◌↔◌};
+ghost use Rattle.std.specs.Prelude.{◌≡◌, ℕ, ◌<◌, ◌≤◌, List, [], ◌∷◌, ◌++◌, Contains, IfSome, None, IsTrue, ◌↔◌, cond, length};
 ghost use Rattle.std.specs.List.{last_or};
-ghost use Rattle.scan_rules.specs.declared.limits.TheConstants.{QUERY_MOST};
+ghost use Rattle.scan_rules.specs.QuerySets.{is_set, set_queries};
+ghost use Rattle.scan_rules.specs.declared.limits.TheConstants.{QUERY_MOST, QUERY_NUMBERS};
 
-use crate::limits::QUERY_MOST;
+use crate::limits::{QUERY_MOST, QUERY_NUMBERS};
+use arrayvec::ArrayVec;
 use std::marker::Model;
 
 /// A set of query numbers, 1 to 255, seen as their ascending list.
@@ -55,4 +57,40 @@ impl QuerySet {
     {
         q <= QUERY_MOST && (self.words[(q / 64) as usize] >> (q % 64)) & 1 == 1
     }
+
+    /// The queries, in ascending order. Does not allocate.
+    pub fn list(&self) -> ArrayVec<u32, QUERY_NUMBERS>
+        ensures { result.items ≡ self.now }
+    {
+        list_of(&self.words)
+    }
+}
+
+/// Whether the query's bit is 1.
+fn is_set(words: &[u64; 4], q: u32) -> bool
+    requires { q ≤ QUERY_MOST }
+    ensures { result ≡ is_set words.now q }
+{
+    (words[(q / 64) as usize] >> (q % 64)) & 1 == 1
+}
+
+/// Appends the query if it is wanted.
+fn push_where(list: &mut ArrayVec<u32, QUERY_NUMBERS>, q: u32, wanted: bool)
+    requires { length list.old.items < QUERY_NUMBERS }
+    ensures { list.new.items ≡ list.old.items ++ cond wanted (q ∷ []) [] }
+{
+    if wanted {
+        list.push(q);
+    }
+}
+
+/// The queries whose bits are 1, in ascending order.
+fn list_of(words: &[u64; 4]) -> ArrayVec<u32, QUERY_NUMBERS>
+    ensures { result.items ≡ set_queries words.now }
+{
+    let mut list = ArrayVec::new();
+    for q in 0..QUERY_NUMBERS as u32 {
+        push_where(&mut list, q, is_set(words, q));
+    }
+    list
 }

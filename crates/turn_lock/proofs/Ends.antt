@@ -1,10 +1,12 @@
--- Each entry that seat 0 has seen is its own, or is kept, once all other seats have ended in it.
-use Rattle.std.proofs.Common.{◌≡◌, ℕ, ◌==◌, suc, zero, Bool, true, cond, List, [], ◌∷◌}
+-- Once all other seats have ended in seat 0: each entry that it has seen is its own, or is kept; and no entry is added.
+use Rattle.std.proofs.Common.{◌≡◌, ℕ, ◌==◌, suc, zero, Bool, true, cond, List, [], ◌∷◌, ◌++◌, length}
 use Rattle.std.proofs.Common.{◌⊎◌, inl, inr, ⊎_elim, refl, sym, ap, ◌∙◌, subst, arith, eq-eqb, Contains, filter}
+use Rattle.std.proofs.Common.{append-nil, length-append}
 use Rattle.std.proofs.lemmas.Bool.{cases_Bool, cases_lt}
 use Rattle.turn_lock.specs.Pasts.{of_seat}
-use Rattle.turn_lock.specs.Seats.{Knows, Seated}
-use Rattle.turn_lock.specs.Ends.{AllHaveEnded, EntriesAreKept, IsKeptOf}
+use Rattle.turn_lock.specs.Seats.{Knows, Seated, having_seen}
+use Rattle.turn_lock.specs.Ends.{AllHaveEnded, EntriesAreKept, IsKeptOf, NothingIsAdded}
+use Rattle.turn_lock.proofs.PastLemmas.{no_length, of_seat-append}
 use Rattle.turn_lock.proofs.Splitting.{no_member}
 
 -- what is in a list and passes is in the filter
@@ -41,3 +43,36 @@ module _ {R E : Type 0} (seat_of : E → ℕ) where
 
 pub entries_are_kept : (R : Type 0) {E : Type 0} (seat_of : E → ℕ) → EntriesAreKept R seat_of
 entries_are_kept R seat_of seat entry zero_is knows all there = kept_by seat_of seat entry (seat_of entry) refl zero_is knows all there
+
+-- what is appended without effect is empty
+nothing_after : {E : Type 0} (xs ys : List E) → xs ++ ys ≡ xs → ys ≡ []
+nothing_after xs ys e = no_length ys (let l = ap length e in omega (arith, l, length-append xs ys))
+
+module _ {E : Type 0} (seat_of : E → ℕ) where
+  -- a history that has of each number what was seen of it is what was seen
+  no_more : (seen more : List E) → ((n : ℕ) → of_seat seat_of n (seen ++ more) ≡ of_seat seat_of n seen) → more ≡ []
+  no_more seen [] same = refl
+  no_more seen (e ∷ rest) same =
+      let n = seat_of e in
+      let others : of_seat seat_of n (e ∷ rest) ≡ [] = nothing_after (of_seat seat_of n seen) (of_seat seat_of n (e ∷ rest))
+      (sym (of_seat-append seat_of n seen (e ∷ rest)) ∙ same n) in
+      absurd (no_member e (subst (λ (l : List E). Contains l e) others
+      (in_filter (λ x. seat_of x == n) (e ∷ rest) e (0, omega arith, refl) (eq-eqb n n refl))))
+
+module _ {R E : Type 0} (seat_of : E → ℕ) where
+  -- of each number a later history has what was seen of it
+  same_of : (seat : Seated R E) (past : List E) (n : ℕ) → seat.number ≡ 0 → Knows seat_of seat → AllHaveEnded seat
+      → Knows seat_of (having_seen past seat) → of_seat seat_of n past ≡ of_seat seat_of n seat.seen
+  same_of seat past zero zero_is knows all later =
+      subst (λ (k : ℕ). of_seat seat_of k past ≡ of_seat seat_of k seat.seen) zero_is (later.mine ∙ sym knows.mine)
+  same_of seat past (suc n) zero_is knows all later = ⊎_elim
+      (λ low. let kept = all.each (suc n) (omega arith) low in
+      (later.ended (suc n) kept.0 kept.1).1 ∙ sym (knows.ended (suc n) kept.0 kept.1).1)
+      (λ high. later.above zero_is (suc n) high ∙ sym (knows.above zero_is (suc n) high))
+      (cases_lt (suc n) seat.made)
+
+pub nothing_is_added : (R : Type 0) {E : Type 0} (seat_of : E → ℕ) → NothingIsAdded R seat_of
+nothing_is_added R seat_of seat past zero_is knows all prefix later =
+    let none : prefix.0 ≡ [] = no_more seat_of seat.seen prefix.0 (λ n.
+    ap (of_seat seat_of n) prefix.1 ∙ same_of seat_of seat past n zero_is knows all later) in
+    sym prefix.1 ∙ (ap (λ l. seat.seen ++ l) none ∙ append-nil seat.seen)

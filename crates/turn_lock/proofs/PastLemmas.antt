@@ -26,7 +26,7 @@ module _ {E : Type 0} where
   nil_left [] ys e = refl
   nil_left (x ∷ xs) ys e = absurd (not_nil x (xs ++ ys) e)
 
-  no_length : (xs : List E) → length xs ≤ 0 → xs ≡ []
+  pub no_length : (xs : List E) → length xs ≤ 0 → xs ≡ []
   no_length [] h = refl
   no_length (x ∷ xs) h = absurd (omega (arith, h))
 

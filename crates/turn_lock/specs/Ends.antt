@@ -1,6 +1,8 @@
--- A lemma on what participant 0 stores of the participants that handed their entries over to it.
+-- Lemmas on participant 0 once the others have handed their entries over to it: what it stores of them, and that the
+-- history does not grow any more.
 use Rattle.std.specs.Prelude.{◌≡◌, ℕ, ◌<◌, List, Contains, ◌⊎◌}
-use Rattle.turn_lock.specs.Seats.{Knows, Seated}
+use mathlib.Core.List.{IsPrefix}
+use Rattle.turn_lock.specs.Seats.{Knows, Seated, having_seen}
 
 -- every other participant that was made has handed its entries over to this one
 pub record AllHaveEnded {R E : Type 0} (seat : Seated R E) : Type 0 where
@@ -18,3 +20,10 @@ EntriesAreKept R {E} seat_of =
     (seat : Seated R E) (entry : E)
     → seat.number ≡ 0 → Knows seat_of seat → AllHaveEnded seat → Contains seat.seen entry
     → Contains seat.mine entry ⊎ IsKeptOf seat_of seat entry
+
+-- the history that participant 0 finds when it enters is what it had seen before
+abbrev pub NothingIsAdded : (R : Type 0) {E : Type 0} → (E → ℕ) → Type 0
+NothingIsAdded R {E} seat_of =
+    (seat : Seated R E) (past : List E)
+    → seat.number ≡ 0 → Knows seat_of seat → AllHaveEnded seat → IsPrefix seat.seen past
+    → Knows seat_of (having_seen past seat) → past ≡ seat.seen

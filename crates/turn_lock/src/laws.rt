@@ -1,5 +1,5 @@
-//! A lemma on participants. A call here does nothing: its clause is the lemma.
-ghost use Rattle.turn_lock.specs.Ends.{EntriesAreKept};
+//! Lemmas on participants. A call here does nothing: its clause is the lemma.
+ghost use Rattle.turn_lock.specs.Ends.{EntriesAreKept, NothingIsAdded};
 
 use sky_io::Lineage;
 
@@ -7,4 +7,10 @@ use sky_io::Lineage;
 /// with the number of the participant that made it.
 pub fn every_entry_is_kept_once_all_seats_have_ended<T: Lineage>()
     ensures { EntriesAreKept T.Root T.seat_of }
+{}
+
+/// Let every other participant have ended in participant 0. Then no entry is added any more: the history at a further
+/// entering of the lock is what participant 0 had seen.
+pub fn nothing_is_added_once_all_seats_have_ended<T: Lineage>()
+    ensures { NothingIsAdded T.Root T.seat_of }
 {}
