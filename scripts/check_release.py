@@ -3,7 +3,7 @@
 
     scripts/check_release.py
 
-In the copy a small script stands for the program and another for the toolchain, so that nothing is proved or built. The hash of
+In the copy small scripts take the place of the program and of the toolchain, so that nothing is proved or built. The hash of
 the sources is computed here once more, by other means. It also compares the man page with `qserv --help` and docs/FORMATS.md,
 has mandoc read the page where there is mandoc, and, if release/ is of these sources, runs its program in the copy, with no
 toolchain, over the files of examples/. It prints a line for each fact that does not hold, and then how many it has tried. The
@@ -301,7 +301,7 @@ def facts_of_writing(copy):
 
 
 def facts_of_building(copy):
-    """The toolchain of the test stands for the true one."""
+    """The toolchain of the test takes the place of the true one."""
     path, built = f"{copy.root}/crates/sky_vector/src/lib.rt", f"{copy.kit}/built"
     yield "with a toolchain too, the release runs", copy.run("./qserv", "a", has_kit=True)[1] == "release: a\n"
     change_byte(path)

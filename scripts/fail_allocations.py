@@ -6,14 +6,14 @@
 The run is small: six rows, and a script with a query of every kind and one of every refusal. Each form of the command line
 is run: load, explain, query and demo, the last two with each number of workers (0); and query over 150 rows of one chunk, whose
 columns are gathered in three parts, with a first NULL in the second. First the Nth request of the run is refused, for N from 1
-until a run makes fewer, and then the Nth and all behind it. A run has to end so:
+until a run makes fewer, and then the Nth and all after it. A run has to end so:
 - with the whole right text and status 0;
 - with the right text but for `out of memory` in the place of an answer that wants chunks to be scanned, and status 0;
 - or with nothing written, `out of memory` on standard error, and status 9.
 
 It prints how many runs of each form ended how, and each run that ended otherwise; the status is 0 where none did, and 1 else.
 The right texts are computed here from the flat table. With --session the script also waits and cancels. Between the program
-and the C library stands a small library in C that refuses the requests; it is compiled with cc into a folder that goes again.
+and the C library is a small library in C that refuses the requests; it is compiled with cc into a folder that goes again.
 
 FILE is the built program, by default .qserv/qserv, where ./qserv leaves it. FOLDER is made where it isn't there, and gets the
 texts sky, csv and script, and one, many and asked for the chunk of 150 rows.
@@ -30,7 +30,7 @@ import flat_answers
 import random_worlds
 import session_ends
 
-# bench/ stands on the path since compare_answers was imported
+# bench/ is on the path since compare_answers was imported
 import demo_files
 import program_words
 
@@ -108,7 +108,7 @@ SCRIPT = [
     "SELECT a.x FROM Object a,Object b WHERE chord2(a,b)<=26",
     "SELECT SUM(g*g) FROM Object",
 ]
-# behind the script where it is a session: a late cancel, one of a refused query, and one in time behind a wait for another
+# after the script if it is a session: a late cancel, one of a refused query, and one in time after a wait for another
 SESSION = ["wait 2", "cancel 2", "cancel 12", "cancel 8", "SELECT MAX(flux) FROM Object GROUP BY g", "cancel 25", "wait 9"]
 # a chunk of 150 rows, and what is asked of it
 ONE = "overlap 16\nstripe -268435472 1 1 1\n"
@@ -122,7 +122,7 @@ KINDS = ["right text", "right but for queries out of memory", "out of memory, no
 
 
 class Form:
-    """The words of a command line, and for each part of what it writes the texts that may stand there."""
+    """The words of a command line, and for each part of what it writes the texts that may be there."""
 
     def __init__(self, words, parts):
         self.words, self.parts = words, parts
@@ -181,7 +181,7 @@ def run(words, folder, refuser, first, last):
 
 
 def tried(words, form, folder, refuser, first, is_one):
-    """How a run ended whose request of this number is refused, and those behind it too unless it is one; and whether it made
+    """How a run ended whose request of this number is refused, and those after it too unless it is one; and whether it made
     that many requests. The end is the exit status and the output where none may end so."""
     status, output, told, requests = run([words.program, *form.words], folder, refuser, first, first if is_one else 1 << 62)
     kind = form.kind(status, output, told) if requests else None

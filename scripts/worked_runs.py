@@ -1,4 +1,4 @@
-"""Runs of the program over texts of a few lines, or at their limits, and what they come to, found by hand: scripts/worked_rows.py
+"""Runs of the program over texts of a few lines, or at their limits, and what they write, found by hand: scripts/worked_rows.py
 makes them.
 
 The texts of the folder scripts/worked/ are there for each run; those that a run has of its own have the names sky, csv and
@@ -39,7 +39,7 @@ BEYOND = "SELECT a.x FROM Object a,Object b WHERE chord2(a,b)<=281474976710657"
 
 
 def stripes(count):
-    """A sky plan of so many stripes of one chunk, the least high that they can be but for the last."""
+    """A sky plan of a number of stripes of one chunk, the least high that they can be but for the last."""
     return "overlap 5\n" + "".join(f"stripe {-268435472 + 64 * stripe} 1 1 1\n" for stripe in range(count))
 
 
@@ -89,7 +89,7 @@ SKIES += [fault(LOAD_SKY, 3, "sky line " + line, sky=text) for text, line in SKY
 
 LOAD_CSV = ["load", "sky.txt", "csv"]
 FOUR, MOST_ID = "objectId,x,y,z\n", "9223372036854775807"
-# a row up to its further value
+# a row up to its extra value
 FLUX = "objectId,x,y,z,flux\n1,268435456,0,0,"
 NONE = "0 rows, 0 of 8 chunks\n"
 
@@ -100,12 +100,12 @@ def rows_of(ids):
 
 
 def in_chunk_4(count):
-    """The report of so many rows at that place."""
+    """The report of a number of rows at that place."""
     return f"{count} rows, 1 of 8 chunks\nchunk 4: {count} rows, 0 overlap\n"
 
 
 THOUSAND = rows_of(" ".join(f"{number:03}" for number in range(999, -1, -1)))
-# the ids 1 to 2110 out of order: more than the 2,047 up to which they are sorted without bins
+# the ids 1 to 2110 out of order: more than the 2,047 up to which they are sorted without buckets
 SHUFFLED = rows_of(" ".join(str(1009 * number % 2111) for number in range(1, 2111)))
 FURTHER = "a,b,c,d,e,f,g,h,i,j,k,l"
 ACCEPTED = [
@@ -117,7 +117,7 @@ ACCEPTED = [
     (SHUFFLED, in_chunk_4(2110)),
     # names are compared byte for byte
     (f"objectId,x,y,z,flux,Flux,_9,{'q' * 32}\n", NONE),
-    # twelve further columns, a NULL among their values
+    # twelve extra columns, a NULL among their values
     (f"objectId,x,y,z,{FURTHER}\n9,268435456,0,0,1,,-3,4,5,,7,-8,9,,11,12\n", in_chunk_4(1)),
     ("objectId,x,y,z,flux\n1,268435456,0,0,", in_chunk_4(1)),
     ('objectId,x,y,z,f\n1,268435456,0,0,""\n', in_chunk_4(1)),
@@ -159,7 +159,7 @@ CSV_FAULTS = [
     # 17 below 2^28
     (FOUR + "1,268435439,0,0\n", "row 1: length"),
     (FOUR + "1,268435456,0,0\n1,0,0,268435456\n", "row 2: repeated id 1"),
-    # behind a closing quote a field goes on
+    # after a closing quote a field goes on
     (FOUR + '"12"3,268435456,0,0\n123,268435456,0,0', "row 2: repeated id 123"),
     # of repeated ids and other faults the first by its row; of repeats the first that one before it equals
     (rows_of("1 2 1 4 five 6"), "row 3: repeated id 1"),
@@ -177,7 +177,7 @@ CSV_FAULTS = [
     (THOUSAND + "500,268435456,0,0\n999,0,0,0\n", "row 1001: repeated id 500"),
     (SHUFFLED + "7,268435456,0,0\n3,268435456,0,0\n3,268435456,0,0\n", "row 2111: repeated id 7"),
 ]
-# a catalogue of 57 bytes, and what it is when it is cut behind its first bytes, up to a number of them and without it
+# a catalogue of 57 bytes, and what it is when it is cut after its first bytes, up to a number of them and without it
 WHOLE = "objectId,x,y,z,flux\n7,268435456,0,0,\n3,0,0,-268435456,-5\n"
 CUTS = [
     (8, "header: field 1"),
@@ -224,7 +224,7 @@ def ends(second):
 
 
 CANCELLED, COUNTED = ends("cancelled\n"), ends("COUNT(*)\n6\n1 rows, 3 chunks\n")
-# the numbers of workers, a script, and what it may come to
+# the numbers of workers, a script, and what it may write
 SCRIPTS = [
     ("0", "", ""),
     ("0", "# a note\n\n", ""),
@@ -385,7 +385,7 @@ STATUSES += [
 # ---- limits
 
 # With as many chunks as there may be, row 5 is in the lowest stripe, and rows 1 to 4 in the next one. Rows 1 and 3, with y = 0,
-# lie on the border of the last wedge of their stripe, which holds row 4. Row 6, at the pole, is in the first chunk of the last
+# are on the border of the last wedge of their stripe, which holds row 4. Row 6, at the pole, is in the first chunk of the last
 # stripe.
 REPORT_OF_MOST_CHUNKS = """6 rows, 4 of 16384 chunks
 chunk 0: 1 rows, 0 overlap
