@@ -4,7 +4,7 @@
     bench/kernels.py FOLDER [--program FILE] [--runs N] [--times N]
 
 The rows are the first 4,096 that the demo draws from the number 1. FILE is the built program `judge`, by default
-crates/judge/out/judge, where `rt run` in its crate leaves it, built for x86-64-v2; its form `kernel` runs a kernel this number of
+crates/judge/out/judge, where `rt run` in its crate leaves it, built for x86-64-v2; its form `kernel` runs a kernel a number of
 times. kernels.c, compiled with gcc for the same instruction set into the folder `kernels` of FOLDER, does the same. Each is
 asked for 1,000 runs and for N more (200,000), N times (5), in turns; what a run costs is the difference of the least user
 times. Both print a number that depends on each run, which has to be the one computed here. Printed are nanoseconds a run,
