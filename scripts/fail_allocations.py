@@ -4,8 +4,9 @@
     scripts/fail_allocations.py FOLDER [--program FILE] [--workers N ..] [--session] [--processes N]
 
 The run is small: six rows, and a script with a query of every kind and one of every refusal. Each form of the command line
-is run: load, explain, query and demo, the last two with each number of workers (0); and query over 150 rows of one chunk, whose
-columns are gathered in three parts, with a first NULL in the second. First the Nth request of the run is refused, for N from 1
+is run: load, explain, query and demo, the last two with each number of workers (0). So are query over three scripts of the worked
+rows, all ids, the pairs of neighbours, and a cancel with a wait, and query over 150 rows of one chunk, whose columns are gathered
+in three parts, with a first NULL in the second. First the Nth request of the run is refused, for N from 1
 until a run makes fewer, and then the Nth and all after it. A run has to end so:
 - with the whole right text and status 0;
 - with the right text but for `out of memory` in the place of an answer that wants chunks to be scanned, and status 0;
@@ -16,7 +17,7 @@ The right texts are computed here from the flat table. With --session the script
 and the C library is a small library in C that refuses the requests; it is compiled with cc into a folder that goes again.
 
 FILE is the built program, by default .qserv/qserv, where ./qserv leaves it. FOLDER is made where it isn't there, and gets the
-texts sky, csv and script, and one, many and asked for the chunk of 150 rows.
+texts sky, csv and script, those of the worked rows, and one, many and asked for the chunk of 150 rows.
 """
 import collections
 import concurrent.futures
@@ -110,6 +111,12 @@ SCRIPT = [
 ]
 # after the script if it is a session: a late cancel, one of a refused query, and one in time after a wait for another
 SESSION = ["wait 2", "cancel 2", "cancel 12", "cancel 8", "SELECT MAX(flux) FROM Object GROUP BY g", "cancel 25", "wait 9"]
+# the scripts of three worked rows
+WORKED = {
+    "ids": ["SELECT objectId FROM Object"],
+    "pairs": ["SELECT a.objectId, b.objectId FROM Object a, Object b WHERE chord2(a,b) <= 9 AND a.objectId < b.objectId"],
+    "steps": ["SELECT objectId FROM Object", "SELECT COUNT(*) FROM Object", "SELECT MAX(flux) FROM Object", "cancel 2", "wait 1"],
+}
 # a chunk of 150 rows, and what is asked of it
 ONE = "overlap 16\nstripe -268435472 1 1 1\n"
 MANY = [[id, EDGE, 7 * id, 0, id % 5, None if id == 100 else id] for id in range(1, 151)]
@@ -149,6 +156,8 @@ def forms(world, many, script, workers):
     for number in workers:
         found.append(Form(["query", "sky", "csv", "script", str(number)], session_ends.choices(world, script, number, True)))
         found.append(Form(["demo", "5", "7", str(number)], session_ends.choices(demo, lines, number, True)))
+        for name, asked in WORKED.items():
+            found.append(Form(["query", "sky", "csv", name, str(number)], session_ends.choices(world, asked, number, True)))
         found.append(Form(["query", "one", "many", "asked", str(number)], session_ends.choices(many, ASKED, number, True)))
     return found
 
@@ -212,7 +221,7 @@ def main():
     os.makedirs(folder, exist_ok=True)
     world, script = random_worlds.World(random_worlds.SKIES[0], NAMES, ROWS), SCRIPT + SESSION * words.session
     many = random_worlds.World(ONE, NAMES, MANY)
-    texts = {"sky": [random_worlds.SKIES[0].rstrip()], "csv": lines_of(ROWS), "script": script}
+    texts = {"sky": [random_worlds.SKIES[0].rstrip()], "csv": lines_of(ROWS), "script": script, **WORKED}
     texts |= {"one": [ONE.rstrip()], "many": lines_of(MANY), "asked": ASKED}
     compare_answers.write(folder, {name: "\n".join(lines) + "\n" for name, lines in texts.items()})
     wrong = 0
