@@ -344,43 +344,6 @@ def facts_of_building_over_kept_work(copy):
     copy.forget()
 
 
-def facts_of_kept_work(copy):
-    """Libraries of earlier commands, which have a stamp, in each crate but one; `rt ci` puts those back that it finds."""
-    crates, v3 = program_crates(ROOT), f"{copy.root}/release/qserv-x86-64-v3"
-    kept = {name: f"{copy.root}/crates/{name}/out/rlib/stamp" for name in crates - {"sky_vector", "qserv_cli"}}
-    keep = lambda: [write(path, name) for name, path in kept.items()]
-    away, back = ["scripts/kept_work", "away"], ["scripts/kept_work", "back"]
-
-    def are_back():
-        return all(os.path.exists(path) and read(path) == name.encode() for name, path in kept.items())
-
-    keep()
-    yield "kept work is moved away", copy.run(*away)[0] == 0 and not any(map(os.path.exists, kept.values()))
-    copy.run("rt", "ci", has_kit=True)
-    write(f"{copy.root}/crates/qserv_cli/out/stdout", "")
-    yield "then a release has both programs", copy.run("scripts/release", has_kit=True)[0] == 0 and os.path.exists(v3)
-    yield "and both compare", compared(copy, 0, "release: ok")
-    change_byte(v3)
-    source = read(f"{copy.root}/release/SOURCE").decode()
-    others = re.sub(r"(?<=v3 ).*", hashlib.sha256(read(v3)).hexdigest(), source)
-    copy.write_source(others)
-    yield "another program for x86-64-v3 fails", compared(copy, 1, "is not what the toolchain makes of these sources")
-    change_byte(v3)
-    copy.write_source(source)
-    yield "kept work comes back", copy.run(*back)[0] == 0 and are_back()
-    yield "and a crate that had none keeps that of rt ci", os.path.isdir(f"{copy.root}/crates/sky_vector/out/rlib/sky_vector.rlib")
-    yield "over kept work --compare only warns", compared(copy, 0, "was not compared")
-    yield "a check that is killed loses nothing", copy.run(*away)[0] == copy.run(*away)[0] == copy.run(*back)[0] == 0 and are_back()
-    copy.run(*away)
-    write(kept["text_rules"], "newer")
-    copy.run(*back)
-    yield "nor does it replace what is newer", read(kept["text_rules"]) == b"newer" and not os.path.exists(f"{copy.root}/.qserv/out")
-    for crate in crates:
-        shutil.rmtree(f"{copy.root}/crates/{crate}/out", ignore_errors=True)
-    copy.write_release(PROGRAM.format("release"))
-    copy.forget()
-
-
 def facts_of_installing(copy):
     prefix = f"{os.path.dirname(copy.root)}/prefix"
     yield "install wants a prefix", copy.run("./qserv", "install")[0] == 2
@@ -445,7 +408,6 @@ FACTS = [
     facts_of_writing,
     facts_of_building,
     facts_of_building_over_kept_work,
-    facts_of_kept_work,
     facts_of_installing,
     facts_of_the_man_page,
     facts_of_the_release,
