@@ -112,7 +112,7 @@ class Databases(support.WithFolder):
     def test_near_rows_have_an_index_where_they_are(self):
         import psycopg
 
-        catalogue, _, _ = self.world(4)
+        catalogue, _, _ = self.world(5)
         pg_load.load(catalogue, self.dsn, "worlds", [self.other])
         with psycopg.connect(self.other) as other:
             for base in (self.base, other):
