@@ -19,9 +19,10 @@ puts in order.
 Nothing is suppressed, in either way.
 
 Valgrind's checkers of threads, helgrind and drd, cannot judge this program. They know the locks of pthreads alone. The program's
-lock is an atomic word, so they report each value that it guards. --why shows it. It counts their reports over the example, and
-over a counter in C whose lock is one word, which is right and is reported too. ThreadSanitizer reports nothing there, but does so
-if the step that frees the lock orders nothing any more.
+lock is an atomic word, so they report what it guards: a hundred places and more in the example, all in functions that enter or
+leave the lock. --why shows the cause. It counts their reports over the example, and over a counter in C whose lock is one word,
+which is right and is reported too. ThreadSanitizer reports nothing there, but does so if the step that frees the lock orders
+nothing any more.
 
 It prints each run that failed, and how many runs it made; the status is 0 where none failed, and 1 else. Without valgrind, or
 with --why without clang, it says so and ends with 0. Memcheck takes some seconds of a processor a run, and none of it is part of
