@@ -211,7 +211,8 @@ def facts_of_a_fresh_copy(copy):
         ended = [it.result() for it in [pool.submit(copy.runs_release) for _ in range(8)]]
     left = os.listdir(f"{copy.root}/.qserv")
     yield f"eight calls at one time all run it, and leave no file of their own: {left}", all(ended) and set(left) == {"stamp", "qserv"}
-    yield "the link in .qserv leads to it", read(f"{copy.root}/.qserv/qserv") == PROGRAM.format("release").encode()
+    kept = f"{copy.root}/.qserv/qserv"
+    yield "the program in .qserv is a copy of it", not os.path.islink(kept) and read(kept) == PROGRAM.format("release").encode()
     copy.forget()
     write(f"{copy.root}/.qserv", "no folder")
     yield "it runs where no stamp can be kept", copy.runs_release()
