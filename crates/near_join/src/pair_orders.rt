@@ -9,8 +9,8 @@ ghost use Rattle.value_rules.specs.Truth.{meets};
 ghost use Rattle.value_rules.specs.Values.{pair};
 ghost use Rattle.partial_merge.specs.Joining.{IsOfRows};
 ghost use Rattle.near_join.specs.Bare.{IsAsked};
-ghost use Rattle.near_join.specs.Gains.{Gains, if_met, way};
-ghost use Rattle.near_join.specs.Neighbours.{IsRowOf, row_of, told_pairs, told_ways};
+ghost use Rattle.near_join.specs.Gains.{Gains, if_met, ordered_pair};
+ghost use Rattle.near_join.specs.Neighbours.{IsRowOf, neighbour_pairs, pairs_with_neighbours, row_of};
 ghost use Rattle.near_join.specs.Rising.{is_upward};
 ghost use Rattle.near_join.specs.Sound.{IsSoundLine};
 ghost use Rattle.near_join.specs.Walk.{is_near};
@@ -44,7 +44,7 @@ pub(crate) fn push_found(
         found.now }
     requires asked { IsAsked (length asked.now.rows.now.names) asked.now.query.now
         asked.now.reach.now.rises asked.now.reach.now.bare }
-    ensures { OnOk result (Gains asked.now.query.now (told_pairs asked.now.query.now
+    ensures { OnOk result (Gains asked.now.query.now (pairs_with_neighbours asked.now.query.now
         asked.now.reach.now.limit asked.now.rows.now.objects this.now found.now)
         piece.old piece.new) }
 {
@@ -63,12 +63,12 @@ fn push_itself(
     requires row { IsRowOf asked.now.rows.now.objects this.now }
     requires asked { IsAsked (length asked.now.rows.now.names) asked.now.query.now
         asked.now.reach.now.rises asked.now.reach.now.bare }
-    ensures { OnOk result (Gains asked.now.query.now (way asked.now.query.now
+    ensures { OnOk result (Gains asked.now.query.now (ordered_pair asked.now.query.now
         asked.now.reach.now.limit this.now.held (row_of asked.now.rows.now.objects this.now)
         (row_of asked.now.rows.now.objects this.now)) piece.old piece.new) }
 {
     if is_own_pair(asked.reach) {
-        push_way(piece, values, asked, this, this)
+        push_ordered(piece, values, asked, this, this)
     } else {
         Ok(())
     }
@@ -97,7 +97,7 @@ fn push_others(
         found.now }
     requires asked { IsAsked (length asked.now.rows.now.names) asked.now.query.now
         asked.now.reach.now.rises asked.now.reach.now.bare }
-    ensures { OnOk result (Gains asked.now.query.now (flat_map (told_ways asked.now.query.now
+    ensures { OnOk result (Gains asked.now.query.now (flat_map (neighbour_pairs asked.now.query.now
         asked.now.reach.now.limit asked.now.rows.now.objects this.now.held
         (row_of asked.now.rows.now.objects this.now)) found.now) piece.old piece.new) }
 {
@@ -122,17 +122,17 @@ fn push_other(
         (row_of asked.now.rows.now.objects other.now) ≡ true }
     requires asked { IsAsked (length asked.now.rows.now.names) asked.now.query.now
         asked.now.reach.now.rises asked.now.reach.now.bare }
-    ensures { OnOk result (Gains asked.now.query.now (told_ways asked.now.query.now
+    ensures { OnOk result (Gains asked.now.query.now (neighbour_pairs asked.now.query.now
         asked.now.reach.now.limit asked.now.rows.now.objects this.now.held
         (row_of asked.now.rows.now.objects this.now) other.now) piece.old piece.new) }
 {
-    push_way(piece, values, asked, this, other)?;
-    push_way(piece, values, asked, other, this)
+    push_ordered(piece, values, asked, this, other)?;
+    push_ordered(piece, values, asked, other, this)
 }
 
 /// Pushes the pair of two rows that are near enough into the piece. It does so only if the first row is held, has the
 /// lower id if it has to, and the pair meets the conditions.
-fn push_way(
+fn push_ordered(
     piece: &mut Piece<'_>,
     values: &mut Vec<Option<Num>>,
     asked: &Asked<'_>,
@@ -146,11 +146,11 @@ fn push_way(
         (row_of asked.now.rows.now.objects second.now) ≡ true }
     requires asked { IsAsked (length asked.now.rows.now.names) asked.now.query.now
         asked.now.reach.now.rises asked.now.reach.now.bare }
-    ensures { OnOk result (Gains asked.now.query.now (way asked.now.query.now
+    ensures { OnOk result (Gains asked.now.query.now (ordered_pair asked.now.query.now
         asked.now.reach.now.limit first.now.held (row_of asked.now.rows.now.objects first.now)
         (row_of asked.now.rows.now.objects second.now)) piece.old piece.new) }
 {
-    if is_way(first.held, asked.reach.rises, first.id, second.id) {
+    if is_ordered(first.held, asked.reach.rises, first.id, second.id) {
         push_upward(piece, values, asked, first, second)
     } else {
         Ok(())
@@ -158,7 +158,7 @@ fn push_way(
 }
 
 /// Returns whether the first of two rows is held, and has the lower id if it has to.
-fn is_way(held: bool, rises: bool, first: i64, second: i64) -> bool
+fn is_ordered(held: bool, rises: bool, first: i64, second: i64) -> bool
     ensures { result ≡ (held && (if rises then int_lt first second else true)) }
 {
     held && is_upward(rises, first, second)
@@ -195,12 +195,12 @@ fn push_upward(
     if asked.reach.bare {
         push_line(piece, first.id, second.id)
     } else {
-        push_looked_up(piece, values, asked, first, second)
+        push_read(piece, values, asked, first, second)
     }
 }
 
 /// Reads two rows, and pushes their pair into the piece, if it meets the conditions.
-fn push_looked_up(
+fn push_read(
     piece: &mut Piece<'_>,
     values: &mut Vec<Option<Num>>,
     asked: &Asked<'_>,
@@ -217,8 +217,8 @@ fn push_looked_up(
         (row_of asked.now.rows.now.objects second.now)) piece.old piece.new) }
 {
     let row = asked.rows.get(first.place);
-    let beside = asked.rows.get(second.place);
-    push_if_met(piece, values, asked.query, &row, &beside)
+    let other = asked.rows.get(second.place);
+    push_if_met(piece, values, asked.query, &row, &other)
 }
 
 /// Pushes the pair of rows into the piece, if it meets the conditions.

@@ -6,9 +6,9 @@ use Rattle.near_join.specs.Gains.{Gains}
 use Rattle.near_join.specs.Neighbours.{IsRowOf, row_of}
 use Rattle.near_join.specs.Rising.{is_upward}
 use Rattle.near_join.proofs.Gaining.{gains_nothing}
-use Rattle.near_join.proofs.Neighbouring.{way_is}
+use Rattle.near_join.proofs.Neighbouring.{ordered_is}
 use Rattle.near_join.proofs.Upwards.{way_open, way_shut}
-use Rattle.near_join.proofs.ways.push_way.Goals as goal
+use Rattle.near_join.proofs.pair_orders.push_ordered.Goals as goal
 
 pub push_upward-requires-clause-upward : goal.push_upward-requires-clause-upward
 push_upward-requires-clause-upward c =
@@ -19,12 +19,12 @@ push_upward-requires-clause-upward c =
     let v = row_of c.args.asked.now.rows.now.objects b in
     let fits_a : FitsSigned w64 a.id = search rules in
     let fits_b : FitsSigned w64 b.id = search rules in
-    let is : c.is_way.result ≡ (a.held && cond rises (int_lt a.id b.id) true) = simp to_z-of_z at c.is_way.ensures in
+    let is : c.is_ordered.result ≡ (a.held && cond rises (int_lt a.id b.id) true) = simp to_z-of_z at c.is_ordered.ensures in
     (and_parts a.held (is_upward rises u v)
-    (way_is a.held rises c.is_way.result true a.id b.id u.id v.id is (IsRowOf.id c.requires.first) (IsRowOf.id c.requires.second) c.if-is_way.true)).1
+    (ordered_is a.held rises c.is_ordered.result true a.id b.id u.id v.id is (IsRowOf.id c.requires.first) (IsRowOf.id c.requires.second) c.if-is_ordered.true)).1
 
-pub returns-then-is_way : goal.returns-then-is_way
-returns-then-is_way c =
+pub returns-then-is_ordered : goal.returns-then-is_ordered
+returns-then-is_ordered c =
     let cq = c.args.asked.now.query.now in
     let rises = c.args.asked.now.reach.now.rises in
     let a = c.args.first.now in
@@ -33,13 +33,13 @@ returns-then-is_way c =
     let v = row_of c.args.asked.now.rows.now.objects b in
     let fits_a : FitsSigned w64 a.id = search rules in
     let fits_b : FitsSigned w64 b.id = search rules in
-    let is : c.is_way.result ≡ (a.held && cond rises (int_lt a.id b.id) true) = simp to_z-of_z at c.is_way.ensures in
+    let is : c.is_ordered.result ≡ (a.held && cond rises (int_lt a.id b.id) true) = simp to_z-of_z at c.is_ordered.ensures in
     subst (λ (ps : List Pick). OnOk c.push_upward.result (Gains cq ps c.args.piece.now c.push_upward.new.piece))
     (way_open cq c.args.asked.now.reach.now.limit a.held rises u v c.requires.near
-    (way_is a.held rises c.is_way.result true a.id b.id u.id v.id is (IsRowOf.id c.requires.first) (IsRowOf.id c.requires.second) c.if-is_way.true)) c.push_upward.ensures
+    (ordered_is a.held rises c.is_ordered.result true a.id b.id u.id v.id is (IsRowOf.id c.requires.first) (IsRowOf.id c.requires.second) c.if-is_ordered.true)) c.push_upward.ensures
 
-pub returns-else-is_way : goal.returns-else-is_way
-returns-else-is_way c =
+pub returns-else-is_ordered : goal.returns-else-is_ordered
+returns-else-is_ordered c =
     let cq = c.args.asked.now.query.now in
     let rises = c.args.asked.now.reach.now.rises in
     let a = c.args.first.now in
@@ -48,8 +48,8 @@ returns-else-is_way c =
     let v = row_of c.args.asked.now.rows.now.objects b in
     let fits_a : FitsSigned w64 a.id = search rules in
     let fits_b : FitsSigned w64 b.id = search rules in
-    let is : c.is_way.result ≡ (a.held && cond rises (int_lt a.id b.id) true) = simp to_z-of_z at c.is_way.ensures in
+    let is : c.is_ordered.result ≡ (a.held && cond rises (int_lt a.id b.id) true) = simp to_z-of_z at c.is_ordered.ensures in
     subst (λ (ps : List Pick). Gains cq ps c.args.piece.now c.args.piece.now)
     (sym (way_shut cq c.args.asked.now.reach.now.limit a.held rises u v c.requires.asked.rises
-    (way_is a.held rises c.is_way.result false a.id b.id u.id v.id is (IsRowOf.id c.requires.first) (IsRowOf.id c.requires.second) c.if-is_way.false)))
+    (ordered_is a.held rises c.is_ordered.result false a.id b.id u.id v.id is (IsRowOf.id c.requires.first) (IsRowOf.id c.requires.second) c.if-is_ordered.false)))
     (gains_nothing cq c.args.piece.now c.requires.of_rows)

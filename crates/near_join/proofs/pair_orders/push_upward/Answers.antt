@@ -9,7 +9,7 @@ use Rattle.near_join.proofs.Answering.{on_ok}
 use Rattle.near_join.proofs.Gaining.{gains_one}
 use Rattle.near_join.proofs.Neighbouring.{bare_line}
 use Rattle.near_join.proofs.Upwards.{bare_met}
-use Rattle.near_join.proofs.ways.push_upward.Goals as goal
+use Rattle.near_join.proofs.pair_orders.push_upward.Goals as goal
 
 pub returns-then-asked : goal.returns-then-asked
 returns-then-asked c =

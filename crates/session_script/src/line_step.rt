@@ -4,8 +4,8 @@ ghost use Rattle.text_rules.specs.declared.limits.TheConstants.{TEXT_MOST};
 ghost use Rattle.sky_text.specs.LineItems.{line_of};
 ghost use Rattle.session_script.specs.Scripts.{asking, naming, span_at, step_of};
 
+use crate::command::{Command, command_of};
 use crate::fault::ScriptFault;
-use crate::saying::{Saying, said_by};
 use crate::step::Step;
 use sky_text::Line;
 use sql_token::Span;
@@ -69,10 +69,10 @@ pub(crate) fn step_of(
     if line.text.len() > QUERY_TEXT_MOST {
         return Err(ScriptFault::LineTooLong { line: line.number });
     }
-    match said_by(line.text) {
-        Saying::Note => Ok(None),
-        Saying::Cancels(number) => naming(queries, line, number, Step::Cancel { number }),
-        Saying::Waits(number) => naming(queries, line, number, Step::Wait { number }),
-        Saying::Asks => asking(queries, place, line),
+    match command_of(line.text) {
+        Command::Note => Ok(None),
+        Command::Cancels(number) => naming(queries, line, number, Step::Cancel { number }),
+        Command::Waits(number) => naming(queries, line, number, Step::Wait { number }),
+        Command::Asks => asking(queries, place, line),
     }
 }

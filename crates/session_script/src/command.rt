@@ -2,14 +2,14 @@
 ghost use Rattle.std.specs.Prelude.{◌≡◌};
 ghost use Rattle.text_rules.specs.Numbers.{natural};
 ghost use Rattle.session_script.specs.declared.limits.TheConstants.{QUERY_DIGITS_MOST};
-ghost use Rattle.session_script.specs.Scripts.{number_behind, said_by};
+ghost use Rattle.session_script.specs.Scripts.{command_of, number_after};
 
 use crate::limits::QUERY_DIGITS_MOST;
 use sky_text::{is_note, read_natural};
 
 /// What a line asks for by itself, whatever precedes it.
 #[derive(Clone, Copy, Debug, PartialEq, Eq)]
-pub(crate) enum Saying {
+pub(crate) enum Command {
     /// Nothing: it is a comment line.
     Note,
     /// `cancel N`
@@ -30,8 +30,8 @@ fn query_number(text: &[u8]) -> Option<u32>
 }
 
 // The number that is the whole rest of the text after a word at its start.
-fn number_behind(word: &[u8], text: &[u8]) -> Option<u32>
-    ensures { result ≡ number_behind word.now text.now }
+fn number_after(word: &[u8], text: &[u8]) -> Option<u32>
+    ensures { result ≡ number_after word.now text.now }
 {
     if text.starts_with(word) {
         query_number(&text[word.len()..])
@@ -41,17 +41,17 @@ fn number_behind(word: &[u8], text: &[u8]) -> Option<u32>
 }
 
 /// The meaning of a line by itself. Does not allocate.
-pub(crate) fn said_by(text: &[u8]) -> Saying
-    ensures { result ≡ said_by text.now }
+pub(crate) fn command_of(text: &[u8]) -> Command
+    ensures { result ≡ command_of text.now }
 {
     if is_note(text) {
-        return Saying::Note;
+        return Command::Note;
     }
-    if let Some(number) = number_behind(b"cancel ", text) {
-        return Saying::Cancels(number);
+    if let Some(number) = number_after(b"cancel ", text) {
+        return Command::Cancels(number);
     }
-    match number_behind(b"wait ", text) {
-        Some(number) => Saying::Waits(number),
-        None => Saying::Asks,
+    match number_after(b"wait ", text) {
+        Some(number) => Command::Waits(number),
+        None => Command::Asks,
     }
 }

@@ -5,10 +5,10 @@ use Rattle.near_join.specs.Gains.{Gains}
 use Rattle.near_join.specs.Neighbours.{row_of}
 use Rattle.near_join.proofs.Gaining.{gains_nothing}
 use Rattle.near_join.proofs.Upwards.{none_near, own_near}
-use Rattle.near_join.proofs.ways.push_itself.Goals as goal
+use Rattle.near_join.proofs.pair_orders.push_itself.Goals as goal
 
-pub push_way-requires-clause-near : goal.push_way-requires-clause-near
-push_way-requires-clause-near c =
+pub push_ordered-requires-clause-near : goal.push_ordered-requires-clause-near
+push_ordered-requires-clause-near c =
     own_near c.args.asked.now.reach.now.limit (row_of c.args.asked.now.rows.now.objects c.args.this.now) (le_from (pos 0) c.args.asked.now.reach.now.limit (sym c.is_own_pair.ensures ∙ c.if-is_own_pair.true))
 
 pub returns-else-is_own_pair : goal.returns-else-is_own_pair

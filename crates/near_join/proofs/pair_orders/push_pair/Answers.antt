@@ -4,7 +4,7 @@ use Rattle.value_rules.specs.Values.{pair}
 use Rattle.near_join.proofs.Gaining.{gains_one}
 use Rattle.near_join.proofs.Answering.{on_ok}
 use Rattle.near_join.proofs.Lining.{row_is_line}
-use Rattle.near_join.proofs.ways.push_pair.Goals as goal
+use Rattle.near_join.proofs.pair_orders.push_pair.Goals as goal
 
 pub returns : goal.returns
 returns c =

@@ -7,10 +7,10 @@ use Rattle.value_rules.specs.Sound.{has_col}
 use Rattle.near_join.specs.Gains.{Gains, if_met}
 use Rattle.near_join.specs.Neighbours.{row_of}
 use Rattle.near_join.specs.Sound.{IsSoundLine}
-use Rattle.near_join.proofs.ways.push_looked_up.Goals as goal
+use Rattle.near_join.proofs.pair_orders.push_read.Goals as goal
 
 pub push_if_met-requires-clause-wide : goal.push_if_met-requires-clause-wide
-push_if_met-requires-clause-wide c = c.get-beside.ensures.wide ∙ sym c.get-row.ensures.wide
+push_if_met-requires-clause-wide c = c.get-other.ensures.wide ∙ sym c.get-row.ensures.wide
 
 pub push_if_met-requires-clause-sound : goal.push_if_met-requires-clause-sound
 push_if_met-requires-clause-sound c = subst (λ (n : ℕ). IsSoundLine (has_col (FIRST_COLUMNS + n) true) c.args.asked.now.query.now) (sym c.get-row.ensures.wide) c.requires.asked.sound
@@ -20,6 +20,6 @@ returns c =
     let cq = c.args.asked.now.query.now in
     let objects = c.args.asked.now.rows.now.objects in
     let first : row_of objects c.args.first.now ≡ c.get-row.result = get_or_from_slice_get objects c.args.first.now.place c.get-row.result no_row c.get-row.ensures.value in
-    let second : row_of objects c.args.second.now ≡ c.get-beside.result = get_or_from_slice_get objects c.args.second.now.place c.get-beside.result no_row c.get-beside.ensures.value in
+    let second : row_of objects c.args.second.now ≡ c.get-other.result = get_or_from_slice_get objects c.args.second.now.place c.get-other.result no_row c.get-other.ensures.value in
     subst (λ (u : Obj). OnOk c.push_if_met.result (Gains cq (if_met cq.conds u (row_of objects c.args.second.now)) c.args.piece.now c.push_if_met.new.piece)) (sym first)
     (subst (λ (v : Obj). OnOk c.push_if_met.result (Gains cq (if_met cq.conds c.get-row.result v) c.args.piece.now c.push_if_met.new.piece)) (sym second) c.push_if_met.ensures)
