@@ -24,7 +24,7 @@ leave the lock. --why shows the cause. It counts their reports over the example,
 which is right and is reported too. ThreadSanitizer reports nothing there, but does so if the step that frees the lock orders
 nothing any more.
 
-It prints each run that failed, and how many runs it made; the status is 0 where none failed, and 1 else. Without valgrind, or
+It prints the first runs that failed, and how many it made; the status is 0 where none failed, and 1 else. Without valgrind, or
 with --why without clang, it says so and ends with 0. Memcheck takes some seconds of a processor a run, and none of it is part of
 the whole check. It writes into a temporary folder alone.
 """
@@ -81,7 +81,8 @@ int main(void) {
     return count != 2000;
 }
 """
-SECONDS = 3600
+# far more seconds than a run takes, and how many runs that failed are printed
+SECONDS, SHOWN = 3600, 20
 
 
 def failed(checker, program, folder, words):
@@ -185,10 +186,13 @@ def main():
     checker = [] if words.threads else MEMCHECK
     with tempfile.TemporaryDirectory() as folder, concurrent.futures.ThreadPoolExecutor(words.processes) as pool:
         jobs = [pool.submit(failed, checker, program, own, form) for own, form in worlds(words, folder)]
-        wrong = [told for told in (job.result() for job in jobs) if told]
-    for told in wrong[:20]:
-        print(f"memory_checkers: {told}")
-    print(f"memory_checkers: {'not ok' if wrong else 'ok'}, {len(jobs)} runs over the example and {words.scripts} scripts, {len(wrong)} failed")
+        wrong = 0
+        for job in jobs:
+            told = job.result()
+            wrong += told is not None
+            if told and wrong <= SHOWN:
+                print(f"memory_checkers: {told}", flush=True)
+    print(f"memory_checkers: {'not ok' if wrong else 'ok'}, {len(jobs)} runs over the example and {words.scripts} scripts, {wrong} failed")
     return 1 if wrong else 0
 
 
