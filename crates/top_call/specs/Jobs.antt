@@ -25,11 +25,11 @@ pub data Job : Type 0 where
   -- to explain the queries of a script over a survey
   Explains : Survey → ScriptView → Job
 
--- the text of a job whose queries have these ends
-abbrev pub text_of_job : Job → List EndKind → List ℕ
-text_of_job (Reports survey) ends = report survey.plan survey.rows.objects
-text_of_job (Runs workers survey view) ends = transcript survey.plan survey.rows view ends
-text_of_job (Explains survey view) ends = explained survey.plan survey.rows view
+-- the job writes this text if its queries have these ends
+abbrev pub Writes : Job → List EndKind → List ℕ → Type 0
+Writes (Reports survey) ends text = text ≡ report survey.plan survey.rows.objects
+Writes (Runs workers survey view) ends text = text ≡ transcript survey.plan survey.rows view ends
+Writes (Explains survey view) ends text = text ≡ explained survey.plan survey.rows view
 
 -- the queries of the job may end so, with its workers; a job that runs none has no ends
 abbrev pub EndsFit : Job → List EndKind → Type 0
