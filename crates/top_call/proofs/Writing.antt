@@ -11,7 +11,7 @@ use Rattle.top_call.specs.Explained.{ExplainedOf, shown}
 use Rattle.top_call.specs.Steps.{IsSent, IsTorn, IsWritten, IsFlushed}
 use Rattle.top_call.specs.declared.outcome.Outcome.{Outcome}
 use Rattle.top_call.specs.declared.outcome.Outcome.TheVariants.{Done, Usage, BadSky, BadCatalogue, BadScript}
-use Rattle.top_call.specs.declared.outcome.Outcome.TheVariants.{TooLong, ShelfFault, SinkFault, Memory}
+use Rattle.top_call.specs.declared.outcome.Outcome.TheVariants.{TooLong, ShelfFault, SinkFault, Memory, BadJournal}
 
 -- all of a text is a front of it
 all_part : (old new : Option (List ℕ)) (text : List ℕ) → Appended old text new → AppendedPart old text new
@@ -68,6 +68,7 @@ written job ends text old mid new (BadScript fault) fits writes wrote h = absurd
 written job ends text old mid new (TooLong which) fits writes wrote h = absurd h
 written job ends text old mid new (ShelfFault which) fits writes wrote h = absurd h
 written job ends text old mid new Memory fits writes wrote h = absurd h
+written job ends text old mid new (BadJournal fault) fits writes wrote h = absurd h
 
 -- The same, where the ends that are told are those that were written.
 pub written_as : (job : Job) (ends kinds : List EndKind) (text : List ℕ) (old mid new : SinkState) (outcome : Outcome)
@@ -117,3 +118,4 @@ job_explained form job old new before now (BadCatalogue fault) asked told same h
 job_explained form job old new before now (BadScript fault) asked told same h = absurd h
 job_explained form job old new before now (TooLong which) asked told same h = absurd h
 job_explained form job old new before now (ShelfFault which) asked told same h = absurd h
+job_explained form job old new before now (BadJournal fault) asked told same h = absurd h

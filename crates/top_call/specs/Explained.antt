@@ -7,12 +7,13 @@ use Rattle.top_call.specs.Words.{Form, Names, names_of}
 use Rattle.top_call.specs.Outcomes.{name_of}
 use Rattle.top_call.specs.Reached.{IfTold, text_at, HasText, AreEarlierAccepted}
 use Rattle.top_call.specs.Reached.{IsSkyFault, IsCatalogueFault, IsScriptFault, IsLong}
+use Rattle.top_call.specs.Journals.{IsJournalFault}
 use Rattle.top_call.specs.Jobs.{Job, DemoIsTold, EndsFit, IsJobOf, Writes}
 use Rattle.top_call.specs.declared.outcome.Which.{Which}
-use Rattle.top_call.specs.declared.outcome.Which.TheVariants.{Sky, Catalogue, Script}
+use Rattle.top_call.specs.declared.outcome.Which.TheVariants.{Sky, Catalogue, Script, Journal}
 use Rattle.top_call.specs.declared.outcome.Outcome.{Outcome}
 use Rattle.top_call.specs.declared.outcome.Outcome.TheVariants.{Done, Usage, BadSky, BadCatalogue, BadScript}
-use Rattle.top_call.specs.declared.outcome.Outcome.TheVariants.{TooLong, ShelfFault, SinkFault, Memory}
+use Rattle.top_call.specs.declared.outcome.Outcome.TheVariants.{TooLong, ShelfFault, SinkFault, Memory, BadJournal}
 
 -- The states of shelf and sink before and after the call.
 pub record Shown : Type 0 where
@@ -88,6 +89,7 @@ IsStop names shown (TooLong which) = IsRefused names shown which (IsLong which)
 IsStop names shown (ShelfFault which) = IsShelfFault names shown which
 IsStop names shown (SinkFault ends) = ⊥
 IsStop names shown Memory = AllFetched shown × IsUntouched shown
+IsStop names shown (BadJournal fault) = IsRefused names shown Journal (λ text. IsJournalFault text fault)
 
 -- the meaning of an outcome for a command
 abbrev pub ExplainedOf : Form → Shown → Outcome → Type 0
