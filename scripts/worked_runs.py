@@ -1,8 +1,8 @@
 """Runs of the program over texts of a few lines, or at their limits, and what they write, found by hand: scripts/worked_rows.py
 makes them.
 
-The texts of the folder scripts/worked/ are there for each run; those that a run has of its own have the names sky, csv and
-script.
+The texts of the folder scripts/worked/ are there for each run; those that a run has of its own have the names sky, csv, script and
+journal.
 """
 import collections
 import itertools
@@ -348,12 +348,18 @@ DEMOS = [
 
 # ---- words and statuses
 
-USAGE = "usage: qserv load SKY CSV; query SKY CSV SCRIPT WORKERS; explain SKY CSV SCRIPT; demo COUNT SEED WORKERS"
+USAGE = (
+    "usage: qserv load SKY CSV; query SKY CSV SCRIPT WORKERS; explain SKY CSV SCRIPT; demo COUNT SEED WORKERS; "
+    "trace SKY CSV SCRIPT WORKERS; check JOURNAL"
+)
 TEXTS = ["sky.txt", "catalogue.csv"]
 NO_FORMS = [
     [],
     ["query", "sky.txt"],
     ["load", *TEXTS, "0"],
+    ["check"],
+    ["check", "sky.txt", "sky.txt"],
+    ["checks", "sky.txt"],
     QUERY,
     [*EXPLAIN, "0"],
     # no number of workers: one too many, a minus, no digit, a digit too many
@@ -380,6 +386,93 @@ STATUSES += [
     # a folder is there, and has no text
     *(fault(["load", *words], 7, ".: cannot be read") for words in [[".", "catalogue.csv"], ["sky.txt", "."]]),
     fault(["explain", *TEXTS, "."], 7, ".: cannot be read"),
+]
+
+# ---- journals
+
+CHECK = ["check", "journal"]
+# query 2 is attached when query 1 was served chunk 0: both are served chunk 4, and query 2 has chunk 0 on the next round
+BOARD = """ring 8
+0 attach 1 0 4
+0 take 0 0 1
+0 attach 2 0 4
+0 take 1 4 1 2
+0 deliver 1
+0 deliver 0
+0 take 2 0 2
+0 deliver 2
+0 collect 1
+0 collect 2
+0 close
+"""
+# what takes the place of a line of it, by its number, and what is then wrong
+CHANGED = [
+    ("journal line 8: not a step", {8: "0 take 2 0 1 2"}),
+    ("journal line 3: syntax", {3: "0 take 0 0"}),
+    # the form of each line is validated before any step
+    ("journal line 12: syntax", {3: "0 take 1 0 1", 12: "0 close 1"}),
+    ("journal line 1: syntax", {1: "ring 16385"}),
+    # a chunk that is not on the ring
+    ("journal line 2: not a step", {2: "0 attach 1 0 8"}),
+    # the first take is of chunk 0, and the second one, of chunk 4, is also for query 2
+    ("journal line 3: not a step", {3: "0 take 0 4 1"}),
+    ("journal line 5: not a step", {5: "0 take 1 4 1"}),
+    # another seat took the task; it is delivered twice
+    ("journal line 6: not a step", {6: "1 deliver 1"}),
+    ("journal line 7: not a step", {7: "0 deliver 1"}),
+    # query 2 is not in the take of ticket 0
+    ("journal line 7: not a step", {7: "0 deliver 0 lost 2"}),
+    # of a query that is done, a cancel; of one that runs, a collect
+    ("journal line 8: not a step", {8: "0 cancel 1"}),
+    ("journal line 8: not a step", {8: "0 collect 2"}),
+    # the last entry; chunks that do not ascend, and a query without a number
+    ("journal line 12: not a step", {12: "0 collect 1"}),
+    ("journal line 2: syntax", {2: "0 attach 1 4 0"}),
+    ("journal line 2: syntax", {2: "0 attach 0 0 4"}),
+    ("journal line 2: syntax", {2: "0 attach 256 0 4"}),
+    ("journal line 2: syntax", {2: "0  attach 1 0 4"}),
+    ("journal line 2: syntax", {2: ""}),
+]
+
+
+def with_lines(lines):
+    """The board's journal with other lines in places of these numbers."""
+    return "".join(lines.get(number, line) + "\n" for number, line in enumerate(BOARD.splitlines(), 1))
+
+
+# a cancel and a loss end a query, whose chunks are then taken for the others alone; an attach without chunks is done at once
+OF_ENDS = """ring 3
+0 attach 1 0 1 2
+0 attach 2 1
+0 attach 3 1 2
+0 attach 4
+0 collect 4
+0 take 0 0 1
+0 cancel 1
+2 take 1 1 2 3
+2 deliver 1 lost 3
+0 deliver 0
+0 collect 3
+0 collect 1
+0 collect 2
+0 close
+"""
+OK = "ok: 11 entries, 2 queries, 3 takes\n"
+JOURNALS = [
+    done(CHECK, OK, journal=BOARD),
+    done(CHECK, OK, journal=BOARD.replace("\n", "\r\n").removesuffix("\r\n")),
+    done(CHECK, OK, journal=BOARD.replace("0 4\n", "000 0000000004\n")),
+    done(CHECK, "ok: 14 entries, 4 queries, 2 takes\n", journal=OF_ENDS),
+    done(CHECK, "ok: 0 entries, 0 queries, 0 takes\n", journal="ring 16384"),
+    done(CHECK, "ok: 1 entries, 0 queries, 0 takes\n", journal="ring 0\n4294967295 close\n"),
+    *(fault(CHECK, 12, line, journal=with_lines(lines)) for line, lines in CHANGED),
+    fault(CHECK, 12, "journal line 1: syntax", journal=""),
+    fault(CHECK, 12, "journal line 13: syntax", journal=BOARD + "\r"),
+    fault(["check", "catalogue.csv"], 12, "journal line 1: syntax"),
+    fault(["check", "none"], 7, "none: cannot be read"),
+    fault(["check", ""], 7, ": cannot be read"),
+    fault(CHECK, 12, "journal line 1: syntax", journal=536870912),
+    fault(CHECK, 6, "journal: too long", journal=536870913),
 ]
 
 # ---- limits
@@ -420,7 +513,7 @@ LIMITS = [
     fault(LOAD_CSV, 6, "csv: too long", csv=536870913),
 ]
 
-RUNS = SKIES + CATALOGUES + STEPS + DEMOS + STATUSES + LIMITS
+RUNS = SKIES + CATALOGUES + STEPS + DEMOS + STATUSES + JOURNALS + LIMITS
 RUNS.append(done(["load", "sky", "csv"], worked_world.report(), sky=worked_world.SKY, csv=worked_world.CSV))
 # whatever is written to the full device fails
 OUTPUT_FAILED = fault(["load", *TEXTS], 8, "output failed")
