@@ -4,7 +4,7 @@
     bench/catalogue.py ROWS [--seed SEED] [--order ascending|random] [--further COUNT]
 
 The catalogue goes to standard output: the header objectId,x,y,z and ROWS rows with the ids 1 to ROWS, whose
-positions are points of the grid next to the sphere of radius 2^28. With --further there are so many columns more,
+positions are points of the grid next to the sphere of radius 2^28. With --further there are that many extra columns,
 f1, f2 and on, of whole numbers within 99,999, one in twenty of them NULL. The same words give the same bytes.
 """
 import argparse
@@ -25,7 +25,7 @@ def position(draw):
 
 
 def value(draw):
-    """A further value, or an empty field."""
+    """An extra value, or an empty field."""
     return "" if draw.randrange(20) == 0 else str(draw.randint(-99_999, 99_999))
 
 

@@ -4,12 +4,12 @@
     bench/kernels.py FOLDER [--program FILE] [--runs N] [--times N]
 
 The rows are the first 4,096 that the demo draws from the number 1. FILE is the built program `judge`, by default
-crates/judge/out/judge, where `rt run` in its crate leaves it, built for x86-64-v2; its form `kernel` runs a kernel so many
+crates/judge/out/judge, where `rt run` in its crate leaves it, built for x86-64-v2; its form `kernel` runs a kernel a number of
 times. kernels.c, compiled with gcc for the same instruction set into the folder `kernels` of FOLDER, does the same. Each is
 asked for 1,000 runs and for N more (200,000), N times (5), in turns; what a run costs is the difference of the least user
 times. Both print a number that depends on each run, which has to be the one computed here. Printed are nanoseconds a run,
 and how many times what C takes, which is to be at most 2; for the truths of `flux*2+kind>7` at most 6 ns a row is aimed at
-instead. The status is 1 where a number is above. Only an idle machine tells anything.
+instead. The status is 1 where a number is above. Only figures of an idle machine count.
 """
 import argparse
 import os
@@ -36,7 +36,7 @@ MOST, ROW_MOST = 2.0, 6.0
 
 
 def wanted(rows, kernel, runs):
-    """The number that so many runs have to print."""
+    """The number that this many runs have to print."""
     if kernel == "sum":
         return runs * sum(row[4] for row in rows[::2])
     if kernel == "picked":

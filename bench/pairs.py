@@ -12,7 +12,7 @@ times (3), and the program in C over the same files. It prints, in milliseconds 
 least times, what the C program took for the same, and of that what it took to order the rows by height, to part them, and to
 compare them. The counts of pairs are compared. The status is 1 where they differ or a line misses what is aimed at: 150 ms for
 the demo's million rows, 600 for the clusters with their 1.8 million pairs in order and as text, and at most three times what C
-takes for the demo's. Only an idle machine tells anything.
+takes for the demo's. Only figures of an idle machine count.
 """
 import argparse
 import math
@@ -38,7 +38,7 @@ def onto_the_sphere(x, y, z):
 
 
 def clustered(clusters):
-    """Rows in clusters: the members of each stand around one of the demo's positions, and have ids in random order."""
+    """Rows in clusters: the members of each are around one of the demo's positions, and have ids in random order."""
     draw = random.Random(1)
     points = []
     for row in demo_files.rows(clusters, 1):
@@ -78,7 +78,7 @@ def beyond_loading(program, folder, times):
     """How many pairs the program lists, and its least user milliseconds beyond loading."""
     nothing = min(spent(program, folder, "")[1] for _ in range(times))
     runs = [spent(program, folder, QUERY) for _ in range(times)]
-    # (the number of the query, its headings, and a line behind the pairs)
+    # (the number of the query, its headings, and a line after the pairs)
     return runs[0][0] - 3, min(took for _, took in runs) - nothing
 
 

@@ -6,9 +6,9 @@
 FILE is the built program, by default .qserv/qserv, where ./qserv leaves it. Writes the demo's catalogue of N rows
 (1,000,000) into FOLDER, once. For each line of the table it runs the program with a script of that query and with an empty
 script, each N times (3), and prints the difference of the least user times in milliseconds, of one query, beside what is
-aimed at for a million rows. A query that costs little stands several times in its script. Each answer is compared with one
+aimed at for a million rows. A query that costs little is in its script several times. Each answer is compared with one
 computed here from the flat list, the dull way; of the pairs, how many they are. The status is 1 where an answer is another,
-or where a line costs more than is aimed at. Only an idle machine tells anything.
+or where a line costs more than is aimed at. Only figures of an idle machine count.
 """
 import argparse
 import collections
@@ -83,7 +83,7 @@ def near_pairs(rows):
     return found
 
 
-# the name, the queries of one measurement, how often they stand in the script, and the milliseconds aimed at
+# the name, the queries of one measurement, how often they are in the script, and the milliseconds aimed at
 ALL = "SELECT COUNT(*),SUM(flux),AVG(flux),MIN(flux),MAX(flux) FROM Object"
 LINES = [
     ("five aggregates of a column", [ALL], 32, 50),

@@ -10,7 +10,7 @@ Writes its inputs into FOLDER (made where it isn't there; files that are there a
 program over each, and prints a line for each run: rows, chunks, bytes, seconds (the least of three), and the most
 memory held at once. Each run's answer is compared with one computed here from the flat list.
 
-With --growth each run is a `load`, which reads the catalogue, builds the store and reports. Beside it stands a run that
+With --growth each run is a `load`, which reads the catalogue, builds the store and reports. Beside it is a run that
 only reads the catalogue: a `query` whose script is missing, which ends when it asks for the script, before a store is
 built. Seconds are then user time, which says more than wall time on a machine that is busy, and beside it wall time;
 the sixth column is what the store costs for a million rows.
@@ -19,8 +19,8 @@ With --targets it measures what is aimed at of the table: user seconds of readin
 and in random order, and of the store with its blocks over 256 chunks; the memory of 4,194,304 rows of sixteen fields, whose
 catalogue takes half a gigabyte in FOLDER; and then, by kernels.py, the kernels. Each line has the most that is wanted; those of
 reading also what load.c takes, which reads the same catalogue by plain loops in C, and how many times that they are. load.c is
-compiled with gcc for x86-64-v2 into FOLDER, its runs stand between those of the program, and its answer is compared with one
-computed here. It ends with 1 where a line has more than is wanted. Only an idle machine tells anything.
+compiled with gcc for x86-64-v2 into FOLDER, its runs are between those of the program, and its answer is compared with one
+computed here. It ends with 1 where a line has more than is wanted. Only figures of an idle machine count.
 """
 import argparse
 import bisect
@@ -48,7 +48,7 @@ MISSING, CANNOT_BE_READ = "no_script.sql", 7
 
 
 def lows(stripes):
-    """The lower bounds of so many stripes of one height."""
+    """The lower bounds of a number of stripes of one height."""
     return [-268435472 + i * (536870944 // stripes) for i in range(stripes)]
 
 

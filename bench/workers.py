@@ -5,10 +5,10 @@
 
 Writes the demo's catalogue of N rows (1,000,000) into FOLDER, once. A script of 64 queries, each with a condition of its own
 over all rows, runs with 0 to 3 workers beside the thread that goes through the script; what is printed is the least of N (3)
-times by the clock, beyond that of an empty script. Beside it stands a loop in C (bench/scale.c, compiled into FOLDER) that
+times by the clock, beyond that of an empty script. Beside it is a loop in C (bench/scale.c, compiled into FOLDER) that
 sums a column 64 times over, parted among as many threads: what the machine itself allows. Each answer is compared with the one
 without workers. FILE is the built program, by default crates/qserv_cli/out/qserv_cli, where the whole check leaves it. The
-status is 1 where an answer is another. Only an idle machine tells anything.
+status is 1 where an answer is another. Only figures of an idle machine count.
 """
 import argparse
 import os
@@ -21,7 +21,7 @@ MOST = 3
 
 
 def seconds(program, folder, script, workers):
-    """What the program writes for the script with so many workers, and the seconds that it took."""
+    """What the program writes for the script with this many workers, and the seconds that it took."""
     began = time.monotonic()
     words = [program, "query", "sky.txt", "catalogue.csv", script, str(workers)]
     ended = subprocess.run(words, cwd=folder, capture_output=True, text=True, check=True)

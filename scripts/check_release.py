@@ -3,7 +3,7 @@
 
     scripts/check_release.py
 
-In the copy a small script stands for the program and another for the toolchain, so that nothing is proved or built. The hash of
+In the copy small scripts take the place of the program and of the toolchain, so that nothing is proved or built. The hash of
 the sources is computed here once more, by other means. It also compares the man page with `qserv --help` and docs/FORMATS.md,
 has mandoc read the page where there is mandoc, and, if release/ is of these sources, runs its program in the copy, with no
 toolchain, over the files of examples/. It prints a line for each fact that does not hold, and then how many it has tried. The
@@ -211,7 +211,8 @@ def facts_of_a_fresh_copy(copy):
         ended = [it.result() for it in [pool.submit(copy.runs_release) for _ in range(8)]]
     left = os.listdir(f"{copy.root}/.qserv")
     yield f"eight calls at one time all run it, and leave no file of their own: {left}", all(ended) and set(left) == {"stamp", "qserv"}
-    yield "the link in .qserv leads to it", read(f"{copy.root}/.qserv/qserv") == PROGRAM.format("release").encode()
+    kept = f"{copy.root}/.qserv/qserv"
+    yield "the program in .qserv is a copy of it", not os.path.islink(kept) and read(kept) == PROGRAM.format("release").encode()
     copy.forget()
     write(f"{copy.root}/.qserv", "no folder")
     yield "it runs where no stamp can be kept", copy.runs_release()
@@ -301,7 +302,7 @@ def facts_of_writing(copy):
 
 
 def facts_of_building(copy):
-    """The toolchain of the test stands for the true one."""
+    """The toolchain of the test takes the place of the true one."""
     path, built = f"{copy.root}/crates/sky_vector/src/lib.rt", f"{copy.kit}/built"
     yield "with a toolchain too, the release runs", copy.run("./qserv", "a", has_kit=True)[1] == "release: a\n"
     change_byte(path)
@@ -366,15 +367,15 @@ def facts_of_the_man_page(copy):
     page, formats = read(f"{copy.root}/docs/qserv.1").decode(), read(f"{copy.root}/docs/FORMATS.md").decode()
     commands = set(re.findall(r"^\.It Cm (\w+) Ar (.*)$", page, re.M))
     shown = set(re.findall(r"^  qserv (\w+) ([A-Z ]+?)(?:   .*)?$", copy.run("./qserv", "--help")[1], re.M))
-    yield "the man page has the commands of --help", commands == shown and len(commands) == 5
+    yield "the man page has the commands of --help", commands == shown and len(commands) == 6
     synopsis = page[page.index(".Sh SYNOPSIS") : page.index(".Sh DESCRIPTION")]
     yield "and the synopsis too", set(re.findall(r"^\.Cm (\w+)\n\.Ar (.*)$", synopsis, re.M)) == shown
     words = set(re.findall(r"^\| `(\w+) ([A-Z ]+)` \|", formats, re.M))
     yield "which are those of FORMATS and install", words | {("install", "PREFIX")} == shown
     ends = page[page.index(".Sh EXIT STATUS") : page.index(".Sh EXAMPLES")]
-    told = {number: words.rstrip(".").lower() for number, words in re.findall(r"^\.It (\d)\n(.*)$", ends, re.M)}
-    wanted = {number: words for words, number in re.findall(r"^\| ([a-z ]+) \| (\d) \|", formats, re.M)}
-    yield "its statuses are those of FORMATS", len(wanted) == 9 and all(told.get(it, "").startswith(wanted[it]) for it in wanted)
+    told = {number: words.rstrip(".").lower() for number, words in re.findall(r"^\.It (\d+)\n(.*)$", ends, re.M)}
+    wanted = {number: words for words, number in re.findall(r"^\| ([a-z ]+) \| (\d+) \|", formats, re.M)}
+    yield "its statuses are those of FORMATS", len(wanted) == 10 and all(told.get(it, "").startswith(wanted[it]) for it in wanted)
     if shutil.which("mandoc"):
         lint = copy.run("mandoc", "-Tlint", "-W", "style", "docs/qserv.1")
         yield f"mandoc finds nothing: {lint[1]}", lint[:2] == (0, "")

@@ -1,5 +1,5 @@
 #!/usr/bin/env python3
-"""Reads the repository's own text and fails on what must not stand in it.
+"""Reads the repository's own text and fails on what must not be in it.
 
     scripts/check_text.py
 
@@ -12,7 +12,7 @@ It prints each finding, or 'check_text: ok', and writes nothing. It looks for:
 - a must-fail edit that the claims of docs/proofs don't name in as many rows as there are crates with that edit;
 - a mutant that a claim names and no crate has;
 - an idea of a mutant, in docs/proofs/ideas.md, that cannot be read or no longer fits the code;
-- a call, a clause or a word that a claim names and that stands neither in the crates of its section nor in a crate that
+- a call, a clause or a word that a claim names and that is neither in the crates of its section nor in a crate that
   the row names.
 """
 import argparse
@@ -29,7 +29,7 @@ LABEL = re.compile(
     r"(?<![\w.#-])(?:(?:document|paper) 0[1-4]\b|(?:T[1-5]\.[1-9]|[DRW][1-9][0-9]?b?|H[1-5])(?![\w.%]))"
     r"|\b0[1-4] section"
 )
-# seven of one sign: with a blank behind them, or the seven of the middle alone
+# seven of one sign: with a blank after them, or the seven of the middle alone
 MERGE = re.compile(r"(?:[<>|]{7} |={7}$)")
 MACHINE = re.compile(r"(?<![\w.])/(?:work|opt|tmp|root|home)/")
 CLAUSE = re.compile(r"\s*(?:requires|ensures)\*?\b")
@@ -46,7 +46,7 @@ def names():
 
 
 def findings(name, lines):
-    """The places of a file that must not stand, as (what, line number, line)."""
+    """The places of a file that must not be there, as (what, line number, line)."""
     for number, line in enumerate(lines, 1):
         if LABEL.search(line):
             yield "names a label of a planning paper", number, line

@@ -6,7 +6,7 @@ must-fail edits.
 
 It runs `rt ci` at the top of the repository, with `--anew` if the toolchain has that flag: what an earlier run has kept counts
 for nothing. Every half second it
-looks at the provers that run below it, each with the processes that help it, which are called by the same words; a prover's
+inspects the provers that run below it, each with the processes that help it, which are called by the same words; a prover's
 last reading counts, so that a run shorter than that is missed. Whatever else runs meanwhile is not counted, but makes all
 slower. The check's own lines go to standard error, the table to standard output, dearest crate first. It ends with the
 check's status and writes nothing else. Linux alone, since it reads /proc.

@@ -28,7 +28,7 @@ from random_queries import Writer
 
 HERE = os.path.dirname(os.path.abspath(__file__))
 sys.path.append(os.path.join(HERE, "..", "bench"))
-import demo_files  # noqa: E402  (they stand in the other folder)
+import demo_files  # noqa: E402  (they are in the other folder)
 import program_words  # noqa: E402
 
 LONGEST = 16384

@@ -4,7 +4,7 @@
     scripts/compare_places.py FOLDER [--program FILE] [--positions N] [--seed SEED]
 
 For each of ten skies it draws N positions (10,000) on and beside sides, borders of stripes and substripes, the axis and
-the poles, and at exactly the overlap radius of a side or a border. The program `judge` tells the chunk of each, its
+the poles, and at exactly the overlap radius of a side or a border. The program `judge` writes the chunk of each, its
 subchunk and the other chunks that it is near. Here the same is found from the text of the sky, in whole numbers: every
 chunk is tested, and every row and column of the one that holds the position, by heights and by the half planes of a table
 of directions. No division finds a wedge or a row.
@@ -194,7 +194,7 @@ def at_height(d, z, right, up):
 
 
 def by_line(draw, d, radius, z):
-    """A position of about this height, before or behind the axis, that is on the line of a direction, next to it, or as far
+    """A position of about this height, on either side of the axis, that is on the line of a direction, next to it, or as far
     from it as the radius: exactly, where its steps allow that, and else the last within and the first beyond."""
     step = math.gcd(*d)
     a, b = d[0] // step, d[1] // step

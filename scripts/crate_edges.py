@@ -5,7 +5,7 @@
 
 Each library on a crate's line is read at every check of the crate, and its lemmas are searched. So a line lists what the crate's
 code, definitions or proofs name outside of comments, as `name::..` in src/ and `Rattle.name...` in specs/ and proofs/. A library
-that a check needs although no file names it is listed with its reason behind the line, as `# name name: why`.
+that a check needs although no file names it is listed with its reason at the end of the line, as `# name name: why`.
 
 It prints a line for each such library, and for each reason that has nothing to excuse, or 'crate_edges: ok'. It writes nothing.
 """

@@ -5,7 +5,7 @@ through others. Whoever believes these, and the toolchain, need not read the cod
     scripts/definitions.py            fails if the list in docs/PROOFS.md is not what it would write
     scripts/definitions.py --write    writes it
 
-Crates stand in reading order, from the contract downwards, and so do a crate's files. Lines are counted without blank lines
+Crates are in reading order, from the contract downwards, and so are a crate's files. Lines are counted without blank lines
 and imports.
 """
 import argparse

@@ -4,19 +4,20 @@
     scripts/fail_allocations.py FOLDER [--program FILE] [--workers N ..] [--session] [--processes N]
 
 The run is small: six rows, and a script with a query of every kind and one of every refusal. Each form of the command line
-is run: load, explain, query and demo, the last two with each number of workers (0); and query over 150 rows of one chunk, whose
-columns are gathered in three parts, with a first NULL in the second. First the Nth request of the run is refused, for N from 1
-until a run makes fewer, and then the Nth and all behind it. A run has to end so:
+is run: load, explain, query and demo, the last two with each number of workers (0). So are query over three scripts of the worked
+rows, all ids, the pairs of neighbours, and a cancel with a wait, and query over 150 rows of one chunk, whose columns are gathered
+in three parts, with a first NULL in the second. First the Nth request of the run is refused, for N from 1
+until a run makes fewer, and then the Nth and all after it. A run has to end so:
 - with the whole right text and status 0;
 - with the right text but for `out of memory` in the place of an answer that wants chunks to be scanned, and status 0;
 - or with nothing written, `out of memory` on standard error, and status 9.
 
 It prints how many runs of each form ended how, and each run that ended otherwise; the status is 0 where none did, and 1 else.
 The right texts are computed here from the flat table. With --session the script also waits and cancels. Between the program
-and the C library stands a small library in C that refuses the requests; it is compiled with cc into a folder that goes again.
+and the C library is a small library in C that refuses the requests; it is compiled with cc into a folder that goes again.
 
 FILE is the built program, by default .qserv/qserv, where ./qserv leaves it. FOLDER is made where it isn't there, and gets the
-texts sky, csv and script, and one, many and asked for the chunk of 150 rows.
+texts sky, csv and script, those of the worked rows, and one, many and asked for the chunk of 150 rows.
 """
 import collections
 import concurrent.futures
@@ -30,7 +31,7 @@ import flat_answers
 import random_worlds
 import session_ends
 
-# bench/ stands on the path since compare_answers was imported
+# bench/ is on the path since compare_answers was imported
 import demo_files
 import program_words
 
@@ -108,8 +109,14 @@ SCRIPT = [
     "SELECT a.x FROM Object a,Object b WHERE chord2(a,b)<=26",
     "SELECT SUM(g*g) FROM Object",
 ]
-# behind the script where it is a session: a late cancel, one of a refused query, and one in time behind a wait for another
+# after the script if it is a session: a late cancel, one of a refused query, and one in time after a wait for another
 SESSION = ["wait 2", "cancel 2", "cancel 12", "cancel 8", "SELECT MAX(flux) FROM Object GROUP BY g", "cancel 25", "wait 9"]
+# the scripts of three worked rows
+WORKED = {
+    "ids": ["SELECT objectId FROM Object"],
+    "pairs": ["SELECT a.objectId, b.objectId FROM Object a, Object b WHERE chord2(a,b) <= 9 AND a.objectId < b.objectId"],
+    "steps": ["SELECT objectId FROM Object", "SELECT COUNT(*) FROM Object", "SELECT MAX(flux) FROM Object", "cancel 2", "wait 1"],
+}
 # a chunk of 150 rows, and what is asked of it
 ONE = "overlap 16\nstripe -268435472 1 1 1\n"
 MANY = [[id, EDGE, 7 * id, 0, id % 5, None if id == 100 else id] for id in range(1, 151)]
@@ -122,7 +129,7 @@ KINDS = ["right text", "right but for queries out of memory", "out of memory, no
 
 
 class Form:
-    """The words of a command line, and for each part of what it writes the texts that may stand there."""
+    """The words of a command line, and for each part of what it writes the texts that may be there."""
 
     def __init__(self, words, parts):
         self.words, self.parts = words, parts
@@ -149,6 +156,8 @@ def forms(world, many, script, workers):
     for number in workers:
         found.append(Form(["query", "sky", "csv", "script", str(number)], session_ends.choices(world, script, number, True)))
         found.append(Form(["demo", "5", "7", str(number)], session_ends.choices(demo, lines, number, True)))
+        for name, asked in WORKED.items():
+            found.append(Form(["query", "sky", "csv", name, str(number)], session_ends.choices(world, asked, number, True)))
         found.append(Form(["query", "one", "many", "asked", str(number)], session_ends.choices(many, ASKED, number, True)))
     return found
 
@@ -181,7 +190,7 @@ def run(words, folder, refuser, first, last):
 
 
 def tried(words, form, folder, refuser, first, is_one):
-    """How a run ended whose request of this number is refused, and those behind it too unless it is one; and whether it made
+    """How a run ended whose request of this number is refused, and those after it too unless it is one; and whether it made
     that many requests. The end is the exit status and the output where none may end so."""
     status, output, told, requests = run([words.program, *form.words], folder, refuser, first, first if is_one else 1 << 62)
     kind = form.kind(status, output, told) if requests else None
@@ -212,7 +221,7 @@ def main():
     os.makedirs(folder, exist_ok=True)
     world, script = random_worlds.World(random_worlds.SKIES[0], NAMES, ROWS), SCRIPT + SESSION * words.session
     many = random_worlds.World(ONE, NAMES, MANY)
-    texts = {"sky": [random_worlds.SKIES[0].rstrip()], "csv": lines_of(ROWS), "script": script}
+    texts = {"sky": [random_worlds.SKIES[0].rstrip()], "csv": lines_of(ROWS), "script": script, **WORKED}
     texts |= {"one": [ONE.rstrip()], "many": lines_of(MANY), "asked": ASKED}
     compare_answers.write(folder, {name: "\n".join(lines) + "\n" for name, lines in texts.items()})
     wrong = 0

@@ -1,7 +1,7 @@
 """What the text of a query means over a flat table, computed the dull way: which refusal it has, what it answers, and how it
 is explained.
 
-Written from the rules in docs/FORMATS.md alone: names are looked up one by one, and conditions are worked out on each row, or
+Written from the rules in docs/FORMATS.md alone: names are resolved one by one, and conditions are worked out on each row, or
 each pair of rows, of one list. There is no column, piece or table of overlaps in it; a chunk is a region that is tested, and
 only plans, explanations and reports speak of chunks. `compare_answers.py` compares the program with it.
 """
@@ -118,7 +118,7 @@ def written(value):
 
 
 def rank(value, down=False):
-    """A value as orders see it: NULL before all numbers, and behind them where the order goes down."""
+    """A value as orders see it: NULL before all numbers, or after them if the order is descending."""
     if value is None:
         return (1, 0) if down else (0, 0)
     size = value.parts if isinstance(value, Average) else value
@@ -195,7 +195,7 @@ class Bound(Binder):
     def rows(self):
         items, key = self.selected(), self.alias_item.expr if self.alias_item else self.query.order
         found = self.picks()
-        # sorted is stable, and the picks stand in the order of their ids
+        # sorted is stable, and the picks are in the order of their ids
         if key:
             found = sorted(found, key=lambda pick: rank(key.worth(pick), self.query.down))
         return [[item.worth(pick) for item in items] for pick in found[: self.query.limit]]
@@ -339,7 +339,7 @@ def explanation(world, lines):
 
 
 def report(world):
-    """How the rows lie in the chunks."""
+    """How the rows are distributed over the chunks."""
     own = collections.Counter(world.chunk_of.values())
     near = collections.Counter(chunk for row in world.rows for chunk in world.sky.near(tuple(row[1:4])))
     lines = [f"{len(world.rows)} rows, {len(own)} of {world.sky.count} chunks\n"]

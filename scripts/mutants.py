@@ -117,7 +117,7 @@ def misfit(mutant):
 
 
 def misfits():
-    """The findings of the ideas: rows that cannot be read, names that stand twice, texts that no longer fit."""
+    """The findings of the ideas: rows that cannot be read, names that are there twice, texts that no longer fit."""
     try:
         kept = list(ideas())
     except Malformed as fault:

@@ -173,7 +173,7 @@ def changing(runs):
 
 
 def grow(path, going):
-    """Appends rows, byte by byte, until it is told to stop."""
+    """Appends rows, byte by byte, until it is stopped."""
     with open(path, "ab", buffering=0) as file:
         for number in range(100000, 4000000):
             for byte in (ROW % number).encode():
@@ -183,7 +183,7 @@ def grow(path, going):
 
 
 def shrink(path, going):
-    """Takes bytes away until it is told to stop, or none is left."""
+    """Takes bytes away until it is stopped, or none is left."""
     for size in range(os.path.getsize(path), 0, -1000):
         if going.is_set():
             return

@@ -253,7 +253,7 @@ GRAMMAR = {
 
 
 def judged(text):
-    """What is to be told of a text."""
+    """What is to be written for a text."""
     try:
         kinds = [token.kind for token in tokens_of(text)]
     except Fault as fault:

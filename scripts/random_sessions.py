@@ -9,7 +9,7 @@ run at once. Each of N sessions (1,000) is run with each number of workers (0 1 
 computed from the flat table and the script's lines alone (`session_ends.py`): one text for each query, or, where a
 line cancels it with no wait for it between, two; with no workers a prompt cancel in a script of at most 64 queries
 leaves `cancelled` alone. So with more workers the bytes are those of no workers wherever no cancel races. The same
-seed draws the same sessions, whatever the number of processes (as many as there are processors). Before them stands a
+seed draws the same sessions, whatever the number of processes (as many as there are processors). Before them is a
 session whose ends are written here by hand.
 
 FILE is the built program, by default .qserv/qserv, where ./qserv leaves it. FOLDER is made where it isn't there; each
@@ -29,7 +29,7 @@ import random_worlds
 import session_ends
 from sql_trees import IDS
 
-# bench/ stands on the path since compare_answers was imported
+# bench/ is on the path since compare_answers was imported
 import program_words
 
 # how many sessions a world serves, which is drawn for them alone
@@ -99,7 +99,7 @@ def told(program, folder, workers):
 
 
 def judged(program, folder, workers, found):
-    """How the queries end with so many workers, and what is wrong with that, if anything is."""
+    """How the queries end with this many workers, and what is wrong with that, if anything is."""
     text, why = told(program, folder, workers)
     if why:
         return [], f"{workers} workers: {why}"

@@ -3,7 +3,7 @@
 
     scripts/random_values.py FOLDER [--program FILE] [--scripts N] [--seed SEED] [--workers N ..]
 
-`compare_answers.py` draws queries of every kind, and few of them come to the numbers that this one is about. For each of N
+`compare_answers.py` draws queries of every kind, and few of them have the numbers that this one is about. For each of N
 scripts (60) it draws a catalogue of groups of rows with a value, mostly 32, 96 or 160 of them, whose averages often end in half
 of a ten-thousandth, and some with NULL; values are small, or the largest and their neighbours of either sign; ids are 0,
 2^63 - 1 and any. Its 40 queries are conditions and aggregates over expressions whose bounds are 2^63 or 2^100, or one below
@@ -23,14 +23,14 @@ import flat_answers
 import random_worlds
 import sql_trees
 
-# program_words stands in bench/, which is on the path since compare_answers was imported
+# program_words is in bench/, which is on the path since compare_answers was imported
 import program_words
 from sql_trees import FURTHER, IDS
 
 NAMES = ["objectId", "x", "y", "z", "f", "g", "k"]
 EDGES = [FURTHER, FURTHER - 1, 1 << 49, 1 << 32, 1, 0]
 LITERALS = [0, 1, 2, 7, 1 << 31, 1 << 32, FURTHER, FURTHER + 1, 1 << 62, IDS - 1, IDS]
-# expressions whose bounds lie around 2^63 and 2^100, and others
+# expressions whose bounds are around 2^63 and 2^100, and others
 EXPRS = [
     "f", "g", "-f", "f-g", "f*g", "-f*g", "f*g+0", "f*g+1", "f*f", "f*g-f", "f*8191", "f*8192", "f*8191+g", "f*8192+g", "-f*8192-1",
     "objectId", "-objectId", "objectId+0", "objectId+1", "-objectId-1", "objectId-objectId", "0-objectId-objectId",

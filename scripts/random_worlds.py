@@ -215,7 +215,7 @@ class Asker(Writer):
         return ["FROM", "Object", *(["AS"] * self.chance(0.3) + [alias] if alias else [])]
 
     def item(self, keys=None):
-        """An item; of a grouping with these keys where they are given."""
+        """An item; of a query grouped by these keys, if they are given."""
         pick = self.rand.random()
         if keys is None:
             words = self.expr(2)

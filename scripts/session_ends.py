@@ -3,9 +3,9 @@ over the flat table.
 
 A query is refused where it has a refusal, and else answered. Two ends come beside that, and only for a query that has chunks
 to be scanned: one that is bound, whose radius is allowed, and whose plan isn't empty.
-- `cancelled` may stand where a line cancels it and no line that waits for it comes before that. With no workers it has to
-  stand where no line that waits for any query comes before that, in a script of at most 64 queries.
-- `out of memory` may stand where a request for memory was refused.
+- `cancelled` may be there if a line cancels it and no line that waits for it comes before that. With no workers it has to
+  be there if no line that waits for any query comes before that, in a script of at most 64 queries.
+- `out of memory` may be there if a request for memory was refused.
 """
 import re
 
@@ -35,7 +35,7 @@ def asked(line, world):
 
 
 def behind(steps, number):
-    """The steps behind the query of a number."""
+    """The steps after the query of a number."""
     places = [place for place, (word, _) in enumerate(steps) if word == "query"]
     return steps[places[number - 1] + 1 :]
 
@@ -79,7 +79,7 @@ def chosen(steps, blocks, workers, may_be_spent=False):
 
 def ends_told(text, found):
     """How the queries end in a transcript, where it is one that these choices allow; else the number of the first query whose
-    block is another, or 0 where something stands behind the last."""
+    block is another, or 0 if there is something after the last."""
     paths = {0: []}
     for number, own in enumerate(found, 1):
         further = {}

@@ -17,7 +17,7 @@ COMPARISONS = {
 }
 # how many numbers an area test takes
 ARGUMENTS = {"AREA_BAND": 2, "AREA_CAP": 4, "AREA_BOX": 6}
-# the largest number that a query computes, and the largest sizes of an id, of a coordinate and of a further value
+# the largest number that a query computes, and the largest sizes of an id, of a coordinate and of an extra value
 MOST, IDS, COORDINATE, FURTHER = 1 << 100, (1 << 63) - 1, 268435472, 1 << 50
 # the largest part of a direction and of a cap's centre, and the largest square of a cap's radius
 PART, SQUARE = 1 << 29, 1 << 62

@@ -1,7 +1,7 @@
-"""What a sky plan, a catalogue and a script come to as whole texts: what they contain, or their first fault.
+"""What a sky plan, a catalogue and a script are as whole texts: what they contain, or their first fault.
 
 Written from the rules in docs/FORMATS.md alone, for texts whose characters are bytes. A fault carries the exit status of a run
-that is given the text, and its line on standard error. Sizes of whole texts, and too many rows, are not looked at.
+that is given the text, and its line on standard error. Sizes of whole texts, and too many rows, are not inspected.
 """
 import re
 
@@ -15,7 +15,7 @@ MOST_LINE, MOST_QUERIES = 16384, 255
 
 
 class Faulty(Exception):
-    """The first fault of a text, as the status and the line that tell of it."""
+    """The first fault of a text, as the status and the line that report it."""
 
     def __init__(self, status, line):
         super().__init__(line)

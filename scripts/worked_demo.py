@@ -8,7 +8,7 @@ import os
 import sys
 
 sys.path.insert(0, os.path.join(os.path.dirname(os.path.abspath(__file__)), "..", "bench"))
-import demo_files  # noqa: E402  (it stands in the other folder)
+import demo_files  # noqa: E402  (it is in the other folder)
 
 COUNT, SEED = 20000, 7
 # the square of 65,536, the radius of the join

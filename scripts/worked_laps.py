@@ -13,7 +13,7 @@ SCRIPT = QUERY * QUERIES
 
 def direction(wedge):
     """A direction on the first side of a wedge: a point of the square around the origin whose half side is the number of wedges,
-    each 8 steps behind the last."""
+    each 8 steps after the last."""
     side, step = divmod(8 * wedge + WEDGES, 2 * WEDGES)
     along = step - WEDGES
     return [(WEDGES, along), (-along, WEDGES), (-WEDGES, -along), (along, -WEDGES), (WEDGES, along)][side]

@@ -5,13 +5,13 @@
 
 PROGRAM is the built program, by default crates/qserv_cli/out/qserv_cli, where the whole check leaves it.
 
-The rows stand in the files scripts/worked/*.rows. A line `[FORMS: SKY CSV]` begins a part: the forms that are run, `query`,
+The rows are in the files scripts/worked/*.rows. A line `[FORMS: SKY CSV]` begins a part: the forms that are run, `query`,
 `explain` or both, over a sky plan and a catalogue of that folder. In a part each line that isn't indented is a query, and the
-indented lines behind it are its block; lines with a # at their head say why it is so. The queries of a part are one script:
+indented lines after it are its block; lines with a # at their head say why it is so. The queries of a part are one script:
 it is answered with 0, 1, 4 and 16 workers, and explained. A few texts are too long to be written down, and are made here.
-Runs of other kinds stand in scripts/worked_runs.py: sky plans and catalogues with their reports or their first faults, scripts
+Runs of other kinds are in scripts/worked_runs.py: sky plans and catalogues with their reports or their first faults, scripts
 that wait and cancel, the demo, words of no form, and an outcome of each status that a run can be brought to. A larger sky, whose
-rows are drawn, stands in scripts/worked_world.py, catalogues of certain lengths in scripts/worked_lanes.py, as many queries and
+rows are drawn, is in scripts/worked_world.py, catalogues of certain lengths in scripts/worked_lanes.py, as many queries and
 chunks as there may be in scripts/worked_laps.py, runs over pipes in scripts/worked_streams.py, and what the demo of 20,000 objects
 has to write in scripts/worked_demo.py.
 
@@ -41,7 +41,7 @@ WORKERS = ["0", "1", "4", "16"]
 # far more than any of the runs takes
 SECONDS = 600
 
-# where it stands, the query's line, and the lines of its block
+# where it is, the query's line, and the lines of its block
 Row = collections.namedtuple("Row", "at line block")
 Part = collections.namedtuple("Part", "forms sky csv rows")
 
@@ -72,7 +72,7 @@ def long_parts():
     answered = [Row("2048 tokens", largest, [items, "0 rows, 3 chunks"])]
     others = [
         Row("2049 tokens", largest + ";", refused),
-        # the number of tokens is judged before the brackets; the 33rd that is open stands at 32
+        # the number of tokens is checked before the brackets; the 33rd that is open is at 32
         Row("2048 brackets", "(" * 2048, ["refused: brackets too deep at 32"]),
         Row("2049 brackets", "(" * 2049, refused),
         # a piece that is longer than the buffer of standard output
@@ -84,7 +84,7 @@ def long_parts():
 
 
 # Over 4,097 heights of -1 and 4,096 of 1. A quotient of less than one has a zero before the point, one of less than a tenth has
-# zeros behind it, and -10000 / 8193, 0 / 2 and 41000000 / 4098 are nearest to -1, 0 and 10005 ten-thousandths.
+# zeros after it, and -10000 / 8193, 0 / 2 and 41000000 / 4098 are nearest to -1, 0 and 10005 ten-thousandths.
 AVERAGES = [
     ("SELECT AVG(z) FROM Object", ["AVG(z)", "-0.0001", "1 rows, 2 chunks"]),
     ("SELECT AVG(z) FROM Object WHERE objectId IN (10,13)", ["AVG(z)", "0.0000", "1 rows, 2 chunks"]),
@@ -141,7 +141,7 @@ FULL = "/dev/full"
 
 
 def write(folder, name, pieces):
-    """Writes a text by its pieces, or one of so many zeros, which takes no room in the folder."""
+    """Writes a text by its pieces, or one of that many zeros, which takes no room in the folder."""
     with open(os.path.join(folder, name), "w", encoding="latin-1", newline="") as file:
         if isinstance(pieces, int):
             file.truncate(pieces)
@@ -167,7 +167,7 @@ def say(run, at, told, wanted):
 
 
 def first_other(part, told):
-    """Where a transcript leaves a part's blocks, what is told from there on, and what is wanted."""
+    """Where a transcript leaves a part's blocks, what is written from there on, and what is wanted."""
     place = 0
     for row, block in zip(part.rows, blocks_of(part)):
         if not told.startswith(block, place):
@@ -204,7 +204,7 @@ def is_told(program, folder, run, part=None, out=subprocess.PIPE):
 
 
 def is_full_told(program, folder):
-    """Whether a failed output is told of."""
+    """Whether a failed output is reported."""
     with open(FULL, "wb") as full:
         return is_told(program, folder, worked_runs.OUTPUT_FAILED, out=full)
 
@@ -218,7 +218,7 @@ def are_streams_told(program, folder):
 
 
 def compare(program, folder):
-    """How many rows there are, and whether all are told."""
+    """How many rows there are, and whether all are reported."""
     shutil.copytree(WORKED, folder, dirs_exist_ok=True)
     made, texts = made_parts()
     for name, text in texts.items():

@@ -1,8 +1,8 @@
-"""Runs of the program over texts of a few lines, or at their limits, and what they come to, found by hand: scripts/worked_rows.py
+"""Runs of the program over texts of a few lines, or at their limits, and what they write, found by hand: scripts/worked_rows.py
 makes them.
 
-The texts of the folder scripts/worked/ are there for each run; those that a run has of its own have the names sky, csv and
-script.
+The texts of the folder scripts/worked/ are there for each run; those that a run has of its own have the names sky, csv, script and
+journal.
 """
 import collections
 import itertools
@@ -39,7 +39,7 @@ BEYOND = "SELECT a.x FROM Object a,Object b WHERE chord2(a,b)<=281474976710657"
 
 
 def stripes(count):
-    """A sky plan of so many stripes of one chunk, the least high that they can be but for the last."""
+    """A sky plan of a number of stripes of one chunk, the least high that they can be but for the last."""
     return "overlap 5\n" + "".join(f"stripe {-268435472 + 64 * stripe} 1 1 1\n" for stripe in range(count))
 
 
@@ -89,7 +89,7 @@ SKIES += [fault(LOAD_SKY, 3, "sky line " + line, sky=text) for text, line in SKY
 
 LOAD_CSV = ["load", "sky.txt", "csv"]
 FOUR, MOST_ID = "objectId,x,y,z\n", "9223372036854775807"
-# a row up to its further value
+# a row up to its extra value
 FLUX = "objectId,x,y,z,flux\n1,268435456,0,0,"
 NONE = "0 rows, 0 of 8 chunks\n"
 
@@ -100,12 +100,12 @@ def rows_of(ids):
 
 
 def in_chunk_4(count):
-    """The report of so many rows at that place."""
+    """The report of a number of rows at that place."""
     return f"{count} rows, 1 of 8 chunks\nchunk 4: {count} rows, 0 overlap\n"
 
 
 THOUSAND = rows_of(" ".join(f"{number:03}" for number in range(999, -1, -1)))
-# the ids 1 to 2110 out of order: more than the 2,047 up to which they are sorted without bins
+# the ids 1 to 2110 out of order: more than the 2,047 up to which they are sorted without buckets
 SHUFFLED = rows_of(" ".join(str(1009 * number % 2111) for number in range(1, 2111)))
 FURTHER = "a,b,c,d,e,f,g,h,i,j,k,l"
 ACCEPTED = [
@@ -117,7 +117,7 @@ ACCEPTED = [
     (SHUFFLED, in_chunk_4(2110)),
     # names are compared byte for byte
     (f"objectId,x,y,z,flux,Flux,_9,{'q' * 32}\n", NONE),
-    # twelve further columns, a NULL among their values
+    # twelve extra columns, a NULL among their values
     (f"objectId,x,y,z,{FURTHER}\n9,268435456,0,0,1,,-3,4,5,,7,-8,9,,11,12\n", in_chunk_4(1)),
     ("objectId,x,y,z,flux\n1,268435456,0,0,", in_chunk_4(1)),
     ('objectId,x,y,z,f\n1,268435456,0,0,""\n', in_chunk_4(1)),
@@ -159,7 +159,7 @@ CSV_FAULTS = [
     # 17 below 2^28
     (FOUR + "1,268435439,0,0\n", "row 1: length"),
     (FOUR + "1,268435456,0,0\n1,0,0,268435456\n", "row 2: repeated id 1"),
-    # behind a closing quote a field goes on
+    # after a closing quote a field goes on
     (FOUR + '"12"3,268435456,0,0\n123,268435456,0,0', "row 2: repeated id 123"),
     # of repeated ids and other faults the first by its row; of repeats the first that one before it equals
     (rows_of("1 2 1 4 five 6"), "row 3: repeated id 1"),
@@ -177,7 +177,7 @@ CSV_FAULTS = [
     (THOUSAND + "500,268435456,0,0\n999,0,0,0\n", "row 1001: repeated id 500"),
     (SHUFFLED + "7,268435456,0,0\n3,268435456,0,0\n3,268435456,0,0\n", "row 2111: repeated id 7"),
 ]
-# a catalogue of 57 bytes, and what it is when it is cut behind its first bytes, up to a number of them and without it
+# a catalogue of 57 bytes, and what it is when it is cut after its first bytes, up to a number of them and without it
 WHOLE = "objectId,x,y,z,flux\n7,268435456,0,0,\n3,0,0,-268435456,-5\n"
 CUTS = [
     (8, "header: field 1"),
@@ -224,7 +224,7 @@ def ends(second):
 
 
 CANCELLED, COUNTED = ends("cancelled\n"), ends("COUNT(*)\n6\n1 rows, 3 chunks\n")
-# the numbers of workers, a script, and what it may come to
+# the numbers of workers, a script, and what it may write
 SCRIPTS = [
     ("0", "", ""),
     ("0", "# a note\n\n", ""),
@@ -348,12 +348,18 @@ DEMOS = [
 
 # ---- words and statuses
 
-USAGE = "usage: qserv load SKY CSV; query SKY CSV SCRIPT WORKERS; explain SKY CSV SCRIPT; demo COUNT SEED WORKERS"
+USAGE = (
+    "usage: qserv load SKY CSV; query SKY CSV SCRIPT WORKERS; explain SKY CSV SCRIPT; demo COUNT SEED WORKERS; "
+    "trace SKY CSV SCRIPT WORKERS; check JOURNAL"
+)
 TEXTS = ["sky.txt", "catalogue.csv"]
 NO_FORMS = [
     [],
     ["query", "sky.txt"],
     ["load", *TEXTS, "0"],
+    ["check"],
+    ["check", "sky.txt", "sky.txt"],
+    ["checks", "sky.txt"],
     QUERY,
     [*EXPLAIN, "0"],
     # no number of workers: one too many, a minus, no digit, a digit too many
@@ -382,10 +388,97 @@ STATUSES += [
     fault(["explain", *TEXTS, "."], 7, ".: cannot be read"),
 ]
 
+# ---- journals
+
+CHECK = ["check", "journal"]
+# query 2 is attached when query 1 was served chunk 0: both are served chunk 4, and query 2 has chunk 0 on the next round
+BOARD = """ring 8
+0 attach 1 0 4
+0 take 0 0 1
+0 attach 2 0 4
+0 take 1 4 1 2
+0 deliver 1
+0 deliver 0
+0 take 2 0 2
+0 deliver 2
+0 collect 1
+0 collect 2
+0 close
+"""
+# what takes the place of a line of it, by its number, and what is then wrong
+CHANGED = [
+    ("journal line 8: not a step", {8: "0 take 2 0 1 2"}),
+    ("journal line 3: syntax", {3: "0 take 0 0"}),
+    # the form of each line is validated before any step
+    ("journal line 12: syntax", {3: "0 take 1 0 1", 12: "0 close 1"}),
+    ("journal line 1: syntax", {1: "ring 16385"}),
+    # a chunk that is not on the ring
+    ("journal line 2: not a step", {2: "0 attach 1 0 8"}),
+    # the first take is of chunk 0, and the second one, of chunk 4, is also for query 2
+    ("journal line 3: not a step", {3: "0 take 0 4 1"}),
+    ("journal line 5: not a step", {5: "0 take 1 4 1"}),
+    # another seat took the task; it is delivered twice
+    ("journal line 6: not a step", {6: "1 deliver 1"}),
+    ("journal line 7: not a step", {7: "0 deliver 1"}),
+    # query 2 is not in the take of ticket 0
+    ("journal line 7: not a step", {7: "0 deliver 0 lost 2"}),
+    # of a query that is done, a cancel; of one that runs, a collect
+    ("journal line 8: not a step", {8: "0 cancel 1"}),
+    ("journal line 8: not a step", {8: "0 collect 2"}),
+    # the last entry; chunks that do not ascend, and a query without a number
+    ("journal line 12: not a step", {12: "0 collect 1"}),
+    ("journal line 2: syntax", {2: "0 attach 1 4 0"}),
+    ("journal line 2: syntax", {2: "0 attach 0 0 4"}),
+    ("journal line 2: syntax", {2: "0 attach 256 0 4"}),
+    ("journal line 2: syntax", {2: "0  attach 1 0 4"}),
+    ("journal line 2: syntax", {2: ""}),
+]
+
+
+def with_lines(lines):
+    """The board's journal with other lines in places of these numbers."""
+    return "".join(lines.get(number, line) + "\n" for number, line in enumerate(BOARD.splitlines(), 1))
+
+
+# a cancel and a loss end a query, whose chunks are then taken for the others alone; an attach without chunks is done at once
+OF_ENDS = """ring 3
+0 attach 1 0 1 2
+0 attach 2 1
+0 attach 3 1 2
+0 attach 4
+0 collect 4
+0 take 0 0 1
+0 cancel 1
+2 take 1 1 2 3
+2 deliver 1 lost 3
+0 deliver 0
+0 collect 3
+0 collect 1
+0 collect 2
+0 close
+"""
+OK = "ok: 11 entries, 2 queries, 3 takes\n"
+JOURNALS = [
+    done(CHECK, OK, journal=BOARD),
+    done(CHECK, OK, journal=BOARD.replace("\n", "\r\n").removesuffix("\r\n")),
+    done(CHECK, OK, journal=BOARD.replace("0 4\n", "000 0000000004\n")),
+    done(CHECK, "ok: 14 entries, 4 queries, 2 takes\n", journal=OF_ENDS),
+    done(CHECK, "ok: 0 entries, 0 queries, 0 takes\n", journal="ring 16384"),
+    done(CHECK, "ok: 1 entries, 0 queries, 0 takes\n", journal="ring 0\n4294967295 close\n"),
+    *(fault(CHECK, 12, line, journal=with_lines(lines)) for line, lines in CHANGED),
+    fault(CHECK, 12, "journal line 1: syntax", journal=""),
+    fault(CHECK, 12, "journal line 13: syntax", journal=BOARD + "\r"),
+    fault(["check", "catalogue.csv"], 12, "journal line 1: syntax"),
+    fault(["check", "none"], 7, "none: cannot be read"),
+    fault(["check", ""], 7, ": cannot be read"),
+    fault(CHECK, 12, "journal line 1: syntax", journal=536870912),
+    fault(CHECK, 6, "journal: too long", journal=536870913),
+]
+
 # ---- limits
 
 # With as many chunks as there may be, row 5 is in the lowest stripe, and rows 1 to 4 in the next one. Rows 1 and 3, with y = 0,
-# lie on the border of the last wedge of their stripe, which holds row 4. Row 6, at the pole, is in the first chunk of the last
+# are on the border of the last wedge of their stripe, which holds row 4. Row 6, at the pole, is in the first chunk of the last
 # stripe.
 REPORT_OF_MOST_CHUNKS = """6 rows, 4 of 16384 chunks
 chunk 0: 1 rows, 0 overlap
@@ -420,7 +513,7 @@ LIMITS = [
     fault(LOAD_CSV, 6, "csv: too long", csv=536870913),
 ]
 
-RUNS = SKIES + CATALOGUES + STEPS + DEMOS + STATUSES + LIMITS
+RUNS = SKIES + CATALOGUES + STEPS + DEMOS + STATUSES + JOURNALS + LIMITS
 RUNS.append(done(["load", "sky", "csv"], worked_world.report(), sky=worked_world.SKY, csv=worked_world.CSV))
 # whatever is written to the full device fails
 OUTPUT_FAILED = fault(["load", *TEXTS], 8, "output failed")

@@ -1,7 +1,7 @@
-"""A sky of three stripes and a few hundred rows on and beside the sides and the bounds of its parts, and what is to be told of
+"""A sky of three stripes and a few hundred rows on and beside the sides and the bounds of its parts, and what is to be written of
 them: scripts/worked_rows.py runs the program over both.
 
-What is told is found the dull way: each row is tested against the sides and the bounds of each chunk, which stand here as
+What is written is found the dull way: each row is tested against the sides and the bounds of each chunk, which are here as
 numbers, and each row against each other for pairs. No division finds a wedge, and no list of near rows is kept.
 """
 import math

@@ -63,17 +63,17 @@ def same(one, other):
     return nulls[0] == nulls[1] and all((a.whole == b.whole).all() for a, b in zip(one.columns, other.columns))
 
 
-def compared(catalogue, dsn, want, what):
-    """Runs the queries in PostgreSQL; how many differ."""
+def compared(catalogue, dsn, blocks, want, what):
+    """Runs the explained queries in PostgreSQL; how many differ."""
     wrong, seconds = 0, 0.0
     with pg.connected(dsn, catalogue, "skyq") as base:
-        for number, (sql, one) in enumerate(zip(QUERIES, want), 1):
+        for number, (block, sql, one) in enumerate(zip(blocks, QUERIES, want), 1):
             begun = time.monotonic()
-            found = pg.answer(base, catalogue, sql, "skyq")
+            found = pg.run_block(base, catalogue, number, block, sql, "skyq")
             took = time.monotonic() - begun
             wrong, seconds = wrong + (not same(one, found)), seconds + took
             print(f"{what}, query {number}: {'agrees' if same(one, found) else 'DIFFERS'}, {one.count} rows, {one.chunks} chunks, {took:.1f} s", flush=True)
-    print(f"{what}: {wrong} of {len(QUERIES)} differ, {seconds:.0f} s in all, explanations included", flush=True)
+    print(f"{what}: {wrong} of {len(QUERIES)} differ, {seconds:.0f} s in all", flush=True)
     return wrong
 
 
@@ -89,12 +89,13 @@ def main():
         begun = time.monotonic()
         want = engine.ask(words.folder, QUERIES)
         print(f"the engine, all {len(QUERIES)} in one script: {time.monotonic() - begun:.1f} s", flush=True)
+        blocks = pg.explanations(catalogue, QUERIES)
         clusters += [pg_cluster.Cluster(), pg_cluster.Cluster()]
         for what, far in (("one PostgreSQL", []), ("two PostgreSQLs", [clusters[1].dsn])):
             begun = time.monotonic()
             told = pg_load.load(catalogue, clusters[0].dsn, "skyq", far)
             print(f"{what}: {told}; loaded in {time.monotonic() - begun:.0f} s", flush=True)
-            wrong += compared(catalogue, clusters[0].dsn, want, what)
+            wrong += compared(catalogue, clusters[0].dsn, blocks, want, what)
     except errors.SkyqError as fault:
         raise SystemExit(f"clients_pg: {fault}") from None
     finally:

@@ -14,7 +14,7 @@ CHECKOUT = os.path.dirname(os.path.dirname(os.path.dirname(os.path.abspath(__fil
 MOST_QUERIES = 255                  # of a script
 BUILDING = "qserv: crate "          # how the launcher's lines begin that tell how far it has built
 # What the launcher sets for the program's memory.
-MEMORY = {"MALLOC_TOP_PAD_": "67108864", "MALLOC_TRIM_THRESHOLD_": "2000000000", "GLIBC_TUNABLES": "glibc.malloc.hugetlb=1"}
+MEMORY = {"MALLOC_TOP_PAD_": "1048576", "MALLOC_TRIM_THRESHOLD_": "2000000000", "GLIBC_TUNABLES": "glibc.malloc.hugetlb=1"}
 
 
 def program():

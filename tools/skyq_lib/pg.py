@@ -74,6 +74,7 @@ def connected(dsn, catalogue, schema):
     """A connection to the database that holds the catalogue's tables; a SkyqError if it holds none, or those of another."""
     psycopg = need("psycopg", "PostgreSQL")
     base = psycopg.connect(dsn, autocommit=True)
+    base.execute("SET jit = off")       # it would compile the joins of each chunk anew, which takes longer than to run them
     found = pg_load.mark_of(base, schema)
     if found != pg_load.mark(catalogue):
         base.close()
@@ -92,11 +93,17 @@ def answer(base, catalogue, sql, schema):
 
 def answers(base, catalogue, queries, schema):
     """The Answers to queries of the engine's SQL."""
+    blocks = explanations(catalogue, queries)
+    return [run_block(base, catalogue, number, block, one, schema) for number, (block, one) in enumerate(zip(blocks, queries), 1)]
+
+
+def explanations(catalogue, queries):
+    """The lines that the program explains each query in, for run_block."""
     text = engine.run("explain", catalogue.folder, "".join(f"{one}\n" for one in queries)).decode("utf-8", "replace")
     blocks = explained(text)
     if len(blocks) != len(queries):
         raise SkyqError(f"the program explained {len(blocks)} of {len(queries)} queries")
-    return [run_block(base, catalogue, number, block, one, schema) for number, (block, one) in enumerate(zip(blocks, queries), 1)]
+    return blocks
 
 
 def explained(text):

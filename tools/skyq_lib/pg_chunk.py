@@ -1,4 +1,6 @@
 """What `explain` prints as a chunk query, as PostgreSQL's statement on the tables of a chunk."""
+import math
+
 from skyq_lib.errors import SkyqError
 from skyq_lib.pg_text import AGGREGATES, COMPARISONS, Reader, Value, bound_of, quoted
 
@@ -116,13 +118,17 @@ class ChunkQuery(Reader):
         return found
 
     def near(self):
+        """A limit of chord2 as an expression, after the range of heights that it implies, for which the near rows have an index."""
         self.at += 2
         a = self.tables.index(self.take()) + 1
         self.take(",")
         b = self.tables.index(self.take()) + 1
         self.take(")")
-        sign = self.take("<", "<=")
-        return f"({squares([(f't{a}.{axis}', f't{b}.{axis}') for axis in 'xyz'])} {sign} {self.number()}::bigint)"
+        sign, limit = self.take("<", "<="), self.number()
+        reach = math.isqrt(max(0, limit))
+        chord = squares([(f"t{a}.{axis}", f"t{b}.{axis}") for axis in "xyz"])
+        one, other = min(a, b), max(a, b)
+        return f"(t{other}.z BETWEEN t{one}.z - {reach} AND t{one}.z + {reach} AND {chord} {sign} {limit}::bigint)"
 
     def area(self):
         word = self.take()

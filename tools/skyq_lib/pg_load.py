@@ -2,7 +2,7 @@
 
 In a schema of its own: `object`, the rows, and `object_near`, for each subchunk its rows and those near it; both are cut
 by chunk into tables object_C and object_near_C. A join of near pairs in a chunk is one statement over its two tables: both
-sides have the number of a subchunk.
+sides have the number of a subchunk, and the near rows an index by subchunk and height.
 """
 import contextlib
 import hashlib
@@ -119,7 +119,8 @@ class Loader:
 
         given = conninfo_to_dict(self.dsns[place])
         user = {name: given.pop(name) for name in ("user", "password") if name in given}
-        options = {**given, "fetch_size": FETCH, "async_capable": "true"}
+        # with its own estimates the planner leaves the join of a far chunk to where the chunk's tables and index are
+        options = {**given, "fetch_size": FETCH, "async_capable": "true", "use_remote_estimate": "true"}
         first = self.bases[0]
         first.execute("CREATE EXTENSION IF NOT EXISTS postgres_fdw")
         first.execute(f"DROP SERVER IF EXISTS {self.server(place)} CASCADE")
@@ -138,6 +139,7 @@ class Loader:
                     self.make_part(name, number, place)
                     with self.bases[place].cursor().copy(f"COPY {self.named(name)} FROM STDIN (FORMAT csv)") as copy:
                         copy.write(text)
+                self.bases[place].execute(f"CREATE INDEX ON {self.named(f'object_near_{number}')} ({quoted(SUB)}, z)")
                 counts[place], near, chunks = counts[place] + count, near + count_near, chunks + 1
                 bar.step()
         parts = f", {counts[0]} of them here and {', '.join(str(one) for one in counts[1:])} far" if counts[1:] else ""

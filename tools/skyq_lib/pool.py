@@ -21,8 +21,10 @@ from skyq_lib.errors import SkyqError
 from skyq_lib.warm import Warm
 
 MOST_TOGETHER = 64          # queries of a script, so many run at once in the program
-QUIET = 0.004               # seconds without a further query before a script begins
-LONGEST_QUIET = 0.04        # seconds that a script waits for further queries in all
+# How long a script waits for further queries: until none has come for this long, and in all, in seconds. The script of the
+# last program that is ready waits longer: who comes too late for it waits until a program has read the catalogue again.
+QUIET, LONGEST_QUIET = 0.015, 0.15
+LAST_QUIET, LAST_LONGEST_QUIET = 0.05, 0.25
 AGAIN = 1.0                 # seconds before a program is started again that failed
 LOOK = 0.25                 # seconds between two looks at whether an answer is still wanted
 
@@ -60,6 +62,7 @@ class Pool:
         self.waiting, self.programs = collections.deque(), set()
         self.changed = threading.Condition()        # guards all that this object holds
         self.turn = threading.Lock()                # one thread at a time gathers a script
+        self.ready = 0                              # programs that wait for their script
         self.is_closed, self.is_ready, self.fault = False, False, None
         self.folder = tempfile.mkdtemp(prefix="skyq-")
         self.threads = [threading.Thread(target=self.serve, daemon=True) for _ in range(programs)]
@@ -172,6 +175,7 @@ class Pool:
     def tell_ready(self):
         with self.changed:
             self.is_ready, self.fault = True, None
+            self.ready += 1
             self.changed.notify_all()
 
     def tell_fault(self, fault):
@@ -191,14 +195,20 @@ class Pool:
         """The questions of the next script: waits for the first, and a moment for those that come with it."""
         with self.turn, self.changed:
             self.changed.wait_for(lambda: self.waiting or self.is_closed)
-            end, count = time.monotonic() + LONGEST_QUIET, 0
-            while count < len(self.waiting) < MOST_TOGETHER and time.monotonic() < end:
-                count = len(self.waiting)
-                self.changed.wait(QUIET)
+            self.wait_for_more()
+            self.ready -= 1
             taken = []
             while self.waiting and len(taken) < MOST_TOGETHER and not (taken and (taken[0].is_alone or self.waiting[0].is_alone)):
                 taken.append(self.waiting.popleft())
             return taken
+
+    def wait_for_more(self):
+        """Waits, with the lock held, until a script is full or no further query has come for a moment."""
+        quiet, longest = (QUIET, LONGEST_QUIET) if self.ready > 1 else (LAST_QUIET, LAST_LONGEST_QUIET)
+        end, count = time.monotonic() + longest, 0
+        while count < len(self.waiting) < MOST_TOGETHER and time.monotonic() < end and not self.is_closed:
+            count = len(self.waiting)
+            self.changed.wait_for(lambda: len(self.waiting) != count or self.is_closed, quiet)
 
     def run(self, program, questions):
         """Runs one script, and ends its questions or lets them wait again."""

@@ -30,6 +30,7 @@ class Service:
     def __init__(self, catalogue, pool, limits):
         self.catalogue, self.pool, self.limits = catalogue, pool, limits
         self.schema = tap_schema.Tables(catalogue)
+        self.written(query.table_of([], []), False, "", "csv")      # so that no client waits for what the first table imports
 
     def outcome(self, parameters, seconds, hold=None, on_start=None, is_wanted=None):
         """The Outcome of a request's parameters, whose names are in capitals; Cancelled where its query is cancelled."""

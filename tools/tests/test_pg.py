@@ -39,9 +39,15 @@ class Texts(unittest.TestCase):
 
     def test_names_are_kept_and_tables_get_ours(self):
         self.assertEqual(self.chunk("SELECT Object.End,user FROM Object_c"), 'SELECT t1."End" AS c1, t1."user" AS c2 FROM own AS t1')
-        self.assertEqual(self.chunk("SELECT a.x,A.x FROM Object_c_s a,Object_c_s_near A WHERE chord2(A,a)<9"),
-                         'SELECT t1."x" AS c1, t2."x" AS c2 FROM own AS t1, near AS t2 WHERE t1."#sub" = t2."#sub" AND (((('
-                         '(t2.x - t1.x) * (t2.x - t1.x) + (t2.y - t1.y) * (t2.y - t1.y) + (t2.z - t1.z) * (t2.z - t1.z) < 9::bigint))))'.replace("((((", "((("). replace("))))", ")))"))
+        self.assertEqual(self.chunk("SELECT a.x,A.x FROM Object_c_s a,Object_c_s_near A"),
+                         'SELECT t1."x" AS c1, t2."x" AS c2 FROM own AS t1, near AS t2 WHERE t1."#sub" = t2."#sub"')
+
+    def test_a_limit_of_a_distance_is_also_one_of_heights(self):
+        cases = [("(a,b)<=8", "12", "<= 8", 2), ("(b,a)<9", "21", "< 9", 3), ("(a,b)<=0", "12", "<= 0", 0), ("(a,b)<=99999999999999999", "12", "<= 99999999999999999", 316227766)]
+        for limit, (one, other), want, reach in cases:
+            chord = " + ".join(f"(t{one}.{axis} - t{other}.{axis}) * (t{one}.{axis} - t{other}.{axis})" for axis in "xyz")
+            self.assertEqual(self.chunk(f"SELECT a.x FROM Object_c_s a,Object_c_s_near b WHERE chord2{limit}"), 'SELECT t1."x" AS c1 FROM own AS t1, near AS t2'
+                             f' WHERE t1."#sub" = t2."#sub" AND (((t2.z BETWEEN t1.z - {reach} AND t1.z + {reach} AND {chord} {want}::bigint)))')
 
     def test_arithmetic_is_numeric_where_it_may_pass_64_bits(self):
         cases = [("x*y+z", '((t1."x" * t1."y") + t1."z")'), ("flux*8191", '(t1."flux" * 8191::bigint)'), ("flux*8193", '(t1."flux"::numeric * 8193::bigint)'),
@@ -102,6 +108,18 @@ class Databases(support.WithFolder):
     def test_random_worlds_of_two_databases(self):
         tally = sum((self.compare(seed, [self.other]) for seed in range(4, 8)), collections.Counter())
         self.assertGreater(tally["answered"], 30)
+
+    def test_near_rows_have_an_index_where_they_are(self):
+        import psycopg
+
+        catalogue, _, _ = self.world(5)
+        pg_load.load(catalogue, self.dsn, "worlds", [self.other])
+        with psycopg.connect(self.other) as other:
+            for base in (self.base, other):
+                names = {name for (name,) in base.execute("SELECT relname FROM pg_class WHERE relnamespace = 'worlds'::regnamespace AND relkind = 'r'")}
+                found = base.execute("SELECT tablename FROM pg_indexes WHERE schemaname = 'worlds' AND indexdef LIKE '%(\"#sub\", z)'").fetchall()
+                self.assertEqual({name for (name,) in found}, {name for name in names if name.startswith("object_near_")})
+                self.assertTrue(found)
 
     def ingest(self, *words):
         """Makes the folder c of the first rows of Tycho-2's cut."""

@@ -6,6 +6,7 @@ import sys
 import threading
 import time
 import unittest
+from unittest import mock
 
 import support
 from skyq_lib.errors import SkyqError
@@ -107,6 +108,24 @@ class Scripts(Programs):
         counts = [count for _, count in self.log("script")]
         self.assertEqual(sum(counts), 150)
         self.assertLessEqual(max(counts), 64)
+
+    def test_the_last_program_waits_for_queries_that_come_later(self):
+        with mock.patch("skyq_lib.pool.LAST_QUIET", 90.0), mock.patch("skyq_lib.pool.LAST_LONGEST_QUIET", 90.0):
+            pool, found = self.pool(), {}
+            first = threading.Thread(target=lambda: found.update(self.asked(pool, ["say "])))
+            first.start()
+            self.assertTrue(until(lambda: pool.waiting))
+            words = {f"say {'x' * k}": k for k in range(1, 64)}
+            self.assertEqual(self.asked(pool, words), words)
+            first.join()
+        self.assertEqual((found, [count for _, count in self.log("script")]), ({"say ": 0}, [64]))
+
+    def test_a_program_does_not_wait_long_while_another_is_ready(self):
+        with mock.patch("skyq_lib.pool.LAST_QUIET", 90.0), mock.patch("skyq_lib.pool.LAST_LONGEST_QUIET", 90.0):
+            pool, begun = self.pool(programs=2), time.monotonic()
+            self.assertTrue(until(lambda: pool.ready == 2))
+            self.assertEqual(self.asked(pool, ["say abc"]), {"say abc": 3})
+        self.assertLess(time.monotonic() - begun, 80)
 
     def test_a_program_stands_ready_while_another_works(self):
         pool = self.pool(programs=2)

@@ -20,7 +20,7 @@ use Rattle.column_eval.proofs.Reading.{rows_there}
 use Rattle.partial_merge.specs.declared.rank.Rank.{Rank}
 use Rattle.partial_merge.specs.Bags.{out_row as ranked}
 use Rattle.chunk_scan.specs.Computed.{AreReady, item_on, key_in, keys_on, rank_by}
-use Rattle.chunk_scan.specs.Parted.{IsReady}
+use Rattle.chunk_scan.specs.States.{IsReady}
 use Rattle.chunk_scan.proofs.Sizing.{ready_values}
 
 -- ---- no value is too large

@@ -18,7 +18,7 @@ use Rattle.chunk_store.proofs.Ranges.{places_there}
 use Rattle.sql_bound.specs.declared.cond.BoundCond.{BoundCond}
 use Rattle.value_rules.specs.Truth.{meets}
 use Rattle.value_rules.specs.Values.{Pick, row}
-use Rattle.chunk_scan.specs.Standing.{standing}
+use Rattle.chunk_scan.specs.Selection.{selection}
 
 -- objects at places of a list are the rows there
 pub objects_taken : (objects : List Obj) (places : List ℕ) → All (λ i. i < length objects) places → objects_at objects places ≡ rows_at objects places
@@ -55,7 +55,7 @@ and_turned false false = refl
 
 -- what meets the conditions and lies in the chunk are the rows at the places of its block that meet them
 pub found_rows : (g : Partition) (table : List Obj) (conds : List BoundCond) (c : ℕ) (block : List Obj) → block ≡ filter (λ o. in_chunk g c o.at) table
-    → filter (λ (p : Pick). meets conds p && in_chunk g c p.first.at) (map row table) ≡ map row (objects_at block (standing conds block))
+    → filter (λ (p : Pick). meets conds p && in_chunk g c p.first.at) (map row table) ≡ map row (objects_at block (selection conds block))
 found_rows g table conds c block is =
     filter_map row (λ (p : Pick). meets conds p && in_chunk g c p.first.at) table
     ∙ ap (map row)
@@ -80,7 +80,7 @@ pub block_few : (g : Partition) (table : List Obj) (c : ℕ) (block : List Obj) 
 block_few g table c block is few = omega (arith, ap length is, filter_short (λ o. in_chunk g c o.at) table, few)
 
 -- and no more places are left than it has rows
-pub places_few : (conds : List BoundCond) (block : List Obj) (places : List ℕ) → places ≡ standing conds block → length places ≤ length block
+pub places_few : (conds : List BoundCond) (block : List Obj) (places : List ℕ) → places ≡ selection conds block → length places ≤ length block
 places_few conds block places is =
     omega (arith, ap length is, filter_short (λ i. passes (λ o. meets conds (row o)) (slice_get block i)) (range_with_len 0 (length block)), length-range_with_len 0 (length block))
 

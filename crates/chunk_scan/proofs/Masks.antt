@@ -11,7 +11,7 @@ use Rattle.sql_bound.specs.declared.cond.BoundCond.{BoundCond}
 use Rattle.value_rules.specs.Truth.{meets}
 use Rattle.value_rules.specs.Values.{row}
 use Rattle.chunk_rules.specs.Places.{passes}
-use Rattle.chunk_scan.specs.Standing.{mask_of, meets_at, standing}
+use Rattle.chunk_scan.specs.Selection.{mask_of, meets_at, selection}
 use Rattle.chunk_scan.proofs.Narrowing.{equal_or_not}
 use Rattle.chunk_scan.proofs.Places.{meets_there}
 
@@ -58,7 +58,7 @@ only_more mask place test at h k is = which (equal_or_not place k)
 
 -- a mask that is true at these places and nowhere else
 pub mask_is : (conds : List BoundCond) (objects : List Obj) (mask : List Bool) (places : List ℕ) → length mask ≡ length objects
-    → places ≡ standing conds objects → ((j : ℕ) → j < length places → get_or mask (get_or places j 0) false ≡ true)
+    → places ≡ selection conds objects → ((j : ℕ) → j < length places → get_or mask (get_or places j 0) false ≡ true)
     → ((test : ℕ → Bool) → All (λ place. test place ≡ true) places → ((k : ℕ) → get_or (replicate (length objects) false) k false ≡ true → test k ≡ true)
     → (k : ℕ) → get_or mask k false ≡ true → test k ≡ true)
     → mask ≡ mask_of conds objects

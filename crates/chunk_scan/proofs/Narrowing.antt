@@ -9,9 +9,9 @@ use Rattle.value_rules.specs.Truth.{holds, meets}
 use Rattle.value_rules.specs.Values.{Pick, row}
 use Rattle.value_rules.specs.Formulas.{formula_of}
 use Rattle.lane_filter.specs.Tests.{IsKeptBy}
-use Rattle.chunk_scan.specs.declared.known.Early.{Early}
-use Rattle.chunk_scan.specs.Asking.{IsEarly, asks}
-use Rattle.chunk_scan.specs.Standing.{IsNarrowed, IsNarrowedBy, holds_at}
+use Rattle.chunk_scan.specs.declared.predicate.Vectorized.{Vectorized}
+use Rattle.chunk_scan.specs.Asking.{IsVectorized, asks}
+use Rattle.chunk_scan.specs.Selection.{IsNarrowed, IsNarrowedBy, holds_at}
 
 -- what meets all conditions meets each
 pub meets_each : (conds : List BoundCond) (p : Pick) (i : ℕ) (c : BoundCond) → slice_get conds i ≡ Some c → meets conds p ≡ true → holds c p ≡ true
@@ -64,8 +64,8 @@ narrowed_more conds objects done old new i c b there at by h = record {
         h.done j k d is (sym (get_or-set_other done i j b false other) ∙ flag) low (by.back k (omega (arith, low, h.count)) stands)
 
 -- a mask that was kept by what a kernel asks for a condition
-pub narrowed_by : (c : BoundCond) (objects : List Obj) (e : Early) (old new : List Bool) → length objects ≡ length old → length new ≡ length old
-    → IsEarly (formula_of c) e → IsKeptBy (λ k. asks e.test (get_or objects k no_row)) old new → IsNarrowedBy c objects e.whole old new
+pub narrowed_by : (c : BoundCond) (objects : List Obj) (e : Vectorized) (old new : List Bool) → length objects ≡ length old → length new ≡ length old
+    → IsVectorized (formula_of c) e → IsKeptBy (λ k. asks e.test (get_or objects k no_row)) old new → IsNarrowedBy c objects e.whole old new
 narrowed_by c objects e old new count same h kept = record {
   count = same;
   back = λ k low stands. (and_parts (get_or old k false) (asks e.test (get_or objects k no_row)) (sym (kept k low) ∙ stands)).0;

@@ -15,7 +15,7 @@ use Rattle.value_rules.specs.Truth.{is_true, meets, truth_of}
 use Rattle.value_rules.specs.Values.{row}
 use Rattle.chunk_rules.specs.Places.{passes}
 use Rattle.chunk_store.proofs.Ranges.{filter_twice, places_there}
-use Rattle.chunk_scan.specs.Standing.{AreDone, IsNarrowed, holds_at, meets_at, standing}
+use Rattle.chunk_scan.specs.Selection.{AreDone, IsNarrowed, holds_at, meets_at, selection}
 
 -- ---- a list that is filtered in place, without a branch
 
@@ -147,9 +147,9 @@ pub meets_there : (conds : List BoundCond) (objects : List Obj) (k : ℕ) → k 
 meets_there conds objects k low = ap (passes (λ o. meets conds (row o))) (slice_get-get_or objects k no_row low)
 
 -- those of them that meet all conditions are the places of the rows that do
-pub standing_places : (conds : List BoundCond) (objects : List Obj) (done mask : List Bool) → IsNarrowed conds objects done mask
-    → filter (meets_at conds objects) (filter (λ k. get_or mask k false) (range_with_len 0 (length mask))) ≡ standing conds objects
-standing_places conds objects done mask h =
+pub selection_places : (conds : List BoundCond) (objects : List Obj) (done mask : List Bool) → IsNarrowed conds objects done mask
+    → filter (meets_at conds objects) (filter (λ k. get_or mask k false) (range_with_len 0 (length mask))) ≡ selection conds objects
+selection_places conds objects done mask h =
     filter_twice (λ k. get_or mask k false) (meets_at conds objects) (range_with_len 0 (length mask))
     ∙ (ap (λ n. filter (λ k. get_or mask k false && meets_at conds objects k) (range_with_len 0 n)) h.count
     ∙ filter_same_on (λ k. get_or mask k false && meets_at conds objects k) (λ k. passes (λ o. meets conds (row o)) (slice_get objects k))
@@ -159,6 +159,6 @@ standing_places conds objects done mask h =
     and_if (get_or mask place false) (meets_at conds objects place) (h.kept place there) ∙ sym (meets_there conds objects place there)))
 
 -- they are places of the block
-pub there_places : (conds : List BoundCond) (objects : List Obj) (places : List ℕ) → places ≡ standing conds objects → All (λ place. place < length objects) places
+pub there_places : (conds : List BoundCond) (objects : List Obj) (places : List ℕ) → places ≡ selection conds objects → All (λ place. place < length objects) places
 there_places conds objects places is =
     subst (All (λ place. place < length objects)) (sym is) (places_there (λ o. meets conds (row o)) objects)

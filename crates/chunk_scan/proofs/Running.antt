@@ -18,7 +18,7 @@ use Rattle.partial_merge.specs.Joining.{MayTakeGroup, with_group}
 use Rattle.chunk_scan.specs.Runs.{AreStarts}
 use Rattle.chunk_scan.proofs.Groups.{may_take, run_put}
 use Rattle.chunk_scan.proofs.Marking.{run_of}
-use Rattle.chunk_scan.proofs.Parting.{take_between}
+use Rattle.chunk_scan.proofs.GroupStates.{take_between}
 
 -- as many rows as the run is long
 run_length : (objects : List Obj) (from to : ℕ) → to ≤ length objects → length (map row (slice_range objects from to)) ≡ to - from

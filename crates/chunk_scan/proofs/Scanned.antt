@@ -22,7 +22,7 @@ use Rattle.answer_rules.specs.Ranks.{row_order}
 use Rattle.answer_rules.specs.Rows.{limit_of, out_row}
 use Rattle.answer_rules.proofs.Covering.{found_in_one}
 use Rattle.chunk_scan.specs.Lines.{IsOfRowsOver, IsPieceBy, IsPieceOver}
-use Rattle.chunk_scan.specs.Standing.{standing}
+use Rattle.chunk_scan.specs.Selection.{selection}
 use Rattle.chunk_scan.proofs.Found.{found_rows}
 
 -- a query that is no join looks at the rows
@@ -48,7 +48,7 @@ by_shape (Groups keys) g table cq c objects view is h = h ∙ ap (λ ps. OfGroup
 
 -- the piece of the rows of the block that meet the conditions
 pub scanned : (g : Partition) (table : List Obj) (cq : ChunkQuery) (c : ℕ) (block : List Obj) (places : List ℕ) (view : PieceView) → IsSky g → AreInTheSky table
-    → c < chunk_count g → is_paired cq.shape ≡ false → block ≡ filter (λ o. in_chunk g c o.at) table → places ≡ standing cq.conds block
+    → c < chunk_count g → is_paired cq.shape ≡ false → block ≡ filter (λ o. in_chunk g c o.at) table → places ≡ selection cq.conds block
     → IsPieceOver cq (objects_at block places) view → PieceFor g table cq (c ∷ []) view
 scanned g table cq c block places view sky admissible there single is are h =
     by_shape cq.shape g table cq c (objects_at block places) view

@@ -19,7 +19,7 @@ use Rattle.answer_rules.specs.Aggregates.{all_joined, greater, joined_to, lesser
 use Rattle.answer_rules.specs.Parts.{part_over}
 use Rattle.answer_rules.specs.Small.{IsSmallPart}
 use Rattle.chunk_scan.specs.Grouped.{is_sound_total}
-use Rattle.chunk_scan.specs.Parted.{IsReady, values_on, worth_of}
+use Rattle.chunk_scan.specs.States.{IsReady, argument_of, values_on}
 use Rattle.chunk_scan.proofs.Joining.{Fits, numbers_few, numbers_fit}
 
 -- the numbers of an expression on rows are those of its values
@@ -110,7 +110,7 @@ pub ready_values : (columns n : ℕ) (e : BoundExpr) (objects : List Obj) → is
 ready_values columns n e objects sound rows few =
     (omega (arith, few, count_values e objects), All-from_recursion (IsOfSize most) (values_on e objects) (values_sized columns e objects sound rows))
 
-ready_one : (columns n : ℕ) (objects : List Obj) (i : ChunkItem) → is_sound_total columns i ≡ true → Each IsRow objects → n ≤ length objects → IsReady n (worth_of objects i)
+ready_one : (columns n : ℕ) (objects : List Obj) (i : ChunkItem) → is_sound_total columns i ≡ true → Each IsRow objects → n ≤ length objects → IsReady n (argument_of objects i)
 ready_one columns n objects (Plain e) sound rows few = tt
 ready_one columns n objects Count sound rows few = tt
 ready_one columns n objects (CountOf e) sound rows few = ready_values columns n e objects sound rows few
@@ -120,16 +120,16 @@ ready_one columns n objects (Max e) sound rows few = ready_values columns n e ob
 
 -- the values of aggregates on some rows are there up to any place among these
 ready_each : (columns n : ℕ) (objects : List Obj) (items : List ChunkItem) → list_all (is_sound_total columns) items ≡ true → Each IsRow objects → n ≤ length objects
-    → Each (IsReady n) (map (worth_of objects) items)
+    → Each (IsReady n) (map (argument_of objects) items)
 ready_each columns n objects [] sound rows few = tt
 ready_each columns n objects (i ∷ items) sound rows few =
     let both = and_parts (is_sound_total columns i) (list_all (is_sound_total columns) items) sound in
     (ready_one columns n objects i both.0 rows few, ready_each columns n objects items both.1 rows few)
 
 pub ready : (columns n : ℕ) (objects : List Obj) (items : List ChunkItem) → list_all (is_sound_total columns) items ≡ true → All IsRow objects → n ≤ length objects
-    → All (IsReady n) (map (worth_of objects) items)
+    → All (IsReady n) (map (argument_of objects) items)
 ready columns n objects items sound rows few =
-    All-from_recursion (IsReady n) (map (worth_of objects) items) (ready_each columns n objects items sound (recursion_from_All IsRow objects rows) few)
+    All-from_recursion (IsReady n) (map (argument_of objects) items) (ready_each columns n objects items sound (recursion_from_All IsRow objects rows) few)
 
 -- the parts of some of the rows
 pub parts_between : (columns from to : ℕ) (objects : List Obj) (items : List ChunkItem) → list_all (is_sound_total columns) items ≡ true → All IsRow objects → to ≤ length objects

@@ -9,9 +9,9 @@ use Rattle.value_rules.specs.Formulas.{Formula}
 use Rattle.value_rules.specs.Sound.{has_col, is_sound_formula}
 use Rattle.value_rules.specs.Truth.{is_true, truth_at}
 use Rattle.value_rules.specs.Values.{cell_of, row}
-use Rattle.chunk_scan.specs.declared.known.Early.{Early}
-use Rattle.chunk_scan.specs.declared.known.Known.{Known}
-use Rattle.chunk_scan.specs.declared.known.Known.TheVariants.{Compare, Range, Present, Absent, Near}
+use Rattle.chunk_scan.specs.declared.predicate.Vectorized.{Vectorized}
+use Rattle.chunk_scan.specs.declared.predicate.Predicate.{Predicate}
+use Rattle.chunk_scan.specs.declared.predicate.Predicate.TheVariants.{Compare, Range, Present, Absent, Near}
 
 -- the value compares so with the number, and is not NULL
 abbrev pub is_compared : Cmp → ℤ → Option ℤ → Bool
@@ -22,7 +22,7 @@ abbrev pub is_in_range : ℤ → ℤ → Option ℤ → Bool
 is_in_range low high value = is_within (record { col = record { second = false; col = 0 }; low = low; high = high }) value
 
 -- the predicate's result on a row
-abbrev pub asks : Known → Obj → Bool
+abbrev pub asks : Predicate → Obj → Bool
 asks (Compare col op n) o = is_compared op n (cell o col)
 asks (Range col low high) o = is_in_range low high (cell o col)
 asks (Present col) o = is_some (cell o col)
@@ -30,7 +30,7 @@ asks (Absent col) o = is_none (cell o col)
 asks (Near centre n) o = area_holds (Cap centre n) o.at
 
 -- the table has the predicate's column
-abbrev pub IsThere : ℕ → Known → Type 0
+abbrev pub IsThere : ℕ → Predicate → Type 0
 IsThere columns (Compare col op n) = col < columns
 IsThere columns (Range col low high) = col < columns
 IsThere columns (Present col) = col < columns
@@ -43,7 +43,7 @@ holds_on f o = is_true (truth_at (cell_of (row o)) o.at f)
 
 -- A predicate that holds on each row on which the formula holds and, if it is the whole formula, on no other. Its
 -- column is in the table if the formula can be computed.
-pub record IsEarly (f : Formula) (e : Early) : Type 0 where
+pub record IsVectorized (f : Formula) (e : Vectorized) : Type 0 where
   pub kept : (o : Obj) → holds_on f o ≡ true → asks e.test o ≡ true
   pub whole : e.whole ≡ true → (o : Obj) → asks e.test o ≡ holds_on f o
   pub there : (columns : ℕ) → 4 ≤ columns → IsTrue (is_sound_formula (has_col columns false) f) → IsThere columns e.test

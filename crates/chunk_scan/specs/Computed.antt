@@ -7,7 +7,7 @@ use Rattle.answer_rules.specs.declared.rewritten.ChunkOrder.{ChunkOrder}
 use Rattle.answer_rules.specs.Pieces.{chunk_value}
 use Rattle.answer_rules.specs.Ranks.{rank_class, rank_value}
 use Rattle.partial_merge.specs.declared.rank.Rank.{Rank}
-use Rattle.chunk_scan.specs.Parted.{IsReady, values_on}
+use Rattle.chunk_scan.specs.States.{IsReady, values_on}
 
 -- the order keys of some rows; there are none without an order
 abbrev pub keys_on : List Obj → Option ChunkOrder → Option (List (Option ℤ))

@@ -1,10 +1,10 @@
 pub mod Asking
-pub mod Standing
+pub mod Selection
 pub mod Lines
 pub mod Grouped
-pub mod Parted
+pub mod States
 pub mod Runs
 pub mod Computed
 pub mod Words
 pub mod Dealt
-pub mod Leading
+pub mod Prefetched

@@ -15,7 +15,7 @@ ghost use Rattle.chunk_scan.specs.Lines.{IsPieceOver};
 use crate::group_piece::piece_of_groups;
 use crate::row_piece::row_piece;
 use crate::scratch::Scratch;
-use crate::standing::standing;
+use crate::selection::selection;
 use answer_rules::ChunkQuery;
 use chunk_store::Store;
 use column_block::Block;
@@ -45,7 +45,7 @@ pub fn scan<'w>(
     let block = store.block(chunk);
     let own = store.chunk(chunk);
     let rows = store.rows();
-    let places = standing(block, query.conds.as_slice(), scratch)?;
+    let places = selection(block, query.conds.as_slice(), scratch)?;
     let piece = piece_at(alloc, block, rows, own, query, places.as_slice(), scratch)?;
     scratch.places.give(places);
     Ok(piece)

@@ -7,7 +7,7 @@ ghost use Rattle.sql_bound.specs.declared.query.Shape.TheVariants.{Rows};
 ghost use Rattle.value_rules.specs.Widths.{IsOfSize, most};
 ghost use Rattle.answer_rules.specs.SoundChunks.{is_sound_chunk_order, is_sound_part};
 ghost use Rattle.chunk_scan.specs.Computed.{AreReady, item_on, key_in, keys_on, rank_by};
-ghost use Rattle.chunk_scan.specs.Parted.{IsReady};
+ghost use Rattle.chunk_scan.specs.States.{IsReady};
 ghost use Rattle.table_rules.specs.declared.limits.TheConstants.{FIRST_COLUMNS};
 
 use crate::line::{push, rank_of};

@@ -15,17 +15,17 @@ ghost use Rattle.value_rules.specs.Values.{row};
 ghost use Rattle.answer_rules.specs.Keys.{key_of};
 ghost use Rattle.answer_rules.specs.Parts.{partials_of};
 ghost use Rattle.answer_rules.specs.Pieces.{OfGroups};
-ghost use Rattle.chunk_scan.specs.Leading.{IsLead};
+ghost use Rattle.chunk_scan.specs.Prefetched.{IsPrefetched};
 ghost use Rattle.answer_rules.specs.SoundChunks.{IsSoundChunk};
 ghost use Rattle.partial_merge.specs.Groups.{group_by};
 ghost use Rattle.partial_merge.specs.Joining.{MayTakeGroup, with_group};
 
+use crate::arguments::{arguments, give_back};
 use crate::key_order::by_key;
-use crate::lead::{cell, first_value, lead};
-use crate::part::fill;
+use crate::prefetched_key::{cell, copied, first_value};
 use crate::runs::{run_end, starts};
 use crate::scratch::Scratch;
-use crate::worth::{give_back, worths};
+use crate::states::fill;
 use answer_rules::ChunkQuery;
 use column_block::Block;
 use partial_merge::{Key, Piece, Tally};
@@ -100,21 +100,21 @@ fn group_piece<'w>(
 {
     let _count = block.len();
     let starts = starts(block, keys, places, scratch)?;
-    let lead = lead(block, keys, places, starts.as_slice(), scratch)?;
+    let copied = copied(block, keys, places, starts.as_slice(), scratch)?;
     let listed = !keys.is_empty();
     let items = query.items.as_slice();
-    let worths = worths(alloc, block, items, places, listed, scratch)?;
+    let arguments = arguments(alloc, block, items, places, listed, scratch)?;
     let mut piece = Piece::empty(alloc, query);
     let mut cells = Vec::new(alloc);
-    let mut parts = Vec::new(alloc);
+    let mut states = Vec::new(alloc);
     let mut from = 0usize;
     while from < places.len() {
         let to = run_end(starts.as_slice(), from);
-        fill_key(&mut cells, block, keys, places, lead.as_slice(), from)?;
+        fill_key(&mut cells, block, keys, places, copied.as_slice(), from)?;
         fill(
-            &mut parts,
+            &mut states,
             query.items.as_slice(),
-            worths.as_slice(),
+            arguments.as_slice(),
             from,
             to,
         )?;
@@ -123,13 +123,13 @@ fn group_piece<'w>(
             &mut piece,
             cells.as_slice(),
             to - from,
-            parts.as_slice(),
+            states.as_slice(),
         )?;
         from = to;
     }
     scratch.flags.give(starts);
-    scratch.cells.give(lead);
-    give_back(worths, scratch);
+    scratch.cells.give(copied);
+    give_back(arguments, scratch);
     Ok(piece)
 }
 
@@ -139,31 +139,31 @@ fn push(
     piece: &mut Piece<'_>,
     cells: &[Option<i64>],
     rows: usize,
-    parts: &[Tally],
+    states: &[Tally],
 ) -> Result<(), Memory>
     requires few { rows ≤ ROWS_MOST }
-    requires may { MayTakeGroup piece.old (group_by cells.now rows parts.now) }
+    requires may { MayTakeGroup piece.old (group_by cells.now rows states.now) }
     ensures { OnOk result (piece.new
-        ≡ with_group piece.old (group_by cells.now rows parts.now)) }
+        ≡ with_group piece.old (group_by cells.now rows states.now)) }
 {
     let key = Key::from_slice(alloc, cells)?;
-    piece.push_group(key, rows as u32, parts)
+    piece.push_group(key, rows as u32, states)
 }
 
-/// Replaces the values in `cells` by the key of the row at this index; `None` is NULL. `lead` holds the values of the
+/// Replaces the values in `cells` by the key of the row at this index; `None` is NULL. `copied` holds the values of the
 /// first key column, or is empty.
 fn fill_key(
     cells: &mut Vec<Option<i64>>,
     block: &Block,
     keys: &[BoundCol],
     places: &[u32],
-    lead: &[Option<i64>],
+    copied: &[Option<i64>],
     j: usize,
 ) -> Result<(), Memory>
     requires there { All (λ place. place < length block.now.objects) places.now }
     requires sound { IsTrue (list_all (has_col (FIRST_COLUMNS + block.now.width) false) keys.now) }
     requires at { j < length places.now }
-    requires lead { IsLead keys.now (objects_at block.now.objects places.now) lead.now }
+    requires copied { IsPrefetched keys.now (objects_at block.now.objects places.now) copied.now }
     ensures { OnOk result (cells.new.items
         ≡ key_of keys.now (row (get_or (objects_at block.now.objects places.now) j no_row))) }
 {
@@ -171,7 +171,7 @@ fn fill_key(
     match keys {
         [] => Ok(()),
         [_, rest @ ..] => {
-            push_cell(cells, first_value(block, keys, places, lead, j))?;
+            push_cell(cells, first_value(block, keys, places, copied, j))?;
             push_cells(cells, block, rest, places[j])
         }
     }

@@ -6,8 +6,8 @@ ghost use Rattle.table_rules.specs.Objects.{cell};
 ghost use Rattle.chunk_scan.specs.Asking.{IsThere, asks, is_compared, is_in_range};
 ghost use Rattle.table_rules.specs.declared.limits.TheConstants.{FIRST_COLUMNS};
 
-use crate::known::Known;
 use crate::narrow::narrow;
+use crate::predicate::Predicate;
 use column_block::Block;
 use lane_filter::{keep, keep_between, keep_between_narrow, keep_narrow, keep_near, keep_present};
 use sky_row::Column;
@@ -15,7 +15,7 @@ use sql_tree::Cmp;
 use table_rules::limits::FIRST_COLUMNS;
 
 /// Clears the mask on each row on which the predicate does not hold. Does not allocate.
-pub(crate) fn keep_asked(block: &Block, test: Known, mask: &mut [bool])
+pub(crate) fn keep_asked(block: &Block, test: Predicate, mask: &mut [bool])
     requires rows { length block.now.objects ≡ length mask.old }
     requires there { IsThere (FIRST_COLUMNS + block.now.width) test }
     ensures len { length mask.new ≡ length mask.old }
@@ -23,11 +23,11 @@ pub(crate) fn keep_asked(block: &Block, test: Known, mask: &mut [bool])
 {
     let _ = block.len();
     match test {
-        Known::Compare { col, op, n } => keep_compared(block, col, op, n, mask),
-        Known::Range { col, low, high } => keep_range(block, col, low, high, mask),
-        Known::Present { col } => keep_there(block, col, mask),
-        Known::Absent { col } => keep_missing(block, col, mask),
-        Known::Near { centre, n } => {
+        Predicate::Compare { col, op, n } => keep_compared(block, col, op, n, mask),
+        Predicate::Range { col, low, high } => keep_range(block, col, low, high, mask),
+        Predicate::Present { col } => keep_there(block, col, mask),
+        Predicate::Absent { col } => keep_missing(block, col, mask),
+        Predicate::Near { centre, n } => {
             keep_near(block.xs(), block.ys(), block.zs(), &centre, n.get(), mask)
         },
     }

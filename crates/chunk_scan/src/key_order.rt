@@ -9,9 +9,9 @@ ghost use Rattle.std.specs.List.Sorted.{IsPermutation};
 ghost use Rattle.table_rules.specs.declared.limits.TheConstants.{FIRST_COLUMNS, ROWS_MOST};
 ghost use Rattle.value_rules.specs.Sound.{has_col};
 
+use crate::clustering::cluster;
 use crate::deal::deal_by_bits;
 use crate::scratch::Scratch;
-use crate::together::bring_together;
 use crate::word::{mix_narrow, mix_presence, mix_wide, put_places, take_places};
 use column_block::Block;
 use sky_io::Memory;
@@ -59,7 +59,7 @@ fn reorder(numbers: &mut [u64], spare: &mut [u64], places: &[u32], order: &mut [
     if deal_by_bits(numbers, spare, order) {
         return;
     }
-    bring_together(numbers, spare);
+    cluster(numbers, spare);
     take_places(numbers, order);
 }
 

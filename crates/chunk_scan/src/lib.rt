@@ -7,9 +7,9 @@
 //! `column_eval` evaluates the other conditions on these alone.
 //!
 //! For a grouped query the selected rows are brought into an order in which rows with the same key are adjacent
-//! (`key_order`). The values of the first key column are copied in that order (`lead`), and the values of the
-//! aggregates are computed a column at a time (`worth`). Adjacent rows with the same key (`runs`) are pushed into the
-//! piece as one group (`group_piece`).
+//! (`key_order`). The values of the first key column are copied in that order (`prefetched_key`), and the values of the
+//! aggregates are computed a column at a time (`arguments`). Adjacent rows with the same key (`runs`) are pushed into
+//! the piece as one group (`group_piece`).
 //!
 //! For a query of rows the order keys are computed in the same way, and without a LIMIT also the values of the items.
 //! With a LIMIT n a row that comes after n others is skipped before its items are computed. What a scan needs beside
@@ -21,29 +21,29 @@
 #![tactic(auto)]
 
 mod all_rows;
+mod arguments;
 mod chunk;
+mod clustering;
 mod columns;
 mod deal;
-mod early;
-mod early_area;
 mod first_rows;
 mod group_piece;
 mod kernel;
 mod key_order;
-mod known;
-mod lead;
 mod line;
 mod narrow;
-mod part;
 mod place;
+mod predicate;
+mod prefetched_key;
 mod row_mask;
 mod row_piece;
 mod runs;
 mod scratch;
-mod standing;
-mod together;
+mod selection;
+mod states;
+mod vectorized;
+mod vectorized_area;
 mod word;
-mod worth;
 
 pub use chunk::scan;
 pub use row_mask::mask;

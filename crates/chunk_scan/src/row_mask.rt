@@ -7,11 +7,11 @@ ghost use Rattle.chunk_rules.specs.Places.{rows_at};
 ghost use Rattle.chunk_store.specs.Places.{chunk_rows};
 ghost use Rattle.answer_rules.specs.SoundChunks.{IsSoundChunk};
 ghost use Rattle.value_rules.specs.Sound.{has_col, is_paired, is_sound_cond};
-ghost use Rattle.chunk_scan.specs.Standing.{mask_of};
+ghost use Rattle.chunk_scan.specs.Selection.{mask_of};
 ghost use Rattle.table_rules.specs.declared.limits.TheConstants.{FIRST_COLUMNS};
 
 use crate::scratch::Scratch;
-use crate::standing::standing;
+use crate::selection::selection;
 use answer_rules::ChunkQuery;
 use chunk_store::Store;
 use column_block::Block;
@@ -49,7 +49,7 @@ fn mask_over(alloc: Global, block: &Block, conds: &[BoundCond]) -> Result<Vec<bo
     ensures { IfOk result (λ mask. mask.items ≡ mask_of conds.now block.now.objects) }
 {
     let mut scratch = Scratch::new(alloc);
-    let places = standing(block, conds, &mut scratch)?;
+    let places = selection(block, conds, &mut scratch)?;
     let mut mask = scratch.flags.filled(false, block.len())?;
     set_at(mask.as_mut_slice(), places.as_slice());
     Ok(mask)

@@ -36,8 +36,8 @@ use Rattle.near_join.proofs.Sounding.{paired, wrong}
 use Rattle.near_join.proofs.Sweeping.{places_are}
 use Rattle.near_join.proofs.Walking.{walk_finds_all}
 
-held_in_reach : (held beside : Bool) → ((held || beside) && held) ≡ held
-held_in_reach true beside = refl
+held_in_reach : (held overlap : Bool) → ((held || overlap) && held) ≡ held
+held_in_reach true overlap = refl
 held_in_reach false true = refl
 held_in_reach false false = refl
 

@@ -15,7 +15,7 @@ use Rattle.chunk_rules.proofs.RowsTaken.{rows_at_places}
 use Rattle.sql_bound.specs.declared.query.Shape.TheVariants.{Pairs}
 use Rattle.overlap_tables.specs.Overlaps.{in_full_overlap}
 use Rattle.chunk_store.specs.Places.{in_sub_overlap, sub_rows, sub_overlap_rows}
-use Rattle.near_join.specs.Laws.{PairsOfSubs, pairs_with, rows_beside}
+use Rattle.near_join.specs.Laws.{PairsOfSubs, pairs_with, rows_in_reach}
 use Rattle.near_join.specs.Walk.{is_near, joins, pairs_of, sub_objects, reach_objects, sub_pairs}
 use Rattle.near_join.proofs.Filters.{each_of_all, filter_same}
 use Rattle.near_join.proofs.Parting.{both_filters}
@@ -43,16 +43,16 @@ two_kinds {X} p q xs apart =
     (subst (IsPermutation (flat_map f (filter p xs) ++ flat_map f (filter q xs))) (single (filter (λ x. p x || q x) xs)) both)
 
 -- the rows of a subchunk and of its overlap, by their places
-pub reach_is_listed : (g : Partition) (table : List Obj) (c s : ℕ) → IsPermutation (reach_objects g table c s) (rows_beside g table c s)
+pub reach_is_listed : (g : Partition) (table : List Obj) (c s : ℕ) → IsPermutation (reach_objects g table c s) (rows_in_reach g table c s)
 reach_is_listed g table c s =
     let held : Obj → Bool = λ o. in_sub g c s o.at in
-    let beside : Obj → Bool = λ o. in_sub_overlap g c s o.at in
-    let parts : rows_beside g table c s ≡ filter held table ++ filter beside table =
+    let overlap : Obj → Bool = λ o. in_sub_overlap g c s o.at in
+    let parts : rows_in_reach g table c s ≡ filter held table ++ filter overlap table =
     flat_map-append (λ i. option_to_list (slice_get table i)) (sub_rows g table c s) (sub_overlap_rows g table c s)
     ∙ ap (λ l. l ++ rows_at table (sub_overlap_rows g table c s)) (rows_at_places held table)
-    ∙ ap (λ l. filter held table ++ l) (rows_at_places beside table) in
+    ∙ ap (λ l. filter held table ++ l) (rows_at_places overlap table) in
     IsPermutation-sym _ _ (subst (λ l. IsPermutation l (reach_objects g table c s)) (sym parts)
-    (two_kinds held beside table (λ o h. apart_by (in_sub g c s o.at) (in_chunk g c o.at || in_full_overlap g c o.at) (near_sub g c s o.at) h)))
+    (two_kinds held overlap table (λ o h. apart_by (in_sub g c s o.at) (in_chunk g c o.at || in_full_overlap g c o.at) (near_sub g c s o.at) h)))
 
 and_true : (a : Bool) → (a && true) ≡ a
 and_true true = refl
@@ -72,15 +72,15 @@ pairs_moved limit others moved u p =
 
 -- the pairs of a subchunk, over lists
 sub_listed : (g : Partition) (table : List Obj) (c : ℕ) (limit : ℤ) (s : ℕ)
-    → IsPermutation (sub_pairs g table (joins limit []) c s) (flat_map (pairs_with limit (rows_beside g table c s)) (rows_at table (sub_rows g table c s)))
+    → IsPermutation (sub_pairs g table (joins limit []) c s) (flat_map (pairs_with limit (rows_in_reach g table c s)) (rows_at table (sub_rows g table c s)))
 sub_listed g table c limit s =
-    subst (λ l. IsPermutation (sub_pairs g table (joins limit []) c s) (flat_map (pairs_with limit (rows_beside g table c s)) l)) (sym (rows_at_places (λ o. in_sub g c s o.at) table))
-    (each_block (pairs_of (joins limit []) (reach_objects g table c s)) (pairs_with limit (rows_beside g table c s))
-    (λ u. pairs_moved limit (reach_objects g table c s) (rows_beside g table c s) u (reach_is_listed g table c s)) (sub_objects g table c s))
+    subst (λ l. IsPermutation (sub_pairs g table (joins limit []) c s) (flat_map (pairs_with limit (rows_in_reach g table c s)) l)) (sym (rows_at_places (λ o. in_sub g c s o.at) table))
+    (each_block (pairs_of (joins limit []) (reach_objects g table c s)) (pairs_with limit (rows_in_reach g table c s))
+    (λ u. pairs_moved limit (reach_objects g table c s) (rows_in_reach g table c s) u (reach_is_listed g table c s)) (sub_objects g table c s))
 
 -- the pairs of a subchunk, as a store's lists give them
 abbrev listed_pairs : Partition → List Obj → ℤ → ℕ → ℕ → List Pick
-listed_pairs g table limit c s = flat_map (pairs_with limit (rows_beside g table c s)) (rows_at table (sub_rows g table c s))
+listed_pairs g table limit c s = flat_map (pairs_with limit (rows_in_reach g table c s)) (rows_at table (sub_rows g table c s))
 
 pub pairs_of_subs : PairsOfSubs
 pairs_of_subs g table c limit sky at there within =

@@ -26,17 +26,17 @@ places_of_words zs (p ∷ places) few h =
     ap (λ q. q ∷ map place_in (words_of zs places)) (place_of_word (height_in zs p) p (omega (arith, low, few)))
     ∙ ap (λ l. p ∷ l) (places_of_words zs places few h.1)
 
-both_there : (zs : List ℤ) (own beside : List ℕ) → All (λ p. p < length zs) own → All (λ p. p < length zs) beside → All (λ p. p < length zs) (own ++ beside)
-both_there zs own beside h k = All-append (λ p. p < length zs) own beside h k
+both_there : (zs : List ℤ) (own overlap : List ℕ) → All (λ p. p < length zs) own → All (λ p. p < length zs) overlap → All (λ p. p < length zs) (own ++ overlap)
+both_there zs own overlap h k = All-append (λ p. p < length zs) own overlap h k
 
 -- the places of sorted words are the places in another order
-pub moved_places : (zs : List ℤ) (own beside words places : List ℕ) → length zs ≤ ROWS_MOST
-    → All (λ p. p < length zs) own → All (λ p. p < length zs) beside
-    → IsPermutation (words_of zs (own ++ beside)) words → places ≡ map place_in words → IsPermutation (own ++ beside) places
-moved_places zs own beside words places few h k moved is =
-    let there = recursion_from_All (λ p. p < length zs) (own ++ beside) (both_there zs own beside h k) in
-    subst (IsPermutation (own ++ beside)) (sym is)
-    (subst (λ l. IsPermutation l (map place_in words)) (places_of_words zs (own ++ beside) few there) (IsPermutation-map place_in (words_of zs (own ++ beside)) words moved))
+pub moved_places : (zs : List ℤ) (own overlap words places : List ℕ) → length zs ≤ ROWS_MOST
+    → All (λ p. p < length zs) own → All (λ p. p < length zs) overlap
+    → IsPermutation (words_of zs (own ++ overlap)) words → places ≡ map place_in words → IsPermutation (own ++ overlap) places
+moved_places zs own overlap words places few h k moved is =
+    let there = recursion_from_All (λ p. p < length zs) (own ++ overlap) (both_there zs own overlap h k) in
+    subst (IsPermutation (own ++ overlap)) (sym is)
+    (subst (λ l. IsPermutation l (map place_in words)) (places_of_words zs (own ++ overlap) few there) (IsPermutation-map place_in (words_of zs (own ++ overlap)) words moved))
 
 -- The number is the word of the height at its place.
 record IsWordOf (zs : List ℤ) (w : ℕ) : Type 0 where
@@ -60,13 +60,13 @@ no_above : (a b : ℤ) (p q : ℕ) → IsWithin a → IsWithin b → p < ROWS_MO
 no_above a b p q low_a low_b low_p low_q le = in_order_by a b _ _ p q refl refl low_a.0 low_b.0 low_p low_q le
 
 -- the heights at the places of sorted words ascend
-pub heights_rise : (zs : List ℤ) (own beside words places : List ℕ) → length zs ≤ ROWS_MOST → All IsWithin zs
-    → All (λ p. p < length zs) own → All (λ p. p < length zs) beside
-    → IsPermutation (words_of zs (own ++ beside)) words → IsNonDecreasing words → places ≡ map place_in words → Ascend (map (height_in zs) places)
-heights_rise zs own beside words places few within h k moved up is =
-    let there = recursion_from_All (λ p. p < length zs) (own ++ beside) (both_there zs own beside h k) in
+pub heights_rise : (zs : List ℤ) (own overlap words places : List ℕ) → length zs ≤ ROWS_MOST → All IsWithin zs
+    → All (λ p. p < length zs) own → All (λ p. p < length zs) overlap
+    → IsPermutation (words_of zs (own ++ overlap)) words → IsNonDecreasing words → places ≡ map place_in words → Ascend (map (height_in zs) places)
+heights_rise zs own overlap words places few within h k moved up is =
+    let there = recursion_from_All (λ p. p < length zs) (own ++ overlap) (both_there zs own overlap h k) in
     let each : All (IsWordOf zs) words =
-    All-permutation (IsWordOf zs) (words_of zs (own ++ beside)) words moved (All-from_recursion (IsWordOf zs) (words_of zs (own ++ beside)) (each_word zs (own ++ beside) few there)) in
+    All-permutation (IsWordOf zs) (words_of zs (own ++ overlap)) words moved (All-from_recursion (IsWordOf zs) (words_of zs (own ++ overlap)) (each_word zs (own ++ overlap) few there)) in
     λ i j d l m.
     let long_places = length-map places (height_in zs) in
     let long_words = ap length is ∙ length-map words place_in in

@@ -27,11 +27,11 @@ module _ {X Y : Type 0} (one : X → X → List Y) where
   one_in_front u xs =
       let firsts = flat_map (one u) xs in
       let seconds = flat_map (λ v. one v u) xs in
-      let ways : IsPermutation (flat_map (λ v. one u v ++ one v u) xs) (firsts ++ seconds) = two_blocks (one u) (λ v. one v u) xs in
+      let orders : IsPermutation (flat_map (λ v. one u v ++ one v u) xs) (firsts ++ seconds) = two_blocks (one u) (λ v. one v u) xs in
       let rest : IsPermutation (seconds ++ across xs xs) (flat_map (λ v. one v u ++ flat_map (one v) xs) xs) =
       IsPermutation-sym _ _ (two_blocks (λ v. one v u) (λ v. flat_map (one v) xs) xs) in
       let start : IsPermutation ((one u u ++ flat_map (λ v. one u v ++ one v u) xs) ++ across xs xs) ((one u u ++ (firsts ++ seconds)) ++ across xs xs) =
-      IsPermutation-append_left (across xs xs) _ _ (IsPermutation-append_right (one u u) _ _ ways) in
+      IsPermutation-append_left (across xs xs) _ _ (IsPermutation-append_right (one u u) _ _ orders) in
       let same : (one u u ++ (firsts ++ seconds)) ++ across xs xs ≡ (one u u ++ firsts) ++ (seconds ++ across xs xs) =
       ap (λ l. l ++ across xs xs) (sym (append_assoc (one u u) firsts seconds)) ∙ append_assoc (one u u ++ firsts) seconds (across xs xs) in
       IsPermutation-trans _ _ _ (subst (IsPermutation ((one u u ++ flat_map (λ v. one u v ++ one v u) xs) ++ across xs xs)) same start)

@@ -23,7 +23,7 @@ use Rattle.sky_row.specs.Columns.{IsGathered, no_row, objects_at}
 use Rattle.sky_row.proofs.Gathering.{point_same}
 use Rattle.sky_row.proofs.Presence.{gathered_is}
 use Rattle.answer_rules.specs.Coverage.{AreInTheSky}
-use Rattle.near_join.specs.Strips.{StripView, IsListed, IsChunkStrip, IsSubStrip, IsWhole, height_in, heights_at, in_strip, is_beside, object_at, row_in}
+use Rattle.near_join.specs.Strips.{StripView, IsListed, IsChunkStrip, IsSubStrip, IsWhole, height_in, heights_at, in_strip, is_near_row, object_at, row_in}
 use Rattle.near_join.specs.Walk.{in_reach, reach_objects}
 use Rattle.near_join.specs.Windows.{Ascend, IsBetween}
 use Rattle.near_join.proofs.Filters.{each_of_all, filter_of_map, filter_same, filter_twice, filter_part}
@@ -76,13 +76,13 @@ apart_by false near h = absurd (cc)
 strip_is : (g : Partition) (objects : List Obj) (c : ℕ) → IsPermutation (objects_at objects (chunk_rows g objects c ++ full_overlap_rows g objects c)) (filter (in_strip g c) objects)
 strip_is g objects c =
     let held : Obj → Bool = λ o. in_chunk g c o.at in
-    let beside : Obj → Bool = λ o. in_full_overlap g c o.at in
-    let parts : objects_at objects (chunk_rows g objects c ++ full_overlap_rows g objects c) ≡ filter held objects ++ filter beside objects =
+    let overlap : Obj → Bool = λ o. in_full_overlap g c o.at in
+    let parts : objects_at objects (chunk_rows g objects c ++ full_overlap_rows g objects c) ≡ filter held objects ++ filter overlap objects =
     map-append (object_at objects) (chunk_rows g objects c) (full_overlap_rows g objects c)
     ∙ ap (λ l. l ++ objects_at objects (full_overlap_rows g objects c)) (places_are held objects)
-    ∙ ap (λ l. filter held objects ++ l) (places_are beside objects) in
+    ∙ ap (λ l. filter held objects ++ l) (places_are overlap objects) in
     subst (λ l. IsPermutation l (filter (in_strip g c) objects)) (sym parts)
-    (two_kinds held beside objects (λ o h. apart_by (in_chunk g c o.at) _ h))
+    (two_kinds held overlap objects (λ o h. apart_by (in_chunk g c o.at) _ h))
 
 -- the heights at places, by the column of all heights
 heights_in : (objects : List Obj) (zs : List ℤ) (places : List ℕ) → zs ≡ map (λ o. o.at.z) objects → All (λ p. p < length objects) places
@@ -94,12 +94,12 @@ heights_in objects zs (p ∷ places) e h =
     ap (λ z. z ∷ map (height_in zs) places) one ∙ ap (λ l. (object_at objects p).at.z ∷ l) (heights_in objects zs places e (λ k d l. h (suc k) d (omega (arith, l))))
 
 -- the strip of a chunk, from the places of its rows and of its full overlap
-pub chunk_strip_is : (g : Partition) (objects : List Obj) (c : ℕ) (own beside places : List ℕ) (zs : List ℤ) (s : StripView) → own ≡ chunk_rows g objects c → beside ≡ full_overlap_rows g objects c
-    → zs ≡ map (λ o. o.at.z) objects → IsPermutation (own ++ beside) places → Ascend (map (height_in zs) places) → s.places ≡ places → IsListed objects s → IsChunkStrip g objects c s
-chunk_strip_is g objects c own beside places zs s e f is p up same listed =
-    let moved : IsPermutation (objects_at objects (own ++ beside)) (objects_at objects s.places) =
-    subst (λ l. IsPermutation (objects_at objects (own ++ beside)) (objects_at objects l)) (sym same) (IsPermutation-map (object_at objects) (own ++ beside) places p) in
-    let both : own ++ beside ≡ chunk_rows g objects c ++ full_overlap_rows g objects c = ap (λ l. l ++ beside) e ∙ ap (λ l. chunk_rows g objects c ++ l) f in
+pub chunk_strip_is : (g : Partition) (objects : List Obj) (c : ℕ) (own overlap places : List ℕ) (zs : List ℤ) (s : StripView) → own ≡ chunk_rows g objects c → overlap ≡ full_overlap_rows g objects c
+    → zs ≡ map (λ o. o.at.z) objects → IsPermutation (own ++ overlap) places → Ascend (map (height_in zs) places) → s.places ≡ places → IsListed objects s → IsChunkStrip g objects c s
+chunk_strip_is g objects c own overlap places zs s e f is p up same listed =
+    let moved : IsPermutation (objects_at objects (own ++ overlap)) (objects_at objects s.places) =
+    subst (λ l. IsPermutation (objects_at objects (own ++ overlap)) (objects_at objects l)) (sym same) (IsPermutation-map (object_at objects) (own ++ overlap) places p) in
+    let both : own ++ overlap ≡ chunk_rows g objects c ++ full_overlap_rows g objects c = ap (λ l. l ++ overlap) e ∙ ap (λ l. chunk_rows g objects c ++ l) f in
     let there = listed.there in
     let heights : map (height_in zs) places ≡ s.zs =
     ap (map (height_in zs)) (sym same) ∙ heights_in objects zs s.places is there ∙ sym listed.zs in
@@ -117,9 +117,9 @@ strip_short g objects c s is =
     let few = length-filter_both (in_strip g c) (λ o. not (in_strip g c o)) (λ o. refl) objects in omega (arith, same, wide, few)
 
 -- the places of both lists are those of rows
-pub both_there : (objects : List Obj) (own beside places : List ℕ) → All (λ p. p < length objects) own → All (λ p. p < length objects) beside → IsPermutation (own ++ beside) places
+pub both_there : (objects : List Obj) (own overlap places : List ℕ) → All (λ p. p < length objects) own → All (λ p. p < length objects) overlap → IsPermutation (own ++ overlap) places
     → All (λ p. p < length objects) places
-both_there objects own beside places h k p = All-permutation (λ p. p < length objects) (own ++ beside) places p (All-append (λ p. p < length objects) own beside h k)
+both_there objects own overlap places h k p = All-permutation (λ p. p < length objects) (own ++ overlap) places p (All-append (λ p. p < length objects) own overlap h k)
 
 -- ---- columns of rows that lie in the sky
 
@@ -224,7 +224,7 @@ reach_is g objects c s sky there below =
 
 -- outside of the heights between the bounds nothing is near
 part_is_enough : (objects : List Obj) (r : ℕ) (bounds : Bounds) (places : List ℕ) (zs : List ℤ) (from to : ℕ) → zs ≡ heights_at objects places → IsBetween zs (bounds.z_low -ℤ pos r) (bounds.z_high +ℤ pos r) from to
-    → filter (is_beside objects r bounds) (slice_range places from to) ≡ filter (is_beside objects r bounds) places
+    → filter (is_near_row objects r bounds) (slice_range places from to) ≡ filter (is_near_row objects r bounds) places
 part_is_enough objects r bounds places zs from to e b =
     let long : length zs ≡ length places = ap length e ∙ length-map places (λ p. (object_at objects p).at.z) in
     let order = b.order in
@@ -233,11 +233,11 @@ part_is_enough objects r bounds places zs from to e b =
     λ k d l. ap (λ l. slice_index_or l k (object_at objects d).at.z) e ∙ get_or-map (λ p. (object_at objects p).at.z) places k d (object_at objects d).at.z l in
     let fails : (k : ℕ) (d : ℕ) → k < length places
     → (int_le (bounds.z_low -ℤ pos r) (slice_index_or zs k (object_at objects d).at.z) && int_le (slice_index_or zs k (object_at objects d).at.z) (bounds.z_high +ℤ pos r)) ≡ false
-    → is_beside objects r bounds (slice_index_or places k d) ≡ false =
+    → is_near_row objects r bounds (slice_index_or places k d) ≡ false =
     λ k d l h. and_left (int_le (bounds.z_low -ℤ pos r) (object_at objects (slice_index_or places k d)).at.z && int_le (object_at objects (slice_index_or places k d)).at.z (bounds.z_high +ℤ pos r))
     (near_sides r bounds.sides (object_at objects (slice_index_or places k d)).at)
     (subst (λ a. (int_le (bounds.z_low -ℤ pos r) a && int_le a (bounds.z_high +ℤ pos r)) ≡ false) (height k d l) h) in
-    filter_part (is_beside objects r bounds) places from to order (omega (arith, there, long))
+    filter_part (is_near_row objects r bounds) places from to order (omega (arith, there, long))
     (λ k d a c. fails k d (omega (arith, c, order, there, long)) (b.below k (object_at objects d).at.z a c))
     (λ k d a c. fails k d c (b.above k (object_at objects d).at.z a (omega (arith, c, long))))
 
@@ -248,15 +248,15 @@ between_moved a b low high from to e h = subst (λ l. IsBetween l low high from 
 -- what a subchunk takes of its chunk's strip
 pub sub_strip_is : (g : Partition) (objects : List Obj) (c s r : ℕ) (bounds : Bounds) (strip near : StripView) (from to : ℕ) → IsSky g → c < chunk_count g → s < sub_count g c
     → bounds ≡ sub_bounds_of g c s → r ≡ overlap_at g c → IsChunkStrip g objects c strip
-    → IsBetween strip.zs (bounds.z_low -ℤ pos r) (bounds.z_high +ℤ pos r) from to → near.places ≡ filter (is_beside objects r bounds) (slice_range strip.places from to)
+    → IsBetween strip.zs (bounds.z_low -ℤ pos r) (bounds.z_high +ℤ pos r) from to → near.places ≡ filter (is_near_row objects r bounds) (slice_range strip.places from to)
     → IsListed objects near → IsSubStrip g objects c s near
 sub_strip_is g objects c s r bounds strip near from to sky there below eb er is between taken listed =
     let kept : IsListed objects strip = is.listed in
     let test : Obj → Bool = λ o. near_sub g c s o.at in
-    let beside : ℕ → Bool = λ p. near_sub g c s (object_at objects p).at in
-    let near_is : near.places ≡ filter beside strip.places =
+    let overlap : ℕ → Bool = λ p. near_sub g c s (object_at objects p).at in
+    let near_is : near.places ≡ filter overlap strip.places =
     taken ∙ part_is_enough objects r bounds strip.places strip.zs from to kept.zs between
-    ∙ ap (λ k. filter (is_beside objects k bounds) strip.places) er ∙ ap (λ b. filter (is_beside objects (overlap_at g c) b) strip.places) eb in
+    ∙ ap (λ k. filter (is_near_row objects k bounds) strip.places) er ∙ ap (λ b. filter (is_near_row objects (overlap_at g c) b) strip.places) eb in
     let rows : objects_at objects near.places ≡ filter test (objects_at objects strip.places) =
     ap (objects_at objects) near_is ∙ sym (filter_of_map test (object_at objects) strip.places) in
     let height : ℕ → ℤ = λ p. (object_at objects p).at.z in
@@ -265,7 +265,7 @@ sub_strip_is g objects c s r bounds strip near from to sky there below eb er is 
       all = subst (λ l. IsPermutation l (objects_at objects near.places)) (sym (reach_is g objects c s sky there below))
           (subst (IsPermutation (filter test (filter (in_strip g c) objects))) (sym rows) (filter-permutation test _ _ is.all));
       listed = listed;
-      rise = subst Ascend (sym (listed.zs ∙ ap (heights_at objects) near_is)) (ascend_to height (filter beside strip.places) (AllPairs-filter (λ p q. height p ≤ℤ height q) beside strip.places up));
+      rise = subst Ascend (sym (listed.zs ∙ ap (heights_at objects) near_is)) (ascend_to height (filter overlap strip.places) (AllPairs-filter (λ p q. height p ≤ℤ height q) overlap strip.places up));
     }
 
 -- ---- a part of a list

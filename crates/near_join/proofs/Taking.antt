@@ -8,7 +8,7 @@ use Rattle.sky_rules.specs.Bounds.{Bounds, near_bounds, near_sides}
 use Rattle.table_rules.specs.Objects.{Obj}
 use Rattle.sky_row.specs.Columns.{IsGathered}
 use Rattle.sky_row.proofs.Presence.{gathered_is}
-use Rattle.near_join.specs.Strips.{StripView, IsListed, is_beside, object_at, row_in}
+use Rattle.near_join.specs.Strips.{StripView, IsListed, is_near_row, object_at, row_in}
 use Rattle.near_join.specs.Windows.{IsBetween}
 use Rattle.near_join.proofs.Filters.{filter_of_map, filter_same}
 use Rattle.near_join.proofs.Sweeping.{row_is}
@@ -93,16 +93,16 @@ part_by_numbers xs d (suc n) from h =
 -- of rows that are near in height those are near that are so by their sides
 pub near_part : (objects : List Obj) (r : ℕ) (bounds : Bounds) (strip : StripView) (from to : ℕ) → IsListed objects strip → length strip.zs ≡ length strip.places
     → IsBetween strip.zs (bounds.z_low -ℤ pos r) (bounds.z_high +ℤ pos r) from to
-    → map (λ k. get_or strip.places k 0) (filter (λ k. near_sides r bounds.sides (row_in strip k)) (range_with_len from (to - from))) ≡ filter (is_beside objects r bounds) (slice_range strip.places from to)
+    → map (λ k. get_or strip.places k 0) (filter (λ k. near_sides r bounds.sides (row_in strip k)) (range_with_len from (to - from))) ≡ filter (is_near_row objects r bounds) (slice_range strip.places from to)
 near_part objects r bounds strip from to listed wide between =
     let order = between.order in
     let there = between.there in
     let test : ℕ → Bool = λ k. near_sides r bounds.sides (row_in strip k) in
     let get : ℕ → ℕ = λ k. get_or strip.places k 0 in
-    let beside : ℕ → Bool = is_beside objects r bounds in
-    let one : (j : ℕ) → from ≤ j → j < from + (to - from) → test j ≡ beside (get j) =
+    let overlap : ℕ → Bool = is_near_row objects r bounds in
+    let one : (j : ℕ) → from ≤ j → j < from + (to - from) → test j ≡ overlap (get j) =
     λ j a b. sym (ap (near_bounds r bounds) (sym (row_is objects strip j listed (omega (arith, b, order, there, wide))))
     ∙ ap (λ t. t && near_sides r bounds.sides (row_in strip j)) (between.inside j (pos 0) a (omega (arith, b, order)))) in
-    ap (map get) (filter_same test (λ k. beside (get k)) (range_with_len from (to - from)) (each_of_range (λ j. test j ≡ beside (get j)) (to - from) from one))
-    ∙ sym (filter_of_map beside get (range_with_len from (to - from)))
-    ∙ ap (filter beside) (part_by_numbers strip.places 0 (to - from) from (omega (arith, order, there, wide)))
+    ap (map get) (filter_same test (λ k. overlap (get k)) (range_with_len from (to - from)) (each_of_range (λ j. test j ≡ overlap (get j)) (to - from) from one))
+    ∙ sym (filter_of_map overlap get (range_with_len from (to - from)))
+    ∙ ap (filter overlap) (part_by_numbers strip.places 0 (to - from) from (omega (arith, order, there, wide)))

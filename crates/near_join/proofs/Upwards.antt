@@ -20,7 +20,7 @@ use Rattle.answer_rules.specs.Pieces.{PieceView}
 use Rattle.answer_rules.specs.declared.rewritten.ChunkQuery.{ChunkQuery}
 use Rattle.partial_merge.specs.Joining.{IsOfRows}
 use Rattle.near_join.specs.Bare.{IsBare}
-use Rattle.near_join.specs.Gains.{Gains, both_ways, held_pair, held_rows, if_met, swept_pairs, upward_pairs, way}
+use Rattle.near_join.specs.Gains.{Gains, both_orders, held_pair, held_rows, if_met, ordered_pair, swept_pairs, upward_pairs}
 use Rattle.near_join.specs.Rising.{Rises, is_upward}
 use Rattle.near_join.specs.Strips.{heights_at, is_close, object_at}
 use Rattle.near_join.specs.Walk.{is_near, joins}
@@ -136,18 +136,18 @@ shut_by true met p = refl
 shut_by false met p = refl
 
 -- rows that are too far apart are no pair
-far_pair : (cq : ChunkQuery) (limit : ℤ) (held : Bool) (u v : Obj) → is_near limit u v ≡ false → way cq limit held u v ≡ []
+far_pair : (cq : ChunkQuery) (limit : ℤ) (held : Bool) (u v : Obj) → is_near limit u v ≡ false → ordered_pair cq limit held u v ≡ []
 far_pair cq limit held u v h =
     ap (λ b. cond (held && (b && meets cq.conds (pair u v))) (pair u v ∷ []) []) h ∙ shut_by held (meets cq.conds (pair u v)) (pair u v)
 
 -- nor are they in the other order
-far_ways : (cq : ChunkQuery) (limit : ℤ) (bounds : Bounds) (u v : Obj) → is_near limit u v ≡ false → both_ways cq limit bounds u v ≡ []
+far_ways : (cq : ChunkQuery) (limit : ℤ) (bounds : Bounds) (u v : Obj) → is_near limit u v ≡ false → both_orders cq limit bounds u v ≡ []
 far_ways cq limit bounds u v h =
     ap (λ l. l ++ held_pair cq limit bounds v u) (far_pair cq limit (in_bounds bounds u.at) u v h) ∙ far_pair cq limit (in_bounds bounds v.at) v u (same_near limit u v ∙ h)
 
 -- rows that are near enough are a pair where they meet the conditions, of those whose first row is held
 pub way_open : (cq : ChunkQuery) (limit : ℤ) (held rises : Bool) (u v : Obj) → is_near limit u v ≡ true → (held && is_upward rises u v) ≡ true
-    → if_met cq.conds u v ≡ way cq limit held u v
+    → if_met cq.conds u v ≡ ordered_pair cq limit held u v
 way_open cq limit held rises u v near may =
     sym (ap (λ b. cond (held && (b && meets cq.conds (pair u v))) (pair u v ∷ []) []) near
     ∙ ap (λ b. cond (b && meets cq.conds (pair u v)) (pair u v ∷ []) []) (and_parts held (is_upward rises u v) may).0)
@@ -164,7 +164,7 @@ not_met conds u v rising h = by (meets conds (pair u v)) refl
         let under = rising u v e in
         let over = not_under u.id v.id h in absurd (omega (arith, ints, under, over))
 
-unmet_pair : (cq : ChunkQuery) (limit : ℤ) (held : Bool) (u v : Obj) → meets cq.conds (pair u v) ≡ false → way cq limit held u v ≡ []
+unmet_pair : (cq : ChunkQuery) (limit : ℤ) (held : Bool) (u v : Obj) → meets cq.conds (pair u v) ≡ false → ordered_pair cq limit held u v ≡ []
 unmet_pair cq limit held u v h = ap (λ b. cond (held && (is_near limit u v && b)) (pair u v ∷ []) []) h ∙ by held (is_near limit u v)
   where
     by : (held near : Bool) → cond (held && (near && false)) (pair u v ∷ []) [] ≡ []
@@ -173,7 +173,7 @@ unmet_pair cq limit held u v h = ap (λ b. cond (held && (is_near limit u v && b
     by false near = refl
 
 -- a pair whose first row is not held, or whose ids speak against it, is none
-pub way_shut : (cq : ChunkQuery) (limit : ℤ) (held rises : Bool) (u v : Obj) → (rises ≡ true → Rises cq.conds) → (held && is_upward rises u v) ≡ false → way cq limit held u v ≡ []
+pub way_shut : (cq : ChunkQuery) (limit : ℤ) (held rises : Bool) (u v : Obj) → (rises ≡ true → Rises cq.conds) → (held && is_upward rises u v) ≡ false → ordered_pair cq limit held u v ≡ []
 way_shut cq limit false rises u v rising h = refl
 way_shut cq limit true false u v rising h = absurd (cc)
 way_shut cq limit true true u v rising h = unmet_pair cq limit true u v (not_met cq.conds u v (rising refl) h)
@@ -189,7 +189,7 @@ pub own_near : (limit : ℤ) (u : Obj) → pos 0 ≤ℤ limit → is_near limit 
 own_near limit u h = let none = no_chord u.at in le_to (chord_squared u.at u.at) limit (omega (arith, ints, none, h))
 
 -- no two rows are near enough where the limit is below 0
-pub none_near : (cq : ChunkQuery) (limit : ℤ) (held : Bool) (u : Obj) → int_le (pos 0) limit ≡ false → way cq limit held u u ≡ []
+pub none_near : (cq : ChunkQuery) (limit : ℤ) (held : Bool) (u : Obj) → int_le (pos 0) limit ≡ false → ordered_pair cq limit held u u ≡ []
 none_near cq limit held u h = far_pair cq limit held u u (by (chord_squared u.at u.at) limit (no_chord u.at) h)
   where
     by : (chord limit : ℤ) → chord ≡ pos 0 → int_le (pos 0) limit ≡ false → int_le chord limit ≡ false
@@ -220,7 +220,7 @@ pub near_are_enough : (cq : ChunkQuery) (limit : ℤ) (bounds : Bounds) (objects
 near_are_enough cq limit bounds objects place places =
     let u : Obj = object_at objects place in
     ap (λ l. held_pair cq limit bounds u u ++ l)
-    (only_near (both_ways cq limit bounds u) objects (is_close objects limit place) (λ p h. far_ways cq limit bounds u (object_at objects p) h) places)
+    (only_near (both_orders cq limit bounds u) objects (is_close objects limit place) (λ p h. far_ways cq limit bounds u (object_at objects p) h) places)
 
 -- where nothing is near enough and a row is no pair with itself it has no pairs
 pub no_pairs : (cq : ChunkQuery) (limit : ℤ) (bounds : Bounds) (objects : List Obj) (place : ℕ) (places found : List ℕ) → Rises cq.conds

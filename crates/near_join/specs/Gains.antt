@@ -46,17 +46,17 @@ abbrev pub if_met : List BoundCond → Obj → Obj → List Pick
 if_met conds u v = if meets conds (pair u v) then pair u v ∷ [] else []
 
 -- the pair of two rows that join, if the first is held
-abbrev pub way : ChunkQuery → ℤ → Bool → Obj → Obj → List Pick
-way cq limit held u v = if held && joins limit cq.conds u v then pair u v ∷ [] else []
+abbrev pub ordered_pair : ChunkQuery → ℤ → Bool → Obj → Obj → List Pick
+ordered_pair cq limit held u v = if held && joins limit cq.conds u v then pair u v ∷ [] else []
 
 -- the pair of two rows that join, if the first is within the bounds
 abbrev pub held_pair : ChunkQuery → ℤ → Bounds → Obj → Obj → List Pick
-held_pair cq limit bounds u v = way cq limit (in_bounds bounds u.at) u v
+held_pair cq limit bounds u v = ordered_pair cq limit (in_bounds bounds u.at) u v
 
 -- the pairs of two rows, in both orders
-abbrev pub both_ways : ChunkQuery → ℤ → Bounds → Obj → Obj → List Pick
-both_ways cq limit bounds u v = held_pair cq limit bounds u v ++ held_pair cq limit bounds v u
+abbrev pub both_orders : ChunkQuery → ℤ → Bounds → Obj → Obj → List Pick
+both_orders cq limit bounds u v = held_pair cq limit bounds u v ++ held_pair cq limit bounds v u
 
 -- the pair of a row with itself, and its pairs with others in both orders
 abbrev pub upward_pairs : ChunkQuery → ℤ → Bounds → Obj → List Obj → List Pick
-upward_pairs cq limit bounds u others = held_pair cq limit bounds u u ++ flat_map (both_ways cq limit bounds u) others
+upward_pairs cq limit bounds u others = held_pair cq limit bounds u u ++ flat_map (both_orders cq limit bounds u) others

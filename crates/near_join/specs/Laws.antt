@@ -25,8 +25,8 @@ WalkFindsAll =
     → IsPermutation (found g table (Pairs limit) conds (c ∷ [])) (walked_pairs g table (joins limit conds) c)
 
 -- the rows of a subchunk and those of its overlap, as lists of rows
-abbrev pub rows_beside : Partition → List Obj → ℕ → ℕ → List Obj
-rows_beside g table c s = rows_at table (sub_rows g table c s ++ sub_overlap_rows g table c s)
+abbrev pub rows_in_reach : Partition → List Obj → ℕ → ℕ → List Obj
+rows_in_reach g table c s = rows_at table (sub_rows g table c s ++ sub_overlap_rows g table c s)
 
 -- the pairs of a row with those of the others that are near enough
 abbrev pub pairs_with : ℤ → List Obj → Obj → List Pick
@@ -40,5 +40,5 @@ PairsOfSubs =
     (g : Partition) (table : List Obj) (c : ℕ) (limit : ℤ) → IsSky g → AreInTheSky table → c < chunk_count g
     → limit ≤ℤ square (pos (overlap_at g c))
     → IsPermutation (filter (λ p. in_chunk g c p.first.at) (near_pairs limit table))
-    (flat_map (λ s. flat_map (pairs_with limit (rows_beside g table c s)) (rows_at table (sub_rows g table c s)))
+    (flat_map (λ s. flat_map (pairs_with limit (rows_in_reach g table c s)) (rows_at table (sub_rows g table c s)))
     (range_with_len 0 (sub_count g c)))

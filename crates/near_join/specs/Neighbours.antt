@@ -6,7 +6,7 @@ use Rattle.sky_rules.specs.Bounds.{Bounds, in_bounds}
 use Rattle.value_rules.specs.Values.{Pick}
 use Rattle.answer_rules.specs.declared.rewritten.ChunkQuery.{ChunkQuery}
 use Rattle.near_join.specs.declared.neighbour.Neighbour.{Neighbour}
-use Rattle.near_join.specs.Gains.{way}
+use Rattle.near_join.specs.Gains.{ordered_pair}
 use Rattle.near_join.specs.Strips.{object_at}
 
 -- the row of a neighbour
@@ -19,16 +19,16 @@ pub record IsRowOf (objects : List Obj) (n : Neighbour) : Type 0 where
   pub id : n.id ≡ (row_of objects n).id
 
 -- A neighbour, with the flag whether its row is within the bounds.
-pub record IsTold (objects : List Obj) (bounds : Bounds) (n : Neighbour) : Type 0 where
+pub record IsFlagged (objects : List Obj) (bounds : Bounds) (n : Neighbour) : Type 0 where
   pub row : IsRowOf objects n
   pub held : n.held ≡ in_bounds bounds (row_of objects n).at
 
 -- the pairs of a row with a neighbour, in both orders
-abbrev pub told_ways : ChunkQuery → ℤ → List Obj → Bool → Obj → Neighbour → List Pick
-told_ways cq limit objects held u n = way cq limit held u (row_of objects n) ++ way cq limit n.held (row_of objects n) u
+abbrev pub neighbour_pairs : ChunkQuery → ℤ → List Obj → Bool → Obj → Neighbour → List Pick
+neighbour_pairs cq limit objects held u n = ordered_pair cq limit held u (row_of objects n) ++ ordered_pair cq limit n.held (row_of objects n) u
 
 -- the pair of a neighbour with itself, and its pairs with others in both orders
-abbrev pub told_pairs : ChunkQuery → ℤ → List Obj → Neighbour → List Neighbour → List Pick
-told_pairs cq limit objects n others =
-    way cq limit n.held (row_of objects n) (row_of objects n)
-    ++ flat_map (told_ways cq limit objects n.held (row_of objects n)) others
+abbrev pub pairs_with_neighbours : ChunkQuery → ℤ → List Obj → Neighbour → List Neighbour → List Pick
+pairs_with_neighbours cq limit objects n others =
+    ordered_pair cq limit n.held (row_of objects n) (row_of objects n)
+    ++ flat_map (neighbour_pairs cq limit objects n.held (row_of objects n)) others

@@ -78,8 +78,8 @@ pub record IsSubStrip (g : Partition) (objects : List Obj) (c s : ℕ) (near : S
   pub rise : Ascend near.zs
 
 -- the row with a number is in the near region of the bounds, for a radius
-abbrev pub is_beside : List Obj → ℕ → Bounds → ℕ → Bool
-is_beside objects r bounds place = near_bounds r bounds (object_at objects place).at
+abbrev pub is_near_row : List Obj → ℕ → Bounds → ℕ → Bool
+is_near_row objects r bounds place = near_bounds r bounds (object_at objects place).at
 
 -- the rows with two numbers are near enough to be a pair
 abbrev pub is_close : List Obj → ℤ → ℕ → ℕ → Bool

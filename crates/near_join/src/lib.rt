@@ -5,10 +5,10 @@
 //! subchunks finds each pair once is in `laws`, over `specs/Walk.antt`.
 //!
 //! The rows of a chunk and of its full overlap are in ascending height (`order`, `strip`). Each subchunk (`chunk`)
-//! selects those of them that are near it (`sweep`, `beside`, `heights`). Each selected row is compared with those
-//! after it (`pairs`). The rows that are near enough (`neighbour`) become pairs in both orders (`ways`): pairs of rows
-//! (`line`), or of the two ids alone if the query selects nothing else (`by_ids`). What a query demands of a pair is computed once
-//! (`asked`, `reach`; `rising`, `bare`).
+//! selects those of them that are near it (`sweep`, `sides`, `heights`). Each selected row is compared with those after
+//! it (`pairs`). The rows that are near enough (`neighbour`) become pairs in both orders (`pair_orders`): pairs of rows
+//! (`line`), or of the two ids alone if the query selects nothing else (`by_ids`). What a query demands of a pair is
+//! computed once (`asked`, `reach`; `rising`, `bare`).
 //!
 //! Below: `chunk_store` for the rows of a chunk, of its overlap and of its subchunks, `overlap_tables` for whether a
 //! subchunk holds a row, `expr_eval` for conditions and items, and `partial_merge` for the piece. This crate merges
@@ -17,7 +17,6 @@
 
 mod asked;
 mod bare;
-mod beside;
 mod by_ids;
 mod chunk;
 pub mod heights;
@@ -25,12 +24,13 @@ pub mod laws;
 mod line;
 mod neighbour;
 mod order;
+mod pair_orders;
 mod pairs;
 mod reach;
 mod rising;
+mod sides;
 mod strip;
 mod sweep;
-mod ways;
 
 pub use chunk::join;
 pub use heights::window;

@@ -10,16 +10,16 @@ ghost use Rattle.sky_row.specs.Columns.{objects_at};
 ghost use Rattle.partial_merge.specs.Joining.{IsOfRows};
 ghost use Rattle.near_join.specs.Bare.{IsAsked};
 ghost use Rattle.near_join.specs.Gains.{Gains, held_rows, swept_pairs, upward_pairs};
-ghost use Rattle.near_join.specs.Neighbours.{IsTold};
+ghost use Rattle.near_join.specs.Neighbours.{IsFlagged};
 ghost use Rattle.near_join.specs.Strips.{IsListed, IsWhole, is_close, object_at};
 ghost use Rattle.near_join.specs.Windows.{Ascend};
 
 use crate::asked::Asked;
 use crate::heights::is_above;
 use crate::neighbour::Neighbour;
+use crate::pair_orders::push_found;
 use crate::reach::Reach;
 use crate::strip::Strip;
-use crate::ways::push_found;
 use overlap_tables::is_in;
 use partial_merge::Piece;
 use sky_io::Memory;
@@ -111,8 +111,8 @@ fn pick(
     ensures places { OnOk result (map (λ n. n.place) found.new.items
         ≡ filter (is_close asked.now.rows.now.objects asked.now.reach.now.limit
         (get_or near.now.places i 0)) (drop (i + 1) near.now.places)) }
-    ensures told { OnOk result (All
-        (IsTold asked.now.rows.now.objects (bounds_shown region.now)) found.new.items) }
+    ensures flagged { OnOk result (All
+        (IsFlagged asked.now.rows.now.objects (bounds_shown region.now)) found.new.items) }
 {
     found.clear();
     let at = near.at(i);
@@ -172,12 +172,12 @@ fn push_if(
     requires listed { IsListed rows.now.objects near.now }
     requires whole { IsWhole near.now }
     requires there { k < length near.now.places }
-    requires told { All (IsTold rows.now.objects (bounds_shown region.now)) found.old.items }
+    requires flagged { All (IsFlagged rows.now.objects (bounds_shown region.now)) found.old.items }
     ensures places { OnOk result (map (λ n. n.place) found.new.items
         ≡ map (λ n. n.place) found.old.items
         ++ (if is then get_or near.now.places k 0 ∷ [] else [])) }
-    ensures told { OnOk result (All
-        (IsTold rows.now.objects (bounds_shown region.now)) found.new.items) }
+    ensures flagged { OnOk result (All
+        (IsFlagged rows.now.objects (bounds_shown region.now)) found.new.items) }
 {
     if is {
         found.push(neighbour_at(rows, region, near, k))?;
@@ -191,7 +191,7 @@ fn neighbour_at(rows: &Rows, region: &Region, near: &Strip, k: usize) -> Neighbo
     requires whole { IsWhole near.now }
     requires there { k < length near.now.places }
     ensures place { result.place ≡ get_or near.now.places k 0 }
-    ensures told { IsTold rows.now.objects (bounds_shown region.now) result }
+    ensures flagged { IsFlagged rows.now.objects (bounds_shown region.now) result }
 {
     let place = near.place(k);
     Neighbour {

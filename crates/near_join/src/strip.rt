@@ -120,8 +120,8 @@ pub(crate) fn chunk_strip(alloc: Global, store: &Store, chunk: u32) -> Result<St
     let rows = store.rows();
     let _ = rows.len();
     let own = store.chunk(chunk);
-    let beside = store.full_overlap(chunk);
-    let places = places_by_height(alloc, rows.zs(), own, beside)?;
+    let overlap = store.full_overlap(chunk);
+    let places = places_by_height(alloc, rows.zs(), own, overlap)?;
     gathered(alloc, rows, places)
 }
 

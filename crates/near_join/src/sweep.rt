@@ -7,11 +7,11 @@ ghost use Rattle.sky_rules.specs.Limits.{IsSky};
 ghost use Rattle.sky_rules.specs.Partition.{chunk_count, sub_count};
 ghost use Rattle.sky_rules.specs.declared.limits.TheConstants.{OVERLAP_MOST};
 ghost use Rattle.sky_plan.specs.Regions.{bounds_shown, sides_shown};
-ghost use Rattle.near_join.specs.Strips.{IsChunkStrip, IsListed, IsSubStrip, IsWhole, is_beside, row_in};
+ghost use Rattle.near_join.specs.Strips.{IsChunkStrip, IsListed, IsSubStrip, IsWhole, is_near_row, row_in};
 ghost use Rattle.near_join.specs.Windows.{Ascend, IsBetween};
 
-use crate::beside::is_near;
 use crate::heights::between_narrow;
+use crate::sides::is_near;
 use crate::strip::Strip;
 use chunk_store::Store;
 use sky_io::Memory;
@@ -75,7 +75,7 @@ fn near_ones(
         (region.now.z_high +ℤ pos radius) from to }
     requires radius { radius ≤ OVERLAP_MOST }
     ensures places { IfOk result (λ near. near.places
-        ≡ filter (is_beside rows.now.objects radius (bounds_shown region.now))
+        ≡ filter (is_near_row rows.now.objects radius (bounds_shown region.now))
         (slice_range strip.now.places from to)) }
     ensures listed { IfOk result (λ near. IsListed rows.now.objects near) }
 {

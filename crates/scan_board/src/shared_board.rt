@@ -3,7 +3,7 @@
 //! Between two calls of a participant others may call too, so a participant knows only a prefix of the journal: what it
 //! had seen when it left last. A call takes the lock and finds the whole journal. It extends what was seen, and its
 //! lines with the participant's own number are exactly those that the participant made. The board is called on that
-//! journal. When the participant leaves, it has seen all of the journal, and the call's own line.
+//! journal. When the participant leaves, it has seen all of the journal, and the call's own line if there is one.
 ghost use Rattle.std.specs.Prelude.{◌≡◌, ◌≢◌, ◌-◌, ◌<◌, ◌≤◌, ◌^◌, [], All, IfOk};
 ghost use mathlib.Core.List.{IsPrefix};
 ghost use Rattle.scan_rules.specs.declared.limits.TheConstants.{QUERY_MOST};
@@ -151,8 +151,8 @@ impl<P: Work> SharedBoard<P> {
         pass.leave()
     }
 
-    /// Copies the number of chunks and the lines that the participant has seen after it. Adds no line. Waits for the lock.
-    /// Allocates memory.
+    /// Copies the number of chunks and the journal, which is what the participant has seen afterwards. Adds no line.
+    /// Waits for the lock. Allocates memory.
     pub fn journal<R: Wait>(
         &self,
         rt: &R,

@@ -22,7 +22,7 @@ is_query q = nat_le 1 q && nat_le q QUERY_MOST
 abbrev pub query_of : List ℕ → Option ℕ
 query_of part = only_if is_query (number_of part)
 
--- all values, if there is each of them
+-- all the values, if none is missing
 abbrev pub all_there : {A : Type 0} → List (Option A) → Option (List A)
 all_there [] = Some []
 all_there (None ∷ rest) = None

@@ -92,7 +92,7 @@ fn collect_in(seat: u32, parts: Pieces<'_>) -> Option<JournalLine>
     Some(JournalLine::Collect { seat, q })
 }
 
-/// Reads a Close after its word: nothing. Does not allocate.
+/// Reads a Close after its word, if nothing follows. Does not allocate.
 fn close_in(seat: u32, parts: Pieces<'_>) -> Option<JournalLine>
     ensures { result ≡ close_in seat parts.entry }
 {

@@ -4,8 +4,8 @@
 //! written is defined in `specs/Printed.antt`. A journal is right if each entry may follow those before it
 //! (`specs/Checked.antt`).
 //!
-//! Below: `scan_rules` for the legal histories, `scan_core` for the replay of one, `sky_text` for lines and numbers.
-//! There is no board, no thread and no work on chunks here.
+//! Below: `scan_rules` for the legal histories, `scan_core` for the replay of one, `sky_text` for lines and numbers,
+//! `sky_io` for the sink. There is no board, no thread and no work on chunks here.
 #![tactic(auto)]
 
 mod checker;

@@ -9,7 +9,8 @@ use scan_rules::{Journal, JournalLine};
 use sky_io::{Put, Sink};
 use sky_text::put_count;
 
-/// Writes a journal: a line for the ring, and a line for each entry. Does not allocate.
+/// Writes a journal: a line for the ring, and a line for each entry. A failure may leave a prefix of it written. Does
+/// not allocate.
 pub fn put_journal<K: Sink>(sink: &mut K, journal: &Journal) -> Put
     ensures { Wrote (K.state sink.old) (K.state sink.new) (journal_text journal.now) result }
 {

@@ -1,6 +1,6 @@
 pub mod NineDigits
 pub mod Spans
 pub mod LinePlaces
-pub mod Judged
+pub mod ReadSoFar
 pub mod Numbered
 pub mod Standing

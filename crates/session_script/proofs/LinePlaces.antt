@@ -6,7 +6,7 @@ use Rattle.std.proofs.lemmas.Grind.{common_steps}
 use Rattle.std.proofs.lemmas.List.{drop_all, get_or_past, get_or-take, length-take-le, take-take, take_all, take_rest}
 use Rattle.text_rules.specs.Lines.{Line, numbered}
 use Rattle.sky_text.proofs.LineEnds.{found_feed, found_within, line_found, line_last, split_found, split_last}
-use Rattle.session_script.specs.Answers.{behind_end}
+use Rattle.session_script.specs.Answers.{after_end}
 use Rattle.session_script.specs.Places.{starts_from}
 
 -- the lines of what is left of a text, which begins at a place, with their places
@@ -18,18 +18,18 @@ pub record FirstLeft (rest : List ℕ) (place number : ℕ) (first : Line) (left
   pub fits : length first.text ≤ length rest
   pub some : 0 < length rest
   pub text : take (length first.text) rest ≡ first.text
-  pub others : left ≡ numbered (number + 1) (lines (drop (behind_end rest (length first.text)) rest))
+  pub others : left ≡ numbered (number + 1) (lines (drop (after_end rest (length first.text)) rest))
   pub placed : placed_from place number rest
-      ≡ (place, first) ∷ placed_from (place + behind_end rest (length first.text)) (number + 1) (drop (behind_end rest (length first.text)) rest)
+      ≡ (place, first) ∷ placed_from (place + after_end rest (length first.text)) (number + 1) (drop (after_end rest (length first.text)) rest)
 
 -- a carriage return and a line feed are passed over, or one byte is
-return_passed : (rest : List ℕ) (end : ℕ) → get_or rest end 0 ≡ 13 → behind_end rest end ≡ end + 2
+return_passed : (rest : List ℕ) (end : ℕ) → get_or rest end 0 ≡ 13 → after_end rest end ≡ end + 2
 return_passed rest end is = rw is refl
 
-feed_passed : (rest : List ℕ) (end : ℕ) → get_or rest end 0 ≡ 10 → behind_end rest end ≡ end + 1
+feed_passed : (rest : List ℕ) (end : ℕ) → get_or rest end 0 ≡ 10 → after_end rest end ≡ end + 1
 feed_passed rest end is = rw is refl
 
-end_passed : (rest : List ℕ) → behind_end rest (length rest) ≡ length rest + 1
+end_passed : (rest : List ℕ) → after_end rest (length rest) ≡ length rest + 1
 end_passed rest = rw (get_or_past rest (length rest) 0 (omega arith)) refl
 
 -- a byte of the first part that is a carriage return
@@ -46,10 +46,10 @@ some_part (b ∷ bs) is = omega arith
 
 -- behind a line that ends with a line feed, the line without its carriage return
 end_by : (rest : List ℕ) (at : ℕ) (return : Bool) → (slice_index (take at rest) (length (take at rest) - 1) == 13) ≡ return → at < length rest → get_or rest at 0 ≡ 10
-    → let text = cond return (take (length (take at rest) - 1) (take at rest)) (take at rest) in (behind_end rest (length text) ≡ at + 1) × (length text ≤ at) × (take (length text) rest ≡ text)
+    → let text = cond return (take (length (take at rest) - 1) (take at rest)) (take at rest) in (after_end rest (length text) ≡ at + 1) × (length text ≤ at) × (take (length text) rest ≡ text)
 end_by rest at false is within feed =
     let size : length (take at rest) ≡ at = length-take-le at rest (omega arith) in
-    (ap (behind_end rest) size ∙ feed_passed rest at feed, omega (arith, size), ap (λ n. take n rest) size)
+    (ap (after_end rest) size ∙ feed_passed rest at feed, omega (arith, size), ap (λ n. take n rest) size)
 end_by rest at true is within feed =
     let size : length (take at rest) ≡ at = length-take-le at rest (omega arith) in
     let some : 0 < at = omega (arith, some_part (take at rest) is, size) in
@@ -59,7 +59,7 @@ end_by rest at true is within feed =
     let passed : at - 1 + 2 ≡ at + 1 = omega arith in
     let front : take (at - 1) (take at rest) ≡ take (at - 1) rest = take-take (at - 1) at rest (omega arith) in
     let text : take (length (take at rest) - 1) (take at rest) ≡ take (at - 1) rest = ap (λ n. take n (take at rest)) last ∙ front in
-    (ap (behind_end rest) line ∙ (return_passed rest (at - 1) here ∙ passed), omega (arith, line), ap (λ n. take n rest) line ∙ sym text)
+    (ap (after_end rest) line ∙ (return_passed rest (at - 1) here ∙ passed), omega (arith, line), ap (λ n. take n rest) line ∙ sym text)
 
 same_first : (first line : Line) (left more : List Line) → ◌≡◌ {A = List Line} (line ∷ more) (first ∷ left) → line ≡ first
 same_first first line left more e = cc e
@@ -78,7 +78,7 @@ left_found rest place number at first left found is =
     let cut : (record { number = number; text = text }) ∷ numbered (number + 1) (lines more) ≡ first ∷ left = ap (numbered number) (sym lines_are) ∙ is in
     let line = same_first first _ left _ cut in
     let passed = end_by rest at (slice_index (take at rest) (length (take at rest) - 1) == 13) refl within (found_feed rest at found) in
-    let end : behind_end rest (length first.text) ≡ at + 1 = ap (λ (l : Line). behind_end rest (length l.text)) (sym line) ∙ passed.0 in
+    let end : after_end rest (length first.text) ≡ at + 1 = ap (λ (l : Line). after_end rest (length l.text)) (sym line) ∙ passed.0 in
     let size : length (take at rest) ≡ at = length-take-le at rest (omega arith) in
     let next : place + length (take at rest) + 1 ≡ place + (at + 1) = omega (arith, size) in
     let fits : length text ≤ at = passed.1 in
@@ -109,8 +109,8 @@ left_last rest place number first left none is =
     let lines_are : lines rest ≡ rest ∷ [] = line_last rest some none in
     let cut : (record { number = number; text = rest }) ∷ [] ≡ first ∷ left = ap (numbered number) (sym lines_are) ∙ is in
     let line = same_first first _ left _ cut in
-    let end : behind_end rest (length first.text) ≡ length rest + 1 = ap (λ (l : Line). behind_end rest (length l.text)) (sym line) ∙ end_passed rest in
-    let past : drop (behind_end rest (length first.text)) rest ≡ [] = drop_all (behind_end rest (length first.text)) rest (omega (arith, end)) in
+    let end : after_end rest (length first.text) ≡ length rest + 1 = ap (λ (l : Line). after_end rest (length l.text)) (sym line) ∙ end_passed rest in
+    let past : drop (after_end rest (length first.text)) rest ≡ [] = drop_all (after_end rest (length first.text)) rest (omega (arith, end)) in
     record {
       fits = omega (arith, ap (λ (l : Line). length l.text) line);
       some = some;
@@ -119,7 +119,7 @@ left_last rest place number first left none is =
       placed = ap (λ parts. zip (starts_from place parts) (numbered number (lines rest))) (split_last rest none)
           ∙ (ap (λ ls. zip (starts_from place (rest ∷ [])) (numbered number ls)) lines_are
           ∙ (ap (λ (l : Line). (place, l) ∷ []) line
-          ∙ ap (λ bs. (place, first) ∷ placed_from (place + behind_end rest (length first.text)) (number + 1) bs) (sym past)));
+          ∙ ap (λ bs. (place, first) ∷ placed_from (place + after_end rest (length first.text)) (number + 1) bs) (sym past)));
     }
 
 left_by : (rest : List ℕ) (place number : ℕ) (first : Line) (left : List Line) (found : Option ℕ) → position (λ b. b == 10) rest ≡ found

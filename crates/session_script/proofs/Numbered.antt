@@ -8,16 +8,16 @@ use Rattle.sql_token.specs.declared.token.Span.{Span}
 use Rattle.session_script.specs.declared.fault.ScriptFault.{ScriptFault}
 use Rattle.session_script.specs.declared.fault.ScriptFault.TheVariants as fault
 use Rattle.text_rules.specs.declared.limits.TheConstants.{QUERIES_MOST, QUERY_TEXT_MOST}
-use Rattle.session_script.specs.declared.saying.Saying.{Saying}
-use Rattle.session_script.specs.declared.saying.Saying.TheVariants.{Note, Cancels, Waits, Asks}
+use Rattle.session_script.specs.declared.command.Command.{Command}
+use Rattle.session_script.specs.declared.command.Command.TheVariants.{Note, Cancels, Waits, Asks}
 use Rattle.session_script.specs.declared.step.Step.{Step}
 use Rattle.session_script.specs.declared.step.Step.TheVariants as step
 use Rattle.session_script.specs.Laws.{IsQuery, LinesAreTexts, NumberedFrom}
 use Rattle.session_script.specs.Places.{placed_lines}
 use Rattle.text_rules.specs.Readings.{put_before}
-use Rattle.session_script.specs.Scripts.{and_behind, is_query, part_of, queries_with, query_count, query_spans, query_text, said_by, script_of, span_at, step_of, step_said, steps_from}
+use Rattle.session_script.specs.Scripts.{command_of, followed_by, is_query, part_of, queries_with, query_count, query_spans, query_text, script_of, span_at, step_by, step_of, steps_from}
 use Rattle.session_script.specs.Views.{ScriptView, query_lines}
-use Rattle.session_script.proofs.Judged.{no_line, one_line}
+use Rattle.session_script.proofs.ReadSoFar.{no_line, one_line}
 
 -- one step may stand behind so many queries, before steps that are numbered behind it
 MayStand : ℕ → Step → Type 0
@@ -51,16 +51,16 @@ asking_stands : (queries place : ℕ) (line : Line) (t : Step) (b : Bool)
 asking_stands queries place line t false e = absurd (cc e)
 asking_stands queries place line t true e = subst (MayStand queries) (same_step _ t e) (query_stands queries (span_at place line))
 
-said_stands : (queries place : ℕ) (line : Line) (said : Saying) (t : Step) → step_said queries place line said ≡ Ok (Some t) → MayStand queries t
-said_stands queries place line Note t e = absurd (cc e)
-said_stands queries place line (Cancels n) t e = naming_stands queries line n (step.Cancel n) t (is_query queries n) refl (cancel_stands queries n) e
-said_stands queries place line (Waits n) t e = naming_stands queries line n (step.Wait n) t (is_query queries n) refl (wait_stands queries n) e
-said_stands queries place line Asks t e = asking_stands queries place line t (nat_lt queries QUERIES_MOST) e
+command_stands : (queries place : ℕ) (line : Line) (command : Command) (t : Step) → step_by queries place line command ≡ Ok (Some t) → MayStand queries t
+command_stands queries place line Note t e = absurd (cc e)
+command_stands queries place line (Cancels n) t e = naming_stands queries line n (step.Cancel n) t (is_query queries n) refl (cancel_stands queries n) e
+command_stands queries place line (Waits n) t e = naming_stands queries line n (step.Wait n) t (is_query queries n) refl (wait_stands queries n) e
+command_stands queries place line Asks t e = asking_stands queries place line t (nat_lt queries QUERIES_MOST) e
 
 long_stands : (queries place : ℕ) (line : Line) (t : Step) (b : Bool)
-    → cond b (Err (fault.LineTooLong line.number)) (step_said queries place line (said_by line.text)) ≡ Ok (Some t) → MayStand queries t
+    → cond b (Err (fault.LineTooLong line.number)) (step_by queries place line (command_of line.text)) ≡ Ok (Some t) → MayStand queries t
 long_stands queries place line t true e = absurd (cc e)
-long_stands queries place line t false e = said_stands queries place line (said_by line.text) t e
+long_stands queries place line t false e = command_stands queries place line (command_of line.text) t e
 
 put_numbered : (queries : ℕ) (s : Step) (ss : List Step) (more : Result (List Step) ScriptFault) → MayStand queries s
     → ((rest : List Step) → more ≡ Ok rest → NumberedFrom (queries_with queries s) rest) → put_before s more ≡ Ok ss → NumberedFrom queries ss
@@ -72,7 +72,7 @@ put_numbered queries s ss (Ok rest) stands numbered e =
 
 line_numbered : (queries place : ℕ) (line : Line) (ls : List (ℕ × Line)) (ss : List Step) (spec : Result (Option Step) ScriptFault) → step_of queries place line ≡ spec
     → ((q : ℕ) (rest : List Step) → steps_from q ls ≡ Ok rest → NumberedFrom q rest)
-    → and_behind queries spec (λ q. steps_from q ls) ≡ Ok ss → NumberedFrom queries ss
+    → followed_by queries spec (λ q. steps_from q ls) ≡ Ok ss → NumberedFrom queries ss
 line_numbered queries place line ls ss (Err why) is numbered e = absurd (cc e)
 line_numbered queries place line ls ss (Ok None) is numbered e = numbered queries ss e
 line_numbered queries place line ls ss (Ok (Some s)) is numbered e =
@@ -115,13 +115,13 @@ own_text text ss i n span numbered e =
     ap (part_of text) (ap (slice_get (query_spans ss)) (sym same) ∙ found.1)
 
 -- steps that are numbered behind others that are
-pub numbered_behind : (queries : ℕ) (a b : List Step) → NumberedFrom queries a → NumberedFrom (queries + query_count a) b → NumberedFrom queries (a ++ b)
-numbered_behind queries [] b first more = subst (λ q. NumberedFrom q b) (omega arith) more
-numbered_behind queries (step.Query n span ∷ a) b first more =
+pub numbered_after : (queries : ℕ) (a b : List Step) → NumberedFrom queries a → NumberedFrom (queries + query_count a) b → NumberedFrom queries (a ++ b)
+numbered_after queries [] b first more = subst (λ q. NumberedFrom q b) (omega arith) more
+numbered_after queries (step.Query n span ∷ a) b first more =
     let next : queries + query_count (step.Query n span ∷ a) ≡ queries + 1 + query_count a = omega arith in
-    (first.0, numbered_behind (queries + 1) a b first.1 (subst (λ q. NumberedFrom q b) next more))
-numbered_behind queries (step.Wait n ∷ a) b first more = (first.0, numbered_behind queries a b first.1 more)
-numbered_behind queries (step.Cancel n ∷ a) b first more = (first.0, numbered_behind queries a b first.1 more)
+    (first.0, numbered_after (queries + 1) a b first.1 (subst (λ q. NumberedFrom q b) next more))
+numbered_after queries (step.Wait n ∷ a) b first more = (first.0, numbered_after queries a b first.1 more)
+numbered_after queries (step.Cancel n ∷ a) b first more = (first.0, numbered_after queries a b first.1 more)
 
 stands_last : (queries : ℕ) (s : Step) → MayStand queries s → NumberedFrom queries (s ∷ [])
 unfolding MayStand
@@ -136,7 +136,7 @@ numbers_kept queries place line o t old new same (Ok done) count is some numbere
     let spec : step_of queries place line ≡ Ok (Some t) = sym is ∙ ap {B = Result (Option Step) ScriptFault} (λ o. Ok o) some in
     let last : NumberedFrom queries (t ∷ []) = stands_last queries t (long_stands queries place line t (nat_lt QUERY_TEXT_MOST (length line.text)) spec) in
     let next : queries ≡ 0 + query_count old = omega (arith, count) in
-    subst (NumberedFrom 0) (sym put) (numbered_behind 0 old (t ∷ []) numbered (subst (λ q. NumberedFrom q (t ∷ [])) next last))
+    subst (NumberedFrom 0) (sym put) (numbered_after 0 old (t ∷ []) numbered (subst (λ q. NumberedFrom q (t ∷ [])) next last))
 
 -- the texts of spans, one by one
 text_at : (text : List ℕ) (spans : List Span) (i : ℕ) → i < length spans

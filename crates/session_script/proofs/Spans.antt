@@ -8,11 +8,11 @@ use Rattle.sql_token.specs.declared.token.Span.{Span}
 use Rattle.session_script.specs.declared.fault.ScriptFault.{ScriptFault}
 use Rattle.session_script.specs.declared.fault.ScriptFault.TheVariants as fault
 use Rattle.text_rules.specs.declared.limits.TheConstants.{QUERIES_MOST, QUERY_TEXT_MOST}
-use Rattle.session_script.specs.declared.saying.Saying.{Saying}
-use Rattle.session_script.specs.declared.saying.Saying.TheVariants.{Note, Cancels, Waits, Asks}
+use Rattle.session_script.specs.declared.command.Command.{Command}
+use Rattle.session_script.specs.declared.command.Command.TheVariants.{Note, Cancels, Waits, Asks}
 use Rattle.session_script.specs.declared.step.Step.{Step}
 use Rattle.session_script.specs.declared.step.Step.TheVariants as step
-use Rattle.session_script.specs.Scripts.{is_query, query_spans, said_by, span_at, step_of, step_said}
+use Rattle.session_script.specs.Scripts.{command_of, is_query, query_spans, span_at, step_by, step_of}
 use Rattle.session_script.specs.Views.{IsLine}
 
 -- the spans of steps one list behind another
@@ -45,19 +45,19 @@ asking_fits queries bytes place line t true below within short e =
     let is : IsLine bytes (span_at place line) = record { ordered = omega arith; within = omega arith; short = omega arith } in
     subst (Fits queries bytes) (same_step _ t e) (record { lines = All-cons (IsLine bytes) (span_at place line) [] is (All-nil (IsLine bytes)); few = omega arith })
 
-said_fits : (queries bytes place : ℕ) (line : Line) (said : Saying) (t : Step) → place + length line.text ≤ bytes → length line.text ≤ QUERY_TEXT_MOST → queries ≤ QUERIES_MOST
-    → step_said queries place line said ≡ Ok (Some t) → Fits queries bytes t
-said_fits queries bytes place line Note t within short few e = absurd (cc e)
-said_fits queries bytes place line (Cancels n) t within short few e = naming_fits queries bytes line n (step.Cancel n) t (is_query queries n) refl few e
-said_fits queries bytes place line (Waits n) t within short few e = naming_fits queries bytes line n (step.Wait n) t (is_query queries n) refl few e
-said_fits queries bytes place line Asks t within short few e = asking_fits queries bytes place line t (nat_lt queries QUERIES_MOST) refl within short e
+command_fits : (queries bytes place : ℕ) (line : Line) (command : Command) (t : Step) → place + length line.text ≤ bytes → length line.text ≤ QUERY_TEXT_MOST → queries ≤ QUERIES_MOST
+    → step_by queries place line command ≡ Ok (Some t) → Fits queries bytes t
+command_fits queries bytes place line Note t within short few e = absurd (cc e)
+command_fits queries bytes place line (Cancels n) t within short few e = naming_fits queries bytes line n (step.Cancel n) t (is_query queries n) refl few e
+command_fits queries bytes place line (Waits n) t within short few e = naming_fits queries bytes line n (step.Wait n) t (is_query queries n) refl few e
+command_fits queries bytes place line Asks t within short few e = asking_fits queries bytes place line t (nat_lt queries QUERIES_MOST) refl within short e
 
 long_fits : (queries bytes place : ℕ) (line : Line) (t : Step) (b : Bool) → nat_lt QUERY_TEXT_MOST (length line.text) ≡ b → place + length line.text ≤ bytes → queries ≤ QUERIES_MOST
-    → cond b (Err (fault.LineTooLong line.number)) (step_said queries place line (said_by line.text)) ≡ Ok (Some t) → Fits queries bytes t
+    → cond b (Err (fault.LineTooLong line.number)) (step_by queries place line (command_of line.text)) ≡ Ok (Some t) → Fits queries bytes t
 long_fits queries bytes place line t true long within few e = absurd (cc e)
 long_fits queries bytes place line t false long within few e =
     let short : length line.text ≤ QUERY_TEXT_MOST = grind (arith, common_steps) in
-    said_fits queries bytes place line (said_by line.text) t within short few e
+    command_fits queries bytes place line (command_of line.text) t within short few e
 
 -- a step of a line within the text fits
 pub step_fits : (queries bytes place : ℕ) (line : Line) (t : Step) → place + length line.text ≤ bytes → queries ≤ QUERIES_MOST

@@ -24,5 +24,5 @@ Adds spec old new (Err why) = StopsBy spec why
 
 -- the position after the end of a line whose text ends at a position: after a carriage return and a line feed, or one
 -- byte later
-abbrev pub behind_end : List ℕ → ℕ → ℕ
-behind_end text end = if slice_index text end == 13 then end + 2 else end + 1
+abbrev pub after_end : List ℕ → ℕ → ℕ
+after_end text end = if slice_index text end == 13 then end + 2 else end + 1

@@ -10,32 +10,32 @@ use Rattle.session_script.specs.declared.step.Step.{Step}
 use Rattle.session_script.specs.declared.step.Step.TheVariants as step
 use Rattle.text_rules.specs.declared.limits.TheConstants.{QUERIES_MOST, QUERY_TEXT_MOST}
 use Rattle.text_rules.specs.Readings.{put_before}
-use Rattle.session_script.specs.declared.saying.Saying.{Saying}
-use Rattle.session_script.specs.declared.saying.Saying.TheVariants.{Note, Cancels, Waits, Asks}
+use Rattle.session_script.specs.declared.command.Command.{Command}
+use Rattle.session_script.specs.declared.command.Command.TheVariants.{Note, Cancels, Waits, Asks}
 use Rattle.session_script.specs.declared.fault.ScriptFault.{ScriptFault}
 use Rattle.session_script.specs.declared.fault.ScriptFault.TheVariants as fault
 use Rattle.session_script.specs.Places.{placed_lines}
 
 -- the number that is the whole rest of the text after a word at its start, if it has few enough digits
-abbrev pub number_behind : (word text : List ℕ) → Option ℕ
-number_behind word text =
+abbrev pub number_after : (word text : List ℕ) → Option ℕ
+number_after word text =
     if starts_with nat_eq text word then natural QUERY_DIGITS_MOST (drop (length word) text) else None
 
 -- of the other lines, one that is `wait ` and a number is a wait, and any other is a query
-abbrev pub wait_or_query : Option ℕ → Saying
+abbrev pub wait_or_query : Option ℕ → Command
 wait_or_query (Some n) = Waits n
 wait_or_query None = Asks
 
 -- a line that is `cancel ` and a number is a cancel
-abbrev pub cancel_or_else : Option ℕ → Option ℕ → Saying
+abbrev pub cancel_or_else : Option ℕ → Option ℕ → Command
 cancel_or_else (Some n) wait = Cancels n
 cancel_or_else None wait = wait_or_query wait
 
 -- the meaning of a line by itself
-abbrev pub said_by : List ℕ → Saying
-said_by text =
+abbrev pub command_of : List ℕ → Command
+command_of text =
     if is_note text then Note
-    else cancel_or_else (number_behind (codes "cancel ") text) (number_behind (codes "wait ") text)
+    else cancel_or_else (number_after (codes "cancel ") text) (number_after (codes "wait ") text)
 
 -- a number is that of one of the given number of queries
 abbrev pub is_query : ℕ → ℕ → Bool
@@ -57,17 +57,17 @@ asking queries place line =
     else Err (fault.TooManyQueries line.number)
 
 -- the step of a line with the given meaning, and none for a comment line
-abbrev pub step_said : ℕ → ℕ → Line → Saying → Result (Option Step) ScriptFault
-step_said queries place line Note = Ok None
-step_said queries place line (Cancels n) = naming queries line n (step.Cancel n)
-step_said queries place line (Waits n) = naming queries line n (step.Wait n)
-step_said queries place line Asks = asking queries place line
+abbrev pub step_by : ℕ → ℕ → Line → Command → Result (Option Step) ScriptFault
+step_by queries place line Note = Ok None
+step_by queries place line (Cancels n) = naming queries line n (step.Cancel n)
+step_by queries place line (Waits n) = naming queries line n (step.Wait n)
+step_by queries place line Asks = asking queries place line
 
 -- the step of a line that begins at a position, after lines with the given number of queries
 abbrev pub step_of : ℕ → ℕ → Line → Result (Option Step) ScriptFault
 step_of queries place line =
     if nat_lt QUERY_TEXT_MOST (length line.text) then Err (fault.LineTooLong line.number)
-    else step_said queries place line (said_by line.text)
+    else step_by queries place line (command_of line.text)
 
 -- the number of queries up to and with a step
 abbrev pub queries_with : ℕ → Step → ℕ
@@ -77,16 +77,16 @@ queries_with queries (step.Cancel n) = queries
 
 -- the steps from a line on: its own, followed by those of a function for the rest, whose argument is how many queries
 -- precede it
-abbrev pub and_behind : ℕ → Result (Option Step) ScriptFault → (ℕ → Result (List Step) ScriptFault)
+abbrev pub followed_by : ℕ → Result (Option Step) ScriptFault → (ℕ → Result (List Step) ScriptFault)
     → Result (List Step) ScriptFault
-and_behind queries (Ok None) more = more queries
-and_behind queries (Ok (Some s)) more = put_before s (more (queries_with queries s))
-and_behind queries (Err why) more = Err why
+followed_by queries (Ok None) more = more queries
+followed_by queries (Ok (Some s)) more = put_before s (more (queries_with queries s))
+followed_by queries (Err why) more = Err why
 
 -- the steps of these lines after the given number of queries, or the first fault
 unfoldable pub steps_from : ℕ → List (ℕ × Line) → Result (List Step) ScriptFault
 steps_from queries [] = Ok []
-steps_from queries (l ∷ ls) = and_behind queries (step_of queries l.0 l.1) (λ q. steps_from q ls)
+steps_from queries (l ∷ ls) = followed_by queries (step_of queries l.0 l.1) (λ q. steps_from q ls)
 
 -- the steps of a script in the order of its lines, or its first fault
 abbrev pub script_of : List ℕ → Result (List Step) ScriptFault

@@ -4,12 +4,12 @@
 //! numbers, `sql_token` for spans. The text of a query is not inspected here: a line that is no other step is a query.
 #![tactic(auto)]
 
+mod command;
 pub mod examples;
 mod fault;
-mod judge;
 pub mod laws;
 pub mod limits;
-mod saying;
+mod line_step;
 mod script;
 mod step;
 

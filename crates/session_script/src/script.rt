@@ -3,12 +3,12 @@ ghost use Rattle.std.specs.Prelude.{◌≡◌, ◌≤◌, ◌<◌, ◌+◌, [], 
 ghost use Rattle.std.specs.Prelude.{IfOk, IfErr, OnOk, OnErr, Ok};
 ghost use Rattle.text_rules.specs.declared.limits.TheConstants.{QUERIES_MOST, QUERY_TEXT_MOST, TEXT_MOST};
 ghost use Rattle.sky_text.specs.LineItems.{line_of};
-ghost use Rattle.session_script.specs.Answers.{Adds, StopsBy, behind_end};
+ghost use Rattle.session_script.specs.Answers.{Adds, StopsBy, after_end};
 ghost use Rattle.session_script.specs.Laws.{NumberedFrom};
 ghost use Rattle.session_script.specs.Scripts.{query_count, query_spans, query_text, script_of, step_of};
 
 use crate::fault::ScriptFault;
-use crate::judge::step_of;
+use crate::line_step::step_of;
 use crate::step::Step;
 use sky_io::Stop;
 use sky_text::{Line, Lines};
@@ -42,9 +42,9 @@ impl<'a> Model for Script<'a> {
 }
 
 // The position after the end of a line whose text ends at a position.
-fn behind_end(text: &[u8], end: usize) -> usize
+fn after_end(text: &[u8], end: usize) -> usize
     requires { end ≤ TEXT_MOST }
-    ensures { result ≡ behind_end text.now end }
+    ensures { result ≡ after_end text.now end }
 {
     match text.get(end) {
         Some(b'\r') => end + 2,
@@ -116,7 +116,7 @@ impl<'a> Script<'a> {
         let mut place = 0;
         for line in Lines::new(text) {
             script.add(place, &line)?;
-            place = behind_end(text, place + line.text.len());
+            place = after_end(text, place + line.text.len());
         }
         Ok(script)
     }

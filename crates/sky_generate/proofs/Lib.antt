@@ -1,3 +1,4 @@
 pub mod Roots
 pub mod Places
 pub mod Growth
+pub mod Powers

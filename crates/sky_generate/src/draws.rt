@@ -1,7 +1,10 @@
 //! The draws of an object: a linear congruential generator, `minstd_rand` of the C++ standard.
+//!
+//! Draw k is the seed times a power of the multiplier, so each thread can begin with the draws of its own objects.
 
-ghost use Rattle.std.specs.Prelude.{◌≡◌, ◌<◌};
-ghost use Rattle.demo_rules.specs.declared.limits.TheConstants.{MODULUS};
+ghost use Rattle.std.specs.Prelude.{◌≡◌, ◌<◌, ◌^◌, ◌%◌};
+ghost use Rattle.demo_rules.specs.Draws.{draw};
+ghost use Rattle.demo_rules.specs.declared.limits.TheConstants.{MODULUS, MULTIPLIER};
 ghost use Rattle.sky_generate.specs.Draws.{AreDrawnFrom, next_draw};
 
 use demo_rules::limits::{MODULUS, MULTIPLIER};
@@ -18,7 +21,7 @@ pub(crate) struct Draws {
 
 impl Draws {
     /// Returns the five draws after the given one, which is an earlier draw or the seed.
-    pub fn behind(before: u64) -> Draws
+    pub fn after(before: u64) -> Draws
         requires { before < MODULUS }
         ensures { AreDrawnFrom before result }
     {
@@ -44,4 +47,28 @@ fn next(before: u64) -> u64
     ensures below { result < MODULUS }
 {
     before * MULTIPLIER % MODULUS
+}
+
+/// Returns a power of the multiplier, modulo 2^31 - 1.
+#[tactic(auto, using(crate::proofs::Powers::even_power, crate::proofs::Powers::odd_power))]
+fn power(exponent: u64) -> u64
+    ensures value { result ≡ MULTIPLIER ^ exponent % MODULUS }
+    ensures below { result < MODULUS }
+{
+    if exponent == 0 {
+        return 1;
+    }
+    let half = power(exponent / 2);
+    let even = half * half % MODULUS;
+    if exponent % 2 == 0 { even } else { next(even) }
+}
+
+/// Returns the draw with this number from a seed, counted from 1; draw 0 is the seed.
+#[tactic(auto, using(crate::proofs::Powers::drawn_at))]
+pub(crate) fn draw_at(seed: u64, number: u64) -> u64
+    requires { seed < MODULUS }
+    ensures value { result ≡ draw seed number }
+    ensures below { result < MODULUS }
+{
+    seed * power(number) % MODULUS
 }

@@ -2,7 +2,7 @@
 //!
 //! Callers see the rows and the texts as those of `demo_rules`. An object takes five draws of the generator
 //! `minstd_rand` of the C++ standard; its position on the sphere is computed from three of them with integer square
-//! roots. Below: `sky_vector` for positions and roots, `sky_row` for rows, `demo_rules` for the definition of the demo.
+//! roots. Several threads make a range of the objects each, if they are asked to. Below: `sky_vector` for positions and roots, `sky_row` for rows, `demo_rules` for the definition of the demo.
 //! Nothing is read, and no number is drawn from outside.
 #![tactic(auto)]
 
@@ -11,5 +11,5 @@ mod place;
 mod rows;
 mod texts;
 
-pub use rows::rows_of;
+pub use rows::{rows_by, rows_of};
 pub use texts::{demo_script, demo_sky};

@@ -1,22 +1,28 @@
 -- What an outcome says leaves no other outcome where the texts are as they are.
-use Rattle.std.proofs.Common.{◌≡◌, ℕ, ◌<◌, List, Option, None, Some, refl, sym, subst, arith}
+use Rattle.std.proofs.Common.{◌≡◌, ℕ, ◌<◌, List, Option, None, Some, Result, Ok, Err, refl, sym, subst, arith}
 use Rattle.sky_io.specs.Shelves.{times}
 use Rattle.sky_io.specs.Sinks.{Rose}
 use Rattle.sky_rules.specs.declared.fault.SkyFault.{SkyFault}
 use Rattle.table_rules.specs.declared.fault.LoadFault.{LoadFault}
 use Rattle.session_script.specs.declared.fault.ScriptFault.{ScriptFault}
-use Rattle.top_call.specs.Words.{Form, Load, Asks, Demo, names_of}
+use Rattle.scan_history.specs.Texts.{journal_of}
+use Rattle.scan_rules.specs.Runs.{IsRun}
+use Rattle.scan_history.specs.declared.fault.HistoryFault.{HistoryFault}
+use Rattle.scan_history.specs.declared.fault.HistoryFault.TheVariants.{Syntax, NotAStep}
+use Rattle.scan_rules.specs.declared.journal.Journal.{Journal as JournalView}
+use Rattle.top_call.specs.Words.{Form, Load, Asks, Check, Demo, names_of}
 use Rattle.top_call.specs.Outcomes.{name_of}
 use Rattle.top_call.specs.Reached.{Texts, IfTold, text_at, IsAccepted, IsSkyFault, IsCatalogueFault, IsScriptFault, IsLong, HasText}
-use Rattle.top_call.specs.Reached.{AreAccepted, AreEarlierAccepted, AreStill, AreAllStill}
+use Rattle.top_call.specs.Reached.{AreAccepted, AreEarlierAccepted, IsStill, AreStill, AreAllStill}
+use Rattle.top_call.specs.Journals.{IsFaultOf, IsJournalFault, IsJournalOf}
 use Rattle.top_call.specs.Jobs.{Job, IsJobOf}
 use Rattle.top_call.specs.Explained.{Shown, IsRefused, ExplainedOf, Explained}
 use Rattle.top_call.specs.Completes.{IsRefusalOrMemory, IsDoneOrMemory, Completes, Complete}
 use Rattle.top_call.specs.declared.outcome.Which.{Which}
-use Rattle.top_call.specs.declared.outcome.Which.TheVariants.{Sky, Catalogue, Script}
+use Rattle.top_call.specs.declared.outcome.Which.TheVariants.{Sky, Catalogue, Script, Journal}
 use Rattle.top_call.specs.declared.outcome.Outcome.{Outcome}
 use Rattle.top_call.specs.declared.outcome.Outcome.TheVariants.{Done, Usage, BadSky, BadCatalogue, BadScript}
-use Rattle.top_call.specs.declared.outcome.Outcome.TheVariants.{TooLong, ShelfFault, SinkFault, Memory}
+use Rattle.top_call.specs.declared.outcome.Outcome.TheVariants.{TooLong, ShelfFault, SinkFault, Memory, BadJournal}
 
 -- a text with a fault isn't accepted: a sky plan
 sky_fault : (text : List ℕ) (fault : SkyFault) → IsSkyFault text fault → IsAccepted Sky text → ⊥
@@ -30,23 +36,43 @@ catalogue_fault text fault is (table, ok) = absurd (cc (is.1, ok.1))
 script_fault : (text : List ℕ) (fault : ScriptFault) → IsScriptFault text fault → IsAccepted Script text → ⊥
 script_fault text fault is (view, ok) = let read = ok.read in absurd (cc (is.1, read))
 
+-- a journal that is read and whose first wrong entry is named isn't right
+journal_fault :
+    (text : List ℕ) (fault : HistoryFault) (read : Result JournalView HistoryFault) → journal_of text ≡ read
+    → IsFaultOf read fault → IsAccepted Journal text → ⊥
+journal_fault text fault (Err found) is faulty (journal, ok) = let read = ok.read in absurd (cc (is, read))
+journal_fault text (Syntax line) (Ok other) is faulty (journal, ok) = absurd faulty
+journal_fault text (NotAStep line) (Ok other) is faulty (journal, ok) =
+    let read = ok.read in
+    let same : other ≡ journal = cc (is, read) in
+    let run : IsRun other.ring other.lines = subst (λ (j : JournalView). IsRun j.ring j.lines) (sym same) ok.right in
+    faulty.wrong (run.follows faulty.before faulty.entry faulty.rest faulty.cut)
+
 -- nor is a text that is too long
 long_text : (which : Which) (text : List ℕ) → IsLong which text → IsAccepted which text → ⊥
 long_text Sky text long (plan, ok) = let short = ok.0 in absurd (omega arith)
 long_text Catalogue text long (table, ok) = let short = ok.0 in absurd (omega arith)
 long_text Script text long (view, ok) = let short = ok.short in absurd (omega arith)
+long_text Journal text long (journal, ok) = let short = ok.short in absurd (omega arith)
 
 -- each text of a job is accepted
 job_accepted : (form : Form) (texts : Texts) (job : Job) → IsJobOf form (Some texts) job → AreAccepted (names_of form) texts
 job_accepted (Load sky catalogue) texts job is Sky has = (is.0.plan, is.2.0)
 job_accepted (Load sky catalogue) texts job is Catalogue has = (is.0.rows, is.2.1)
 job_accepted (Load sky catalogue) texts job is Script has = absurd (cc has)
+job_accepted (Load sky catalogue) texts job is Journal has = absurd (cc has)
 job_accepted (Asks task sky catalogue script) texts job is Sky has = (is.0.plan, is.3.0.0)
 job_accepted (Asks task sky catalogue script) texts job is Catalogue has = (is.0.rows, is.3.0.1)
 job_accepted (Asks task sky catalogue script) texts job is Script has = (is.1, is.3.1)
+job_accepted (Asks task sky catalogue script) texts job is Journal has = absurd (cc has)
+job_accepted (Check journal) texts job is Sky has = absurd (cc has)
+job_accepted (Check journal) texts job is Catalogue has = absurd (cc has)
+job_accepted (Check journal) texts job is Script has = absurd (cc has)
+job_accepted (Check journal) texts job is Journal has = (is.0, is.3)
 job_accepted (Demo count seed workers) texts job is Sky has = absurd (cc has)
 job_accepted (Demo count seed workers) texts job is Catalogue has = absurd (cc has)
 job_accepted (Demo count seed workers) texts job is Script has = absurd (cc has)
+job_accepted (Demo count seed workers) texts job is Journal has = absurd (cc has)
 
 -- the same, where the texts are told
 told_accepted :
@@ -54,39 +80,69 @@ told_accepted :
     AreAccepted (names_of form) texts
 told_accepted form told texts job is asked = job_accepted form texts job (subst (λ t. IsJobOf form t job) is asked)
 
+-- a command that has a journal has no other text
+journal_alone : (form : Form) (which : Which) → HasText (names_of form) Journal → HasText (names_of form) which → which ≡ Journal
+journal_alone (Load sky catalogue) which has has' = absurd (cc has)
+journal_alone (Asks task sky catalogue script) which has has' = absurd (cc has)
+journal_alone (Check journal) Sky has has' = absurd (cc has')
+journal_alone (Check journal) Catalogue has has' = absurd (cc has')
+journal_alone (Check journal) Script has has' = absurd (cc has')
+journal_alone (Check journal) Journal has has' = refl
+journal_alone (Demo count seed workers) which has has' = absurd (cc has)
+
 -- the text at which texts are no longer accepted is one
 one_first :
-    (form : Form) (texts : Texts) (which other : Which) → AreEarlierAccepted (names_of form) texts which →
-    (IsAccepted which (text_at (names_of form) texts which) → ⊥) → AreEarlierAccepted (names_of form) texts other →
-    (IsAccepted other (text_at (names_of form) texts other) → ⊥) → other ≡ which
-one_first form texts Sky Sky earlier isnt earlier' isnt' = refl
-one_first form texts Sky Catalogue earlier isnt earlier' isnt' = absurd (isnt earlier')
-one_first form texts Sky Script earlier isnt earlier' isnt' = absurd (isnt earlier'.0)
-one_first form texts Catalogue Sky earlier isnt earlier' isnt' = absurd (isnt' earlier)
-one_first form texts Catalogue Catalogue earlier isnt earlier' isnt' = refl
-one_first form texts Catalogue Script earlier isnt earlier' isnt' = absurd (isnt earlier'.1)
-one_first form texts Script Sky earlier isnt earlier' isnt' = absurd (isnt' earlier.0)
-one_first form texts Script Catalogue earlier isnt earlier' isnt' = absurd (isnt' earlier.1)
-one_first form texts Script Script earlier isnt earlier' isnt' = refl
+    (form : Form) (texts : Texts) (which other : Which) → HasText (names_of form) which → HasText (names_of form) other
+    → AreEarlierAccepted (names_of form) texts which → (IsAccepted which (text_at (names_of form) texts which) → ⊥)
+    → AreEarlierAccepted (names_of form) texts other → (IsAccepted other (text_at (names_of form) texts other) → ⊥)
+    → other ≡ which
+one_first form texts Sky Sky has has' earlier isnt earlier' isnt' = refl
+one_first form texts Sky Catalogue has has' earlier isnt earlier' isnt' = absurd (isnt earlier')
+one_first form texts Sky Script has has' earlier isnt earlier' isnt' = absurd (isnt earlier'.0)
+one_first form texts Sky Journal has has' earlier isnt earlier' isnt' = sym (journal_alone form Sky has' has)
+one_first form texts Catalogue Sky has has' earlier isnt earlier' isnt' = absurd (isnt' earlier)
+one_first form texts Catalogue Catalogue has has' earlier isnt earlier' isnt' = refl
+one_first form texts Catalogue Script has has' earlier isnt earlier' isnt' = absurd (isnt earlier'.1)
+one_first form texts Catalogue Journal has has' earlier isnt earlier' isnt' = sym (journal_alone form Catalogue has' has)
+one_first form texts Script Sky has has' earlier isnt earlier' isnt' = absurd (isnt' earlier.0)
+one_first form texts Script Catalogue has has' earlier isnt earlier' isnt' = absurd (isnt' earlier.1)
+one_first form texts Script Script has has' earlier isnt earlier' isnt' = refl
+one_first form texts Script Journal has has' earlier isnt earlier' isnt' = sym (journal_alone form Script has' has)
+one_first form texts Journal other has has' earlier isnt earlier' isnt' = journal_alone form other has has'
 
 still_not_risen : (before now : ℕ) → now ≡ before → before < now → ⊥
 still_not_risen before now same rose = absurd (omega arith)
 
+-- where this text is refused and it and the earlier ones are still, a text that is reached is still
+still_at :
+    (form : Form) (texts : Texts) (which other : Which) (old new : List (List ℕ)) →
+    HasText (names_of form) which → HasText (names_of form) other →
+    (IsAccepted which (text_at (names_of form) texts which) → ⊥) → AreStill (names_of form) old new which →
+    AreEarlierAccepted (names_of form) texts other → IsStill (names_of form) old new other
+still_at form texts Sky Sky old new has has' isnt still earlier = still
+still_at form texts Sky Catalogue old new has has' isnt still earlier = absurd (isnt earlier)
+still_at form texts Sky Script old new has has' isnt still earlier = absurd (isnt earlier.0)
+still_at form texts Catalogue Sky old new has has' isnt still earlier = still.0
+still_at form texts Catalogue Catalogue old new has has' isnt still earlier = still.1
+still_at form texts Catalogue Script old new has has' isnt still earlier = absurd (isnt earlier.1)
+still_at form texts Script Sky old new has has' isnt still earlier = still.0
+still_at form texts Script Catalogue old new has has' isnt still earlier = still.1
+still_at form texts Script Script old new has has' isnt still earlier = still.2
+still_at form texts Sky Journal old new has has' isnt still earlier = absurd (cc (journal_alone form Sky has' has))
+still_at form texts Catalogue Journal old new has has' isnt still earlier = absurd (cc (journal_alone form Catalogue has' has))
+still_at form texts Script Journal old new has has' isnt still earlier = absurd (cc (journal_alone form Script has' has))
+still_at form texts Journal other old new has has' isnt still earlier =
+    subst (λ w. IsStill (names_of form) old new w) (sym (journal_alone form other has has')) still
+
 -- no fault can be at a text where this one is refused and it and the earlier ones are still
 no_fault :
     (form : Form) (texts : Texts) (which other : Which) (old new : List (List ℕ)) →
+    HasText (names_of form) which → HasText (names_of form) other →
     (IsAccepted which (text_at (names_of form) texts which) → ⊥) → AreStill (names_of form) old new which →
     AreEarlierAccepted (names_of form) texts other →
     times (name_of (names_of form) other) old < times (name_of (names_of form) other) new → ⊥
-no_fault form texts Sky Sky old new isnt still earlier rose = still_not_risen _ _ still rose
-no_fault form texts Sky Catalogue old new isnt still earlier rose = isnt earlier
-no_fault form texts Sky Script old new isnt still earlier rose = isnt earlier.0
-no_fault form texts Catalogue Sky old new isnt still earlier rose = still_not_risen _ _ still.0 rose
-no_fault form texts Catalogue Catalogue old new isnt still earlier rose = still_not_risen _ _ still.1 rose
-no_fault form texts Catalogue Script old new isnt still earlier rose = isnt earlier.1
-no_fault form texts Script Sky old new isnt still earlier rose = still_not_risen _ _ still.0 rose
-no_fault form texts Script Catalogue old new isnt still earlier rose = still_not_risen _ _ still.1 rose
-no_fault form texts Script Script old new isnt still earlier rose = still_not_risen _ _ still.2 rose
+no_fault form texts which other old new has has' isnt still earlier rose =
+    still_not_risen _ _ (still_at form texts which other old new has has' isnt still earlier) rose
 
 -- a fact of the texts, where they are told
 at_texts :
@@ -137,6 +193,13 @@ script_stops : (form : Form) (s : Shown) (texts : Texts) (fault : ScriptFault) �
 script_stops form s texts fault told h =
     stops form s texts Script (λ text. IsScriptFault text fault) told (λ text is. script_fault text fault is) h
 
+-- a refused journal
+journal_stops : (form : Form) (s : Shown) (texts : Texts) (fault : HistoryFault) → s.shelf_old.texts ≡ Some texts
+    → IsRefused (names_of form) s Journal (λ text. IsJournalFault text fault) → StopsAt form texts Journal
+journal_stops form s texts fault told h =
+    stops form s texts Journal (λ text. IsJournalFault text fault) told
+    (λ text is. journal_fault text fault (journal_of text) refl is.1) h
+
 -- a text that is too long
 long_stops : (form : Form) (s : Shown) (texts : Texts) (which : Which) → s.shelf_old.texts ≡ Some texts
     → IsRefused (names_of form) s which (IsLong which) → StopsAt form texts which
@@ -144,9 +207,11 @@ long_stops form s texts which told h = stops form s texts which (IsLong which) t
 
 -- the text at which it stops is the one that is reached and isn't accepted
 same_stop :
-    (form : Form) (texts : Texts) (which other : Which) → AreEarlierAccepted (names_of form) texts which →
-    (IsAccepted which (text_at (names_of form) texts which) → ⊥) → StopsAt form texts other → other ≡ which
-same_stop form texts which other earlier isnt at = one_first form texts which other earlier isnt at.earlier at.isnt
+    (form : Form) (texts : Texts) (which other : Which) → HasText (names_of form) which →
+    AreEarlierAccepted (names_of form) texts which → (IsAccepted which (text_at (names_of form) texts which) → ⊥) →
+    StopsAt form texts other → other ≡ which
+same_stop form texts which other has earlier isnt at =
+    one_first form texts which other has at.has earlier isnt at.earlier at.isnt
 
 -- what makes an outcome a refusal: the text at which it stops, where it does
 stops_by :
@@ -159,19 +224,21 @@ stops_by form s texts (Done ends) which told h has earlier isnt still =
     absurd (isnt (told_accepted form s.shelf_old.texts texts h.job told h.asked which has))
 stops_by form s texts Usage which told h has earlier isnt still = h
 stops_by form s texts (BadSky fault) which told h has earlier isnt still =
-    sym (same_stop form texts which Sky earlier isnt (sky_stops form s texts fault told h))
+    sym (same_stop form texts which Sky has earlier isnt (sky_stops form s texts fault told h))
 stops_by form s texts (BadCatalogue fault) which told h has earlier isnt still =
-    sym (same_stop form texts which Catalogue earlier isnt (catalogue_stops form s texts fault told h))
+    sym (same_stop form texts which Catalogue has earlier isnt (catalogue_stops form s texts fault told h))
 stops_by form s texts (BadScript fault) which told h has earlier isnt still =
-    sym (same_stop form texts which Script earlier isnt (script_stops form s texts fault told h))
+    sym (same_stop form texts which Script has earlier isnt (script_stops form s texts fault told h))
 stops_by form s texts (TooLong other) which told h has earlier isnt still =
-    same_stop form texts which other earlier isnt (long_stops form s texts other told h)
+    same_stop form texts which other has earlier isnt (long_stops form s texts other told h)
 stops_by form s texts (ShelfFault other) which told h has earlier isnt still =
     let earlier' = at_texts s.shelf_old.texts texts (λ texts. AreEarlierAccepted (names_of form) texts other) told h.earlier in
-    no_fault form texts which other s.shelf_old.failed s.shelf_new.failed isnt still earlier' h.cause
+    no_fault form texts which other s.shelf_old.failed s.shelf_new.failed has h.has isnt still earlier' h.cause
 stops_by form s texts (SinkFault ends) which told h has earlier isnt still =
     absurd (isnt (told_accepted form s.shelf_old.texts texts h.job told h.asked which has))
 stops_by form s texts Memory which told h has earlier isnt still = tt
+stops_by form s texts (BadJournal fault) which told h has earlier isnt still =
+    sym (same_stop form texts which Journal has earlier isnt (journal_stops form s texts fault told h))
 
 -- all being accepted, no text is refused
 none_stops : (form : Form) (texts : Texts) (other : Which) → StopsAt form texts other → AreAccepted (names_of form) texts → ⊥
@@ -196,6 +263,8 @@ done_by form s texts (TooLong which) told h all still calm =
 done_by form s texts (ShelfFault other) told h all still calm = still_not_risen _ _ (still other h.has) h.cause
 done_by form s texts (SinkFault ends) told h all still calm = calm h.cause
 done_by form s texts Memory told h all still calm = tt
+done_by form s texts (BadJournal fault) told h all still calm =
+    none_stops form texts Journal (journal_stops form s texts fault told h) all
 
 if_told :
     (told : Option Texts) (P : Texts → Type 0) → ((texts : Texts) → told ≡ Some texts → P texts) →
@@ -216,6 +285,7 @@ none_named : (count seed workers : ℕ) (which : Which) → HasText (names_of (D
 none_named count seed workers Sky has = absurd (cc has)
 none_named count seed workers Catalogue has = absurd (cc has)
 none_named count seed workers Script has = absurd (cc has)
+none_named count seed workers Journal has = absurd (cc has)
 
 -- so its work is done where nothing has failed
 demo_done : (count seed workers : ℕ) (s : Shown) (outcome : Outcome) → ExplainedOf (Demo count seed workers) s outcome
@@ -229,6 +299,7 @@ demo_done count seed workers s (TooLong which) h calm = none_named count seed wo
 demo_done count seed workers s (ShelfFault which) h calm = none_named count seed workers which h.has
 demo_done count seed workers s (SinkFault ends) h calm = calm h.cause
 demo_done count seed workers s Memory h calm = tt
+demo_done count seed workers s (BadJournal fault) h calm = none_named count seed workers Journal h.has
 
 demo_completes : (count seed workers : ℕ) (s : Shown) (outcome : Outcome) (texts : Texts) → ExplainedOf (Demo count seed workers) s outcome
     → Completes (names_of (Demo count seed workers)) s outcome texts
@@ -244,4 +315,5 @@ pub completes :
 completes None s outcome h = tt
 completes (Some (Load sky catalogue)) s outcome h = told_completes (Load sky catalogue) s outcome h
 completes (Some (Asks task sky catalogue script)) s outcome h = told_completes (Asks task sky catalogue script) s outcome h
+completes (Some (Check journal)) s outcome h = told_completes (Check journal) s outcome h
 completes (Some (Demo count seed workers)) s outcome h = λ texts. demo_completes count seed workers s outcome texts h

@@ -18,7 +18,7 @@ use Rattle.top_call.specs.Explained.{ExplainedOf, shown}
 use Rattle.top_call.specs.Steps.{IsDemoOver, IsWritten}
 use Rattle.top_call.specs.declared.outcome.Outcome.{Outcome}
 use Rattle.top_call.specs.declared.outcome.Outcome.TheVariants.{Done, Usage, BadSky, BadCatalogue, BadScript}
-use Rattle.top_call.specs.declared.outcome.Outcome.TheVariants.{TooLong, ShelfFault, SinkFault, Memory}
+use Rattle.top_call.specs.declared.outcome.Outcome.TheVariants.{TooLong, ShelfFault, SinkFault, Memory, BadJournal}
 use Rattle.top_call.proofs.DemoEnds.{demo_told}
 use Rattle.top_call.proofs.Writing.{job_explained}
 
@@ -44,6 +44,7 @@ demo_over workers survey view old new (BadScript fault) read h = absurd h
 demo_over workers survey view old new (TooLong which) read h = absurd h
 demo_over workers survey view old new (ShelfFault which) read h = absurd h
 demo_over workers survey view old new Memory read h = h
+demo_over workers survey view old new (BadJournal fault) read h = absurd h
 
 -- What the work on the demo's script comes to explains the outcome, whatever the shelf.
 pub demo_explained : DemoIsAnswered → sky_of demo_sky ≡ Ok demo_plan → script_of demo_script ≡ Ok demo_steps
@@ -64,4 +65,5 @@ demo_explained law sky steps count seed workers few survey old new (BadCatalogue
 demo_explained law sky steps count seed workers few survey old new (BadScript fault) shelf is h = absurd h.work
 demo_explained law sky steps count seed workers few survey old new (TooLong which) shelf is h = absurd h.work
 demo_explained law sky steps count seed workers few survey old new (ShelfFault which) shelf is h = absurd h.work
+demo_explained law sky steps count seed workers few survey old new (BadJournal fault) shelf is h = absurd h.work
 demo_explained law sky steps count seed workers few survey old new Memory shelf is h = (refl, h)

@@ -4,7 +4,9 @@ pub mod Writing
 pub mod EndLists
 pub mod ScriptStops
 pub mod Tasks
+pub mod Checks
 pub mod DemoEnds
 pub mod Demos
 pub mod FaultLines
 pub mod ScriptLines
+pub mod JournalLines

@@ -6,10 +6,10 @@ use Rattle.top_call.specs.Words.{names_from}
 use Rattle.top_call.specs.Reached.{Texts, IfTold, AreEarlierAccepted}
 use Rattle.top_call.specs.Jobs.{IsSurveyOf}
 use Rattle.top_call.specs.Steps.{IsRead, IsShelfStop, IsWholeStop}
-use Rattle.top_call.specs.declared.outcome.Which.TheVariants.{Sky, Catalogue, Script}
+use Rattle.top_call.specs.declared.outcome.Which.TheVariants.{Sky, Catalogue, Script, Journal}
 use Rattle.top_call.specs.declared.outcome.Outcome.{Outcome}
 use Rattle.top_call.specs.declared.outcome.Outcome.TheVariants.{Done, Usage, BadSky, BadCatalogue, BadScript}
-use Rattle.top_call.specs.declared.outcome.Outcome.TheVariants.{TooLong, ShelfFault, SinkFault, Memory}
+use Rattle.top_call.specs.declared.outcome.Outcome.TheVariants.{TooLong, ShelfFault, SinkFault, Memory, BadJournal}
 
 -- both texts before the script are accepted, where they are told
 both_accepted : (sky catalogue script : List ℕ) (survey : Survey) (told : Option Texts)
@@ -36,6 +36,7 @@ by_shelf sky catalogue script old new (TooLong Script) earlier h = λ sink. reco
   fetched = h.1.same;
   untouched = refl;
 }
+by_shelf sky catalogue script old new (TooLong Journal) earlier h = λ sink. absurd (cc h.0)
 by_shelf sky catalogue script old new (ShelfFault Sky) earlier h = λ sink. absurd (cc h.0)
 by_shelf sky catalogue script old new (ShelfFault Catalogue) earlier h = λ sink. absurd (cc h.0)
 by_shelf sky catalogue script old new (ShelfFault Script) earlier h = λ sink. record {
@@ -45,8 +46,10 @@ by_shelf sky catalogue script old new (ShelfFault Script) earlier h = λ sink. r
   cause = h.1.cause;
   untouched = refl;
 }
+by_shelf sky catalogue script old new (ShelfFault Journal) earlier h = λ sink. absurd (cc h.0)
 by_shelf sky catalogue script old new (SinkFault ends) earlier h = λ sink. absurd h
 by_shelf sky catalogue script old new Memory earlier h = λ sink. (h, refl)
+by_shelf sky catalogue script old new (BadJournal fault) earlier h = λ sink. absurd h
 
 -- A stop at the script is explained by the shelf alone, where the sky plan and the catalogue were read before it.
 pub script_stop : (sky catalogue script : List ℕ) (survey : Survey) (old mid new : ShelfState) (outcome : Outcome)

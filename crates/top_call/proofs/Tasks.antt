@@ -16,7 +16,7 @@ use Rattle.top_call.specs.declared.task.Task.{Task}
 use Rattle.top_call.specs.declared.outcome.Which.TheVariants.{Script}
 use Rattle.top_call.specs.declared.outcome.Outcome.{Outcome}
 use Rattle.top_call.specs.declared.outcome.Outcome.TheVariants.{Done, Usage, BadSky, BadCatalogue, BadScript}
-use Rattle.top_call.specs.declared.outcome.Outcome.TheVariants.{TooLong, ShelfFault, SinkFault, Memory}
+use Rattle.top_call.specs.declared.outcome.Outcome.TheVariants.{TooLong, ShelfFault, SinkFault, Memory, BadJournal}
 use Rattle.top_call.proofs.Writing.{job_explained}
 
 -- A stop that comes of the texts alone explains the outcome of each form with their names.
@@ -30,6 +30,7 @@ stop_explained form s (TooLong which) h = h
 stop_explained form s (ShelfFault which) h = h
 stop_explained form s (SinkFault ends) h = absurd h
 stop_explained form s Memory h = h
+stop_explained form s (BadJournal fault) h = h
 
 -- what the shelf gave, in short
 abbrev AreTold : (sky catalogue script : List ℕ) → Survey → List ℕ → Option Texts → Type 0
@@ -98,5 +99,6 @@ task_explained task sky catalogue script survey text old new before now (BadScri
 }
 task_explained task sky catalogue script survey text old new before now (TooLong which) given h = absurd h.work
 task_explained task sky catalogue script survey text old new before now (ShelfFault which) given h = absurd h.work
+task_explained task sky catalogue script survey text old new before now (BadJournal fault) given h = absurd h.work
 task_explained task sky catalogue script survey text old new before now Memory given h =
     (given.read.same, h)

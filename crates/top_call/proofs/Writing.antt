@@ -6,69 +6,83 @@ use Rattle.sky_io.specs.Sinks.{SinkState, Wrote, Flushed, Appended, AppendedPart
 use Rattle.sky_io.specs.declared.sink.Put.TheVariants as Put
 use Rattle.session_rules.specs.declared.end.EndKind.{EndKind}
 use Rattle.top_call.specs.Words.{Form}
-use Rattle.top_call.specs.Jobs.{Job, DemoIsTold, EndsFit, IsJobOf, text_of_job}
+use Rattle.top_call.specs.Jobs.{Job, DemoIsTold, EndsFit, IsJobOf, Writes}
 use Rattle.top_call.specs.Explained.{ExplainedOf, shown}
 use Rattle.top_call.specs.Steps.{IsSent, IsTorn, IsWritten, IsFlushed}
 use Rattle.top_call.specs.declared.outcome.Outcome.{Outcome}
 use Rattle.top_call.specs.declared.outcome.Outcome.TheVariants.{Done, Usage, BadSky, BadCatalogue, BadScript}
-use Rattle.top_call.specs.declared.outcome.Outcome.TheVariants.{TooLong, ShelfFault, SinkFault, Memory}
+use Rattle.top_call.specs.declared.outcome.Outcome.TheVariants.{TooLong, ShelfFault, SinkFault, Memory, BadJournal}
 
 -- all of a text is a front of it
 all_part : (old new : Option (List ℕ)) (text : List ℕ) → Appended old text new → AppendedPart old text new
 all_part old new text h = (length text, omega arith, subst (λ t. Appended old t new) (sym (take-length text)) h)
 
 -- what was written and then sent
-sent : (job : Job) (ends : List EndKind) (old mid new : SinkState) → EndsFit job ends
-    → Wrote old mid (text_of_job job ends) Put.Done → Flushed mid new Put.Done → IsSent job ends old new
-sent job ends old mid new fits wrote flushed = record {
+sent : (job : Job) (ends : List EndKind) (text : List ℕ) (old mid new : SinkState) → EndsFit job ends → Writes job ends text
+    → Wrote old mid text Put.Done → Flushed mid new Put.Done → IsSent job ends old new
+sent job ends text old mid new fits writes wrote flushed = record {
   fits = fits;
-  written = subst (λ w. Appended old.written (text_of_job job ends) w) (sym flushed.same) (wrote.done refl);
+  text = text;
+  writes = writes;
+  written = subst (λ w. Appended old.written text w) (sym flushed.same) (wrote.done refl);
   calm = flushed.calm refl ∙ wrote.calm refl;
   sent = flushed.sent refl;
 }
 
 -- what was written and then not sent
-unsent : (job : Job) (ends : List EndKind) (old mid new : SinkState) → EndsFit job ends
-    → Wrote old mid (text_of_job job ends) Put.Done → Flushed mid new Put.Failed → IsTorn job ends old new
-unsent job ends old mid new fits wrote flushed = record {
+unsent : (job : Job) (ends : List EndKind) (text : List ℕ) (old mid new : SinkState) → EndsFit job ends → Writes job ends text
+    → Wrote old mid text Put.Done → Flushed mid new Put.Failed → IsTorn job ends old new
+unsent job ends text old mid new fits writes wrote flushed = record {
   fits = fits;
-  written = all_part old.written new.written (text_of_job job ends)
-      (subst (λ w. Appended old.written (text_of_job job ends) w) (sym flushed.same) (wrote.done refl));
+  text = text;
+  writes = writes;
+  written = all_part old.written new.written text
+      (subst (λ w. Appended old.written text w) (sym flushed.same) (wrote.done refl));
   cause = subst (λ n. Rose n new.faults) (wrote.calm refl) (flushed.cause refl);
 }
 
--- A job of which a front alone was written is torn.
-pub torn : (job : Job) (ends : List EndKind) (old new : SinkState) → EndsFit job ends
-    → Wrote old new (text_of_job job ends) Put.Failed → IsTorn job ends old new
-torn job ends old new fits wrote = record { fits = fits; written = wrote.part refl; cause = wrote.cause refl }
-
--- the same ends, told
-wrote_told : (job : Job) (ends told : List EndKind) (old mid : SinkState) → told ≡ ends
-    → Wrote old mid (text_of_job job ends) Put.Done → Wrote old mid (text_of_job job told) Put.Done
-wrote_told job ends told old mid is wrote = subst (λ e. Wrote old mid (text_of_job job e) Put.Done) (sym is) wrote
+-- A job of whose text a prefix alone was written is torn.
+pub torn : (job : Job) (ends : List EndKind) (text : List ℕ) (old new : SinkState) → EndsFit job ends → Writes job ends text
+    → Wrote old new text Put.Failed → IsTorn job ends old new
+torn job ends text old new fits writes wrote = record {
+  fits = fits;
+  text = text;
+  writes = writes;
+  written = wrote.part refl;
+  cause = wrote.cause refl;
+}
 
 -- A job whose text was written is done where all was sent, and else the sink failed.
-pub written : (job : Job) (ends : List EndKind) (old mid new : SinkState) (outcome : Outcome) → EndsFit job ends
-    → Wrote old mid (text_of_job job ends) Put.Done → IsFlushed ends mid new outcome → IsWritten job old new outcome
-written job ends old mid new (Done told) fits wrote h =
-    sent job told old mid new (subst (EndsFit job) (sym h.0) fits) (wrote_told job ends told old mid h.0 wrote) h.1
-written job ends old mid new (SinkFault told) fits wrote h =
-    unsent job told old mid new (subst (EndsFit job) (sym h.0) fits) (wrote_told job ends told old mid h.0 wrote) h.1
-written job ends old mid new Usage fits wrote h = absurd h
-written job ends old mid new (BadSky fault) fits wrote h = absurd h
-written job ends old mid new (BadCatalogue fault) fits wrote h = absurd h
-written job ends old mid new (BadScript fault) fits wrote h = absurd h
-written job ends old mid new (TooLong which) fits wrote h = absurd h
-written job ends old mid new (ShelfFault which) fits wrote h = absurd h
-written job ends old mid new Memory fits wrote h = absurd h
+pub written : (job : Job) (ends : List EndKind) (text : List ℕ) (old mid new : SinkState) (outcome : Outcome) → EndsFit job ends
+    → Writes job ends text → Wrote old mid text Put.Done → IsFlushed ends mid new outcome → IsWritten job old new outcome
+written job ends text old mid new (Done told) fits writes wrote h =
+    sent job told text old mid new (subst (EndsFit job) (sym h.0) fits) (subst (λ e. Writes job e text) (sym h.0) writes)
+    wrote h.1
+written job ends text old mid new (SinkFault told) fits writes wrote h =
+    unsent job told text old mid new (subst (EndsFit job) (sym h.0) fits) (subst (λ e. Writes job e text) (sym h.0) writes)
+    wrote h.1
+written job ends text old mid new Usage fits writes wrote h = absurd h
+written job ends text old mid new (BadSky fault) fits writes wrote h = absurd h
+written job ends text old mid new (BadCatalogue fault) fits writes wrote h = absurd h
+written job ends text old mid new (BadScript fault) fits writes wrote h = absurd h
+written job ends text old mid new (TooLong which) fits writes wrote h = absurd h
+written job ends text old mid new (ShelfFault which) fits writes wrote h = absurd h
+written job ends text old mid new Memory fits writes wrote h = absurd h
+written job ends text old mid new (BadJournal fault) fits writes wrote h = absurd h
 
 -- The same, where the ends that are told are those that were written.
-pub written_as : (job : Job) (ends kinds : List EndKind) (old mid new : SinkState) (outcome : Outcome) → kinds ≡ ends
-    → EndsFit job ends → Wrote old mid (text_of_job job ends) Put.Done → IsFlushed kinds mid new outcome
+pub written_as : (job : Job) (ends kinds : List EndKind) (text : List ℕ) (old mid new : SinkState) (outcome : Outcome)
+    → kinds ≡ ends → EndsFit job ends → Writes job ends text → Wrote old mid text Put.Done → IsFlushed kinds mid new outcome
     → IsWritten job old new outcome
-written_as job ends kinds old mid new outcome is fits wrote h =
-    written job kinds old mid new outcome (subst (EndsFit job) (sym is) fits)
-    (wrote_told job ends kinds old mid is wrote) h
+written_as job ends kinds text old mid new outcome is fits writes wrote h =
+    written job kinds text old mid new outcome (subst (EndsFit job) (sym is) fits)
+    (subst (λ e. Writes job e text) (sym is) writes) wrote h
+
+-- The same, where a prefix alone was written.
+pub torn_as : (job : Job) (ends kinds : List EndKind) (text : List ℕ) (old new : SinkState) → kinds ≡ ends → EndsFit job ends
+    → Writes job ends text → Wrote old new text Put.Failed → IsTorn job kinds old new
+torn_as job ends kinds text old new is fits writes wrote =
+    torn job kinds text old new (subst (EndsFit job) (sym is) fits) (subst (λ e. Writes job e text) (sym is) writes) wrote
 
 -- What the writing of what the form asks for comes to explains the outcome.
 pub job_explained : (form : Form) (job : Job) (old new : ShelfState) (before now : SinkState) (outcome : Outcome)
@@ -80,6 +94,8 @@ job_explained form job old new before now (Done ends) asked told same h = record
   fetched = same;
   fits = h.fits;
   demo = told ends h.fits;
+  text = h.text;
+  writes = h.writes;
   written = h.written;
   calm = h.calm;
   sent = h.sent;
@@ -90,6 +106,8 @@ job_explained form job old new before now (SinkFault ends) asked told same h = r
   fetched = same;
   fits = h.fits;
   demo = told ends h.fits;
+  text = h.text;
+  writes = h.writes;
   written = h.written;
   cause = h.cause;
 }
@@ -100,3 +118,4 @@ job_explained form job old new before now (BadCatalogue fault) asked told same h
 job_explained form job old new before now (BadScript fault) asked told same h = absurd h
 job_explained form job old new before now (TooLong which) asked told same h = absurd h
 job_explained form job old new before now (ShelfFault which) asked told same h = absurd h
+job_explained form job old new before now (BadJournal fault) asked told same h = absurd h

@@ -1,14 +1,14 @@
 -- Which outcome of the top call must occur.
 use Rattle.std.specs.Prelude.{◌≡◌, Option, None, Some}
 use Rattle.sky_io.specs.Sinks.{Rose}
-use Rattle.top_call.specs.Words.{Form, Load, Asks, Demo, Names, names_of}
+use Rattle.top_call.specs.Words.{Form, Load, Asks, Check, Demo, Names, names_of}
 use Rattle.top_call.specs.Reached.{Texts, IfTold, text_at, IsAccepted, HasText, AreEarlierAccepted}
 use Rattle.top_call.specs.Reached.{AreAccepted, AreStill, AreAllStill}
 use Rattle.top_call.specs.Explained.{Shown}
 use Rattle.top_call.specs.declared.outcome.Which.{Which}
-use Rattle.top_call.specs.declared.outcome.Which.TheVariants.{Sky, Catalogue, Script}
+use Rattle.top_call.specs.declared.outcome.Which.TheVariants.{Sky, Catalogue, Script, Journal}
 use Rattle.top_call.specs.declared.outcome.Outcome.{Outcome}
-use Rattle.top_call.specs.declared.outcome.Outcome.TheVariants.{Done, BadSky, BadCatalogue, BadScript, TooLong, Memory}
+use Rattle.top_call.specs.declared.outcome.Outcome.TheVariants.{Done, BadSky, BadCatalogue, BadScript, TooLong, Memory, BadJournal}
 
 -- the outcome refuses this text, or is an allocation failure
 abbrev pub IsRefusalOrMemory : Which → Outcome → Type 0
@@ -16,6 +16,7 @@ IsRefusalOrMemory which (BadSky fault) = which ≡ Sky
 IsRefusalOrMemory which (BadCatalogue fault) = which ≡ Catalogue
 IsRefusalOrMemory which (BadScript fault) = which ≡ Script
 IsRefusalOrMemory which (TooLong named) = named ≡ which
+IsRefusalOrMemory which (BadJournal fault) = which ≡ Journal
 IsRefusalOrMemory which Memory = Unit {0}
 IsRefusalOrMemory which _ = ⊥
 
@@ -43,6 +44,8 @@ CompleteOf (Load sky catalogue) shown outcome =
     IfTold shown.shelf_old.texts (Completes (names_of (Load sky catalogue)) shown outcome)
 CompleteOf (Asks task sky catalogue script) shown outcome =
     IfTold shown.shelf_old.texts (Completes (names_of (Asks task sky catalogue script)) shown outcome)
+CompleteOf (Check journal) shown outcome =
+    IfTold shown.shelf_old.texts (Completes (names_of (Check journal)) shown outcome)
 CompleteOf (Demo count seed workers) shown outcome =
     (texts : Texts) → Completes (names_of (Demo count seed workers)) shown outcome texts
 

@@ -7,12 +7,13 @@ use Rattle.top_call.specs.Words.{Form, Names, names_of}
 use Rattle.top_call.specs.Outcomes.{name_of}
 use Rattle.top_call.specs.Reached.{IfTold, text_at, HasText, AreEarlierAccepted}
 use Rattle.top_call.specs.Reached.{IsSkyFault, IsCatalogueFault, IsScriptFault, IsLong}
-use Rattle.top_call.specs.Jobs.{Job, DemoIsTold, EndsFit, IsJobOf, text_of_job}
+use Rattle.top_call.specs.Journals.{IsJournalFault}
+use Rattle.top_call.specs.Jobs.{Job, DemoIsTold, EndsFit, IsJobOf, Writes}
 use Rattle.top_call.specs.declared.outcome.Which.{Which}
-use Rattle.top_call.specs.declared.outcome.Which.TheVariants.{Sky, Catalogue, Script}
+use Rattle.top_call.specs.declared.outcome.Which.TheVariants.{Sky, Catalogue, Script, Journal}
 use Rattle.top_call.specs.declared.outcome.Outcome.{Outcome}
 use Rattle.top_call.specs.declared.outcome.Outcome.TheVariants.{Done, Usage, BadSky, BadCatalogue, BadScript}
-use Rattle.top_call.specs.declared.outcome.Outcome.TheVariants.{TooLong, ShelfFault, SinkFault, Memory}
+use Rattle.top_call.specs.declared.outcome.Outcome.TheVariants.{TooLong, ShelfFault, SinkFault, Memory, BadJournal}
 
 -- The states of shelf and sink before and after the call.
 pub record Shown : Type 0 where
@@ -34,25 +35,29 @@ IsUntouched shown = shown.sink_new ≡ shown.sink_old
 abbrev pub AllFetched : Shown → Type 0
 AllFetched shown = shown.shelf_new ≡ shown.shelf_old
 
--- All was written and sent, and nothing has failed: exactly the text of what the command asks for.
+-- All was written and sent, and nothing has failed: exactly a text that the job of the command writes with these ends.
 pub record IsDone (form : Form) (shown : Shown) (ends : List EndKind) : Type 0 where
   pub job : Job
   pub asked : IsJobOf form shown.shelf_old.texts job
   pub fetched : AllFetched shown
   pub fits : EndsFit job ends
   pub demo : DemoIsTold form ends
-  pub written : Appended shown.sink_old.written (text_of_job job ends) shown.sink_new.written
+  pub text : List ℕ
+  pub writes : Writes job ends text
+  pub written : Appended shown.sink_old.written text shown.sink_new.written
   pub calm : shown.sink_new.faults ≡ shown.sink_old.faults
   pub sent : shown.sink_new.held ≡ false
 
--- The sink failed: its count of faults rose, and a prefix of that text was written.
+-- The sink failed: its count of faults rose, and a prefix of such a text was written.
 pub record IsSinkFault (form : Form) (shown : Shown) (ends : List EndKind) : Type 0 where
   pub job : Job
   pub asked : IsJobOf form shown.shelf_old.texts job
   pub fetched : AllFetched shown
   pub fits : EndsFit job ends
   pub demo : DemoIsTold form ends
-  pub written : AppendedPart shown.sink_old.written (text_of_job job ends) shown.sink_new.written
+  pub text : List ℕ
+  pub writes : Writes job ends text
+  pub written : AppendedPart shown.sink_old.written text shown.sink_new.written
   pub cause : Rose shown.sink_old.faults shown.sink_new.faults
 
 -- A text is refused, for a reason that holds of it. It was reached: each earlier text is accepted, and no fetch has
@@ -84,6 +89,7 @@ IsStop names shown (TooLong which) = IsRefused names shown which (IsLong which)
 IsStop names shown (ShelfFault which) = IsShelfFault names shown which
 IsStop names shown (SinkFault ends) = ⊥
 IsStop names shown Memory = AllFetched shown × IsUntouched shown
+IsStop names shown (BadJournal fault) = IsRefused names shown Journal (λ text. IsJournalFault text fault)
 
 -- the meaning of an outcome for a command
 abbrev pub ExplainedOf : Form → Shown → Outcome → Type 0

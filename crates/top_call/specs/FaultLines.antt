@@ -7,6 +7,8 @@ use Rattle.table_rules.specs.declared.fault.LoadFault.{LoadFault}
 use Rattle.table_rules.specs.declared.fault.LoadFault.TheVariants as load
 use Rattle.session_script.specs.declared.fault.ScriptFault.{ScriptFault}
 use Rattle.session_script.specs.declared.fault.ScriptFault.TheVariants as script
+use Rattle.scan_history.specs.declared.fault.HistoryFault.{HistoryFault}
+use Rattle.scan_history.specs.declared.fault.HistoryFault.TheVariants as history
 
 -- a thing with its number
 abbrev pub place : List ℕ → ℕ → List ℕ
@@ -52,3 +54,8 @@ abbrev pub script_line : ScriptFault → List ℕ
 script_line (script.UnknownQuery line number) = script_place line (numbered (codes ": unknown query ") number (codes "\n"))
 script_line (script.LineTooLong line) = script_place line (codes ": too long\n")
 script_line (script.TooManyQueries line) = script_place line (codes ": too many queries\n")
+
+-- the line of a journal's fault
+abbrev pub journal_line : HistoryFault → List ℕ
+journal_line (history.Syntax line) = numbered (codes "journal line ") line (codes ": syntax\n")
+journal_line (history.NotAStep line) = numbered (codes "journal line ") line (codes ": not a step\n")

@@ -5,13 +5,16 @@ use Rattle.sky_rules.specs.SkyText.{sky_of}
 use Rattle.demo_rules.specs.DemoRows.{IsDemoCatalogue}
 use Rattle.demo_rules.specs.DemoTexts.{demo_script, demo_sky}
 use Rattle.chunk_store.specs.Survey.{Survey}
+use Rattle.scan_rules.specs.declared.journal.Journal.{Journal}
+use Rattle.scan_history.specs.Checked.{tally_of}
 use Rattle.answer_text.specs.Report.{report}
 use Rattle.session_script.specs.Views.{ScriptView}
 use Rattle.session_rules.specs.declared.end.EndKind.{EndKind}
 use Rattle.session_rules.specs.declared.end.EndKind.TheVariants.{Answered, Refused, Cancelled, Spent}
 use Rattle.transcript_rules.specs.Transcripts.{FitEnds, transcript}
 use Rattle.transcript_rules.specs.Explained.{explained}
-use Rattle.top_call.specs.Words.{Form, Load, Asks, Demo}
+use Rattle.top_call.specs.Words.{Form, Load, Asks, Check, Demo}
+use Rattle.top_call.specs.Journals.{IsChecked, IsJournalOf, tally_line}
 use Rattle.top_call.specs.Reached.{Texts, IfTold, IsCatalogueOf, IsScriptOf, IsSkyOf}
 use Rattle.top_call.specs.declared.task.Task.{Task}
 use Rattle.top_call.specs.declared.task.Task.TheVariants.{Answer, Explain}
@@ -24,18 +27,22 @@ pub data Job : Type 0 where
   Runs : (workers : ℕ) → Survey → ScriptView → Job
   -- to explain the queries of a script over a survey
   Explains : Survey → ScriptView → Job
+  -- to report how much a journal contains, which is right
+  Checks : Journal → Job
 
--- the text of a job whose queries have these ends
-abbrev pub text_of_job : Job → List EndKind → List ℕ
-text_of_job (Reports survey) ends = report survey.plan survey.rows.objects
-text_of_job (Runs workers survey view) ends = transcript survey.plan survey.rows view ends
-text_of_job (Explains survey view) ends = explained survey.plan survey.rows view
+-- the job writes this text if its queries have these ends
+abbrev pub Writes : Job → List EndKind → List ℕ → Type 0
+Writes (Reports survey) ends text = text ≡ report survey.plan survey.rows.objects
+Writes (Runs workers survey view) ends text = text ≡ transcript survey.plan survey.rows view ends
+Writes (Explains survey view) ends text = text ≡ explained survey.plan survey.rows view
+Writes (Checks journal) ends text = text ≡ tally_line (tally_of journal.lines)
 
 -- the queries of the job may end so, with its workers; a job that runs none has no ends
 abbrev pub EndsFit : Job → List EndKind → Type 0
 EndsFit (Reports survey) ends = ends ≡ []
 EndsFit (Runs workers survey view) ends = FitEnds workers survey.plan survey.rows view ends
 EndsFit (Explains survey view) ends = ends ≡ []
+EndsFit (Checks journal) ends = ends ≡ []
 
 -- the query was answered, or ended as out of memory
 abbrev pub IsAnsweredOrSpent : EndKind → Type 0
@@ -48,6 +55,7 @@ IsAnsweredOrSpent Spent = Unit {0}
 abbrev pub DemoIsTold : Form → List EndKind → Type 0
 DemoIsTold (Load sky catalogue) ends = Unit {0}
 DemoIsTold (Asks task sky catalogue script) ends = Unit {0}
+DemoIsTold (Check journal) ends = Unit {0}
 DemoIsTold (Demo count seed workers) ends = All IsAnsweredOrSpent ends
 
 -- the named sky plan and catalogue are accepted as this survey
@@ -76,6 +84,9 @@ IsJobOf (Load sky catalogue) told job =
 IsJobOf (Asks task sky catalogue script) told job =
     (survey : Survey) × (view : ScriptView) × (job ≡ job_on task survey view)
     × IfTold told (AreSurveyAndScript sky catalogue script survey view)
+IsJobOf (Check name) told job =
+    (journal : Journal) × (job ≡ Checks journal) × IsChecked journal
+    × IfTold told (λ texts. IsJournalOf (named_text name texts) journal)
 IsJobOf (Demo count seed workers) told job =
     (survey : Survey) × (view : ScriptView) × (job ≡ Runs workers survey view) × IsDemoSurvey count seed survey
     × IsScriptOf demo_script view

@@ -2,8 +2,10 @@ pub mod Words
 pub mod WordForms
 pub mod FaultLines
 pub mod Outcomes
+pub mod Journals
 pub mod Reached
 pub mod Jobs
 pub mod Explained
 pub mod Completes
 pub mod Steps
+pub mod Checks

@@ -1,12 +1,12 @@
 -- The report of an outcome: the exit status, and the line on standard error.
 use Rattle.std.specs.Prelude.{ℕ, List, [], ◌++◌, Option, None, Some, codes, unwrap_or}
 use Rattle.top_call.specs.Words.{Form, Names, names_of}
-use Rattle.top_call.specs.FaultLines.{sky_line, catalogue_line, script_line}
+use Rattle.top_call.specs.FaultLines.{sky_line, catalogue_line, script_line, journal_line}
 use Rattle.top_call.specs.declared.outcome.Which.{Which}
-use Rattle.top_call.specs.declared.outcome.Which.TheVariants.{Sky, Catalogue, Script}
+use Rattle.top_call.specs.declared.outcome.Which.TheVariants.{Sky, Catalogue, Script, Journal}
 use Rattle.top_call.specs.declared.outcome.Outcome.{Outcome}
 use Rattle.top_call.specs.declared.outcome.Outcome.TheVariants.{Done, Usage, BadSky, BadCatalogue, BadScript}
-use Rattle.top_call.specs.declared.outcome.Outcome.TheVariants.{TooLong, ShelfFault, SinkFault, Memory}
+use Rattle.top_call.specs.declared.outcome.Outcome.TheVariants.{TooLong, ShelfFault, SinkFault, Memory, BadJournal}
 
 -- the exit status
 abbrev pub status_of : Outcome → ℕ
@@ -19,12 +19,14 @@ status_of (TooLong which) = 6
 status_of (ShelfFault which) = 7
 status_of (SinkFault ends) = 8
 status_of Memory = 9
+status_of (BadJournal fault) = 12
 
 -- the name of a text, if there is such a text
 abbrev pub name_at : Names → Which → Option (List ℕ)
 name_at names Sky = names.sky
 name_at names Catalogue = names.catalogue
 name_at names Script = names.script
+name_at names Journal = names.journal
 
 -- the name of a text, and nothing if there is no such text
 abbrev pub name_of : Names → Which → List ℕ
@@ -39,7 +41,7 @@ name_in (Some form) which = name_of (names_of form) which
 abbrev pub outcome_line : Outcome → Option Form → List ℕ
 outcome_line (Done ends) form = []
 outcome_line Usage form =
-    codes "usage: qserv load SKY CSV; query SKY CSV SCRIPT WORKERS; explain SKY CSV SCRIPT; demo COUNT SEED WORKERS\n"
+    codes "usage: qserv load SKY CSV; query SKY CSV SCRIPT WORKERS; explain SKY CSV SCRIPT; demo COUNT SEED WORKERS; trace SKY CSV SCRIPT WORKERS; check JOURNAL\n"
 outcome_line (BadSky fault) form = sky_line fault
 outcome_line (BadCatalogue fault) form = catalogue_line fault
 outcome_line (BadScript fault) form = script_line fault
@@ -47,3 +49,4 @@ outcome_line (TooLong which) form = name_in form which ++ codes ": too long\n"
 outcome_line (ShelfFault which) form = name_in form which ++ codes ": cannot be read\n"
 outcome_line (SinkFault ends) form = codes "output failed\n"
 outcome_line Memory form = codes "out of memory\n"
+outcome_line (BadJournal fault) form = journal_line fault

@@ -1,4 +1,5 @@
--- Which of the named texts is reached: they are fetched and validated one by one, sky, catalogue, script.
+-- Which of the named texts is reached: they are fetched and validated one by one, sky, catalogue, script; a journal is the
+-- only text of its command.
 use Rattle.std.specs.Prelude.{◌≡◌, ℕ, ◌≤◌, ◌<◌, List, length, Option, None, Some, IsSome, Ok, Err}
 use Rattle.text_rules.specs.declared.limits.TheConstants.{SCRIPT_TEXT_MOST, SKY_TEXT_MOST, TEXT_MOST}
 use Rattle.sky_io.specs.Shelves.{named_text, times}
@@ -7,14 +8,16 @@ use Rattle.sky_rules.specs.SkyText.{sky_of}
 use Rattle.sky_rules.specs.declared.fault.SkyFault.{SkyFault}
 use Rattle.table_rules.specs.Objects.{Catalogue as Table}
 use Rattle.table_rules.specs.declared.fault.LoadFault.{LoadFault}
+use Rattle.scan_rules.specs.declared.journal.Journal.{Journal as JournalView}
 use Rattle.catalogue_load.specs.Catalogue.{catalogue_of}
 use Rattle.session_script.specs.Scripts.{script_of}
 use Rattle.session_script.specs.Views.{ScriptView}
 use Rattle.session_script.specs.declared.fault.ScriptFault.{ScriptFault}
 use Rattle.top_call.specs.Words.{Names}
 use Rattle.top_call.specs.Outcomes.{name_at, name_of}
+use Rattle.top_call.specs.Journals.{IsJournalOf}
 use Rattle.top_call.specs.declared.outcome.Which.{Which}
-use Rattle.top_call.specs.declared.outcome.Which.TheVariants.{Sky, Catalogue, Script}
+use Rattle.top_call.specs.declared.outcome.Which.TheVariants.{Sky, Catalogue, Script, Journal}
 
 -- the observable texts of a shelf, by their names
 abbrev pub Texts : Type 0
@@ -34,6 +37,7 @@ abbrev pub limit_of : Which → ℕ
 limit_of Sky = SKY_TEXT_MOST
 limit_of Catalogue = TEXT_MOST
 limit_of Script = SCRIPT_TEXT_MOST
+limit_of Journal = TEXT_MOST
 
 -- the text is longer than its limit
 abbrev pub IsLong : Which → List ℕ → Type 0
@@ -70,6 +74,7 @@ abbrev pub IsAccepted : Which → List ℕ → Type 0
 IsAccepted Sky text = (plan : Partition) × IsSkyOf text plan
 IsAccepted Catalogue text = (table : Table) × IsCatalogueOf text table
 IsAccepted Script text = (view : ScriptView) × IsScriptOf text view
+IsAccepted Journal text = (journal : JournalView) × IsJournalOf text journal
 
 -- the sky plan is accepted
 abbrev pub IsSkyAccepted : Names → Texts → Type 0
@@ -79,11 +84,12 @@ IsSkyAccepted names texts = (plan : Partition) × IsSkyOf (text_at names texts S
 abbrev pub IsCatalogueAccepted : Names → Texts → Type 0
 IsCatalogueAccepted names texts = (table : Table) × IsCatalogueOf (text_at names texts Catalogue) table
 
--- each text before this one is accepted
+-- each text before this one is accepted; none is before a journal
 abbrev pub AreEarlierAccepted : Names → Texts → Which → Type 0
 AreEarlierAccepted names texts Sky = Unit {0}
 AreEarlierAccepted names texts Catalogue = IsSkyAccepted names texts
 AreEarlierAccepted names texts Script = IsSkyAccepted names texts × IsCatalogueAccepted names texts
+AreEarlierAccepted names texts Journal = Unit {0}
 
 -- the command has the text
 abbrev pub HasText : Names → Which → Type 0
@@ -103,6 +109,7 @@ AreStill names old new Sky = IsStill names old new Sky
 AreStill names old new Catalogue = IsStill names old new Sky × IsStill names old new Catalogue
 AreStill names old new Script =
     IsStill names old new Sky × IsStill names old new Catalogue × IsStill names old new Script
+AreStill names old new Journal = IsStill names old new Journal
 
 -- the count of no text's failures has risen
 abbrev pub AreAllStill : Names → List (List ℕ) → List (List ℕ) → Type 0

@@ -10,7 +10,7 @@ use Rattle.session_script.specs.Views.{ScriptView}
 use Rattle.session_rules.specs.declared.end.EndKind.{EndKind}
 use Rattle.top_call.specs.Words.{Demo, names_from}
 use Rattle.top_call.specs.Reached.{Texts, IfTold, IsScriptOf, IsSkyFault, IsCatalogueFault, IsLong, limit_of}
-use Rattle.top_call.specs.Jobs.{Job, Runs, EndsFit, IsSurveyOf, job_on, text_of_job}
+use Rattle.top_call.specs.Jobs.{Job, Runs, EndsFit, IsSurveyOf, job_on, Writes}
 use Rattle.top_call.specs.Explained.{ExplainedOf, IsStop, shown}
 use Rattle.top_call.specs.declared.task.Task.{Task}
 use Rattle.top_call.specs.declared.outcome.Which.{Which}
@@ -82,17 +82,21 @@ pub record AreGiven (sky catalogue script : List ℕ) (survey : Survey) (text : 
   pub short : length text ≤ limit_of Script
   pub read : IsRead (λ texts. IsSurveyOf sky catalogue survey texts × (named_text script texts ≡ text)) old new
 
--- All was written and sent.
+-- All of a text that the job writes with these ends was written and sent.
 pub record IsSent (job : Job) (ends : List EndKind) (old new : SinkState) : Type 0 where
   pub fits : EndsFit job ends
-  pub written : Appended old.written (text_of_job job ends) new.written
+  pub text : List ℕ
+  pub writes : Writes job ends text
+  pub written : Appended old.written text new.written
   pub calm : new.faults ≡ old.faults
   pub sent : new.held ≡ false
 
--- The sink failed, with a prefix of the text written.
+-- The sink failed, with a prefix of such a text written.
 pub record IsTorn (job : Job) (ends : List EndKind) (old new : SinkState) : Type 0 where
   pub fits : EndsFit job ends
-  pub written : AppendedPart old.written (text_of_job job ends) new.written
+  pub text : List ℕ
+  pub writes : Writes job ends text
+  pub written : AppendedPart old.written text new.written
   pub cause : Rose old.faults new.faults
 
 -- the outcome of the writing of a job

@@ -18,6 +18,8 @@ pub data Form : Type 0 where
   Load : (sky catalogue : List ℕ) → Form
   -- to answer or to explain the queries of a script over them
   Asks : (task : Task) (sky catalogue script : List ℕ) → Form
+  -- to check whether a journal is right
+  Check : (journal : List ℕ) → Form
   -- to answer the queries of the demo's script with a number of workers, over its sky plan and a number of objects
   -- drawn from a seed
   Demo : (count seed workers : ℕ) → Form
@@ -27,16 +29,19 @@ pub record Names : Type 0 where
   pub sky : Option (List ℕ)
   pub catalogue : Option (List ℕ)
   pub script : Option (List ℕ)
+  pub journal : Option (List ℕ)
 
 -- the names of a sky plan and a catalogue, and of a script if there is one
 abbrev pub names_from : (sky catalogue : List ℕ) → Option (List ℕ) → Names
-names_from sky catalogue script = record { sky = Some sky; catalogue = Some catalogue; script = script }
+names_from sky catalogue script =
+    record { sky = Some sky; catalogue = Some catalogue; script = script; journal = None }
 
 -- the names of the texts of a command
 abbrev pub names_of : Form → Names
 names_of (Load sky catalogue) = names_from sky catalogue None
 names_of (Asks task sky catalogue script) = names_from sky catalogue (Some script)
-names_of (Demo count seed workers) = record { sky = None; catalogue = None; script = None }
+names_of (Check journal) = record { sky = None; catalogue = None; script = None; journal = Some journal }
+names_of (Demo count seed workers) = record { sky = None; catalogue = None; script = None; journal = None }
 
 -- the workers beside the czar, if the task has any, are at most 16
 abbrev pub IsManned : Task → Type 0
@@ -77,9 +82,10 @@ form_of_four word second third fourth =
     else if bytes_eq word (codes "demo") then demo_by second third fourth
     else None
 
--- the commands `load SKY CSV`, `explain SKY CSV SCRIPT`, `query SKY CSV SCRIPT WORKERS` and `demo COUNT SEED WORKERS`,
--- whose numbers are 1 to 10 digits and whose WORKERS is 0 to 16; None for all other arguments
+-- the commands `check JOURNAL`, `load SKY CSV`, `explain SKY CSV SCRIPT`, `query SKY CSV SCRIPT WORKERS` and
+-- `demo COUNT SEED WORKERS`, whose numbers are 1 to 10 digits and whose WORKERS is 0 to 16; None for all other arguments
 abbrev pub form_of : List (List ℕ) → Option Form
+form_of (word ∷ journal ∷ []) = if bytes_eq word (codes "check") then Some (Check journal) else None
 form_of (word ∷ sky ∷ catalogue ∷ []) = if bytes_eq word (codes "load") then Some (Load sky catalogue) else None
 form_of (word ∷ second ∷ third ∷ fourth ∷ []) = form_of_four word second third fourth
 form_of (word ∷ sky ∷ catalogue ∷ script ∷ workers ∷ []) =

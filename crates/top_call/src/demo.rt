@@ -13,7 +13,7 @@ use chunk_store::Store;
 use demo_answers::laws::demo_is_answered;
 use demo_answers::texts::{demo_script_is_accepted, demo_sky_is_accepted};
 use session_script::Script;
-use sky_generate::{demo_script, demo_sky, rows_of};
+use sky_generate::{demo_script, demo_sky, rows_by};
 use sky_io::{Gate, Memory, Sink};
 use sky_plan::SkyPlan;
 use std::alloc::Global;
@@ -47,7 +47,7 @@ pub fn run_demo<R: Threads + Wait + Sync, K: Sink, G: Gate + Sync>(
     }
 }
 
-// Returns the store of the demo's catalogue under its sky plan, built by the given number of threads.
+// Returns the store of the demo's catalogue under its sky plan, drawn and built by the given number of threads.
 fn demo_store<R: Threads + Sync>(
     alloc: Global,
     rt: &R,
@@ -65,7 +65,7 @@ fn demo_store<R: Threads + Sync>(
     let Ok(plan) = SkyPlan::read(alloc, demo_sky()) else {
         return Err(Memory);
     };
-    let rows = rows_of(alloc, count, seed)?;
+    let rows = rows_by(rt, alloc, threads, count, seed)?;
     Store::build(rt, alloc, threads, plan, rows)
 }
 

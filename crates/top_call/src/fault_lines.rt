@@ -2,8 +2,9 @@
 ghost use Rattle.std.specs.Prelude.{◌≡◌, ◌++◌, codes};
 ghost use Rattle.std.specs.Fmt.{signed_decimal};
 ghost use Rattle.sky_io.specs.Sinks.{Wrote};
-ghost use Rattle.top_call.specs.FaultLines.{catalogue_line, numbered, place, row_line, sky_line, valued};
+ghost use Rattle.top_call.specs.FaultLines.{catalogue_line, journal_line, numbered, place, row_line, sky_line, valued};
 
+use scan_history::HistoryFault;
 use sky_io::{Put, Sink};
 use sky_rules::SkyFault;
 use sky_text::{put_count, put_int};
@@ -42,6 +43,18 @@ pub fn put_catalogue_fault<K: Sink>(sink: &mut K, fault: &LoadFault) -> Put
         LoadFault::Length { row } => put_numbered(sink, b"catalogue row ", *row, b": length\n"),
         LoadFault::Repeated { row, id } => put_repeated(sink, *row, id),
         LoadFault::TooManyRows => sink.put(b"catalogue: too many rows\n"),
+    }
+}
+
+/// Writes the line of a journal's fault. Does not allocate.
+pub fn put_journal_fault<K: Sink>(sink: &mut K, fault: &HistoryFault) -> Put
+    ensures { Wrote (K.state sink.old) (K.state sink.new) (journal_line fault.now) result }
+{
+    match fault {
+        HistoryFault::Syntax { line } => put_numbered(sink, b"journal line ", *line, b": syntax\n"),
+        HistoryFault::NotAStep { line } => {
+            put_numbered(sink, b"journal line ", *line, b": not a step\n")
+        }
     }
 }
 

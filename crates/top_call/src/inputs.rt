@@ -70,6 +70,16 @@ pub fn fetch_all<R: Threads + Sync, S: Shelf>(
     }
 }
 
+/// Fetches the whole of the journal's text of this name. Allocates. If it stops, the shelf alone explains the outcome.
+pub fn fetch_journal<S: Shelf>(alloc: Global, shelf: &mut S, name: &str) -> Result<Vec<u8>, Outcome>
+    ensures ok { IfOk result (λ text.
+        IsWhole name.now Which.Journal text.items (S.state shelf.old) (S.state shelf.new)) }
+    ensures err { IfErr result
+        (IsWholeStop name.now Which.Journal (S.state shelf.old) (S.state shelf.new)) }
+{
+    fetch_whole(alloc, shelf, name, TEXT_MOST, Which::Journal)
+}
+
 // Returns the store of a catalogue's rows under a plan, built by the given number of threads.
 fn stored<R: Threads + Sync>(
     alloc: Global,

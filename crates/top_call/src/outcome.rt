@@ -2,17 +2,19 @@
 ghost use Rattle.std.specs.Prelude.{◌≡◌};
 ghost use Rattle.top_call.specs.Outcomes.{status_of};
 
+use scan_history::HistoryFault;
 use session_rules::Ends;
 use session_script::ScriptFault;
 use sky_rules::SkyFault;
 use table_rules::LoadFault;
 
-/// One of the texts of a command, in the order in which they are fetched.
+/// One of the texts of a command, in the order in which they are fetched; a journal is the only text of its command.
 #[derive(Clone, Copy, Debug, PartialEq, Eq)]
 pub enum Which {
     Sky,
     Catalogue,
     Script,
+    Journal,
 }
 
 /// The outcome of the top call.
@@ -36,6 +38,8 @@ pub enum Outcome {
     SinkFault { ends: Ends },
     /// An allocation failed, and nothing was written.
     Memory,
+    /// The journal is not accepted; its first fault.
+    BadJournal { fault: HistoryFault },
 }
 
 /// Returns the exit status. Does not allocate.
@@ -52,5 +56,6 @@ pub fn status(outcome: &Outcome) -> u8
         Outcome::ShelfFault { .. } => 7,
         Outcome::SinkFault { .. } => 8,
         Outcome::Memory => 9,
+        Outcome::BadJournal { .. } => 12,
     }
 }

@@ -2,9 +2,9 @@
 ghost use Rattle.std.specs.Prelude.{◌≡◌, ◌++◌, Some};
 ghost use Rattle.sky_io.specs.Sinks.{Wrote};
 ghost use Rattle.top_call.specs.Outcomes.{outcome_line, name_in, name_of};
-ghost use Rattle.top_call.specs.Words.{form_of, bytes_of, names_from};
+ghost use Rattle.top_call.specs.Words.{Check, form_of, bytes_of, names_from, names_of};
 
-use crate::fault_lines::{put_catalogue_fault, put_sky_fault};
+use crate::fault_lines::{put_catalogue_fault, put_journal_fault, put_sky_fault};
 use crate::outcome::{Outcome, Which};
 use crate::script_lines::put_script_fault;
 use crate::words::{Form, read_words};
@@ -12,7 +12,7 @@ use sky_io::{Put, Sink};
 
 /// The line of `Usage`: the commands.
 const USAGE: &[u8] =
-    b"usage: qserv load SKY CSV; query SKY CSV SCRIPT WORKERS; explain SKY CSV SCRIPT; demo COUNT SEED WORKERS\n";
+    b"usage: qserv load SKY CSV; query SKY CSV SCRIPT WORKERS; explain SKY CSV SCRIPT; demo COUNT SEED WORKERS; trace SKY CSV SCRIPT WORKERS; check JOURNAL\n";
 
 /// Writes the line of an outcome with its line feed, and nothing for `Done`. Does not allocate.
 pub fn put_outcome<K: Sink>(sink: &mut K, outcome: &Outcome, words: &[String]) -> Put
@@ -33,6 +33,7 @@ pub fn put_outcome<K: Sink>(sink: &mut K, outcome: &Outcome, words: &[String]) -
         ),
         Outcome::SinkFault { .. } => sink.put(b"output failed\n"),
         Outcome::Memory => sink.put(b"out of memory\n"),
+        Outcome::BadJournal { fault } => put_journal_fault(sink, fault),
     }
 }
 
@@ -42,6 +43,7 @@ fn name_in(words: &[String], which: Which) -> &str
 {
     match read_words(words) {
         None | Some(Form::Demo { .. }) => "",
+        Some(Form::Check { journal }) => journal_name(journal, which),
         Some(Form::Load { sky, catalogue }) => name_among(sky, catalogue, "", which),
         Some(
             Form::Asks {
@@ -54,6 +56,16 @@ fn name_in(words: &[String], which: Which) -> &str
     }
 }
 
+// Returns the name of a journal, and the empty name for every other text.
+fn journal_name(journal: &str, which: Which) -> &str
+    ensures { result.now ≡ name_of (names_of (Check journal.now)) which }
+{
+    match which {
+        Which::Sky | Which::Catalogue | Which::Script => "",
+        Which::Journal => journal,
+    }
+}
+
 // Returns the name of a text among the three.
 fn name_among<'a>(sky: &'a str, catalogue: &'a str, script: &'a str, which: Which) -> &'a str
     ensures { result.now
@@ -63,6 +75,7 @@ fn name_among<'a>(sky: &'a str, catalogue: &'a str, script: &'a str, which: Whic
         Which::Sky => sky,
         Which::Catalogue => catalogue,
         Which::Script => script,
+        Which::Journal => "",
     }
 }
 

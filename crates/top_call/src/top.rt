@@ -1,12 +1,13 @@
 //! The top call: arguments, then the texts, then the work, then the writing.
 ghost use Rattle.std.specs.Prelude.{◌≡◌, ◌↔◌, None};
-ghost use Rattle.top_call.specs.Words.{Load, Asks, IsManned, form_of, bytes_of};
+ghost use Rattle.top_call.specs.Words.{Load, Asks, Check, IsManned, form_of, bytes_of};
 ghost use Rattle.top_call.specs.WordForms.{IsWithin, asked_by};
 ghost use Rattle.top_call.specs.Explained.{Explained, ExplainedOf, shown};
 ghost use Rattle.top_call.specs.Completes.{Complete};
 
 use crate::demo::run_demo;
-use crate::inputs::{fetch_all, fetch_survey};
+use crate::inputs::{fetch_all, fetch_journal, fetch_survey};
+use crate::journal_check::check_journal;
 use crate::outcome::Outcome;
 use crate::task::Task;
 use crate::threads::{processors, threads_of};
@@ -17,8 +18,8 @@ use std::alloc::Global;
 use std::sync::Wait;
 use std::thread::Threads;
 
-/// Executes the command that the arguments give: reports how the rows are distributed over the chunks, or answers or
-/// explains the queries of a script. The texts are fetched from the shelf one by one. The chunks are built before the
+/// Executes the command that the arguments give: reports how the rows are distributed over the chunks, answers or
+/// explains the queries of a script, or checks a journal. The texts are fetched from the shelf one by one. The chunks are built before the
 /// script is fetched. All texts are accepted and all answers computed before the first byte is written to the sink.
 ///
 /// Allocates memory for the texts, the rows and their chunks, and the answers; writing does not allocate. Queries are
@@ -69,6 +70,7 @@ fn run_form<R: Threads + Wait + Sync, S: Shelf, K: Sink, G: Gate + Sync>(
             catalogue,
             script,
         } => run_task(alloc, rt, *task, sky, catalogue, script, shelf, sink, gate),
+        Form::Check { journal } => run_check(alloc, journal, shelf, sink),
         Form::Demo {
             count,
             seed,
@@ -123,6 +125,23 @@ fn run_task<R: Threads + Wait + Sync, S: Shelf, K: Sink, G: Gate + Sync>(
         script,
     ) {
         Ok((store, text)) => do_task(alloc, rt, task, store, text.as_slice(), sink, gate),
+        Err(outcome) => outcome,
+    }
+}
+
+// Checks the named journal.
+fn run_check<S: Shelf, K: Sink>(
+    alloc: Global,
+    journal: &str,
+    shelf: &mut S,
+    sink: &mut K,
+) -> Outcome
+    ensures { ExplainedOf (Check journal.now)
+        (shown (S.state shelf.old) (S.state shelf.new) (K.state sink.old) (K.state sink.new))
+        result }
+{
+    match fetch_journal(alloc, shelf, journal) {
+        Ok(text) => check_journal(alloc, text.as_slice(), sink),
         Err(outcome) => outcome,
     }
 }

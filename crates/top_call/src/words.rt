@@ -27,6 +27,10 @@ pub enum Form<'a> {
         catalogue: &'a str,
         script: &'a str,
     },
+    /// To check whether a journal is right.
+    Check {
+        journal: &'a str,
+    },
     /// To answer the queries of the demo's script, with the given number of workers. They range over the demo's sky
     /// plan and the given number of objects, drawn from a seed.
     Demo {
@@ -43,6 +47,7 @@ pub fn read_words(words: &[String]) -> Option<Form<'_>>
     ensures within { IfSome result IsWithin }
 {
     match words {
+        [word, journal] => read_check(word, journal),
         [word, sky, catalogue] => read_load(word, sky, catalogue),
         [word, second, third, fourth] => read_four(word, second, third, fourth),
         [word, sky, catalogue, script, workers] => {
@@ -50,6 +55,19 @@ pub fn read_words(words: &[String]) -> Option<Form<'_>>
         }
         _ => None,
     }
+}
+
+// Returns the command `check JOURNAL`.
+fn read_check<'a>(word: &str, journal: &'a str) -> Option<Form<'a>>
+    ensures none { IfNone result (form_of (word.now ∷ journal.now ∷ []) ≡ None) }
+    ensures form { IfSome result (λ form.
+        form_of (word.now ∷ journal.now ∷ []) ≡ Some (asked_by form)) }
+    ensures within { IfSome result IsWithin }
+{
+    if word != "check" {
+        return None;
+    }
+    Some(Form::Check { journal })
 }
 
 // Returns the command `load SKY CSV`.

@@ -205,8 +205,8 @@ fn write_explained<K: Sink>(
     }
 }
 
-// Sends the bytes that are held back, once all is written.
-fn send<K: Sink>(sink: &mut K, ends: Ends) -> Outcome
+/// Sends the bytes that are held back, once all is written.
+pub(crate) fn send<K: Sink>(sink: &mut K, ends: Ends) -> Outcome
     ensures { IsFlushed ends (K.state sink.old) (K.state sink.new) result }
 {
     match sink.flush_out() {

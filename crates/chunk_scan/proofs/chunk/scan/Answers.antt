@@ -5,13 +5,13 @@ use Rattle.sky_row.specs.Columns.{objects_at}
 use Rattle.column_block.specs.Blocks.{Stored}
 use Rattle.chunk_store.proofs.ChunkBlocks.{chunk_taken}
 use Rattle.chunk_scan.specs.Lines.{IsPieceOver}
-use Rattle.chunk_scan.specs.Standing.{standing}
+use Rattle.chunk_scan.specs.Selection.{selection}
 use Rattle.chunk_scan.proofs.Found.{block_few, block_is, places_few, rows_len}
 use Rattle.chunk_scan.proofs.Scanned.{scanned}
 use Rattle.chunk_scan.proofs.chunk.scan.Goals as goal
 
-pub standing-requires-clause-few : goal.standing-requires-clause-few
-standing-requires-clause-few c =
+pub selection-requires-clause-few : goal.selection-requires-clause-few
+selection-requires-clause-few c =
     let g = c.args.store.now.plan in
     let objects = c.args.store.now.rows.objects in
     let block = c.block-block.result.now.objects in
@@ -32,7 +32,7 @@ piece_at-requires-clause-few c =
     let objects = c.args.store.now.rows.objects in
     let block = c.block-block.result.now.objects in
     let few = block_few g objects c.args.chunk block (c.block-block.ensures.places ∙ chunk_taken g objects c.args.chunk) c.know.ensures.few in
-    let less = places_few c.args.query.now.conds block c.as_slice-2.result.now (c.as_slice-2.ensures.value ∙ (c.in_ok-places.ensures.value ∙ ap (λ conds. standing conds block) c.as_slice.ensures)) in
+    let less = places_few c.args.query.now.conds block c.as_slice-2.result.now (c.as_slice-2.ensures.value ∙ (c.in_ok-places.ensures.value ∙ ap (λ conds. selection conds block) c.as_slice.ensures)) in
     omega (arith, few, less)
 
 pub piece_at-requires-clause-there : goal.piece_at-requires-clause-there
@@ -53,7 +53,7 @@ returns c =
     sym (block_is c.args.store.now.plan c.args.store.now.rows c.rows-rows.result.now c.args.chunk c.block-block.result.now.objects c.chunk-own.result.now c.block-block.ensures.places c.chunk-own.ensures.value c.rows-rows.ensures) in
     scanned g objects cq c.args.chunk block places c.in_ok-piece.piece c.know.ensures.plan c.know.ensures.rows c.requires.there c.requires.rows
     (c.block-block.ensures.places ∙ chunk_taken g objects c.args.chunk)
-    (c.as_slice-2.ensures.value ∙ (c.in_ok-places.ensures.value ∙ ap (λ conds. standing conds block) c.as_slice.ensures))
+    (c.as_slice-2.ensures.value ∙ (c.in_ok-places.ensures.value ∙ ap (λ conds. selection conds block) c.as_slice.ensures))
     (subst (λ (l : List Obj). IsPieceOver cq (objects_at l places) c.in_ok-piece.piece) same c.in_ok-piece.ensures)
 
 pub piece_at-requires-clause-objects : goal.piece_at-requires-clause-objects

@@ -11,15 +11,15 @@ use Rattle.answer_rules.specs.Parts.{part_over}
 use Rattle.answer_rules.specs.SoundChunks.{is_sound_part}
 use Rattle.column_eval.proofs.Reading.{rows_there}
 use Rattle.chunk_scan.specs.Grouped.{is_sound_total}
-use Rattle.chunk_scan.specs.Parted.{IsReady, worth_of}
+use Rattle.chunk_scan.specs.States.{IsReady, argument_of}
 use Rattle.chunk_scan.specs.Runs.{AreStarts}
 use Rattle.chunk_scan.proofs.Running.{run_may, run_more}
 use Rattle.chunk_scan.proofs.Sizing.{parts_between, ready}
 use Rattle.chunk_scan.proofs.Sounding.{totals_sound}
 use Rattle.chunk_scan.proofs.group_piece.group_piece.Goals as goal
 
-pub worths-requires-clause-sound : goal.worths-requires-clause-sound
-worths-requires-clause-sound c =
+pub arguments-requires-clause-sound : goal.arguments-requires-clause-sound
+arguments-requires-clause-sound c =
     subst (λ (l : List ChunkItem). list_all (is_sound_total (4 + c.args.block.now.width)) l ≡ true) (sym c.as_slice-items.ensures)
     (totals_sound (4 + c.args.block.now.width) c.args.keys.now c.args.query.now.items
     (subst (λ (s : Shape). list_all (is_sound_part (4 + c.args.block.now.width) s) c.args.query.now.items ≡ true) c.requires.shape c.requires.sound.items))
@@ -34,7 +34,7 @@ fill-requires-clause-ready c =
     subst (λ (l : List ChunkItem). list_all (is_sound_total (4 + c.args.block.now.width)) l ≡ true) (sym c.as_slice-items.ensures)
     (totals_sound (4 + c.args.block.now.width) c.args.keys.now c.args.query.now.items
     (subst (λ (s : Shape). list_all (is_sound_part (4 + c.args.block.now.width) s) c.args.query.now.items ≡ true) c.requires.shape c.requires.sound.items)) in
-    subst (All (IsReady c.run_end-to.result)) (sym (c.as_slice-in-loop-from-4.ensures.value ∙ c.in_ok-worths.ensures))
+    subst (All (IsReady c.run_end-to.result)) (sym (c.as_slice-in-loop-from-4.ensures.value ∙ c.in_ok-arguments.ensures))
     (ready (4 + c.args.block.now.width) c.run_end-to.result objects c.as_slice-items.result.now sound rows there)
 
 pub push-requires-clause-may : goal.push-requires-clause-may
@@ -46,10 +46,10 @@ push-requires-clause-may c =
     let sound : list_all (is_sound_total (4 + c.args.block.now.width)) c.args.query.now.items ≡ true =
     totals_sound (4 + c.args.block.now.width) c.args.keys.now c.args.query.now.items
     (subst (λ (s : Shape). list_all (is_sound_part (4 + c.args.block.now.width) s) c.args.query.now.items ≡ true) c.requires.shape c.requires.sound.items) in
-    let worths = c.as_slice-in-loop-from-4.ensures.value ∙ (c.in_ok-worths.ensures ∙ (ap (map (worth_of objects)) c.as_slice-items.ensures ∙ ap (map (worth_of objects)) (sym c.as_slice-in-loop-from-3.ensures))) in
+    let arguments = c.as_slice-in-loop-from-4.ensures.value ∙ (c.in_ok-arguments.ensures ∙ (ap (map (argument_of objects)) c.as_slice-items.ensures ∙ ap (map (argument_of objects)) (sym c.as_slice-in-loop-from-3.ensures))) in
     run_may c.args.keys.now c.args.query.now.items objects c.loop-from.from c.run_end-to.result c.as_slice-in-loop-from-5.result.now c.as_slice-in-loop-from-6.result.now c.loop-from.piece
     (omega (arith, c.run_end-to.ensures.more)) there (omega (arith, there, long, c.requires.few))
-    (c.as_slice-in-loop-from-6.ensures.value ∙ (c.in_ok-fill.ensures objects there worths
+    (c.as_slice-in-loop-from-6.ensures.value ∙ (c.in_ok-fill.ensures objects there arguments
     ∙ ap (map (part_over (map row (slice_range objects c.loop-from.from c.run_end-to.result)))) c.as_slice-in-loop-from-3.ensures))
     (parts_between (4 + c.args.block.now.width) c.loop-from.from c.run_end-to.result objects c.args.query.now.items sound rows there) c.loop-from.invariant.piece
 
@@ -58,7 +58,7 @@ loop-from-preserved c =
     let objects = objects_at c.args.block.now.objects c.args.places.now in
     let long : length objects ≡ length c.args.places.now = length-map c.args.places.now (λ place. get_or c.args.block.now.objects place no_row) in
     let there : c.run_end-to.result ≤ length objects = omega (arith, c.run_end-to.ensures.most, ap length c.as_slice-in-loop-from.ensures.value, c.in_ok-starts.ensures.len, long) in
-    let worths = c.as_slice-in-loop-from-4.ensures.value ∙ (c.in_ok-worths.ensures ∙ (ap (map (worth_of objects)) c.as_slice-items.ensures ∙ ap (map (worth_of objects)) (sym c.as_slice-in-loop-from-3.ensures))) in
+    let arguments = c.as_slice-in-loop-from-4.ensures.value ∙ (c.in_ok-arguments.ensures ∙ (ap (map (argument_of objects)) c.as_slice-items.ensures ∙ ap (map (argument_of objects)) (sym c.as_slice-in-loop-from-3.ensures))) in
     record {
       inside = omega (arith, there, long);
       piece =
@@ -66,7 +66,7 @@ loop-from-preserved c =
           c.as_slice-in-loop-from-6.result.now c.loop-from.piece c.push.new.piece c.run_end-to.ensures.more there
           (subst (AreStarts c.args.keys.now objects) (sym c.as_slice-in-loop-from.ensures.value) c.in_ok-starts.ensures.are) c.run_end-to.ensures.none
           (c.as_slice-in-loop-from-5.ensures.value ∙ c.in_ok-fill_key.ensures)
-          (c.as_slice-in-loop-from-6.ensures.value ∙ (c.in_ok-fill.ensures objects there worths
+          (c.as_slice-in-loop-from-6.ensures.value ∙ (c.in_ok-fill.ensures objects there arguments
           ∙ ap (map (part_over (map row (slice_range objects c.loop-from.from c.run_end-to.result)))) c.as_slice-in-loop-from-3.ensures))
           c.in_ok-push.ensures c.loop-from.invariant.piece;
     }

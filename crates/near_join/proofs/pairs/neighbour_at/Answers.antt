@@ -9,8 +9,8 @@ use Rattle.near_join.specs.Strips.{IsListed, object_at}
 use Rattle.near_join.proofs.Sweeping.{row_is}
 use Rattle.near_join.proofs.pairs.neighbour_at.Goals as goal
 
-pub returns-clause-told : goal.returns-clause-told
-returns-clause-told c =
+pub returns-clause-flagged : goal.returns-clause-flagged
+returns-clause-flagged c =
     let objects = c.args.rows.now.objects in
     let near = c.args.near.now in
     let place = c.place-place.result in

@@ -27,7 +27,7 @@ loop-k-preserved c =
       most = omega (arith, low);
       picked = one_picked (is_close objects limit place) (get_or near.places k 0) near.places (map (λ n. n.place) c.loop-k.found.items) (map (λ n. n.place) c.push_if.new.found.items) (c.args.i + 1) k
           c.is_pair-is.result least low refl is c.in_ok-push_if.ensures.places c.loop-k.invariant.picked;
-      told = c.in_ok-push_if.ensures.told;
+      flagged = c.in_ok-push_if.ensures.flagged;
     }
 
 pub returns-then-is_above-clause-places : goal.returns-then-is_above-clause-places

@@ -6,10 +6,10 @@ use Rattle.sky_row.specs.Columns.{objects_at}
 use Rattle.value_rules.specs.Values.{Pick}
 use Rattle.near_join.specs.declared.neighbour.Neighbour.{Neighbour}
 use Rattle.near_join.specs.Gains.{Gains, upward_pairs}
-use Rattle.near_join.specs.Neighbours.{IsTold}
+use Rattle.near_join.specs.Neighbours.{IsFlagged}
 use Rattle.near_join.specs.Strips.{is_close, object_at}
 use Rattle.near_join.proofs.Gaining.{gains_nothing}
-use Rattle.near_join.proofs.Neighbouring.{all_of_map, pairs_told, rows_told}
+use Rattle.near_join.proofs.Neighbouring.{all_of_map, pairs_flagged, rows_flagged}
 use Rattle.near_join.proofs.Upwards.{near_are_enough, no_pairs}
 use Rattle.near_join.proofs.pairs.push_upwards.Goals as goal
 
@@ -25,13 +25,13 @@ returns-then-is_done c =
     (gains_nothing cq c.args.piece.now c.requires.of_rows)
 
 pub push_found-requires-clause-row : goal.push_found-requires-clause-row
-push_found-requires-clause-row c = IsTold.row c.neighbour_at-this.ensures.told
+push_found-requires-clause-row c = IsFlagged.row c.neighbour_at-this.ensures.flagged
 
 pub push_found-requires-clause-found : goal.push_found-requires-clause-found
 push_found-requires-clause-found c =
     let objects = c.args.asked.now.rows.now.objects in
     let bounds = bounds_shown c.args.region.now in
-    rows_told objects bounds c.as_slice-else-is_done.result.now (subst (All (IsTold objects bounds)) (sym c.as_slice-else-is_done.ensures.value) c.in_ok-pick.ensures.told)
+    rows_flagged objects bounds c.as_slice-else-is_done.result.now (subst (All (IsFlagged objects bounds)) (sym c.as_slice-else-is_done.ensures.value) c.in_ok-pick.ensures.flagged)
 
 pub push_found-requires-clause-near : goal.push_found-requires-clause-near
 push_found-requires-clause-near c =
@@ -59,7 +59,7 @@ returns-else-is_done c =
     let found = c.as_slice-else-is_done.result.now in
     let places : List Neighbour → List ℕ = map (λ n. n.place) in
     let same =
-    pairs_told cq limit bounds objects this found c.neighbour_at-this.ensures.told (subst (All (IsTold objects bounds)) (sym c.as_slice-else-is_done.ensures.value) c.in_ok-pick.ensures.told)
+    pairs_flagged cq limit bounds objects this found c.neighbour_at-this.ensures.flagged (subst (All (IsFlagged objects bounds)) (sym c.as_slice-else-is_done.ensures.value) c.in_ok-pick.ensures.flagged)
     ∙ ap (λ (p : ℕ). upward_pairs cq limit bounds (object_at objects p) (objects_at objects (places found))) c.neighbour_at-this.ensures.place
     ∙ ap (λ (l : List ℕ). upward_pairs cq limit bounds (object_at objects place) (objects_at objects l)) (ap places c.as_slice-else-is_done.ensures.value ∙ c.in_ok-pick.ensures.places)
     ∙ near_are_enough cq limit bounds objects place (drop (c.args.i + 1) near.places) in

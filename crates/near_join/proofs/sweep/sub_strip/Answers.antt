@@ -2,7 +2,7 @@ use Rattle.std.proofs.Common.{◌∙◌, arith, ap, filter, length, slice_range,
 use Rattle.sky_rules.specs.Partition.{Partition, overlap_at}
 use Rattle.sky_plan.specs.Regions.{bounds_shown}
 use Rattle.table_rules.specs.Objects.{Catalogue}
-use Rattle.near_join.specs.Strips.{IsChunkStrip, IsListed, is_beside}
+use Rattle.near_join.specs.Strips.{IsChunkStrip, IsListed, is_near_row}
 use Rattle.near_join.proofs.Answering.{if_ok_two}
 use Rattle.near_join.proofs.Sweeping.{between_moved, strip_short, sub_strip_is}
 use Rattle.near_join.proofs.sweep.sub_strip.Goals as goal
@@ -30,6 +30,6 @@ returns c =
     (λ near places listed. sub_strip_is g objects c.args.chunk c.args.sub r bounds c.args.strip.now near c.near_heights-from.result.0 c.near_heights-from.result.1 c.requires.sky c.requires.chunk c.requires.sub
     c.requires.region
     (c.radius_of-radius.ensures.value ∙ ap (λ (p : Partition). overlap_at p c.args.chunk) c.plan.ensures)
-    c.requires.strip (between_moved c.zs.result.now c.args.strip.now.zs _ _ _ _ c.zs.ensures c.near_heights-from.ensures) (places ∙ ap (λ (t : Catalogue). filter (is_beside t.objects r bounds) (slice_range c.args.strip.now.places c.near_heights-from.result.0 c.near_heights-from.result.1)) c.rows-rows.ensures)
+    c.requires.strip (between_moved c.zs.result.now c.args.strip.now.zs _ _ _ _ c.zs.ensures c.near_heights-from.ensures) (places ∙ ap (λ (t : Catalogue). filter (is_near_row t.objects r bounds) (slice_range c.args.strip.now.places c.near_heights-from.result.0 c.near_heights-from.result.1)) c.rows-rows.ensures)
     (subst (λ (t : Catalogue). IsListed t.objects near) c.rows-rows.ensures listed))
     c.near_ones.ensures.places c.near_ones.ensures.listed

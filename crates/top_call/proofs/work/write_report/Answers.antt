@@ -1,6 +1,11 @@
+use Rattle.std.proofs.Common.{refl}
 use Rattle.top_call.specs.Jobs.{Reports}
-use Rattle.top_call.proofs.Writing.{written}
+use Rattle.top_call.proofs.Writing.{torn, written}
 use Rattle.top_call.proofs.work.write_report.Goals as goal
 
+pub returns-in-Failed : goal.returns-in-Failed
+returns-in-Failed g c = torn (Reports c.args.store.now) _ _ _ _ c.no_ends-ends.ensures refl c.in-Failed.ensures
+
 pub returns-in-Done : goal.returns-in-Done
-returns-in-Done g c = written (Reports c.args.store.now) _ _ _ _ _ c.no_ends-ends.ensures c.in-Done.ensures c.send.ensures
+returns-in-Done g c =
+    written (Reports c.args.store.now) _ _ _ _ _ _ c.no_ends-ends.ensures refl c.in-Done.ensures c.send.ensures

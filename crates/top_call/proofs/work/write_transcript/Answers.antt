@@ -1,10 +1,15 @@
-use Rattle.std.proofs.Common.{map}
+use Rattle.std.proofs.Common.{map, refl}
 use Rattle.czar.specs.Ends.{kind_of}
 use Rattle.top_call.specs.Jobs.{Runs}
-use Rattle.top_call.proofs.Writing.{written_as}
+use Rattle.top_call.proofs.Writing.{torn_as, written_as}
 use Rattle.top_call.proofs.work.write_transcript.Goals as goal
+
+pub returns-in-Failed : goal.returns-in-Failed
+returns-in-Failed g c =
+    λ workers fit. torn_as (Runs workers c.args.store.now c.args.script.now) (map kind_of c.args.ends.now) c.in-Ok.kinds _ _ _
+    c.in-Ok.ensures fit refl c.in-Failed.ensures
 
 pub returns-in-Done : goal.returns-in-Done
 returns-in-Done g c =
-    λ workers fit. written_as (Runs workers c.args.store.now c.args.script.now) (map kind_of c.args.ends.now) c.in-Ok.kinds _ _ _ _
-    c.in-Ok.ensures fit c.in-Done.ensures c.send.ensures
+    λ workers fit. written_as (Runs workers c.args.store.now c.args.script.now) (map kind_of c.args.ends.now) c.in-Ok.kinds _ _ _ _ _
+    c.in-Ok.ensures fit refl c.in-Done.ensures c.send.ensures

@@ -1,8 +1,0 @@
-use Rattle.std.proofs.Common.{take}
-use Rattle.std.specs.List.{flat_map}
-use Rattle.near_join.specs.Gains.{Gains}
-use Rattle.near_join.specs.Neighbours.{row_of, told_ways}
-use Rattle.near_join.proofs.ways.push_others.Given as goal
-
-abbrev pub invariant-loop-other : goal.invariant-loop-other
-invariant-loop-other l = Gains l.asked.query.now (flat_map (told_ways l.asked.query.now l.asked.reach.now.limit l.asked.rows.now.objects l.this.held (row_of l.asked.rows.now.objects l.this)) (take l.other-index l.found)) l.fn.piece l.piece
