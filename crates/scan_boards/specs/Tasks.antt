@@ -11,7 +11,7 @@ use Rattle.scan_boards.specs.declared.tasks.Taken.{Taken}
 use Rattle.scan_boards.specs.declared.tasks.Taken.TheVariants.{Task, Idle, Ended}
 use Rattle.scan_board.specs.Calls.{BoardSeat, Called, HasTask, IsAskedFor, board_at}
 
--- the board was called, and no line was added: the participant has seen more
+-- the board was called, and the participant added no line: what it has seen grew, or is as before
 pub record Inspected {R : Type 0} (asks : R → ℕ → ℕ → Type 0) (old new : BoardSeat R) : Type 0 where
   pub later : IsPrefix old.seen new.seen
   pub same : new ≡ record old { seen = new.seen }

@@ -19,7 +19,7 @@ pub trait Boards<P: Work>: Tasks<P> {
     /// Whether a query's board is at a place.
     ghost has: { Self → Self.Place → ℕ → Bool };
 
-    /// A query may be attached with these chunks.
+    /// These chunks suit the board of the query. One shared board suits all.
     ghost suits: { Self → ℕ → List ℕ → Type 0 };
 
     /// Attaches a query to its board, as the board does. Waits for the lock. Allocates memory.
