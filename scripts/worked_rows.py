@@ -217,13 +217,32 @@ def are_streams_told(program, folder):
     return not wrong
 
 
+def are_traces_checked(program, folder):
+    """Whether what `trace` writes of a script with a cancel and a wait is its transcript and a journal that `check` accepts."""
+    found = []
+    for workers, *outs in worked_runs.TRACED:
+        write(folder, "script", worked_runs.TRACED_SCRIPT)
+        end = ended(program, folder, ["trace", *worked_runs.QUERY[1:], workers])
+        os.remove(os.path.join(folder, "script"))
+        transcript, word, journal = (end[1] if end else "").partition("ring ")
+        if (end or [1])[0] or transcript not in outs:
+            print(f"worked_rows: trace with {workers} workers: {end}, wanted one of {outs}")
+            found.append(False)
+        # its counts are not known beforehand
+        counts = collections.Counter(line.split(" ")[1] for line in journal.splitlines()[1:])
+        line = f"ok: {sum(counts.values())} entries, {counts['attach']} queries, {counts['take']} takes\n"
+        found.append(is_told(program, folder, worked_runs.done(worked_runs.CHECK, line, journal=word + journal)))
+    return all(found)
+
+
 def compare(program, folder):
     """How many rows there are, and whether all are reported."""
     shutil.copytree(WORKED, folder, dirs_exist_ok=True)
     made, texts = made_parts()
     for name, text in texts.items():
         write(folder, name, text)
-    found, rows = [is_full_told(program, folder), are_streams_told(program, folder)], len(worked_runs.RUNS) + 3
+    found = [is_full_told(program, folder), are_streams_told(program, folder), are_traces_checked(program, folder)]
+    rows = len(worked_runs.RUNS) + 3 + len(worked_runs.TRACED)
     for run in worked_runs.RUNS:
         found.append(is_told(program, folder, run))
     for part in parts() + made:

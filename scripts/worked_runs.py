@@ -360,15 +360,17 @@ NO_FORMS = [
     ["check"],
     ["check", "sky.txt", "sky.txt"],
     ["checks", "sky.txt"],
+    ["trace", *QUERY[1:]],
     QUERY,
     [*EXPLAIN, "0"],
     # no number of workers: one too many, a minus, no digit, a digit too many
-    *([*QUERY, workers] for workers in ["17", "-1", "", "00000000000"]),
+    *([word, *QUERY[1:], workers] for word in ["query", "trace"] for workers in ["17", "-1", "", "00000000000"]),
     # a row too many, no seed and a seed too many, a worker too many, no number, no digit, a digit too many
     *(["demo", *words.split(" ")] for words in ["4194305 1 0", "1 0 0", "1 2147483647 0", "1 1 17", "1 x 0"]),
     *(["demo", *words.split(" ")] for words in [" 1 0", "00000000001 1 0"]),
 ]
 STATUSES = [fault(words, 2, USAGE, script="") for words in NO_FORMS]
+STATUSES += [done(["trace", *QUERY[1:], "16"], "ring 8\n0 close\n", script="")]
 STATUSES += [done([*QUERY, "0000000000"], "", script=""), done([*QUERY, "16"], "", script=""), done(EXPLAIN, "", script="")]
 STATUSES += [
     # a catalogue is no sky plan, and a sky plan no catalogue
@@ -474,6 +476,10 @@ JOURNALS = [
     fault(CHECK, 12, "journal line 1: syntax", journal=536870912),
     fault(CHECK, 6, "journal: too long", journal=536870913),
 ]
+
+# a script that is traced, and what may be before the journal
+TRACED_SCRIPT = THREE + "cancel 2\nwait 1\n"
+TRACED = [("0", CANCELLED), ("4", CANCELLED, COUNTED)]
 
 # ---- limits
 

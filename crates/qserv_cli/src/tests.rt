@@ -1,11 +1,14 @@
 //! What no clause says: that a failing output or input is a fault, that threads meet, and that queries which run
 //! together share a chunk's scan.
+use scan_history::read_journal;
+use scan_rules::{Journal, JournalLine};
 use sky_io::{Gate, ListGate, MemShelf, MemSink, NoteGate, OpenGate, PlainShelf, Shelf, StepGate};
 use std::alloc::Global;
 use std::process::Abort;
 use std::sync::Wait;
 use std::test::Fail;
 use std::thread::Threads;
+use text_rules::limits::TEXT_MOST;
 use top_call::{qserv, status};
 
 const SKY: &[u8] = b"overlap 5\nstripe -268435472 4 2 2\nstripe 0 4 2 2\n";
@@ -19,8 +22,13 @@ const ANSWER: &[u8] = b"query 1\nobjectId\n1\n2\n3\n4\n5\n6\n6 rows, 3 chunks\n"
 
 // The words that ask for the answers of the script with the given number of workers.
 fn words_of(alloc: Global, workers: &str) -> Result<Vec<String>, Fail> {
+    words_for(alloc, "query", workers)
+}
+
+// The words of a command over the script with the given number of workers.
+fn words_for(alloc: Global, command: &str, workers: &str) -> Result<Vec<String>, Fail> {
     let mut words = Vec::new(alloc);
-    for word in ["query", "sky", "csv", "script", workers] {
+    for word in [command, "sky", "csv", "script", workers] {
         words.push(String::from_str(alloc, word)?)?;
     }
     Ok(words)
@@ -144,6 +152,71 @@ fn two_work_on_chunks_at_one_time(rt: HostRuntime) -> Result<(), Fail> {
     assert_eq!(rt; sink.bytes(), ANSWER);
     assert!(rt; gate.met());
     assert!(rt; !gate.given_up());
+    Ok(())
+}
+
+// The journal after the answer of the script.
+fn journal_after(alloc: Global, bytes: &[u8]) -> Result<Journal, Fail> {
+    let Some(text) = bytes.strip_prefix(ANSWER) else {
+        return Err(Fail::new("no answer before the journal"));
+    };
+    if text.len() > TEXT_MOST {
+        return Err(Fail::new("a journal that is too long"));
+    }
+    match read_journal(alloc, text) {
+        Ok(journal) => Ok(journal),
+        Err(_) => Err(Fail::new("no journal after the answer")),
+    }
+}
+
+// Whether one of the lines delivers the task of this ticket.
+fn is_delivered(lines: &[JournalLine], number: u32) -> bool {
+    for line in lines {
+        if let JournalLine::Deliver { ticket, .. } = line {
+            if *ticket == number {
+                return true;
+            }
+        }
+    }
+    false
+}
+
+// Whether a task of another seat is in flight after these lines.
+fn is_another_in_flight(lines: &[JournalLine], own: u32) -> bool {
+    for line in lines {
+        if let JournalLine::Take { seat, ticket, .. } = line {
+            if *seat != own && !is_delivered(lines, *ticket) {
+                return true;
+            }
+        }
+    }
+    false
+}
+
+// Whether two takes of different seats are before the deliver of either.
+fn is_at_one_time(lines: &[JournalLine]) -> bool {
+    for place in 0..lines.len() {
+        if let JournalLine::Take { seat, .. } = &lines[place] {
+            if is_another_in_flight(&lines[..place], *seat) {
+                return true;
+            }
+        }
+    }
+    false
+}
+
+#[test]
+fn two_work_on_chunks_at_one_time_in_the_journal(rt: HostRuntime) -> Result<(), Fail> {
+    let alloc = rt.alloc();
+    let gate = StepGate::new(2, 10000000);
+    let mut sink = MemSink::new(alloc, 4000, Vec::new(alloc))?;
+    let words = words_for(alloc, "trace", "2")?;
+    let mut shelf = PlainShelf::new(texts_of(alloc, SCRIPT)?);
+    let found = status_past(&rt, alloc, words.as_slice(), &mut shelf, &mut sink, &gate);
+    assert_eq!(rt; found, 0);
+    assert!(rt; gate.met());
+    let journal = journal_after(alloc, sink.bytes())?;
+    assert!(rt; is_at_one_time(journal.lines.as_slice()));
     Ok(())
 }
 

@@ -5,6 +5,7 @@ pub mod EndLists
 pub mod ScriptStops
 pub mod Tasks
 pub mod Checks
+pub mod Traces
 pub mod DemoEnds
 pub mod Demos
 pub mod FaultLines

@@ -1,5 +1,5 @@
 -- The jobs of a command, and what is written for them.
-use Rattle.std.specs.Prelude.{◌≡◌, ℕ, List, [], All, Option, Ok}
+use Rattle.std.specs.Prelude.{◌≡◌, ℕ, List, [], ◌++◌, All, Option, Ok}
 use Rattle.sky_io.specs.Shelves.{named_text}
 use Rattle.sky_rules.specs.SkyText.{sky_of}
 use Rattle.demo_rules.specs.DemoRows.{IsDemoCatalogue}
@@ -7,17 +7,19 @@ use Rattle.demo_rules.specs.DemoTexts.{demo_script, demo_sky}
 use Rattle.chunk_store.specs.Survey.{Survey}
 use Rattle.scan_rules.specs.declared.journal.Journal.{Journal}
 use Rattle.scan_history.specs.Checked.{tally_of}
+use Rattle.scan_history.specs.Printed.{journal_text}
 use Rattle.answer_text.specs.Report.{report}
 use Rattle.session_script.specs.Views.{ScriptView}
 use Rattle.session_rules.specs.declared.end.EndKind.{EndKind}
 use Rattle.session_rules.specs.declared.end.EndKind.TheVariants.{Answered, Refused, Cancelled, Spent}
 use Rattle.transcript_rules.specs.Transcripts.{FitEnds, transcript}
 use Rattle.transcript_rules.specs.Explained.{explained}
+use Rattle.czar.specs.Traces.{IsTraceOf}
 use Rattle.top_call.specs.Words.{Form, Load, Asks, Check, Demo}
 use Rattle.top_call.specs.Journals.{IsChecked, IsJournalOf, tally_line}
 use Rattle.top_call.specs.Reached.{Texts, IfTold, IsCatalogueOf, IsScriptOf, IsSkyOf}
 use Rattle.top_call.specs.declared.task.Task.{Task}
-use Rattle.top_call.specs.declared.task.Task.TheVariants.{Answer, Explain}
+use Rattle.top_call.specs.declared.task.Task.TheVariants.{Answer, Trace, Explain}
 
 -- A job.
 pub data Job : Type 0 where
@@ -25,15 +27,25 @@ pub data Job : Type 0 where
   Reports : Survey → Job
   -- to answer the queries of a script over a survey, with the given number of workers
   Runs : (workers : ℕ) → Survey → ScriptView → Job
+  -- to answer them so, and to write the journal of the scan too
+  Traces : (workers : ℕ) → Survey → ScriptView → Job
   -- to explain the queries of a script over a survey
   Explains : Survey → ScriptView → Job
   -- to report how much a journal contains, which is right
   Checks : Journal → Job
 
+-- The text is the transcript of a session with these ends, and after it the text of a journal of this session.
+pub record IsTraceText (workers : ℕ) (survey : Survey) (view : ScriptView) (ends : List EndKind) (text : List ℕ)
+    : Type 0 where
+  pub journal : Journal
+  pub trace : IsTraceOf workers survey.plan survey.rows view ends journal
+  pub parts : text ≡ transcript survey.plan survey.rows view ends ++ journal_text journal
+
 -- the job writes this text if its queries have these ends
 abbrev pub Writes : Job → List EndKind → List ℕ → Type 0
 Writes (Reports survey) ends text = text ≡ report survey.plan survey.rows.objects
 Writes (Runs workers survey view) ends text = text ≡ transcript survey.plan survey.rows view ends
+Writes (Traces workers survey view) ends text = IsTraceText workers survey view ends text
 Writes (Explains survey view) ends text = text ≡ explained survey.plan survey.rows view
 Writes (Checks journal) ends text = text ≡ tally_line (tally_of journal.lines)
 
@@ -41,6 +53,7 @@ Writes (Checks journal) ends text = text ≡ tally_line (tally_of journal.lines)
 abbrev pub EndsFit : Job → List EndKind → Type 0
 EndsFit (Reports survey) ends = ends ≡ []
 EndsFit (Runs workers survey view) ends = FitEnds workers survey.plan survey.rows view ends
+EndsFit (Traces workers survey view) ends = FitEnds workers survey.plan survey.rows view ends
 EndsFit (Explains survey view) ends = ends ≡ []
 EndsFit (Checks journal) ends = ends ≡ []
 
@@ -71,6 +84,7 @@ AreSurveyAndScript sky catalogue script survey view texts =
 -- the job of a task on a script over a survey
 abbrev pub job_on : Task → Survey → ScriptView → Job
 job_on (Answer workers) survey view = Runs workers survey view
+job_on (Trace workers) survey view = Traces workers survey view
 job_on Explain survey view = Explains survey view
 
 -- the survey is the demo's: its sky plan, and the given number of objects that are drawn from a seed

@@ -10,7 +10,7 @@ use Rattle.demo_rules.specs.declared.limits.TheConstants.{SEED_MOST}
 use Rattle.session_rules.specs.declared.limits.TheConstants.{WORKERS_MOST}
 use Rattle.top_call.specs.declared.limits.TheConstants.{WORD_DIGITS_MOST}
 use Rattle.top_call.specs.declared.task.Task.{Task}
-use Rattle.top_call.specs.declared.task.Task.TheVariants.{Answer, Explain}
+use Rattle.top_call.specs.declared.task.Task.TheVariants.{Answer, Trace, Explain}
 
 -- A command, with the names of the texts.
 pub data Form : Type 0 where
@@ -46,6 +46,7 @@ names_of (Demo count seed workers) = record { sky = None; catalogue = None; scri
 -- the workers beside the czar, if the task has any, are at most 16
 abbrev pub IsManned : Task → Type 0
 IsManned (Answer workers) = workers ≤ WORKERS_MOST
+IsManned (Trace workers) = workers ≤ WORKERS_MOST
 IsManned Explain = Unit {0}
 
 -- the number, if there is one and it is between two others
@@ -61,6 +62,11 @@ workers_by word = number_between 0 WORKERS_MOST (natural WORD_DIGITS_MOST word)
 abbrev pub query_of : (sky catalogue script : List ℕ) (workers : Option ℕ) → Option Form
 query_of sky catalogue script (Some workers) = Some (Asks (Answer workers) sky catalogue script)
 query_of sky catalogue script None = None
+
+-- the command that answers the named script and writes the journal too, if the number of workers is there
+abbrev pub trace_of : (sky catalogue script : List ℕ) (workers : Option ℕ) → Option Form
+trace_of sky catalogue script (Some workers) = Some (Asks (Trace workers) sky catalogue script)
+trace_of sky catalogue script None = None
 
 -- the demo of this count and this seed, if they and the number of workers are there
 abbrev pub demo_of : (count seed workers : Option ℕ) → Option Form
@@ -82,14 +88,21 @@ form_of_four word second third fourth =
     else if bytes_eq word (codes "demo") then demo_by second third fourth
     else None
 
--- the commands `check JOURNAL`, `load SKY CSV`, `explain SKY CSV SCRIPT`, `query SKY CSV SCRIPT WORKERS` and
--- `demo COUNT SEED WORKERS`, whose numbers are 1 to 10 digits and whose WORKERS is 0 to 16; None for all other arguments
+-- the command of five arguments, by the first
+abbrev pub form_of_five : (word sky catalogue script workers : List ℕ) → Option Form
+form_of_five word sky catalogue script workers =
+    if bytes_eq word (codes "query") then query_of sky catalogue script (workers_by workers)
+    else if bytes_eq word (codes "trace") then trace_of sky catalogue script (workers_by workers)
+    else None
+
+-- the commands `check JOURNAL`, `load SKY CSV`, `explain SKY CSV SCRIPT`, `query SKY CSV SCRIPT WORKERS`,
+-- `trace SKY CSV SCRIPT WORKERS` and `demo COUNT SEED WORKERS`, whose numbers are 1 to 10 digits and whose WORKERS is 0 to
+-- 16; None for all other arguments
 abbrev pub form_of : List (List ℕ) → Option Form
 form_of (word ∷ journal ∷ []) = if bytes_eq word (codes "check") then Some (Check journal) else None
 form_of (word ∷ sky ∷ catalogue ∷ []) = if bytes_eq word (codes "load") then Some (Load sky catalogue) else None
 form_of (word ∷ second ∷ third ∷ fourth ∷ []) = form_of_four word second third fourth
-form_of (word ∷ sky ∷ catalogue ∷ script ∷ workers ∷ []) =
-    if bytes_eq word (codes "query") then query_of sky catalogue script (workers_by workers) else None
+form_of (word ∷ sky ∷ catalogue ∷ script ∷ workers ∷ []) = form_of_five word sky catalogue script workers
 form_of _ = None
 
 -- the bytes of each argument

@@ -20,6 +20,7 @@ mod task;
 mod threads;
 mod told;
 mod top;
+mod trace;
 mod words;
 mod work;
 

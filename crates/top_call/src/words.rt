@@ -2,7 +2,7 @@
 ghost use Rattle.std.specs.Prelude.{◌≡◌, ◌≤◌, ◌^◌, [], ◌∷◌, None, Some, IfNone, IfSome};
 ghost use Rattle.text_rules.specs.Numbers.{natural};
 ghost use Rattle.top_call.specs.declared.limits.TheConstants.{WORD_DIGITS_MOST};
-ghost use Rattle.top_call.specs.Words.{bytes_of, demo_by, form_of, form_of_four, number_between};
+ghost use Rattle.top_call.specs.Words.{bytes_of, demo_by, form_of, form_of_five, form_of_four, number_between, query_of, trace_of, workers_by};
 ghost use Rattle.top_call.specs.WordForms.{IsWithin, asked_by};
 
 use crate::limits::WORD_DIGITS_MOST;
@@ -51,7 +51,7 @@ pub fn read_words(words: &[String]) -> Option<Form<'_>>
         [word, sky, catalogue] => read_load(word, sky, catalogue),
         [word, second, third, fourth] => read_four(word, second, third, fourth),
         [word, sky, catalogue, script, workers] => {
-            read_query(word, sky, catalogue, script, workers)
+            read_five(word, sky, catalogue, script, workers)
         }
         _ => None,
     }
@@ -136,27 +136,67 @@ fn read_between(word: &[u8], least: u32, most: u32) -> Option<u32>
     Some(n as u32)
 }
 
-// Returns the command `query SKY CSV SCRIPT WORKERS`.
-fn read_query<'a>(
+// Returns the command of five arguments: `query SKY CSV SCRIPT WORKERS` or `trace SKY CSV SCRIPT WORKERS`.
+fn read_five<'a>(
     word: &str,
     sky: &'a str,
     catalogue: &'a str,
     script: &'a str,
     workers: &str,
 ) -> Option<Form<'a>>
-    ensures none { IfNone result (form_of
-        (word.now ∷ sky.now ∷ catalogue.now ∷ script.now ∷ workers.now ∷ []) ≡ None) }
-    ensures form { IfSome result (λ form. form_of
-        (word.now ∷ sky.now ∷ catalogue.now ∷ script.now ∷ workers.now ∷ [])
-        ≡ Some (asked_by form)) }
+    ensures none { IfNone result
+        (form_of_five word.now sky.now catalogue.now script.now workers.now ≡ None) }
+    ensures form { IfSome result (λ form.
+        form_of_five word.now sky.now catalogue.now script.now workers.now ≡ Some (asked_by form)) }
     ensures within { IfSome result IsWithin }
 {
-    if word != "query" {
+    if word == "query" {
+        return read_query(sky, catalogue, script, workers.as_bytes());
+    }
+    if word != "trace" {
         return None;
     }
-    let workers = read_between(workers.as_bytes(), 0, WORKERS_MOST)?;
+    read_trace(sky, catalogue, script, workers.as_bytes())
+}
+
+// Returns the command that answers the named script, if its number of workers is one.
+fn read_query<'a>(
+    sky: &'a str,
+    catalogue: &'a str,
+    script: &'a str,
+    workers: &[u8],
+) -> Option<Form<'a>>
+    ensures none { IfNone result
+        (query_of sky.now catalogue.now script.now (workers_by workers.now) ≡ None) }
+    ensures form { IfSome result (λ form.
+        query_of sky.now catalogue.now script.now (workers_by workers.now) ≡ Some (asked_by form)) }
+    ensures within { IfSome result IsWithin }
+{
+    let workers = read_between(workers, 0, WORKERS_MOST)?;
     Some(Form::Asks {
         task: Task::Answer { workers },
+        sky,
+        catalogue,
+        script,
+    })
+}
+
+// Returns the command that answers the named script and writes the journal too, if its number of workers is one.
+fn read_trace<'a>(
+    sky: &'a str,
+    catalogue: &'a str,
+    script: &'a str,
+    workers: &[u8],
+) -> Option<Form<'a>>
+    ensures none { IfNone result
+        (trace_of sky.now catalogue.now script.now (workers_by workers.now) ≡ None) }
+    ensures form { IfSome result (λ form.
+        trace_of sky.now catalogue.now script.now (workers_by workers.now) ≡ Some (asked_by form)) }
+    ensures within { IfSome result IsWithin }
+{
+    let workers = read_between(workers, 0, WORKERS_MOST)?;
+    Some(Form::Asks {
+        task: Task::Trace { workers },
         sky,
         catalogue,
         script,

@@ -16,6 +16,7 @@ ghost use Rattle.session_rules.specs.declared.limits.TheConstants.{WORKERS_MOST}
 use crate::ends::{kinds_of, no_ends};
 use crate::outcome::Outcome;
 use crate::task::Task;
+use crate::trace::trace_queries;
 use answer_text::put_report;
 use chunk_store::Store;
 use czar::{End, Plan, explain, put_explained, put_transcript, run_session};
@@ -81,6 +82,7 @@ fn do_script<R: Threads + Wait + Sync, K: Sink, G: Gate + Sync>(
         Task::Answer { workers } => {
             answer_queries(alloc, rt, store, script, workers, sink, gate)
         }
+        Task::Trace { workers } => { trace_queries(alloc, rt, store, script, workers, sink, gate) }
         Task::Explain => explain_queries(alloc, store, script, sink),
     }
 }
