@@ -4,7 +4,7 @@
     scripts/fail_allocations.py FOLDER [--program FILE] [--workers N ..] [--session] [--processes N]
 
 The run is small: six rows, and a script with a query of every kind and one of every refusal. Each form of the command line
-is run: load, explain, query and demo, the last two with each number of workers (0). So are query over three scripts of the worked
+is run: load, explain, check, query and demo, the last two with each number of workers (0). So are query over three scripts of the worked
 rows, all ids, the pairs of neighbours, and a cancel with a wait, and query over 150 rows of one chunk, whose columns are gathered
 in three parts, with a first NULL in the second. First the Nth request of the run is refused, for N from 1
 until a run makes fewer, and then the Nth and all after it. A run has to end so:
@@ -17,7 +17,7 @@ The right texts are computed here from the flat table. With --session the script
 and the C library is a small library in C that refuses the requests; it is compiled with cc into a folder that goes again.
 
 FILE is the built program, by default .qserv/qserv, where ./qserv leaves it. FOLDER is made where it isn't there, and gets the
-texts sky, csv and script, those of the worked rows, and one, many and asked for the chunk of 150 rows.
+texts sky, csv, script and journal, those of the worked rows, and one, many and asked for the chunk of 150 rows.
 """
 import collections
 import concurrent.futures
@@ -30,6 +30,7 @@ import compare_answers
 import flat_answers
 import random_worlds
 import session_ends
+import worked_runs
 
 # bench/ is on the path since compare_answers was imported
 import demo_files
@@ -149,6 +150,7 @@ def forms(world, many, script, workers):
     whole = {
         ("load", "sky", "csv"): flat_answers.report(world),
         ("explain", "sky", "csv", "script"): flat_answers.explanation(world, [line for line in script if line.startswith("S")]),
+        ("check", "journal"): worked_runs.OK,
     }
     found = [Form(list(words), [{"told": text}]) for words, text in whole.items()]
     demo = random_worlds.World(demo_files.SKY, compare_answers.DEMO_NAMES, [list(row) for row in demo_files.rows(5, 7)])
@@ -222,7 +224,7 @@ def main():
     world, script = random_worlds.World(random_worlds.SKIES[0], NAMES, ROWS), SCRIPT + SESSION * words.session
     many = random_worlds.World(ONE, NAMES, MANY)
     texts = {"sky": [random_worlds.SKIES[0].rstrip()], "csv": lines_of(ROWS), "script": script, **WORKED}
-    texts |= {"one": [ONE.rstrip()], "many": lines_of(MANY), "asked": ASKED}
+    texts |= {"one": [ONE.rstrip()], "many": lines_of(MANY), "asked": ASKED, "journal": worked_runs.BOARD.splitlines()}
     compare_answers.write(folder, {name: "\n".join(lines) + "\n" for name, lines in texts.items()})
     wrong = 0
     with tempfile.TemporaryDirectory() as made, concurrent.futures.ThreadPoolExecutor(words.processes) as pool:

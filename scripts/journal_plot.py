@@ -3,11 +3,11 @@
 
     scripts/journal_plot.py JOURNAL PICTURE [--title TEXT]
 
-JOURNAL is a file as `qserv trace` writes it after the transcript, or such an output as a whole: all before the line of the ring is
-left out. PICTURE is written, in the format that its name ends with (.png, .svg). The upper part has a mark for each take, at its
-step and its chunk, in the colour of the seat that took it. The scan goes round the ring, so the marks rise and begin again at
-the lowest chunk. The lower part has a row for each query, from its attach to its collect: a mark in the same column for each take
-that is for it too, and marks for its end. So a column with marks in several rows is one scan that several queries share.
+JOURNAL is a file that `qserv trace` writes. PICTURE is written, in the format that its name ends with (.png, .svg). The upper part
+has a mark for each take, at its entry and its chunk, in the colour of the seat that took it; seats that are eight apart share one.
+The scan goes round the ring, so the marks rise and begin again at the lowest chunk. The lower part has a row for each query, from
+its attach to its collect: a mark in the same column for each take that is for it too, and marks for its end. So a column with
+marks in several rows is one scan that several queries share.
 
 It needs matplotlib. A journal that is not right is not drawn. The status is 0 if the picture is written, and otherwise 1.
 """
@@ -19,18 +19,12 @@ from journals import Attach, Cancel, Collect, Deliver, Take, read, told
 COLOURS = ["#4477aa", "#ee6677", "#228833", "#ccbb44", "#66ccee", "#aa3377", "#bbbbbb", "#000000"]
 
 
-def journal_in(text):
-    """The text from the line of the ring on."""
-    at = 0 if text.startswith(b"ring ") else text.find(b"\nring ") + 1
-    return text[at:]
-
-
 def colour(seat):
     return COLOURS[seat % len(COLOURS)]
 
 
 def draw_chunks(axes, journal, takes):
-    """The chunks around the ring against the steps, in the colours of the seats."""
+    """The chunks around the ring against the entries, in the colours of the seats."""
     for seat in sorted({take.seat for _, take in takes}):
         own = [(at, take.chunk) for at, take in takes if take.seat == seat]
         name = "the czar (seat 0)" if seat == 0 else f"worker {seat}"
@@ -42,7 +36,7 @@ def draw_chunks(axes, journal, takes):
 
 
 def ends_of(journal):
-    """For each query the steps of its attach, of its cancel or loss, and of its collect, of those that there are."""
+    """For each query the entries of its attach, of its cancel or loss, and of its collect, of those that there are."""
     found = {}
     for at, line in enumerate(journal.entries, 1):
         if isinstance(line, (Attach, Cancel, Collect)):
@@ -96,7 +90,7 @@ def main():
     parser.add_argument("--title", default="The shared scan: chunks around the ring, and the queries that each scan is for")
     words = parser.parse_args()
     with open(words.journal, "rb") as file:
-        text = journal_in(file.read())
+        text = file.read()
     status, _, line = told(text)
     if status:
         print(f"{words.journal}: {line.decode()}", end="", file=sys.stderr)

@@ -7,8 +7,8 @@
 `check` draws N journals (2,000) in which each entry may follow those before it, and changes one thing in a copy of each: a number,
 a word, a line, the order of two lines, or a byte. It runs the program's `check` on both, and prints each journal of which the
 program says something else than `journals.py`. `trace` draws N sessions (2,000) as `random_sessions.py` does, runs the program's
-`trace` with each number of workers (0 4), and checks the journal after each transcript both ways. The transcript has to be one
-that the session may have, and the journal has to be of its queries.
+`trace` with each number of workers (0 4), and checks all that it writes both ways: it has to be the text of a right journal. The
+journal has to be one that the session may have, with the chunks and the ends that follow from the flat table and the script.
 
 FILE is the built program, by default .qserv/qserv, where ./qserv leaves it. The texts are written to a temporary folder. The
 status is 0 if nothing differs, and otherwise 1.
@@ -23,8 +23,10 @@ import sys
 import tempfile
 
 import compare_answers
+import flat_answers
 import random_sessions
 import session_ends
+from sql_trees import Refused
 from journals import Attach, Cancel, Close, Collect, Deliver, Journal, Past, Take, QUERY_MOST, RING_MOST, RUNNING_MOST, read, spelt, told
 
 PROGRAM = os.path.join(os.path.dirname(os.path.abspath(__file__)), "..", ".qserv", "qserv")
@@ -80,7 +82,7 @@ def entry_drawn(draw, past):
 
 
 def journal_drawn(draw):
-    """A right journal of up to 60 entries; one in 50 attaches as many queries as run at once before all else."""
+    """A right journal of up to 89 entries; one in 50 attaches as many queries as run at once before all else."""
     journal = Journal(draw.choice([0, 1, 2, 3, 8, 8, 8, 20, RING_MOST]), [])
     if draw.random() < 0.02 and journal.ring:
         journal.entries.extend(Attach(0, q, [q % journal.ring]) for q in range(1, RUNNING_MOST + 1))
@@ -183,43 +185,66 @@ def compare(words, folder):
     return wrong or right < words.journals
 
 
-def is_of_session(world, journal, blocks, ended):
-    """Whether a right journal is that of a session whose queries have these blocks, and end so: its ring is the sky's chunks; the
-    queries that are not refused before they run are attached in their order, each with as many chunks as its block says, and
-    collected; those that end so are cancelled there, and no others; it is closed once."""
-    attached = [line for line in journal.entries if isinstance(line, Attach)]
-    collected = sorted(line.query for line in journal.entries if isinstance(line, Collect))
-    cancelled = {line.query for line in journal.entries if isinstance(line, Cancel)}
-    runs = [at for at, (block, _) in enumerate(blocks, 1) if not block[0].startswith("refused: ") or block[0].endswith(" out of range")]
-    counts = {at: int(block[-1].split()[-2]) for at, (block, _) in enumerate(blocks, 1) if block[-1].endswith(" chunks")}
+def chunks_of(line, world):
+    """The chunks that a query needs, ascending, or None if it is refused before it is run."""
+    try:
+        bound = flat_answers.Bound(line, world)
+        bound.check_radius()
+    except Refused:
+        return None
+    return bound.plan()
+
+
+def end_in(journal, query):
+    """How a query ends by the entries of a right journal."""
+    if any(isinstance(line, Cancel) and line.query == query for line in journal.entries):
+        return session_ends.CANCELLED
+    if any(isinstance(line, Deliver) and query in line.lost for line in journal.entries):
+        return session_ends.SPENT
+    return "told"
+
+
+def is_obeyed(journal, steps):
+    """Whether no query is attached while one runs that an earlier line waits for or cancels."""
+    places = [place for place, (word, _) in enumerate(steps) if word == "query"]
+    for at, line in enumerate(journal.entries):
+        if isinstance(line, Attach):
+            past = Past(journal.ring, journal.entries[:at])
+            if any(word != "query" and past.is_running(query) for word, query in steps[: places[line.query - 1]]):
+                return False
+    return True
+
+
+def is_of_session(world, journal, steps, workers):
+    """Whether a right journal is that of a session with these steps: its ring is the sky's chunks; the queries that are not refused
+    before they run are attached in their order, each with its chunks, and collected once; each ends as it may; each task is
+    delivered; the lines that wait and cancel are obeyed; it is closed once."""
+    plans = [chunks_of(text, world) for word, text in steps if word == "query"]
+    planned = [(at, chunks) for at, chunks in enumerate(plans, 1) if chunks is not None]
+    ends = session_ends.chosen(steps, [([], bool(chunks)) for chunks in plans], workers)
+    of = collections.Counter(type(line) for line in journal.entries)
     return (
         journal.ring == len(world.chunks)
-        and [line.query for line in attached] == runs == collected
-        and all(len(line.chunks) == counts.get(line.query, len(line.chunks)) for line in attached)
-        and cancelled == {at for at, end in enumerate(ended, 1) if end == session_ends.CANCELLED}
-        and sum(isinstance(line, Close) for line in journal.entries) == 1
+        and [(line.query, line.chunks) for line in journal.entries if isinstance(line, Attach)] == planned
+        and sorted(line.query for line in journal.entries if isinstance(line, Collect)) == [at for at, _ in planned]
+        and all(end_in(journal, at) in ends[at - 1] for at, _ in planned)
+        and of[Take] == of[Deliver]
+        and of[Close] == 1
+        and is_obeyed(journal, steps)
     )
 
 
 def traced(words, folder, world, script, workers):
     """What is wrong with the trace of a session, whose texts are in the folder, or None."""
-    steps = session_ends.steps_of(compare_answers.queries_of(script))
-    blocks = [session_ends.asked(text, world) for word, text in steps if word == "query"]
     run = [words.program, "trace", *random_sessions.TEXTS, str(workers)]
     found = subprocess.run(run, cwd=folder, capture_output=True, timeout=SECONDS)
     if found.returncode or found.stderr:
         return f"status {found.returncode}, {found.stderr}"
-    # no line of a transcript begins so
-    cut = re.search(rb"^ring ", found.stdout, re.MULTILINE)
-    if not cut:
-        return f"no journal in {found.stdout!r}"
-    transcript, text = found.stdout[: cut.start()].decode("latin-1"), found.stdout[cut.start() :]
-    ended = session_ends.ends_told(transcript, session_ends.chosen(steps, blocks, workers))
-    if not isinstance(ended, list):
-        return f"query {ended} in the transcript {transcript!r}"
-    if told(text)[0] or said(words.program, folder, text) != told(text):
-        return f"the journal {text!r}: {told(text)}"
-    return None if is_of_session(world, read(text), blocks, ended) else f"the journal is of another session: {text!r}"
+    text, want = found.stdout, told(found.stdout)
+    if want[0] or said(words.program, folder, text) != want:
+        return f"the journal {text!r}: {want}"
+    steps = session_ends.steps_of(compare_answers.queries_of(script))
+    return None if is_of_session(world, read(text), steps, workers) else f"the journal is of another session: {text!r}"
 
 
 def traces(words, folder):

@@ -427,6 +427,9 @@ CHANGED = [
     # of a query that is done, a cancel; of one that runs, a collect
     ("journal line 8: not a step", {8: "0 cancel 1"}),
     ("journal line 8: not a step", {8: "0 collect 2"}),
+    # a task that is not taken yet; a query that is attached again
+    ("journal line 8: not a step", {8: "0 deliver 2"}),
+    ("journal line 12: not a step", {12: "0 attach 1 0 4"}),
     # the last entry; chunks that do not ascend, and a query without a number
     ("journal line 12: not a step", {12: "0 collect 1"}),
     ("journal line 2: syntax", {2: "0 attach 1 4 0"}),
@@ -460,6 +463,7 @@ OF_ENDS = """ring 3
 0 close
 """
 OK = "ok: 11 entries, 2 queries, 3 takes\n"
+FULL = "ring 1\n" + "".join(f"0 attach {query} 0\n" for query in range(1, 65))
 JOURNALS = [
     done(CHECK, OK, journal=BOARD),
     done(CHECK, OK, journal=BOARD.replace("\n", "\r\n").removesuffix("\r\n")),
@@ -468,6 +472,12 @@ JOURNALS = [
     done(CHECK, "ok: 0 entries, 0 queries, 0 takes\n", journal="ring 16384"),
     done(CHECK, "ok: 1 entries, 0 queries, 0 takes\n", journal="ring 0\n4294967295 close\n"),
     *(fault(CHECK, 12, line, journal=with_lines(lines)) for line, lines in CHANGED),
+    # after the close nothing is attached, and no other close follows
+    fault(CHECK, 12, "journal line 13: not a step", journal=BOARD + "0 attach 3 0\n"),
+    fault(CHECK, 12, "journal line 13: not a step", journal=BOARD + "0 close\n"),
+    # no more than 64 queries run at once
+    done(CHECK, "ok: 64 entries, 64 queries, 0 takes\n", journal=FULL),
+    fault(CHECK, 12, "journal line 66: not a step", journal=FULL + "0 attach 65 0\n"),
     fault(CHECK, 12, "journal line 1: syntax", journal=""),
     fault(CHECK, 12, "journal line 13: syntax", journal=BOARD + "\r"),
     fault(["check", "catalogue.csv"], 12, "journal line 1: syntax"),
@@ -477,9 +487,10 @@ JOURNALS = [
     fault(CHECK, 6, "journal: too long", journal=536870913),
 ]
 
-# a script that is traced, and what may be before the journal
+# a script that is traced, how many of its queries are attached, and the numbers of workers
 TRACED_SCRIPT = THREE + "cancel 2\nwait 1\n"
-TRACED = [("0", CANCELLED), ("4", CANCELLED, COUNTED)]
+TRACED_QUERIES = 3
+TRACED = ["0", "4"]
 
 # ---- limits
 

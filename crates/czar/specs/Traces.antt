@@ -37,8 +37,8 @@ pub record IsEndIn (state : QueryState) (end : EndKind) : Type 0 where
   pub cancelled : (end ≡ kind.Cancelled) ↔ (state ≡ Cancelled)
   pub spent : (end ≡ kind.Spent) ↔ (state ≡ Spent)
 
--- The journal of a session that ran this script, with the given number of workers, over a sky plan and a catalogue; its
--- queries had these ends.
+-- A journal that a session of this script may leave, with the given number of workers, over a sky plan and a catalogue,
+-- if its queries have these ends.
 pub record IsTraceOf (workers : ℕ) (g : Partition) (c : Catalogue) (s : ScriptView) (ends : List EndKind)
     (journal : Journal) : Type 0 where
   -- the ring is the number of chunks of the sky plan

@@ -155,17 +155,14 @@ fn two_work_on_chunks_at_one_time(rt: HostRuntime) -> Result<(), Fail> {
     Ok(())
 }
 
-// The journal after the answer of the script.
-fn journal_after(alloc: Global, bytes: &[u8]) -> Result<Journal, Fail> {
-    let Some(text) = bytes.strip_prefix(ANSWER) else {
-        return Err(Fail::new("no answer before the journal"));
-    };
+// The journal that was written.
+fn journal_in(alloc: Global, text: &[u8]) -> Result<Journal, Fail> {
     if text.len() > TEXT_MOST {
         return Err(Fail::new("a journal that is too long"));
     }
     match read_journal(alloc, text) {
         Ok(journal) => Ok(journal),
-        Err(_) => Err(Fail::new("no journal after the answer")),
+        Err(_) => Err(Fail::new("no journal")),
     }
 }
 
@@ -215,7 +212,7 @@ fn two_work_on_chunks_at_one_time_in_the_journal(rt: HostRuntime) -> Result<(), 
     let found = status_past(&rt, alloc, words.as_slice(), &mut shelf, &mut sink, &gate);
     assert_eq!(rt; found, 0);
     assert!(rt; gate.met());
-    let journal = journal_after(alloc, sink.bytes())?;
+    let journal = journal_in(alloc, sink.bytes())?;
     assert!(rt; is_at_one_time(journal.lines.as_slice()));
     Ok(())
 }

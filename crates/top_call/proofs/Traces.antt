@@ -1,16 +1,15 @@
--- What the writing of a trace comes to.
-use Rattle.std.proofs.Common.{◌++◌, ℕ, List, refl}
+-- The text that a trace writes.
+use Rattle.std.proofs.Common.{ℕ, List, refl}
 use Rattle.scan_rules.specs.declared.journal.Journal.{Journal}
 use Rattle.scan_history.specs.Printed.{journal_text}
 use Rattle.chunk_store.specs.Survey.{Survey}
 use Rattle.session_rules.specs.declared.end.EndKind.{EndKind}
 use Rattle.session_script.specs.Views.{ScriptView}
-use Rattle.transcript_rules.specs.Transcripts.{transcript}
 use Rattle.czar.specs.Traces.{IsTraceOf}
 use Rattle.top_call.specs.Jobs.{Traces, Writes}
 
--- The transcript and the text of a journal of the session are what a trace writes.
+-- the text of a journal of the session is what a trace writes
 pub trace_written : (workers : ℕ) (survey : Survey) (view : ScriptView) (ends : List EndKind) (journal : Journal)
     → IsTraceOf workers survey.plan survey.rows view ends journal
-    → Writes (Traces workers survey view) ends (transcript survey.plan survey.rows view ends ++ journal_text journal)
-trace_written workers survey view ends journal trace = record { journal = journal; trace = trace; parts = refl }
+    → Writes (Traces workers survey view) ends (journal_text journal)
+trace_written workers survey view ends journal trace = record { journal = journal; trace = trace; is = refl }

@@ -35,7 +35,7 @@ IsUntouched shown = shown.sink_new ≡ shown.sink_old
 abbrev pub AllFetched : Shown → Type 0
 AllFetched shown = shown.shelf_new ≡ shown.shelf_old
 
--- All was written and sent, and nothing has failed: exactly a text that the job of the command writes with these ends.
+-- All was written and sent, and nothing has failed: exactly a text that the job of the command may write with these ends.
 pub record IsDone (form : Form) (shown : Shown) (ends : List EndKind) : Type 0 where
   pub job : Job
   pub asked : IsJobOf form shown.shelf_old.texts job

@@ -1,5 +1,5 @@
 -- The jobs of a command, and what is written for them.
-use Rattle.std.specs.Prelude.{◌≡◌, ℕ, List, [], ◌++◌, All, Option, Ok}
+use Rattle.std.specs.Prelude.{◌≡◌, ℕ, List, [], All, Option, Ok}
 use Rattle.sky_io.specs.Shelves.{named_text}
 use Rattle.sky_rules.specs.SkyText.{sky_of}
 use Rattle.demo_rules.specs.DemoRows.{IsDemoCatalogue}
@@ -27,21 +27,21 @@ pub data Job : Type 0 where
   Reports : Survey → Job
   -- to answer the queries of a script over a survey, with the given number of workers
   Runs : (workers : ℕ) → Survey → ScriptView → Job
-  -- to answer them so, and to write the journal of the scan too
+  -- to answer them so, and to write the journal of the session
   Traces : (workers : ℕ) → Survey → ScriptView → Job
   -- to explain the queries of a script over a survey
   Explains : Survey → ScriptView → Job
   -- to report how much a journal contains, which is right
   Checks : Journal → Job
 
--- The text is the transcript of a session with these ends, and after it the text of a journal of this session.
+-- The text is that of a journal which a session with these ends may leave.
 pub record IsTraceText (workers : ℕ) (survey : Survey) (view : ScriptView) (ends : List EndKind) (text : List ℕ)
     : Type 0 where
   pub journal : Journal
   pub trace : IsTraceOf workers survey.plan survey.rows view ends journal
-  pub parts : text ≡ transcript survey.plan survey.rows view ends ++ journal_text journal
+  pub is : text ≡ journal_text journal
 
--- the job writes this text if its queries have these ends
+-- the job may write this text if its queries have these ends
 abbrev pub Writes : Job → List EndKind → List ℕ → Type 0
 Writes (Reports survey) ends text = text ≡ report survey.plan survey.rows.objects
 Writes (Runs workers survey view) ends text = text ≡ transcript survey.plan survey.rows view ends

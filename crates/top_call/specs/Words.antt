@@ -63,7 +63,7 @@ abbrev pub query_of : (sky catalogue script : List ℕ) (workers : Option ℕ) �
 query_of sky catalogue script (Some workers) = Some (Asks (Answer workers) sky catalogue script)
 query_of sky catalogue script None = None
 
--- the command that answers the named script and writes the journal too, if the number of workers is there
+-- the command that answers the named script and writes the journal, if the number of workers is there
 abbrev pub trace_of : (sky catalogue script : List ℕ) (workers : Option ℕ) → Option Form
 trace_of sky catalogue script (Some workers) = Some (Asks (Trace workers) sky catalogue script)
 trace_of sky catalogue script None = None

@@ -19,12 +19,13 @@ use std::sync::Wait;
 use std::thread::Threads;
 
 /// Executes the command that the arguments give: reports how the rows are distributed over the chunks, answers or
-/// explains the queries of a script, or checks a journal. The texts are fetched from the shelf one by one. The chunks are built before the
-/// script is fetched. All texts are accepted and all answers computed before the first byte is written to the sink.
+/// explains the queries of a script, or checks a journal. The texts are fetched from the shelf one by one. The chunks
+/// are built before the script is fetched. All texts are accepted and all answers computed before the first byte is
+/// written to the sink.
 ///
 /// Allocates memory for the texts, the rows and their chunks, and the answers; writing does not allocate. Queries are
-/// answered by this thread and as many workers as the arguments ask for, and these read the catalogue too. A command
-/// without workers reads it with a thread for each processor. A thread passes the gate before its work on a chunk.
+/// answered by this thread and as many workers as the arguments ask for, and these read the catalogue too. To report and
+/// to explain, it is read with a thread for each processor. A thread passes the gate before its work on a chunk.
 /// Waits for the other threads. One that cannot be started costs no answer.
 pub fn qserv<R: Threads + Wait + Sync, S: Shelf, K: Sink, G: Gate + Sync>(
     rt: &R,

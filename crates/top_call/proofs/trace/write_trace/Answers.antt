@@ -7,14 +7,13 @@ use Rattle.top_call.proofs.trace.write_trace.Goals as goal
 
 pub returns-in-Failed : goal.returns-in-Failed
 returns-in-Failed g c =
-    λ workers fit trace. torn_as (Traces workers c.args.store.now c.args.script.now) (map kind_of c.args.ends.now) c.in-Ok.kinds
+    λ workers survey view fit trace. torn_as (Traces workers survey view) (map kind_of c.args.ends.now) c.in-Ok.kinds
     _ _ _ c.in-Ok.ensures fit
-    (trace_written workers c.args.store.now c.args.script.now (map kind_of c.args.ends.now) c.args.journal.now trace)
-    c.in-Failed.ensures
+    (trace_written workers survey view (map kind_of c.args.ends.now) c.args.journal.now trace) c.in-Failed.ensures
 
 pub returns-in-Done : goal.returns-in-Done
 returns-in-Done g c =
-    λ workers fit trace. written_as (Traces workers c.args.store.now c.args.script.now) (map kind_of c.args.ends.now) c.in-Ok.kinds
+    λ workers survey view fit trace. written_as (Traces workers survey view) (map kind_of c.args.ends.now) c.in-Ok.kinds
     _ _ _ _ _ c.in-Ok.ensures fit
-    (trace_written workers c.args.store.now c.args.script.now (map kind_of c.args.ends.now) c.args.journal.now trace)
+    (trace_written workers survey view (map kind_of c.args.ends.now) c.args.journal.now trace)
     c.in-Done.ensures c.send.ensures
