@@ -18,7 +18,7 @@ use Rattle.answer_rules.specs.Rows.{out_row}
 use Rattle.answer_rules.specs.SoundChunks.{is_sound_chunk_order, is_sound_part}
 use Rattle.column_eval.proofs.Reading.{rows_there}
 use Rattle.partial_merge.specs.declared.rank.Rank.{Rank}
-use Rattle.partial_merge.specs.Bags.{out_row as ranked}
+use Rattle.partial_merge.specs.Multisets.{out_row as ranked}
 use Rattle.chunk_scan.specs.Computed.{AreReady, item_on, key_in, keys_on, rank_by}
 use Rattle.chunk_scan.specs.States.{IsReady}
 use Rattle.chunk_scan.proofs.Sizing.{ready_values}

@@ -4,7 +4,7 @@ ghost use Rattle.std.specs.Prelude.{◌≡◌, ◌+◌, ◌<◌, All, IfOk, OnOk
 ghost use Rattle.sky_row.specs.Columns.{cells_in, objects_at};
 ghost use Rattle.sql_bound.specs.declared.query.Shape.TheVariants.{Rows as OfRows};
 ghost use Rattle.answer_rules.specs.SoundChunks.{IsSoundChunk};
-ghost use Rattle.partial_merge.specs.Bags.{out_row};
+ghost use Rattle.partial_merge.specs.Multisets.{out_row};
 ghost use Rattle.partial_merge.specs.Joining.{IsOfRows, TakesRow};
 ghost use Rattle.chunk_scan.specs.Computed.{AreReady, keys_on};
 ghost use Rattle.chunk_scan.specs.Lines.{IsOfRowsOver};

@@ -6,7 +6,7 @@ ghost use Rattle.sql_bound.specs.declared.query.Shape.TheVariants.{Rows as OfRow
 ghost use Rattle.value_rules.specs.Values.{row};
 ghost use Rattle.answer_rules.specs.Pieces.{chunk_value};
 ghost use Rattle.answer_rules.specs.SoundChunks.{IsSoundChunk};
-ghost use Rattle.partial_merge.specs.Bags.{out_row};
+ghost use Rattle.partial_merge.specs.Multisets.{out_row};
 ghost use Rattle.partial_merge.specs.Joining.{IsOfRows, TakesRow};
 ghost use Rattle.chunk_scan.specs.Computed.{keys_on};
 ghost use Rattle.chunk_scan.specs.Lines.{IsOfRowsOver};

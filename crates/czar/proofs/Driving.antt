@@ -68,9 +68,9 @@ of_value {V} holds is h = subst (λ (r : Result V Memory). IfOk r holds) is h
 
 -- some journal justifies the ends of a session that is over, under any names of its plans and its ends
 pub is_driven : {workers : ℕ} {g : Partition} {c : Catalogue} {steps : List Step} {plans same : List Plan} {seat : BoardSeat Base}
-    {ends told : List (BoardEnd PieceView)} → IsOver workers g c steps (map chunk_query plans) (map attached plans) seat ends
-    → plans ≡ same → ends ≡ told → IsDriven workers g c steps (map chunk_query same) (map attached same) told
-is_driven {workers} {g} {c} {steps} {plans} {same} {seat} {ends} {told} over is are =
-    subst (λ (l : List Plan). IsDriven workers g c steps (map chunk_query l) (map attached l) told) is
+    {ends given : List (BoardEnd PieceView)} → IsOver workers g c steps (map chunk_query plans) (map attached plans) seat ends
+    → plans ≡ same → ends ≡ given → IsDriven workers g c steps (map chunk_query same) (map attached same) given
+is_driven {workers} {g} {c} {steps} {plans} {same} {seat} {ends} {given} over is are =
+    subst (λ (l : List Plan). IsDriven workers g c steps (map chunk_query l) (map attached l) given) is
     (subst (λ (l : List (BoardEnd PieceView)). IsDriven workers g c steps (map chunk_query plans) (map attached plans) l) are
     (record { seen = seat.seen; by = over.by }))

@@ -93,7 +93,7 @@ few g c head query chunks sky s =
     let all = all_chunks g in
     omega (arith, ap length s.is.plan, length-filter needed all, count_by-le-length needed all, length-range_with_len 0 (chunk_count g), sky.few_chunks)
 
--- the answer of the queries that are cut so is what a line that is planned so is told
+-- a line that is planned so ends with the answer of the queries that are cut so
 pub answered : (g : Partition) (c : Catalogue) (text : Bytes) (head : Query) (query : Rewritten) (chunks : List ℕ)
     (table : List (List Value)) → Answers g c query chunks table → IsPlanned g c text head query chunks
     → IsAnswered g c text head table (length chunks)
@@ -192,7 +192,7 @@ pub is_total : (g : Partition) (c : Catalogue) (query : Rewritten) (chunks : Lis
 is_total g c query chunks view total sky rows piece is q can =
     sym (finished_is g c q query chunks view sky rows can piece) ∙ is
 
--- what a line that is refused before it is run is told
+-- the end of a line that is refused before it is run
 pub refused_early : (g : Partition) (c : Catalogue) (text : Bytes) (why : Refusal) → early_refusal g c text ≡ Some why
     → refusal_of g c text ≡ Some why
 unfolding refusal_of

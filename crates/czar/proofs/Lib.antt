@@ -3,7 +3,7 @@ pub mod Ending
 pub mod Attaching
 pub mod Fitting
 pub mod Leaving
-pub mod Telling
+pub mod ScriptEnds
 pub mod Queueing
 pub mod Driving
 pub mod Stopping

@@ -30,29 +30,29 @@ over g c b chunks is = ap (λ cs. radius_by b.shape (overlap_of g cs)) (sym is)
 pub refused : (g : Partition) (c : Catalogue) (tree : Query) (b : Bound) (chunks : List ℕ) (far : Radius)
     → chunks ≡ plan_of g c.objects b → radius_by b.shape (overlap_of g chunks) ≡ Some far
     → IsPlanOf g c tree b (Refused (refusal.Radius far))
-refused g c tree b chunks far is told text known =
-    early_known g c text tree b (Some far) known (over g c b chunks is ∙ told)
+refused g c tree b chunks far is allowed text known =
+    early_known g c text tree b (Some far) known (over g c b chunks is ∙ allowed)
 
 -- a query that it allows is planned
 pub planned : (g : Partition) (c : Catalogue) (tree : Query) (b : Bound) (query : Rewritten) (chunks : List ℕ)
     → chunks ≡ plan_of g c.objects b → radius_by b.shape (overlap_of g chunks) ≡ None
     → query ≡ rewritten b → IsPlanOf g c tree b (Planned tree query chunks)
-planned g c tree b query chunks is told cut text known = record {
+planned g c tree b query chunks is allowed cut text known = record {
   understanding = record { tree = tree; bound = b };
   known = known;
   tree = refl;
   cut = cut;
   plan = is;
-  accepted = early_known g c text tree b None known (over g c b chunks is ∙ told);
+  accepted = early_known g c text tree b None known (over g c b chunks is ∙ allowed);
 }
 
 -- what is cut over the chunks of a query is its plan, where their overlap allows it
 pub cut_is_planned : (g : Partition) (c : Catalogue) (tree : Query) (b : Bound) (chunks : List ℕ) (r : Result Plan Memory)
     → chunks ≡ plan_of g c.objects b → radius_by b.shape (overlap_of g chunks) ≡ None → IfOk r (IsCutOf tree b chunks)
     → IfOk r (IsPlanOf g c tree b)
-cut_is_planned g c tree b chunks (Ok p) is told cut =
-    subst (λ (it : Plan). IsPlanOf g c tree b it) (sym cut) (planned g c tree b (rewritten b) chunks is told refl)
-cut_is_planned g c tree b chunks (Err m) is told cut = tt
+cut_is_planned g c tree b chunks (Ok p) is allowed cut =
+    subst (λ (it : Plan). IsPlanOf g c tree b it) (sym cut) (planned g c tree b (rewritten b) chunks is allowed refl)
+cut_is_planned g c tree b chunks (Err m) is allowed cut = tt
 
 -- a line that is not understood is refused
 pub unknown : (g : Partition) (c : Catalogue) (it : Understanding) (why : Refusal) → it ≡ Unknown why

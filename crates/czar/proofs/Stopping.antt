@@ -1,4 +1,4 @@
--- What a query is told where the finish of its piece stops.
+-- How a query ends if the finish of its piece stops.
 use Rattle.std.proofs.Common.{◌≡◌, ◌∙◌, sym, ap, ℕ, Ok, Err, Result, IfOk}
 use Rattle.sky_io.specs.Stops.{IfBad}
 use Rattle.sky_io.specs.declared.Memory.{Memory}

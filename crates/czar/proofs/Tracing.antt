@@ -171,14 +171,14 @@ session_traces workers g c s plans ends seen journal are d is =
           (ends_for g c seen plans ends (d.each ∙ length-map plans attached) d.are) there);
     })
 
--- so of what is told, under any names of the plans, the ends and the lines that were seen
-pub told_traces : {workers : ℕ} {g : Partition} {c : Catalogue} {s : ScriptView} {plans same : List Plan}
-    {seat : BoardSeat Base} {ends at_board : List (BoardEnd PieceView)} {seen : Journal} {told : List End} {journal : BoardJournal}
+-- so of the ends, under any names of the plans, the ends at the board and the lines that were seen
+pub ends_trace : {workers : ℕ} {g : Partition} {c : Catalogue} {s : ScriptView} {plans same : List Plan}
+    {seat : BoardSeat Base} {ends at_board : List (BoardEnd PieceView)} {seen : Journal} {query_ends : List End} {journal : BoardJournal}
     → ArePlans g c (query_lines s) plans
     → IsOver workers g c s.steps (map chunk_query plans) (map attached plans) seat ends
-    → journal ≡ record { ring = chunk_count g; lines = seen } → told ≡ all_ended same at_board
-    → plans ≡ same → ends ≡ at_board → seat.seen ≡ seen → IsTraceOf workers g c s (map kind_of told) journal
-told_traces {workers} {g} {c} {s} {plans} {same} {seat} {ends} {at_board} {seen} {told} {journal} are over read ended is at saw =
+    → journal ≡ record { ring = chunk_count g; lines = seen } → query_ends ≡ all_ended same at_board
+    → plans ≡ same → ends ≡ at_board → seat.seen ≡ seen → IsTraceOf workers g c s (map kind_of query_ends) journal
+ends_trace {workers} {g} {c} {s} {plans} {same} {seat} {ends} {at_board} {seen} {query_ends} {journal} are over read ended is at saw =
     subst (λ (l : List End). IsTraceOf workers g c s (map kind_of l) journal) (sym ended)
     (subst (λ (l : List Plan). IsTraceOf workers g c s (map kind_of (all_ended l at_board)) journal) is
     (subst (λ (l : List (BoardEnd PieceView)). IsTraceOf workers g c s (map kind_of (all_ended plans l)) journal) at

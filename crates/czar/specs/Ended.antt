@@ -72,6 +72,6 @@ IsNextEnd p (e ∷ ends) = MayEnd p e
 
 -- the first of these ends is removed, and the end that the query with this plan has by it is appended to the ends so
 -- far
-abbrev pub TellsNext : Plan → (old new : List (BoardEnd PieceView)) → (told now : List End) → Type 0
-TellsNext p [] new told now = ⊥
-TellsNext p (e ∷ ends) new told now = (new ≡ ends) × (now ≡ told ++ ended p e ∷ [])
+abbrev pub PushesNextEnd : Plan → (old new : List (BoardEnd PieceView)) → (query_ends now : List End) → Type 0
+PushesNextEnd p [] new query_ends now = ⊥
+PushesNextEnd p (e ∷ ends) new query_ends now = (new ≡ ends) × (now ≡ query_ends ++ ended p e ∷ [])

@@ -14,8 +14,8 @@ mod chunk_engine;
 pub mod end;
 mod explained;
 pub mod plan;
+mod query_ends;
 pub mod session;
-mod told;
 mod transcript;
 pub mod understanding;
 

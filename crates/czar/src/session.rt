@@ -25,7 +25,7 @@ use crate::attach::{prepared, seated};
 use crate::chunk_engine::ChunkEngine;
 use crate::end::End;
 use crate::plan::{Plan, explain};
-use crate::told::all_told;
+use crate::query_ends::all_query_ends;
 use answer_rules::ChunkQuery;
 use chunk_store::Store;
 use partial_merge::Piece;
@@ -67,7 +67,7 @@ pub fn run_session<R: Threads + Wait + Sync, G: Gate + Sync>(
     match session.plan_and_drive() {
         Ok((plans, Driven { board, seat, ends })) => {
             drop((board, seat));
-            session.told(plans, ends)
+            session.query_ends(plans, ends)
         }
         Err(Memory) => Err(Memory),
     }
@@ -104,7 +104,7 @@ pub fn run_traced<R: Threads + Wait + Sync, G: Gate + Sync>(
         Ok((plans, Driven { board, seat, ends })) => {
             let journal = session.journal(&board, seat);
             drop(board);
-            let ends = session.told(plans, ends)?;
+            let ends = session.query_ends(plans, ends)?;
             Ok((ends, journal?))
         }
         Err(Memory) => Err(Memory),
@@ -168,7 +168,11 @@ impl<'s, 't, R: Threads + Wait + Sync, G: Gate + Sync> Session<'s, 't, R, G> {
     }
 
     /// Returns the end of each query, by its plan and by how it ended at the board.
-    fn told(&self, plans: Vec<Plan>, ends: Vec<BoardEnd<Piece<'_>>>) -> Result<Vec<End>, Memory>
+    fn query_ends(
+        &self,
+        plans: Vec<Plan>,
+        ends: Vec<BoardEnd<Piece<'_>>>,
+    ) -> Result<Vec<End>, Memory>
         requires plans { ArePlans self.now.world.now.plan self.now.world.now.rows
             (query_lines self.now.script.now) plans.items }
         requires driven { IsDriven self.now.workers self.now.world.now.plan
@@ -180,12 +184,12 @@ impl<'s, 't, R: Threads + Wait + Sync, G: Gate + Sync> Session<'s, 't, R, G> {
         ensures shown { IfOk result (λ ends. EndsShow
             self.now.world.now.plan self.now.world.now.rows (query_lines self.now.script.now)
             ends.items) }
-        ensures ended { IfOk result (λ told.
-            told.items ≡ all_ended plans.items ends.entry.items) }
+        ensures ended { IfOk result (λ query_ends.
+            query_ends.items ≡ all_ended plans.items ends.entry.items) }
     {
         know(self.world);
         let _ = self.script.steps();
-        all_told(self.alloc, plans, ends)
+        all_query_ends(self.alloc, plans, ends)
     }
 
     /// Prepares the queries with these plans, and drives them.

@@ -4,7 +4,7 @@ use Rattle.value_rules.specs.Values.{Pick}
 use Rattle.answer_rules.specs.Pieces.{chunk_lines, chunk_value}
 use Rattle.answer_rules.specs.Rows.{out_row}
 use Rattle.answer_rules.specs.declared.rewritten.ChunkQuery.{ChunkQuery}
-use Rattle.partial_merge.specs.Bags.{out_row as ranked}
+use Rattle.partial_merge.specs.Multisets.{out_row as ranked}
 use Rattle.partial_merge.specs.declared.rank.Rank.{Rank}
 use Rattle.near_join.specs.Gains.{with_cells}
 

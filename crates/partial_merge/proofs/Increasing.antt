@@ -1,4 +1,4 @@
--- A group of another pile is added to the one of its key.
+-- A group of another aggregation table is added to the one of its key.
 use Rattle.std.proofs.Common.{◌≡◌, ℕ, ◌+◌, ◌<◌, ◌≤◌, true, List, [], ◌∷◌, ◌++◌, map, length, take, drop, set, refl, sym, ap, subst, ◌∙◌, arith, suc, is_eq, IsPermutation, Equal}
 use Rattle.std.specs.List.{AllByRecursion as Each}
 use Rattle.std.specs.Prelude.{slice_range}
@@ -13,18 +13,18 @@ use Rattle.answer_rules.specs.Parts.{Part, Sums, add_own_parts, add_own_sums}
 use Rattle.answer_rules.specs.Small.{IsSmallGroup, rows_in}
 use Rattle.answer_rules.proofs.OwnWays.{own_alike, own_joined, own_permuted, own_rows}
 use Rattle.partial_merge.specs.Adding.{AllMayAdd, parts_of}
-use Rattle.partial_merge.specs.declared.mark.Mark.{Mark}
-use Rattle.partial_merge.specs.Groups.{AreAlike, ArePiled, Gathered, HaveWays, IsThere, MayGather, group_of, most_rows, pile_of, ways_in, width_of}
-use Rattle.partial_merge.specs.Sharing.{HaveOwnParts, KeepsRest, grown, mark_in}
+use Rattle.partial_merge.specs.declared.group_entry.GroupEntry.{GroupEntry}
+use Rattle.partial_merge.specs.Groups.{AreAddable, AreAlike, Gathered, HaveWays, IsThere, MayGather, gathered_of, group_of, most_rows, ways_in, width_of}
+use Rattle.partial_merge.specs.Sharing.{HaveOwnParts, KeepsRest, group_entry_in, grown}
 use Rattle.partial_merge.proofs.Owning.{each_other, kept_groups, own_around, own_grown}
-use Rattle.partial_merge.proofs.Piling.{alike_from, have_from}
-use Rattle.partial_merge.proofs.Settling.{all_may_add, all_small, is_equal, onto, parts_long, put_onto, same_long, sum_ways}
+use Rattle.partial_merge.proofs.Appending.{alike_from, have_from}
+use Rattle.partial_merge.proofs.Consolidating.{all_may_add, all_small, is_equal, onto, parts_long, put_onto, same_long, sum_ways}
 
 -- ---- the groups around one
 
-pub parted_at : (marks : List Mark) (i : ℕ) → i < length marks → marks ≡ take i marks ++ mark_in marks i ∷ drop (suc i) marks
-parted_at marks i l =
-    sym (set-get_or marks i (record { key = []; rows = 0; from = 0; to = 0 })) ∙ set_split marks i (mark_in marks i) l
+pub parted_at : (groups : List GroupEntry) (i : ℕ) → i < length groups → groups ≡ take i groups ++ group_entry_in groups i ∷ drop (suc i) groups
+parted_at groups i l =
+    sym (set-get_or groups i (record { key = []; rows = 0; from = 0; to = 0 })) ∙ set_split groups i (group_entry_in groups i) l
 
 each_here : {X : Type 0} (P : X → Type 0) (xs ys : List X) (a : X) → Each P (xs ++ a ∷ ys) → P a
 each_here P [] ys a h = h.0
@@ -69,11 +69,11 @@ added_up own A B g h w a e =
     ∙ own_permuted own ((A ++ h ∷ B) ++ g ∷ []) ((A ++ B) ++ g ∷ (h ∷ [])) most (both_at_end A B g h)
     ∙ sym (own_joined own (A ++ h ∷ B) (g ∷ []) w one)
 
--- ---- the pile
+-- ---- the aggregation table
 
--- What is known of a group, of the one of its key in a pile, and of the pile.
-pub record Meets (own : List Way) (parts : List Part) (xs ys : List Mark) (m : Mark) (more : List Part) (other : Mark) : Type 0 where
-  pub piled : ArePiled parts (xs ++ m ∷ ys)
+-- What is known of a group, of the one of its key in an aggregation table, and of that table.
+pub record Meets (own : List Way) (parts : List Part) (xs ys : List GroupEntry) (m : GroupEntry) (more : List Part) (other : GroupEntry) : Type 0 where
+  pub addable : AreAddable parts (xs ++ m ∷ ys)
   pub apart : HaveOwnParts (xs ++ m ∷ ys)
   pub have : HaveWays own (map (group_of parts) (xs ++ m ∷ ys))
   pub there : IsThere (length more) other
@@ -82,32 +82,32 @@ pub record Meets (own : List Way) (parts : List Part) (xs ys : List Mark) (m : M
   pub few : rows_in (map (group_of parts) (xs ++ m ∷ ys)) + other.rows ≤ most_rows
   pub key : key_order other.key m.key ≡ Equal
 
--- What the parts of the pile became.
-pub record Became (parts now : List Part) (m : Mark) (more : List Part) (other : Mark) : Type 0 where
+-- What the aggregate states of the table became.
+pub record Became (parts now : List Part) (m : GroupEntry) (more : List Part) (other : GroupEntry) : Type 0 where
   pub long : length now ≡ length parts
   pub sums : parts_of now m ≡ add_own_parts (parts_of more other) (parts_of parts m)
   pub rest : KeepsRest parts now m.from m.to
 
-groups_around : (parts : List Part) (xs ys : List Mark) (m : Mark) → map (group_of parts) (xs ++ m ∷ ys) ≡ map (group_of parts) xs ++ group_of parts m ∷ map (group_of parts) ys
+groups_around : (parts : List Part) (xs ys : List GroupEntry) (m : GroupEntry) → map (group_of parts) (xs ++ m ∷ ys) ≡ map (group_of parts) xs ++ group_of parts m ∷ map (group_of parts) ys
 groups_around parts xs ys m = map-append (group_of parts) xs (m ∷ ys)
 
-all_there : (parts : List Part) (xs ys : List Mark) (m : Mark) → ArePiled parts (xs ++ m ∷ ys) → Each (IsThere (length parts)) (xs ++ m ∷ ys)
+all_there : (parts : List Part) (xs ys : List GroupEntry) (m : GroupEntry) → AreAddable parts (xs ++ m ∷ ys) → Each (IsThere (length parts)) (xs ++ m ∷ ys)
 all_there parts xs ys m p = recursion_from_All (IsThere (length parts)) (xs ++ m ∷ ys) p.there
 
-pub grown_groups : (own : List Way) (parts now : List Part) (xs ys : List Mark) (m : Mark) (more : List Part) (other : Mark) → Meets own parts xs ys m more other → Became parts now m more other → map (group_of now) (xs ++ grown other.rows m ∷ ys) ≡ map (group_of parts) xs ++ onto (group_of more other) (group_of parts m) ∷ map (group_of parts) ys
+pub grown_groups : (own : List Way) (parts now : List Part) (xs ys : List GroupEntry) (m : GroupEntry) (more : List Part) (other : GroupEntry) → Meets own parts xs ys m more other → Became parts now m more other → map (group_of now) (xs ++ grown other.rows m ∷ ys) ≡ map (group_of parts) xs ++ onto (group_of more other) (group_of parts m) ∷ map (group_of parts) ys
 grown_groups own parts now xs ys m more other k b =
     let apart = own_around xs ys m k.apart in
-    let there = each_around (IsThere (length parts)) xs ys m (all_there parts xs ys m k.piled) in
+    let there = each_around (IsThere (length parts)) xs ys m (all_there parts xs ys m k.addable) in
     groups_around now xs ys (grown other.rows m)
     ∙ ap (λ gs. gs ++ group_of now (grown other.rows m) ∷ map (group_of now) ys) (kept_groups parts now m xs b.long b.rest apart.0 there.0)
     ∙ ap (λ gs. map (group_of parts) xs ++ group_of now (grown other.rows m) ∷ gs) (kept_groups parts now m ys b.long b.rest apart.1 there.1)
     ∙ ap (λ (ps : List Part). let g : Partial Key Sums = record { key = m.key; part = record { rows = other.rows + m.rows; parts = ps } } in map (group_of parts) xs ++ g ∷ map (group_of parts) ys) b.sums
 
-around_have : (own : List Way) (parts : List Part) (xs ys : List Mark) (m : Mark) (more : List Part) (other : Mark) → Meets own parts xs ys m more other → HaveWays own (map (group_of parts) xs ++ group_of parts m ∷ map (group_of parts) ys)
+around_have : (own : List Way) (parts : List Part) (xs ys : List GroupEntry) (m : GroupEntry) (more : List Part) (other : GroupEntry) → Meets own parts xs ys m more other → HaveWays own (map (group_of parts) xs ++ group_of parts m ∷ map (group_of parts) ys)
 around_have own parts xs ys m more other k = subst (HaveWays own) (groups_around parts xs ys m) k.have
 
-pub grown_pile : (own : List Way) (parts now : List Part) (xs ys : List Mark) (m : Mark) (more : List Part) (other : Mark) → Meets own parts xs ys m more other → Became parts now m more other → pile_of now (xs ++ grown other.rows m ∷ ys) ≡ gather key_order add_own_sums (pile_of parts (xs ++ m ∷ ys) ++ group_of more other ∷ [])
-grown_pile own parts now xs ys m more other k b =
+pub grown_gathered_of : (own : List Way) (parts now : List Part) (xs ys : List GroupEntry) (m : GroupEntry) (more : List Part) (other : GroupEntry) → Meets own parts xs ys m more other → Became parts now m more other → gathered_of now (xs ++ grown other.rows m ∷ ys) ≡ gather key_order add_own_sums (gathered_of parts (xs ++ m ∷ ys) ++ group_of more other ∷ [])
+grown_gathered_of own parts now xs ys m more other k b =
     ap (gather key_order add_own_sums) (grown_groups own parts now xs ys m more other k b)
     ∙ added_up own (map (group_of parts) xs) (map (group_of parts) ys) (group_of more other) (group_of parts m) (around_have own parts xs ys m more other k) k.ways k.key
     ∙ ap (λ gs. gather key_order add_own_sums (gather key_order add_own_sums gs ++ group_of more other ∷ [])) (sym (groups_around parts xs ys m))
@@ -115,8 +115,8 @@ grown_pile own parts now xs ys m more other k b =
 rows_around : (A B : Gathered) (h : Partial Key Sums) → rows_in (A ++ h ∷ B) ≡ rows_in A + (h.part.rows + rows_in B)
 rows_around A B h = omega (arith, sum_by-append (λ (x : Partial Key Sums). x.part.rows) A (h ∷ B), sum_by-cons (λ (x : Partial Key Sums). x.part.rows) h B)
 
-pub grown_piled : (own : List Way) (parts now : List Part) (xs ys : List Mark) (m : Mark) (more : List Part) (other : Mark) → Meets own parts xs ys m more other → Became parts now m more other → ArePiled now (xs ++ grown other.rows m ∷ ys)
-grown_piled own parts now xs ys m more other k b =
+pub grown_addable : (own : List Way) (parts now : List Part) (xs ys : List GroupEntry) (m : GroupEntry) (more : List Part) (other : GroupEntry) → Meets own parts xs ys m more other → Became parts now m more other → AreAddable now (xs ++ grown other.rows m ∷ ys)
+grown_addable own parts now xs ys m more other k b =
     let A : Gathered = map (group_of parts) xs in
     let B : Gathered = map (group_of parts) ys in
     let g : Partial Key Sums = group_of more other in
@@ -124,8 +124,8 @@ grown_piled own parts now xs ys m more other k b =
     let is : map (group_of now) (xs ++ grown other.rows m ∷ ys) ≡ A ++ onto g h ∷ B = grown_groups own parts now xs ys m more other k b in
     let have : HaveWays own (A ++ h ∷ B) = around_have own parts xs ys m more other k in
     let way : ways_in h ≡ own = each_here (λ x. ways_in x ≡ own) A B h have in
-    let small : Each IsSmallGroup (A ++ h ∷ B) = subst (Each IsSmallGroup) (groups_around parts xs ys m) k.piled.small in
-    let there : Each (IsThere (length parts)) (xs ++ m ∷ ys) = all_there parts xs ys m k.piled in
+    let small : Each IsSmallGroup (A ++ h ∷ B) = subst (Each IsSmallGroup) (groups_around parts xs ys m) k.addable.small in
+    let there : Each (IsThere (length parts)) (xs ++ m ∷ ys) = all_there parts xs ys m k.addable in
     let at : IsThere (length parts) m = each_here (IsThere (length parts)) xs ys m there in
     record {
       there = All-from_recursion (IsThere (length now)) (xs ++ grown other.rows m ∷ ys)
@@ -140,14 +140,14 @@ grown_piled own parts now xs ys m more other k b =
     }
 
 -- the parts of both may be added up, and so may their rows
-pub meets_add : (own : List Way) (parts : List Part) (xs ys : List Mark) (m : Mark) (more : List Part) (other : Mark) → Meets own parts xs ys m more other → AllMayAdd (parts_of more other) (parts_of parts m) × (other.rows + m.rows ≤ most_rows) × (width_of m ≡ width_of other) × IsThere (length parts) m
+pub meets_add : (own : List Way) (parts : List Part) (xs ys : List GroupEntry) (m : GroupEntry) (more : List Part) (other : GroupEntry) → Meets own parts xs ys m more other → AllMayAdd (parts_of more other) (parts_of parts m) × (other.rows + m.rows ≤ most_rows) × (width_of m ≡ width_of other) × IsThere (length parts) m
 meets_add own parts xs ys m more other k =
     let A : Gathered = map (group_of parts) xs in
     let B : Gathered = map (group_of parts) ys in
     let h : Partial Key Sums = group_of parts m in
-    let small : Each IsSmallGroup (A ++ h ∷ B) = subst (Each IsSmallGroup) (groups_around parts xs ys m) k.piled.small in
+    let small : Each IsSmallGroup (A ++ h ∷ B) = subst (Each IsSmallGroup) (groups_around parts xs ys m) k.addable.small in
     let way : ways_in h ≡ own = each_here (λ x. ways_in x ≡ own) A B h (around_have own parts xs ys m more other k) in
-    let at : IsThere (length parts) m = each_here (IsThere (length parts)) xs ys m (all_there parts xs ys m k.piled) in
+    let at : IsThere (length parts) m = each_here (IsThere (length parts)) xs ys m (all_there parts xs ys m k.addable) in
     let rows : other.rows + m.rows ≤ most_rows = omega (arith, k.few, ap rows_in (groups_around parts xs ys m), rows_around A B h) in (
       all_may_add other.rows m.rows (parts_of more other) (parts_of parts m) rows k.small (each_here IsSmallGroup A B h small),
       rows,
@@ -155,32 +155,32 @@ meets_add own parts xs ys m more other k =
       at,
     )
 
--- what is known of a group, of one of its key, and of the pile
-pub meets_of : (parts : List Part) (marks : List Mark) (i : ℕ) (more : List Part) (other : Mark) → (a : MayGather (pile_of parts marks) (group_of more other ∷ [])) → i < length marks → is_eq (key_order other.key (mark_in marks i).key) ≡ true → ArePiled parts marks → HaveOwnParts marks → IsThere (length more) other → IsSmallGroup (group_of more other) → Meets a.own parts (take i marks) (drop (suc i) marks) (mark_in marks i) more other
-meets_of parts marks i more other a l key piled apart there small =
-    let is : marks ≡ take i marks ++ mark_in marks i ∷ drop (suc i) marks = parted_at marks i l in
-    let have : HaveWays a.own (map (group_of parts) marks) = have_from a.own (map (group_of parts) marks) piled.alike a.this in
+-- what is known of a group, of one of its key, and of the aggregation table
+pub meets_of : (parts : List Part) (groups : List GroupEntry) (i : ℕ) (more : List Part) (other : GroupEntry) → (a : MayGather (gathered_of parts groups) (group_of more other ∷ [])) → i < length groups → is_eq (key_order other.key (group_entry_in groups i).key) ≡ true → AreAddable parts groups → HaveOwnParts groups → IsThere (length more) other → IsSmallGroup (group_of more other) → Meets a.own parts (take i groups) (drop (suc i) groups) (group_entry_in groups i) more other
+meets_of parts groups i more other a l key addable apart there small =
+    let is : groups ≡ take i groups ++ group_entry_in groups i ∷ drop (suc i) groups = parted_at groups i l in
+    let have : HaveWays a.own (map (group_of parts) groups) = have_from a.own (map (group_of parts) groups) addable.alike a.this in
     record {
-      piled = subst (ArePiled parts) is piled;
+      addable = subst (AreAddable parts) is addable;
       apart = subst HaveOwnParts is apart;
-      have = subst (λ (ms : List Mark). HaveWays a.own (map (group_of parts) ms)) is have;
+      have = subst (λ (ms : List GroupEntry). HaveWays a.own (map (group_of parts) ms)) is have;
       there = there;
       ways = a.that.0;
       small = small;
       few = omega (
         arith,
         a.few,
-        own_rows a.own (map (group_of parts) marks) have,
-        ap (λ (ms : List Mark). rows_in (map (group_of parts) ms)) is,
+        own_rows a.own (map (group_of parts) groups) have,
+        ap (λ (ms : List GroupEntry). rows_in (map (group_of parts) ms)) is,
         sum_by-cons (λ (x : Partial Key Sums). x.part.rows) (group_of more other) [],
       );
-      key = is_equal (key_order other.key (mark_in marks i).key) key;
+      key = is_equal (key_order other.key (group_entry_in groups i).key) key;
     }
 
--- ---- in the place of a group of the pile
+-- ---- at the position of a group of the table
 
 -- the parts of the group are those of these places
-pub became_of : (parts now more : List Part) (m other : Mark) (from w : ℕ) → from ≡ m.from → w ≡ width_of other → width_of m ≡ width_of other → IsThere (length parts) m → IsThere (length more) other → length now ≡ length parts → slice_range now from (from + w) ≡ add_own_parts (slice_range more other.from (other.from + w)) (slice_range parts from (from + w)) → KeepsRest parts now from (from + w) → Became parts now m more other
+pub became_of : (parts now more : List Part) (m other : GroupEntry) (from w : ℕ) → from ≡ m.from → w ≡ width_of other → width_of m ≡ width_of other → IsThere (length parts) m → IsThere (length more) other → length now ≡ length parts → slice_range now from (from + w) ≡ add_own_parts (slice_range more other.from (other.from + w)) (slice_range parts from (from + w)) → KeepsRest parts now from (from + w) → Became parts now m more other
 became_of parts now more m other from w e f g h k long sums rest =
     let mine : from + w ≡ m.to = omega (arith, e, f, g, h.order) in
     let theirs : other.from + w ≡ other.to = omega (arith, f, k.order) in
@@ -197,7 +197,7 @@ became_of parts now more m other from w e f g h k long sums rest =
     }
 
 -- so are the parts that may be added up
-pub add_of : (parts more : List Part) (m other : Mark) (from w : ℕ) → from ≡ m.from → w ≡ width_of other → width_of m ≡ width_of other → IsThere (length parts) m → IsThere (length more) other → AllMayAdd (parts_of more other) (parts_of parts m) → AllMayAdd (slice_range more other.from (other.from + w)) (slice_range parts from (from + w))
+pub add_of : (parts more : List Part) (m other : GroupEntry) (from w : ℕ) → from ≡ m.from → w ≡ width_of other → width_of m ≡ width_of other → IsThere (length parts) m → IsThere (length more) other → AllMayAdd (parts_of more other) (parts_of parts m) → AllMayAdd (slice_range more other.from (other.from + w)) (slice_range parts from (from + w))
 add_of parts more m other from w e f g h k a =
     let mine : from + w ≡ m.to = omega (arith, e, f, g, h.order) in
     let theirs : other.from + w ≡ other.to = omega (arith, f, k.order) in
@@ -205,34 +205,34 @@ add_of parts more m other from w e f g h k a =
     (subst (λ n. AllMayAdd (parts_of more other) (slice_range parts from n)) (sym mine)
     (subst (λ n. AllMayAdd (parts_of more other) (slice_range parts n m.to)) (sym e) a))
 
--- What the pile became.
-pub record Grew (parts : List Part) (marks : List Mark) (more : List Part) (other : Mark) (now : List Part) (new : List Mark) : Type 0 where
-  pub piled : ArePiled now new
+-- What the aggregation table became.
+pub record Grew (parts : List Part) (groups : List GroupEntry) (more : List Part) (other : GroupEntry) (now : List Part) (new : List GroupEntry) : Type 0 where
+  pub addable : AreAddable now new
   pub own : HaveOwnParts new
-  pub put : pile_of now new ≡ gather key_order add_own_sums (pile_of parts marks ++ group_of more other ∷ [])
+  pub put : gathered_of now new ≡ gather key_order add_own_sums (gathered_of parts groups ++ group_of more other ∷ [])
 
-pub grew : (parts : List Part) (marks : List Mark) (i : ℕ) (more : List Part) (other : Mark) → (a : MayGather (pile_of parts marks) (group_of more other ∷ [])) → i < length marks → is_eq (key_order other.key (mark_in marks i).key) ≡ true → ArePiled parts marks → HaveOwnParts marks → IsThere (length more) other → IsSmallGroup (group_of more other) → (now : List Part) (new : List Mark) → Became parts now (mark_in marks i) more other → new ≡ set marks i (grown other.rows (mark_in marks i)) → Grew parts marks more other now new
-grew parts marks i more other a l key piled apart there small now new b f =
-    let xs : List Mark = take i marks in
-    let ys : List Mark = drop (suc i) marks in
-    let m : Mark = mark_in marks i in
-    let k : Meets a.own parts xs ys m more other = meets_of parts marks i more other a l key piled apart there small in
-    let e : new ≡ xs ++ grown other.rows m ∷ ys = f ∙ set_split marks i (grown other.rows m) l in
+pub grew : (parts : List Part) (groups : List GroupEntry) (i : ℕ) (more : List Part) (other : GroupEntry) → (a : MayGather (gathered_of parts groups) (group_of more other ∷ [])) → i < length groups → is_eq (key_order other.key (group_entry_in groups i).key) ≡ true → AreAddable parts groups → HaveOwnParts groups → IsThere (length more) other → IsSmallGroup (group_of more other) → (now : List Part) (new : List GroupEntry) → Became parts now (group_entry_in groups i) more other → new ≡ set groups i (grown other.rows (group_entry_in groups i)) → Grew parts groups more other now new
+grew parts groups i more other a l key addable apart there small now new b f =
+    let xs : List GroupEntry = take i groups in
+    let ys : List GroupEntry = drop (suc i) groups in
+    let m : GroupEntry = group_entry_in groups i in
+    let k : Meets a.own parts xs ys m more other = meets_of parts groups i more other a l key addable apart there small in
+    let e : new ≡ xs ++ grown other.rows m ∷ ys = f ∙ set_split groups i (grown other.rows m) l in
     record {
-      piled = subst (ArePiled now) (sym e) (grown_piled a.own parts now xs ys m more other k b);
+      addable = subst (AreAddable now) (sym e) (grown_addable a.own parts now xs ys m more other k b);
       own = subst HaveOwnParts (sym e) (own_grown xs ys m other.rows k.apart);
-      put = ap (pile_of now) e ∙ grown_pile a.own parts now xs ys m more other k b
-          ∙ ap (λ (ms : List Mark). gather key_order add_own_sums (pile_of parts ms ++ group_of more other ∷ [])) (sym (parted_at marks i l));
+      put = ap (gathered_of now) e ∙ grown_gathered_of a.own parts now xs ys m more other k b
+          ∙ ap (λ (ms : List GroupEntry). gather key_order add_own_sums (gathered_of parts ms ++ group_of more other ∷ [])) (sym (parted_at groups i l));
     }
 
 -- What may be done with a group and the one of its key.
-pub record MayGrow (parts : List Part) (m : Mark) (more : List Part) (other : Mark) : Type 0 where
+pub record MayGrow (parts : List Part) (m : GroupEntry) (more : List Part) (other : GroupEntry) : Type 0 where
   pub add : AllMayAdd (parts_of more other) (parts_of parts m)
   pub rows : other.rows + m.rows ≤ most_rows
   pub wide : width_of m ≡ width_of other
   pub at : IsThere (length parts) m
 
-pub may_grow : (parts : List Part) (marks : List Mark) (i : ℕ) (more : List Part) (other : Mark) → (a : MayGather (pile_of parts marks) (group_of more other ∷ [])) → i < length marks → is_eq (key_order other.key (mark_in marks i).key) ≡ true → ArePiled parts marks → HaveOwnParts marks → IsThere (length more) other → IsSmallGroup (group_of more other) → MayGrow parts (mark_in marks i) more other
-may_grow parts marks i more other a l key piled apart there small =
-    let r = meets_add a.own parts (take i marks) (drop (suc i) marks) (mark_in marks i) more other (meets_of parts marks i more other a l key piled apart there small) in
+pub may_grow : (parts : List Part) (groups : List GroupEntry) (i : ℕ) (more : List Part) (other : GroupEntry) → (a : MayGather (gathered_of parts groups) (group_of more other ∷ [])) → i < length groups → is_eq (key_order other.key (group_entry_in groups i).key) ≡ true → AreAddable parts groups → HaveOwnParts groups → IsThere (length more) other → IsSmallGroup (group_of more other) → MayGrow parts (group_entry_in groups i) more other
+may_grow parts groups i more other a l key addable apart there small =
+    let r = meets_add a.own parts (take i groups) (drop (suc i) groups) (group_entry_in groups i) more other (meets_of parts groups i more other a l key addable apart there small) in
     record { add = r.0; rows = r.1; wide = r.2; at = r.3 }

@@ -26,7 +26,7 @@ use Rattle.answer_rules.proofs.KeptTwice.{keeps_map}
 use Rattle.answer_rules.proofs.Sorting.{Ascends, only_order}
 use Rattle.answer_rules.proofs.Totals.{group_total, key_total}
 use Rattle.partial_merge.specs.declared.line.Line.{Line}
-use Rattle.partial_merge.specs.declared.mark.Mark.{Mark}
+use Rattle.partial_merge.specs.declared.group_entry.GroupEntry.{GroupEntry}
 use Rattle.partial_merge.specs.Groups.{group_of}
 use Rattle.partial_merge.specs.Lines.{line_by, line_of, line_order, line_values}
 use Rattle.partial_merge.specs.Merging.{IsMergeable}
@@ -34,10 +34,10 @@ use Rattle.partial_merge.proofs.Firsts.{apart_kept, split_keeps}
 use Rattle.partial_merge.proofs.Rise.{lines_apart}
 
 line_total : IsTotalOrder line_order
-line_total = then_total (on_total (λ (l : Line). l.class) nat_cmp_total) (then_total (on_total (λ (l : Line). l.value) int_cmp_total) (on_total (λ (l : Line). l.mark.key) key_total))
+line_total = then_total (on_total (λ (l : Line). l.class) nat_cmp_total) (then_total (on_total (λ (l : Line). l.value) int_cmp_total) (on_total (λ (l : Line). l.group.key) key_total))
 
 -- the lines of the groups, their values computed
-made_lines : (parts : List Part) (keys : List BoundCol) (merge : MergePlan) (marks : List Mark) → map (line_of parts keys merge.items) (map (line_by parts keys merge) marks) ≡ map (merged_line keys merge) (map (group_of parts) marks)
+made_lines : (parts : List Part) (keys : List BoundCol) (merge : MergePlan) (groups : List GroupEntry) → map (line_of parts keys merge.items) (map (line_by parts keys merge) groups) ≡ map (merged_line keys merge) (map (group_of parts) groups)
 made_lines parts keys merge [] = refl
 made_lines parts keys merge (m ∷ ms) = ap (λ l. merged_line keys merge (group_of parts m) ∷ l) (made_lines parts keys merge ms)
 
@@ -45,8 +45,8 @@ lines_ascend : (parts : List Part) (keys : List BoundCol) (items : List MergeIte
 lines_ascend parts keys items [] h = tt
 lines_ascend parts keys items (l ∷ ls) h = (each_map (λ y. is_lt (group_order y (line_of parts keys items l)) ≡ false) (line_of parts keys items) ls h.0, lines_ascend parts keys items ls h.1)
 
-pub made_are : (parts : List Part) (keys : List BoundCol) (merge : MergePlan) (marks : List Mark) (lines : List Line) → lines ≡ map (line_by parts keys merge) marks → map (line_of parts keys merge.items) lines ≡ map (merged_line keys merge) (map (group_of parts) marks)
-made_are parts keys merge marks lines e = ap (map (line_of parts keys merge.items)) e ∙ made_lines parts keys merge marks
+pub made_are : (parts : List Part) (keys : List BoundCol) (merge : MergePlan) (groups : List GroupEntry) (lines : List Line) → lines ≡ map (line_by parts keys merge) groups → map (line_of parts keys merge.items) lines ≡ map (merged_line keys merge) (map (group_of parts) groups)
+made_are parts keys merge groups lines e = ap (map (line_of parts keys merge.items)) e ∙ made_lines parts keys merge groups
 
 -- sorted lines are the lines in order
 sorted_lines : (parts : List Part) (keys : List BoundCol) (items : List MergeItem) (lines sorted : List Line) → AreApart group_order (map (line_of parts keys items) lines) → IsPermutation lines sorted → IsSorted line_order sorted → map (line_of parts keys items) sorted ≡ in_order group_order (map (line_of parts keys items) lines)
@@ -88,9 +88,9 @@ some_lines parts keys items n lines front x back sorted apart p l split q s =
     ∙ ap (map (λ (r : GroupLine). r.values)) (first_kept group_order group_total (Some n) (map (line_of parts keys items) lines) (map (line_of parts keys items) front) apart kept)
 
 -- the lines of groups that ascend are apart
-pub made_apart : (parts : List Part) (keys : List BoundCol) (merge : MergePlan) (marks : List Mark) (lines : List Line) → lines ≡ map (line_by parts keys merge) marks → Rise key_order (map (group_of parts) marks) → AreApart group_order (map (line_of parts keys merge.items) lines)
-made_apart parts keys merge marks lines e r =
-    subst (λ (ls : List GroupLine). AreApart group_order ls) (sym (made_are parts keys merge marks lines e)) (lines_apart keys merge (map (group_of parts) marks) r)
+pub made_apart : (parts : List Part) (keys : List BoundCol) (merge : MergePlan) (groups : List GroupEntry) (lines : List Line) → lines ≡ map (line_by parts keys merge) groups → Rise key_order (map (group_of parts) groups) → AreApart group_order (map (line_of parts keys merge.items) lines)
+made_apart parts keys merge groups lines e r =
+    subst (λ (ls : List GroupLine). AreApart group_order ls) (sym (made_are parts keys merge groups lines e)) (lines_apart keys merge (map (group_of parts) groups) r)
 
 -- ---- what holds of each line
 
@@ -113,7 +113,7 @@ front_hold P xs front x back sorted h p q =
     All-permutation P front sorted q (All-from_recursion P front (each_front P front (x ∷ back) (recursion_from_All P _ (All-permutation P xs (front ++ x ∷ back) p h))))
 
 -- of the line of a group that can be merged each item can be merged
-pub made_mergeable : (parts : List Part) (keys : List BoundCol) (merge : MergePlan) (marks : List Mark) (lines : List Line) → lines ≡ map (line_by parts keys merge) marks → All (IsMergeable keys merge.items parts) marks → All (λ l. IsMergeable keys merge.items parts l.mark) lines
-made_mergeable parts keys merge marks lines e h =
-    let P : Line → Type 0 = λ l. IsMergeable keys merge.items parts l.mark in
-    subst (λ (ls : List Line). All P ls) (sym e) (All-from_recursion P _ (each_map P (line_by parts keys merge) marks (recursion_from_All (IsMergeable keys merge.items parts) marks h)))
+pub made_mergeable : (parts : List Part) (keys : List BoundCol) (merge : MergePlan) (groups : List GroupEntry) (lines : List Line) → lines ≡ map (line_by parts keys merge) groups → All (IsMergeable keys merge.items parts) groups → All (λ l. IsMergeable keys merge.items parts l.group) lines
+made_mergeable parts keys merge groups lines e h =
+    let P : Line → Type 0 = λ l. IsMergeable keys merge.items parts l.group in
+    subst (λ (ls : List Line). All P ls) (sym e) (All-from_recursion P _ (each_map P (line_by parts keys merge) groups (recursion_from_All (IsMergeable keys merge.items parts) groups h)))

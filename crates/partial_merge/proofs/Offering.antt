@@ -32,9 +32,9 @@ behind_all row last xs up true e =
     not_true true h = h
 
 -- and what comes before none does not come before the last one
-pub told_behind : (row last : Ranked) (xs : List Ranked) → 0 < length xs → last ≡ get_or xs 0 last → (b : Bool) → b ≡ not (is_lt (rank_order row last)) → IsBehindAll row xs → b ≡ true
-told_behind row last [] some is b e h = absurd (omega (arith, some))
-told_behind row last (x ∷ xs) some is b e h = e ∙ ap not (ap (λ m. is_lt (rank_order row m)) is ∙ h.0)
+pub reported_behind : (row last : Ranked) (xs : List Ranked) → 0 < length xs → last ≡ get_or xs 0 last → (b : Bool) → b ≡ not (is_lt (rank_order row last)) → IsBehindAll row xs → b ≡ true
+reported_behind row last [] some is b e h = absurd (omega (arith, some))
+reported_behind row last (x ∷ xs) some is b e h = e ∙ ap not (ap (λ m. is_lt (rank_order row m)) is ∙ h.0)
 
 -- put in
 pub added : (n : ℕ) (old new : List Ranked) (row : Ranked) → IsPermutation (row ∷ old) new → KeepsFirst rank_order (Some n) (old ++ row ∷ []) new

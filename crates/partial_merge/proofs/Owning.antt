@@ -9,7 +9,7 @@ use Rattle.answer_rules.specs.Gather.{Partial}
 use Rattle.answer_rules.specs.Keys.{Key}
 use Rattle.answer_rules.specs.Parts.{Part, Sums, add_own, add_own_parts, count_part}
 use Rattle.partial_merge.specs.Adding.{part_in, parts_of, placed, summed}
-use Rattle.partial_merge.specs.declared.mark.Mark.{Mark}
+use Rattle.partial_merge.specs.declared.group_entry.GroupEntry.{GroupEntry}
 use Rattle.partial_merge.specs.Groups.{IsThere, group_of}
 use Rattle.partial_merge.specs.Sharing.{HaveOwnParts, KeepsRest, ShareNone, grown}
 use Rattle.partial_merge.proofs.Summing.{add_at, range_long, range_own, sums_long}
@@ -39,44 +39,44 @@ each_other P (x ∷ xs) ys a b p h = (h.0, each_other P xs ys a b p h.1)
 
 -- ---- groups that share no part
 
-flipped : (m n : Mark) → ShareNone m n → ShareNone n m
+flipped : (m n : GroupEntry) → ShareNone m n → ShareNone n m
 flipped m n s = λ i a b c d. s i c d a b
 
-each_flipped : (m : Mark) (ns : List Mark) → Each (ShareNone m) ns → Each (λ n. Each (ShareNone n) (m ∷ [])) ns
+each_flipped : (m : GroupEntry) (ns : List GroupEntry) → Each (ShareNone m) ns → Each (λ n. Each (ShareNone n) (m ∷ [])) ns
 each_flipped m [] h = tt
 each_flipped m (n ∷ ns) h = ((flipped m n h.0, tt), each_flipped m ns h.1)
 
-own_both : (xs ys : List Mark) → HaveOwnParts xs → HaveOwnParts ys → Each (λ x. Each (ShareNone x) ys) xs → HaveOwnParts (xs ++ ys)
+own_both : (xs ys : List GroupEntry) → HaveOwnParts xs → HaveOwnParts ys → Each (λ x. Each (ShareNone x) ys) xs → HaveOwnParts (xs ++ ys)
 own_both [] ys h k b = k
 own_both (x ∷ xs) ys h k b = (each_both (ShareNone x) xs ys h.0 b.0, own_both xs ys h.1 k b.1)
 
-pub own_front : (xs ys : List Mark) → HaveOwnParts (xs ++ ys) → HaveOwnParts xs
+pub own_front : (xs ys : List GroupEntry) → HaveOwnParts (xs ++ ys) → HaveOwnParts xs
 own_front [] ys h = tt
 own_front (x ∷ xs) ys h = (each_front (ShareNone x) xs ys h.0, own_front xs ys h.1)
 
 -- a group whose parts stand behind all others
-behind : (n : ℕ) (ms : List Mark) (m : Mark) → n ≤ m.from → Each (IsThere n) ms → Each (λ x. Each (ShareNone x) (m ∷ [])) ms
+behind : (n : ℕ) (ms : List GroupEntry) (m : GroupEntry) → n ≤ m.from → Each (IsThere n) ms → Each (λ x. Each (ShareNone x) (m ∷ [])) ms
 behind n [] m l h = tt
 behind n (x ∷ ms) m l h = (((λ i a b c d. omega (arith, l, b, c, IsThere.there h.0)), tt), behind n ms m l h.1)
 
-pub own_push : (n : ℕ) (ms : List Mark) (m : Mark) → n ≤ m.from → All (IsThere n) ms → HaveOwnParts ms → HaveOwnParts (ms ++ m ∷ [])
+pub own_push : (n : ℕ) (ms : List GroupEntry) (m : GroupEntry) → n ≤ m.from → All (IsThere n) ms → HaveOwnParts ms → HaveOwnParts (ms ++ m ∷ [])
 own_push n ms m l h k = own_both ms (m ∷ []) k (tt, tt) (behind n ms m l (recursion_from_All (IsThere n) ms h))
 
-pub own_reversed : (ms : List Mark) → HaveOwnParts ms → HaveOwnParts (reverse ms)
+pub own_reversed : (ms : List GroupEntry) → HaveOwnParts ms → HaveOwnParts (reverse ms)
 own_reversed [] h = tt
 own_reversed (m ∷ ms) h =
     subst HaveOwnParts (sym (reverse-append (m ∷ []) ms))
     (own_both (reverse ms) (m ∷ []) (own_reversed ms h.1) (tt, tt) (each_reversed (λ n. Each (ShareNone n) (m ∷ [])) ms (each_flipped m ms h.0)))
 
 -- those before it and those behind it
-pub own_around : (xs ys : List Mark) (m : Mark) → HaveOwnParts (xs ++ m ∷ ys) → Each (ShareNone m) xs × Each (ShareNone m) ys
+pub own_around : (xs ys : List GroupEntry) (m : GroupEntry) → HaveOwnParts (xs ++ m ∷ ys) → Each (ShareNone m) xs × Each (ShareNone m) ys
 own_around [] ys m h = (tt, h.0)
 own_around (x ∷ xs) ys m h =
     let rest = own_around xs ys m h.1 in
     ((flipped x m (each_back (ShareNone x) xs (m ∷ ys) h.0).0, rest.0), rest.1)
 
 -- a group that has more rows
-pub own_grown : (xs ys : List Mark) (m : Mark) (n : ℕ) → HaveOwnParts (xs ++ m ∷ ys) → HaveOwnParts (xs ++ grown n m ∷ ys)
+pub own_grown : (xs ys : List GroupEntry) (m : GroupEntry) (n : ℕ) → HaveOwnParts (xs ++ m ∷ ys) → HaveOwnParts (xs ++ grown n m ∷ ys)
 own_grown [] ys m n h = (h.0, h.1)
 own_grown (x ∷ xs) ys m n h = (each_other (ShareNone x) xs ys m (grown n m) (each_back (ShareNone x) xs (m ∷ ys) h.0).0 h.0, own_grown xs ys m n h.1)
 
@@ -92,13 +92,13 @@ same_parts (x ∷ xs) (y ∷ ys) e h =
 pub in_range : (xs : List Part) (a b i : ℕ) → i < b - a → part_in (take (b - a) (drop a xs)) i ≡ part_in xs (a + i)
 in_range xs a b i l = get_or-take (b - a) (drop a xs) i (count_part 0) l ∙ get_or-drop a xs i (count_part 0)
 
-pub range_length : (xs : List Part) (m : Mark) → IsThere (length xs) m → length (parts_of xs m) ≡ m.to - m.from
+pub range_length : (xs : List Part) (m : GroupEntry) → IsThere (length xs) m → length (parts_of xs m) ≡ m.to - m.from
 range_length xs m h = omega (arith, h.order, h.there, length-take (m.to - m.from) (drop m.from xs), length-drop m.from xs)
 
-abbrev group_with : Mark → List Part → Partial Key Sums
+abbrev group_with : GroupEntry → List Part → Partial Key Sums
 group_with m parts = record { key = m.key; part = record { rows = m.rows; parts = parts } }
 
-kept : (old new : List Part) (m n : Mark) → length new ≡ length old → KeepsRest old new m.from m.to → ShareNone m n → IsThere (length old) n → group_of new n ≡ group_of old n
+kept : (old new : List Part) (m n : GroupEntry) → length new ≡ length old → KeepsRest old new m.from m.to → ShareNone m n → IsThere (length old) n → group_of new n ≡ group_of old n
 kept old new m n e k s h =
     let long : length (parts_of old n) ≡ n.to - n.from = range_length old n h in
     let there : IsThere (length new) n = record { order = h.order; there = omega (arith, h.there, e) } in
@@ -111,20 +111,20 @@ kept old new m n e k s h =
     ∙ k (n.from + i) (λ a b. s (n.from + i) a b (omega arith) (omega (arith, in', h.order)))
     ∙ sym (in_range old n.from n.to i in')))
 
-pub kept_groups : (old new : List Part) (m : Mark) (ns : List Mark) → length new ≡ length old → KeepsRest old new m.from m.to → Each (ShareNone m) ns → Each (IsThere (length old)) ns → map (group_of new) ns ≡ map (group_of old) ns
+pub kept_groups : (old new : List Part) (m : GroupEntry) (ns : List GroupEntry) → length new ≡ length old → KeepsRest old new m.from m.to → Each (ShareNone m) ns → Each (IsThere (length old)) ns → map (group_of new) ns ≡ map (group_of old) ns
 kept_groups old new m [] e k s h = refl
 kept_groups old new m (n ∷ ns) e k s h =
     ap (λ g. g ∷ map (group_of new) ns) (kept old new m n e k s.0 h.0) ∙ ap (λ l. group_of old n ∷ l) (kept_groups old new m ns e k s.1 h.1)
 
--- ---- a group behind the others of a new pile
+-- ---- a group after the others of a new aggregation table
 
-pub alone_owns : (fresh : List Part) (out : List Mark) (mark : Mark) → All (IsThere (length fresh)) out → HaveOwnParts out → HaveOwnParts (out ++ placed (length fresh) mark ∷ [])
-alone_owns fresh out mark h k = own_push (length fresh) out (placed (length fresh) mark) (omega arith) h k
+pub alone_owns : (fresh : List Part) (out : List GroupEntry) (group : GroupEntry) → All (IsThere (length fresh)) out → HaveOwnParts out → HaveOwnParts (out ++ placed (length fresh) group ∷ [])
+alone_owns fresh out group h k = own_push (length fresh) out (placed (length fresh) group) (omega arith) h k
 
-pub sum_owns : (fresh : List Part) (out : List Mark) (mark last : Mark) → All (IsThere (length fresh)) (out ++ last ∷ []) → HaveOwnParts (out ++ last ∷ []) → HaveOwnParts (out ++ summed (length fresh) mark last ∷ [])
-sum_owns fresh out mark last h k =
-    own_both out (summed (length fresh) mark last ∷ []) (own_front out (last ∷ []) k) (tt, tt)
-    (behind (length fresh) out (summed (length fresh) mark last) (omega arith) (each_front (IsThere (length fresh)) out (last ∷ []) (recursion_from_All (IsThere (length fresh)) (out ++ last ∷ []) h)))
+pub sum_owns : (fresh : List Part) (out : List GroupEntry) (group last : GroupEntry) → All (IsThere (length fresh)) (out ++ last ∷ []) → HaveOwnParts (out ++ last ∷ []) → HaveOwnParts (out ++ summed (length fresh) group last ∷ [])
+sum_owns fresh out group last h k =
+    own_both out (summed (length fresh) group last ∷ []) (own_front out (last ∷ []) k) (tt, tt)
+    (behind (length fresh) out (summed (length fresh) group last) (omega arith) (each_front (IsThere (length fresh)) out (last ∷ []) (recursion_from_All (IsThere (length fresh)) (out ++ last ∷ []) h)))
 
 -- ---- sums in the place of parts
 

@@ -1,4 +1,4 @@
--- Pairs whose values are their own two ids: beside the other rows of a bag, put in order, and their table.
+-- Pairs whose values are their own two ids: in a multiset with other rows, in order, and in a table.
 use Rattle.std.proofs.Common.{◌≡◌, ℕ, ◌+◌, ◌-◌, ◌*◌, ◌^◌, ◌<◌, ◌≤◌, ℤ, Bool, true, false, List, [], ◌∷◌, ◌++◌, append_assoc, append-nil, map, length, length-append, take, get_or, Option, Some, None, refl, sym, ap, subst, ◌∙◌, arith, count_by, is_eq, is_lt, IsPermutation, IsSorted}
 use Rattle.std.specs.Cmp.{IsTotalOrder}
 use Rattle.std.specs.List.{All, AllByRecursion as Each, flat_map}
@@ -25,16 +25,16 @@ use Rattle.answer_rules.proofs.Orders.{count-append}
 use Rattle.answer_rules.proofs.Sorting.{Ascends, only_order}
 use Rattle.answer_rules.proofs.Totals.{row_total}
 use Rattle.partial_merge.specs.declared.id_pair.IdPair.{IdPair}
-use Rattle.partial_merge.specs.declared.kept.Kept.{Kept}
-use Rattle.partial_merge.specs.declared.kept.Kept.TheVariants as kept
+use Rattle.partial_merge.specs.declared.row_buffer.RowBuffer.{RowBuffer}
+use Rattle.partial_merge.specs.declared.row_buffer.RowBuffer.TheVariants as buffer
 use Rattle.partial_merge.specs.declared.rank.Rank.{Rank}
 use Rattle.partial_merge.specs.declared.ranked.Ranked.{Ranked}
-use Rattle.partial_merge.specs.Bags.{ComesBeforeNone, IsTooLate, out_row, pushed_in, ranked_at, rows_in}
+use Rattle.partial_merge.specs.Multisets.{ComesBeforeNone, IsTooLate, out_row, pushed_in, ranked_at, rows_in}
 use Rattle.partial_merge.specs.Rows.{row_of}
 use Rattle.partial_merge.specs.Pairs.{pair_order, pair_row, pair_values}
 use Rattle.partial_merge.specs.Tables.{IsShort, table_of}
 use Rattle.partial_merge.proofs.Putting.{too_late}
-use Rattle.partial_merge.proofs.Repacking.{keeps_itself, keeps_same}
+use Rattle.partial_merge.proofs.Vacuuming.{keeps_itself, keeps_same}
 use Rattle.partial_merge.proofs.Tabling.{columns_short, flat_long, flat_short, flat_table, map_map}
 
 -- ---- beside the other rows
@@ -62,7 +62,7 @@ pair_kept limit rows ids pair =
     keeps_same limit ((rows ++ map pair_row ids) ++ pair_row pair ∷ []) (rows ++ map pair_row (ids ++ pair ∷ []))
     (ap (λ l. rows ++ l) (map-append pair_row ids (pair ∷ [])) ∙ sym (append_assoc rows (map pair_row ids) (pair_row pair ∷ [])))
 
--- the rows and the pairs of two bags
+-- the rows and the pairs of two multisets
 pub both_kept : (limit : Option ℕ) (mine theirs new : List OutRow) (ids more : List IdPair) → KeepsFirst row_order limit (mine ++ theirs) new → KeepsFirst row_order limit ((mine ++ map pair_row ids) ++ (theirs ++ map pair_row more)) (new ++ map pair_row (ids ++ more))
 both_kept limit mine theirs new ids more k =
     let pairs : List OutRow = map pair_row ids ++ map pair_row more in
@@ -70,25 +70,25 @@ both_kept limit mine theirs new ids more k =
     (keeps_reordered row_order limit _ _ _ _ (swap_middle mine theirs (map pair_row ids) (map pair_row more)) (IsPermutation-refl (new ++ pairs))
     (keeps_joined row_order limit (mine ++ theirs) pairs new pairs k (keeps_itself limit pairs)))
 
--- a bag can be counted
-pub bag_long : (cells : List (Option ℤ)) (ranks : List Ranked) (ids : List IdPair) → length (map (row_of cells) ranks ++ map pair_row ids) ≡ length ranks + length ids
-bag_long cells ranks ids = omega (arith, length-append (map (row_of cells) ranks) (map pair_row ids), length-map ranks (row_of cells), length-map ids pair_row)
+-- a multiset can be counted
+pub multiset_long : (cells : List (Option ℤ)) (ranks : List Ranked) (ids : List IdPair) → length (map (row_of cells) ranks ++ map pair_row ids) ≡ length ranks + length ids
+multiset_long cells ranks ids = omega (arith, length-append (map (row_of cells) ranks) (map pair_row ids), length-map ranks (row_of cells), length-map ids pair_row)
 
 pub kept_few : (limit : Option ℕ) (full kept : List OutRow) → KeepsFirst row_order limit full kept → length kept ≤ length full
 kept_few limit full kept k = omega (arith, length_permutation full (k.left_out ++ kept) k.all, length-append k.left_out kept)
 
-pub row_few : (cells now : List (Option ℤ)) (limit : Option ℕ) (old new : List Ranked) (ids : List IdPair) (row : OutRow) (held : ℕ) → held ≡ length (map (row_of cells) old ++ map pair_row ids) → held + 1 ≤ 2 ^ 64 - 1 → KeepsFirst row_order limit (map (row_of cells) old ++ row ∷ []) (map (row_of now) new) → length new + length ids ≤ 2 ^ 64 - 1
-row_few cells now limit old new ids row held h l k =
+pub row_few : (cells now : List (Option ℤ)) (limit : Option ℕ) (old new : List Ranked) (ids : List IdPair) (row : OutRow) (many : ℕ) → many ≡ length (map (row_of cells) old ++ map pair_row ids) → many + 1 ≤ 2 ^ 64 - 1 → KeepsFirst row_order limit (map (row_of cells) old ++ row ∷ []) (map (row_of now) new) → length new + length ids ≤ 2 ^ 64 - 1
+row_few cells now limit old new ids row many h l k =
     let fewer : length (map (row_of now) new) ≤ length (map (row_of cells) old ++ row ∷ []) = kept_few limit _ _ k in
-    omega (arith, h, l, bag_long cells old ids, fewer, length-append (map (row_of cells) old) (row ∷ []), length-map old (row_of cells), length-map new (row_of now))
+    omega (arith, h, l, multiset_long cells old ids, fewer, length-append (map (row_of cells) old) (row ∷ []), length-map old (row_of cells), length-map new (row_of now))
 
-pub both_few : (cells more now : List (Option ℤ)) (limit : Option ℕ) (mine theirs new : List Ranked) (ids others : List IdPair) (held that : ℕ) → held ≡ length (map (row_of cells) mine ++ map pair_row ids) → that ≡ length (map (row_of more) theirs ++ map pair_row others) → held + that ≤ 2 ^ 64 - 1 → KeepsFirst row_order limit (map (row_of cells) mine ++ map (row_of more) theirs) (map (row_of now) new) → length new + length (ids ++ others) ≤ 2 ^ 64 - 1
-both_few cells more now limit mine theirs new ids others held that h t l k =
+pub both_few : (cells more now : List (Option ℤ)) (limit : Option ℕ) (mine theirs new : List Ranked) (ids others : List IdPair) (many that : ℕ) → many ≡ length (map (row_of cells) mine ++ map pair_row ids) → that ≡ length (map (row_of more) theirs ++ map pair_row others) → many + that ≤ 2 ^ 64 - 1 → KeepsFirst row_order limit (map (row_of cells) mine ++ map (row_of more) theirs) (map (row_of now) new) → length new + length (ids ++ others) ≤ 2 ^ 64 - 1
+both_few cells more now limit mine theirs new ids others many that h t l k =
     let fewer : length (map (row_of now) new) ≤ length (map (row_of cells) mine ++ map (row_of more) theirs) = kept_few limit _ _ k in
-    omega (arith, h, t, l, bag_long cells mine ids, bag_long more theirs others, fewer, length-append (map (row_of cells) mine) (map (row_of more) theirs), length-map mine (row_of cells), length-map theirs (row_of more), length-map new (row_of now), length-append ids others)
+    omega (arith, h, t, l, multiset_long cells mine ids, multiset_long more theirs others, fewer, length-append (map (row_of cells) mine) (map (row_of more) theirs), length-map mine (row_of cells), length-map theirs (row_of more), length-map new (row_of now), length-append ids others)
 
 -- a row that is none of the first n
-pub late_for_all : (cells : List (Option ℤ)) (rank : Rank) (k : Kept) (ids : List IdPair) (late : Bool) → OnTrue late (IsTooLate (ranked_at rank 0 0) k)
+pub late_for_all : (cells : List (Option ℤ)) (rank : Rank) (k : RowBuffer) (ids : List IdPair) (late : Bool) → OnTrue late (IsTooLate (ranked_at rank 0 0) k)
     → OnTrue late ((values : List (Option ℤ)) → KeepsFirst row_order (pushed_in k) ((rows_in cells k ++ map pair_row ids) ++ out_row rank values ∷ []) (rows_in cells k ++ map pair_row ids))
 late_for_all cells rank k ids true h = λ values. row_kept (pushed_in k) (rows_in cells k) (rows_in cells k) (map pair_row ids) (out_row rank values) (too_late cells values rank k h)
 late_for_all cells rank k ids false h = tt
@@ -97,14 +97,14 @@ each_unmap : {X Y : Type 0} (P : Y → Type 0) (f : X → Y) (xs : List X) → E
 each_unmap P f [] h = tt
 each_unmap P f (x ∷ xs) h = (h.0, each_unmap P f xs h.1)
 
--- and is told to be one where so many are kept, and it comes before none of them
-pub told_late : (cells : List (Option ℤ)) (rank : Rank) (k : Kept) (ids : List IdPair) (late : Bool)
+-- and it is reported as one if n are kept and it comes before none of them
+pub reported_late : (cells : List (Option ℤ)) (rank : Rank) (k : RowBuffer) (ids : List IdPair) (late : Bool)
     → IfSome (pushed_in k) (λ n. ids ≡ []) → (IsTooLate (ranked_at rank 0 0) k → late ≡ true)
     → IfSome (pushed_in k) (λ n. n ≤ length (rows_in cells k ++ map pair_row ids) → ComesBeforeNone rank (rows_in cells k ++ map pair_row ids) → late ≡ true)
-told_late cells rank (kept.All lot) ids late none told = tt
-told_late cells rank (kept.First limit heap) ids late none told = λ few before.
-    let rows : rows_in cells (kept.First limit heap) ++ map pair_row ids ≡ rows_in cells (kept.First limit heap) = ap (λ (l : List IdPair). rows_in cells (kept.First limit heap) ++ map pair_row l) none ∙ append-nil (rows_in cells (kept.First limit heap)) in
-    told (
+reported_late cells rank (buffer.All unlimited) ids late none reported = tt
+reported_late cells rank (buffer.First limit heap) ids late none reported = λ few before.
+    let rows : rows_in cells (buffer.First limit heap) ++ map pair_row ids ≡ rows_in cells (buffer.First limit heap) = ap (λ (l : List IdPair). rows_in cells (buffer.First limit heap) ++ map pair_row l) none ∙ append-nil (rows_in cells (buffer.First limit heap)) in
+    reported (
       omega (arith, few, ap length rows, length-map heap.data.items (row_of cells)),
       each_unmap (λ m. is_lt (row_order (out_row rank []) m) ≡ false) (row_of cells) heap.data.items (subst (ComesBeforeNone rank) rows before),
     )

@@ -1,4 +1,4 @@
--- A row that is put into a bag: looked at and forgotten, or kept with its values behind the others.
+-- A row that is added to a multiset: inspected and dropped, or kept with its values after the others.
 use Rattle.std.proofs.Common.{◌≡◌, ℕ, ◌+◌, ◌-◌, ℤ, Bool, true, false, List, [], ◌∷◌, ◌++◌, map, length, length-append, take, drop, Option, refl, ap, subst, ◌∙◌, arith, is_lt}
 use Rattle.std.specs.Bool.{OnTrue}
 use Rattle.std.specs.List.{All, AllByRecursion as Each}
@@ -12,29 +12,29 @@ use Rattle.answer_rules.specs.Ranks.{row_order}
 use Rattle.answer_rules.proofs.Apart.{each_map, each-append}
 use Rattle.answer_rules.proofs.KeptTwice.{all_kept, keeps_late}
 use Rattle.answer_rules.proofs.Orders.{each_weaker}
-use Rattle.partial_merge.specs.Bags.{IsTooLate, out_row, pushed_in, ranked_at, rows_in}
-use Rattle.partial_merge.specs.declared.kept.Kept.{Kept}
-use Rattle.partial_merge.specs.declared.kept.Kept.TheVariants as kept
+use Rattle.partial_merge.specs.Multisets.{IsTooLate, out_row, pushed_in, ranked_at, rows_in}
+use Rattle.partial_merge.specs.declared.row_buffer.RowBuffer.{RowBuffer}
+use Rattle.partial_merge.specs.declared.row_buffer.RowBuffer.TheVariants as buffer
 use Rattle.partial_merge.specs.declared.rank.Rank.{Rank}
 use Rattle.partial_merge.specs.declared.ranked.Ranked.{Ranked}
 use Rattle.partial_merge.specs.Joining.{IsNoneOfFirst}
 use Rattle.partial_merge.specs.Rows.{IsIn, rank_order, row_of}
-use Rattle.partial_merge.specs.Views.{BagView}
+use Rattle.partial_merge.specs.Views.{MultisetView}
 use Rattle.partial_merge.proofs.Growing.{rows_grow, rows_kept}
 
 -- a row behind the first n is none of them
-pub too_late : (cells values : List (Option ℤ)) (rank : Rank) (k : Kept) → IsTooLate (ranked_at rank 0 0) k → KeepsFirst row_order (pushed_in k) (rows_in cells k ++ out_row rank values ∷ []) (rows_in cells k)
-too_late cells values rank (kept.All rows) h = absurd h
-too_late cells values rank (kept.First limit heap) h =
+pub too_late : (cells values : List (Option ℤ)) (rank : Rank) (k : RowBuffer) → IsTooLate (ranked_at rank 0 0) k → KeepsFirst row_order (pushed_in k) (rows_in cells k ++ out_row rank values ∷ []) (rows_in cells k)
+too_late cells values rank (buffer.All rows) h = absurd h
+too_late cells values rank (buffer.First limit heap) h =
     keeps_late row_order limit (map (row_of cells) heap.data.items) (out_row rank values) (omega (arith, h.0, length-map heap.data.items (row_of cells)))
     (each_map (λ m. is_lt (row_order (out_row rank values) m) ≡ false) (row_of cells) heap.data.items h.1)
 
--- and the bag may stay as it is where it takes it in
-pub none_of_first : (bag : BagView) (rank : Rank) (late : Bool)
-    → OnTrue late ((values : List (Option ℤ)) → KeepsFirst row_order bag.pushed (bag.rows ++ out_row rank values ∷ []) bag.rows)
-    → OnTrue late (IsNoneOfFirst (OfRows bag.pushed bag.rows) rank)
-none_of_first bag rank true h = λ values. (refl, h values)
-none_of_first bag rank false h = tt
+-- and the multiset may stay as it is
+pub none_of_first : (multiset : MultisetView) (rank : Rank) (late : Bool)
+    → OnTrue late ((values : List (Option ℤ)) → KeepsFirst row_order multiset.pushed (multiset.rows ++ out_row rank values ∷ []) multiset.rows)
+    → OnTrue late (IsNoneOfFirst (OfRows multiset.pushed multiset.rows) rank)
+none_of_first multiset rank true h = λ values. (refl, h values)
+none_of_first multiset rank false h = tt
 
 -- the row that is kept, with its values behind the others
 row_behind : (cells values : List (Option ℤ)) (rank : Rank) → row_of (cells ++ values) (ranked_at rank (length cells) (length cells + length values)) ≡ out_row rank values

@@ -14,12 +14,12 @@ use Rattle.answer_rules.proofs.Apart.{each_map}
 use Rattle.answer_rules.proofs.Gathering.{rise_gather}
 use Rattle.answer_rules.proofs.Sorting.{Rises, apart_by_ids}
 use Rattle.answer_rules.proofs.Totals.{key_total}
-use Rattle.partial_merge.specs.declared.mark.Mark.{Mark}
-use Rattle.partial_merge.specs.Groups.{Gathered, group_of, pile_of}
+use Rattle.partial_merge.specs.declared.group_entry.GroupEntry.{GroupEntry}
+use Rattle.partial_merge.specs.Groups.{Gathered, gathered_of, group_of}
 
--- the groups of a pile ascend
-pub pile_rises : (parts : List Part) (marks : List Mark) → Rise key_order (pile_of parts marks)
-pile_rises parts marks = rise_gather key_order add_own_sums key_total (map (group_of parts) marks)
+-- the groups of an aggregation table ascend
+pub gathered_of_rises : (parts : List Part) (groups : List GroupEntry) → Rise key_order (gathered_of parts groups)
+gathered_of_rises parts groups = rise_gather key_order add_own_sums key_total (map (group_of parts) groups)
 
 -- so do they with the one group without keys
 pub merged_rise : (keys : List BoundCol) (gs : Gathered) → Rise key_order gs → Rise key_order (groups_merged keys gs)

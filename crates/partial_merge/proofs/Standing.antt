@@ -18,10 +18,10 @@ use Rattle.answer_rules.proofs.JoinedAlone.{AreOf, are_of}
 use Rattle.answer_rules.specs.declared.rewritten.ChunkItem.{ChunkItem}
 use Rattle.answer_rules.specs.Parts.{way_of}
 use Rattle.answer_rules.specs.Picks.{found}
-use Rattle.partial_merge.specs.declared.held.Held.{Held}
-use Rattle.partial_merge.specs.declared.held.Held.TheVariants as held
+use Rattle.partial_merge.specs.declared.contents.Contents.{Contents}
+use Rattle.partial_merge.specs.declared.contents.Contents.TheVariants as contents
 use Rattle.partial_merge.specs.Groups.{Gathered, HaveWays, MayGather}
-use Rattle.partial_merge.specs.Held.{MayTake, Took, rows_of, view_in}
+use Rattle.partial_merge.specs.Contents.{IsCombined, MayCombine, rows_of, view_in}
 use Rattle.partial_merge.specs.Joining.{IsOfRows, Joins, MayFinish, MayJoin}
 
 pushed_by : (shape : Shape) (g : Partition) (table : List Obj) (cq : ChunkQuery) (B : List ℕ) (pushed : Option ℕ) (rows : List OutRow) → PieceBy shape g table cq B (OfRows pushed rows) → pushed ≡ limit_of cq.limit
@@ -101,21 +101,21 @@ not_mixed_up pushed rows gs m =
 
 -- ---- whatever they hold
 
-pub may_take : (mine theirs : Held) → MayJoin (view_in mine) (view_in theirs) → MayTake mine theirs
-may_take (held.Rows mine) (held.Rows theirs) m = one_limit mine.pushed theirs.pushed mine.rows theirs.rows m
-may_take (held.Rows mine) (held.Groups theirs) m = not_mixed mine.pushed mine.rows theirs m
-may_take (held.Groups mine) (held.Rows theirs) m = not_mixed_up theirs.pushed theirs.rows mine m
-may_take (held.Groups mine) (held.Groups theirs) m = one_kind mine theirs m
+pub may_combine : (mine theirs : Contents) → MayJoin (view_in mine) (view_in theirs) → MayCombine mine theirs
+may_combine (contents.Rows mine) (contents.Rows theirs) m = one_limit mine.pushed theirs.pushed mine.rows theirs.rows m
+may_combine (contents.Rows mine) (contents.Groups theirs) m = not_mixed mine.pushed mine.rows theirs m
+may_combine (contents.Groups mine) (contents.Rows theirs) m = not_mixed_up theirs.pushed theirs.rows mine m
+may_combine (contents.Groups mine) (contents.Groups theirs) m = one_kind mine theirs m
 
--- what was taken in stands for both
-pub took_joins : (mine theirs new : Held) → Took mine theirs new → Joins (view_in mine) (view_in theirs) (view_in new)
-took_joins (held.Rows mine) (held.Rows theirs) (held.Rows new) t =
+-- what was combined represents both
+pub combined_joins : (mine theirs new : Contents) → IsCombined mine theirs new → Joins (view_in mine) (view_in theirs) (view_in new)
+combined_joins (contents.Rows mine) (contents.Rows theirs) (contents.Rows new) t =
     subst (λ p. Joins (OfRows mine.pushed mine.rows) (OfRows theirs.pushed theirs.rows) (OfRows p new.rows)) (sym t.0) (rows_join mine.pushed theirs.pushed mine.rows theirs.rows new.rows t.1)
-took_joins (held.Rows mine) (held.Rows theirs) (held.Groups new) t = absurd t
-took_joins (held.Rows mine) (held.Groups theirs) new t = absurd t
-took_joins (held.Groups mine) (held.Rows theirs) new t = absurd t
-took_joins (held.Groups mine) (held.Groups theirs) (held.Rows new) t = absurd t
-took_joins (held.Groups mine) (held.Groups theirs) (held.Groups new) t = λ g table cq chunks others apart this that.
+combined_joins (contents.Rows mine) (contents.Rows theirs) (contents.Groups new) t = absurd t
+combined_joins (contents.Rows mine) (contents.Groups theirs) new t = absurd t
+combined_joins (contents.Groups mine) (contents.Rows theirs) new t = absurd t
+combined_joins (contents.Groups mine) (contents.Groups theirs) (contents.Rows new) t = absurd t
+combined_joins (contents.Groups mine) (contents.Groups theirs) (contents.Groups new) t = λ g table cq chunks others apart this that.
     subst (λ gs. PieceFor g table cq (chunks ++ others) (OfGroups gs)) (sym t) (joins_alone g table cq chunks others (OfGroups mine) (OfGroups theirs) apart this that)
 
 -- the rows of a piece that may be finished are apart

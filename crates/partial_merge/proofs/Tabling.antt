@@ -53,7 +53,7 @@ pub flat_short : {X : Type 0} (f : X → List Value) → ((x : X) → Each IsSho
 flat_short f h [] = tt
 flat_short f h (x ∷ xs) = each-append IsShort (f x) (flat_map f xs) (h x) (flat_short f h xs)
 
--- ---- rows of a bag
+-- ---- rows of a multiset
 
 pub map_map : {A B C : Type 0} (f : A → B) (h : B → C) (xs : List A) → map h (map f xs) ≡ map (λ a. h (f a)) xs
 map_map f h [] = refl
@@ -122,10 +122,10 @@ short_too values v h k = All-from_recursion IsShort (values ++ v ∷ []) (each-a
 -- ---- lines of groups
 
 pub lines_long : (parts : List Part) (keys : List BoundCol) (items : List MergeItem) (lines : List Line) → length (flat_map (line_values parts keys items) lines) ≡ length lines * length items
-lines_long parts keys items lines = flat_long (line_values parts keys items) (length items) (λ l. length-map items (merged_value keys (group_of parts l.mark))) lines
+lines_long parts keys items lines = flat_long (line_values parts keys items) (length items) (λ l. length-map items (merged_value keys (group_of parts l.group))) lines
 
 pub lines_table : (parts : List Part) (keys : List BoundCol) (items : List MergeItem) (lines : List Line) → table_of (length lines) (length items) (flat_map (line_values parts keys items) lines) ≡ map (line_values parts keys items) lines
-lines_table parts keys items lines = flat_table (line_values parts keys items) (length items) (λ l. length-map items (merged_value keys (group_of parts l.mark))) lines
+lines_table parts keys items lines = flat_table (line_values parts keys items) (length items) (λ l. length-map items (merged_value keys (group_of parts l.group))) lines
 
 -- ---- one row of a table
 

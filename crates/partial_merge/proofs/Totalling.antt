@@ -10,7 +10,7 @@ use Rattle.sql_bound.specs.declared.expr.BoundCol.{BoundCol}
 use Rattle.answer_rules.specs.declared.rewritten.MergeItem.{MergeItem}
 use Rattle.answer_rules.specs.Finish.{merged_out, merged_totals}
 use Rattle.answer_rules.specs.Parts.{Part}
-use Rattle.partial_merge.specs.declared.mark.Mark.{Mark}
+use Rattle.partial_merge.specs.declared.group_entry.GroupEntry.{GroupEntry}
 use Rattle.partial_merge.specs.Groups.{Gathered, IsThere, group_of}
 use Rattle.partial_merge.specs.Merging.{IsMergeable, IsTested, MayMerge}
 
@@ -72,7 +72,7 @@ each_flat P f [] h = tt
 each_flat P f (x ∷ xs) h = (each_front P (f x) (flat_map f xs) h, each_flat P f xs (each_back P (f x) (flat_map f xs) h))
 
 -- groups whose parts are there, of which each item can be merged and no total is out
-each_mergeable : (keys : List BoundCol) (items : List MergeItem) (parts : List Part) (marks : List Mark) → Each (IsThere (length parts)) marks → Each (λ g. All (MayMerge keys g) items) (map (group_of parts) marks) → Each (λ g. Each (λ t. is_query_number t ≡ true) (flat_map (merged_totals g) items)) (map (group_of parts) marks) → Each (IsMergeable keys items parts) marks
+each_mergeable : (keys : List BoundCol) (items : List MergeItem) (parts : List Part) (groups : List GroupEntry) → Each (IsThere (length parts)) groups → Each (λ g. All (MayMerge keys g) items) (map (group_of parts) groups) → Each (λ g. Each (λ t. is_query_number t ≡ true) (flat_map (merged_totals g) items)) (map (group_of parts) groups) → Each (IsMergeable keys items parts) groups
 each_mergeable keys items parts [] h k o = tt
 each_mergeable keys items parts (m ∷ ms) h k o =
     let one : IsMergeable keys items parts m = record {
@@ -82,14 +82,14 @@ each_mergeable keys items parts (m ∷ ms) h k o =
     } in
     (one, each_mergeable keys items parts ms h.1 k.1 o.1)
 
-pub all_mergeable : (keys : List BoundCol) (items : List MergeItem) (parts : List Part) (marks : List Mark) → All (IsThere (length parts)) marks → All (λ g. All (MayMerge keys g) items) (map (group_of parts) marks) → merged_out items (map (group_of parts) marks) ≡ None → All (IsMergeable keys items parts) marks
-all_mergeable keys items parts marks h k o =
-    let gs : Gathered = map (group_of parts) marks in
-    All-from_recursion (IsMergeable keys items parts) marks
-    (each_mergeable keys items parts marks (recursion_from_All (IsThere (length parts)) marks h) (recursion_from_All (λ g. All (MayMerge keys g) items) gs k)
+pub all_mergeable : (keys : List BoundCol) (items : List MergeItem) (parts : List Part) (groups : List GroupEntry) → All (IsThere (length parts)) groups → All (λ g. All (MayMerge keys g) items) (map (group_of parts) groups) → merged_out items (map (group_of parts) groups) ≡ None → All (IsMergeable keys items parts) groups
+all_mergeable keys items parts groups h k o =
+    let gs : Gathered = map (group_of parts) groups in
+    All-from_recursion (IsMergeable keys items parts) groups
+    (each_mergeable keys items parts groups (recursion_from_All (IsThere (length parts)) groups h) (recursion_from_All (λ g. All (MayMerge keys g) items) gs k)
     (each_flat (λ t. is_query_number t ≡ true) (λ g. flat_map (merged_totals g) items) gs (none_out _ o)))
 
--- the totals of the groups of marks, mark by mark
-pub totals_by_mark : (items : List MergeItem) (parts : List Part) (marks : List Mark) → flat_map (λ g. flat_map (merged_totals g) items) (map (group_of parts) marks) ≡ flat_map (λ m. flat_map (merged_totals (group_of parts m)) items) marks
-totals_by_mark items parts [] = refl
-totals_by_mark items parts (m ∷ ms) = ap (λ l. flat_map (merged_totals (group_of parts m)) items ++ l) (totals_by_mark items parts ms)
+-- the totals of the groups, one after the other
+pub totals_by_group_entry : (items : List MergeItem) (parts : List Part) (groups : List GroupEntry) → flat_map (λ g. flat_map (merged_totals g) items) (map (group_of parts) groups) ≡ flat_map (λ m. flat_map (merged_totals (group_of parts m)) items) groups
+totals_by_group_entry items parts [] = refl
+totals_by_group_entry items parts (m ∷ ms) = ap (λ l. flat_map (merged_totals (group_of parts m)) items ++ l) (totals_by_group_entry items parts ms)

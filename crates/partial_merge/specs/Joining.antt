@@ -18,7 +18,7 @@ use Rattle.answer_rules.specs.Ranks.{row_order}
 use Rattle.answer_rules.specs.Rewriting.{chunk_query_of, merge_plan_of}
 use Rattle.answer_rules.specs.Small.{IsSmallGroup}
 use Rattle.partial_merge.specs.declared.rank.Rank.{Rank}
-use Rattle.partial_merge.specs.Bags.{ComesBeforeNone, out_row}
+use Rattle.partial_merge.specs.Multisets.{ComesBeforeNone, out_row}
 use Rattle.partial_merge.specs.Groups.{MayGather}
 
 -- Both represent one chunk query of one base, over disjoint sets of chunks.
@@ -49,10 +49,10 @@ IsNoneOfFirst view rank = (values : List (Option ℤ)) → TakesRow view (out_ro
 
 -- the answer is true if at least as many rows as the limit are held and none of them comes after a row with this sort
 -- key
-abbrev pub IsToldLate : PieceView → Rank → Bool → Type 0
-IsToldLate (OfRows pushed rows) rank told =
-    IfSome pushed (λ n. n ≤ length rows → ComesBeforeNone rank rows → told ≡ true)
-IsToldLate (OfGroups parts) rank told = Unit {0}
+abbrev pub IsReportedLate : PieceView → Rank → Bool → Type 0
+IsReportedLate (OfRows pushed rows) rank reported =
+    IfSome pushed (λ n. n ≤ length rows → ComesBeforeNone rank rows → reported ≡ true)
+IsReportedLate (OfGroups parts) rank reported = Unit {0}
 
 -- the piece is of rows
 abbrev pub IsOfRows : PieceView → Type 0

@@ -20,7 +20,7 @@ use Rattle.answer_rules.specs.Keys.{Key}
 use Rattle.answer_rules.specs.Parts.{Part, Sums}
 use Rattle.answer_rules.specs.Pieces.{PieceView, OfRows, OfGroups}
 use Rattle.answer_rules.specs.Ranks.{row_order}
-use Rattle.partial_merge.specs.declared.mark.Mark.{Mark}
+use Rattle.partial_merge.specs.declared.group_entry.GroupEntry.{GroupEntry}
 use Rattle.partial_merge.specs.Groups.{Gathered, IsThere, group_of}
 
 -- The expression can be computed on the key: there is a value for each key column, and each intermediate result is
@@ -45,7 +45,7 @@ abbrev pub IsTested : Partial Key Sums → MergeItem → Type 0
 IsTested g i = AllByRecursion (λ t. is_query_number t ≡ true) (merged_totals g i)
 
 -- A group of an aggregation table whose totals are checked and for which each item can be merged.
-pub record IsMergeable (keys : List BoundCol) (items : List MergeItem) (parts : List Part) (m : Mark) : Type 0 where
+pub record IsMergeable (keys : List BoundCol) (items : List MergeItem) (parts : List Part) (m : GroupEntry) : Type 0 where
   pub there : IsThere (length parts) m
   pub may : All (MayMerge keys (group_of parts m)) items
   pub tested : All (IsTested (group_of parts m)) items

@@ -15,10 +15,10 @@ ghost use Rattle.partial_merge.specs.Merging.{IsMergeable, MayMerge};
 ghost use Rattle.partial_merge.specs.Tables.{IsShort};
 ghost use Rattle.sky_io.specs.Stops.{IfBad};
 
+use crate::group_entry::GroupEntry;
 use crate::line::Line;
 use crate::lines::lines;
 use crate::lists::cut;
-use crate::mark::Mark;
 use crate::merged::merged;
 use crate::row_table::{put, values_room};
 use crate::table::Table;
@@ -34,17 +34,17 @@ fn put_group(
     values: &mut Vec<Value>,
     keys: &ColList,
     tallies: &[Tally],
-    mark: &Mark,
+    group: &GroupEntry,
     items: &[MergeItem],
 ) -> Result<(), Memory>
-    requires may { IsMergeable keys.now items.now tallies.now mark.now }
+    requires may { IsMergeable keys.now items.now tallies.now group.now }
     requires short { All IsShort values.old.items }
     ensures values { OnOk result (values.new.items
-        ≡ values.old.items ++ group_values tallies.now keys.now items.now mark.now) }
+        ≡ values.old.items ++ group_values tallies.now keys.now items.now group.now) }
     ensures short { OnOk result (All IsShort values.new.items) }
 {
     for item in items {
-        put(values, merged(keys, tallies, mark, item))?;
+        put(values, merged(keys, tallies, group, item))?;
     }
     Ok(())
 }
@@ -57,14 +57,14 @@ fn values_of(
     tallies: &[Tally],
     items: &[MergeItem],
 ) -> Result<Vec<Value>, Memory>
-    requires { All (λ l. IsMergeable keys.now items.now tallies.now l.mark) lines.now }
+    requires { All (λ l. IsMergeable keys.now items.now tallies.now l.group) lines.now }
     ensures values { IfOk result (λ values. values.items
         ≡ flat_map (line_values tallies.now keys.now items.now) lines.now) }
     ensures short { IfOk result (λ values. All IsShort values.items) }
 {
     let mut values = values_room(alloc, lines.len(), items.len())?;
     for line in lines {
-        put_group(&mut values, keys, tallies, &line.mark, items)?;
+        put_group(&mut values, keys, tallies, &line.group, items)?;
     }
     Ok(values)
 }
@@ -77,7 +77,7 @@ fn line_table(
     tallies: &[Tally],
     items: &[MergeItem],
 ) -> Result<Table, Memory>
-    requires { All (λ l. IsMergeable keys.now items.now tallies.now l.mark) lines.now }
+    requires { All (λ l. IsMergeable keys.now items.now tallies.now l.group) lines.now }
     ensures { IfOk result (λ table. table
         ≡ map (line_values tallies.now keys.now items.now) lines.now) }
 {
@@ -93,7 +93,7 @@ fn all_table(
     keys: &ColList,
     merge: &MergePlan,
 ) -> Result<Table, Memory>
-    requires may { All (λ l. IsMergeable keys.now merge.now.items tallies.now l.mark) lines.items }
+    requires may { All (λ l. IsMergeable keys.now merge.now.items tallies.now l.group) lines.items }
     requires apart { AreApart group_order
         (map (line_of tallies.now keys.now merge.now.items) lines.items) }
     ensures { IfOk result (λ table. table ≡ map (λ r. r.values) (first (limit_of merge.now.limit)
@@ -120,7 +120,7 @@ fn some_table(
     items: &[MergeItem],
 ) -> Result<Table, Memory>
     requires few { n < length lines.old }
-    requires may { All (λ l. IsMergeable keys.now items.now tallies.now l.mark) lines.old }
+    requires may { All (λ l. IsMergeable keys.now items.now tallies.now l.group) lines.old }
     requires apart { AreApart group_order (map (line_of tallies.now keys.now items.now) lines.old) }
     ensures { IfOk result (λ table. table ≡ map (λ r. r.values) (first (Some n)
         (in_order group_order (map (line_of tallies.now keys.now items.now) lines.old)))) }
@@ -142,17 +142,18 @@ fn limit_below(limit: Option<Int>, count: usize) -> Option<usize>
 /// Returns the table of groups whose totals are in range.
 fn tested_table(
     alloc: Global,
-    marks: Vec<Mark>,
+    groups: Vec<GroupEntry>,
     tallies: &[Tally],
     keys: &ColList,
     merge: &MergePlan,
 ) -> Result<Table, Memory>
-    requires may { All (IsMergeable keys.now merge.now.items tallies.now) marks.items }
-    requires rise { Rise key_order (map (group_of tallies.now) marks.items) }
+    requires may { All (IsMergeable keys.now merge.now.items tallies.now) groups.items }
+    requires rise { Rise key_order (map (group_of tallies.now) groups.items) }
     ensures { IfOk result (λ table. table ≡ map (λ r. r.values) (first (limit_of merge.now.limit)
-        (in_order group_order (map (merged_line keys.now merge.now) (map (group_of tallies.now) marks.items))))) }
+        (in_order group_order (map (merged_line keys.now merge.now)
+        (map (group_of tallies.now) groups.items))))) }
 {
-    let mut lines = lines(alloc, marks, keys, merge, tallies)?;
+    let mut lines = lines(alloc, groups, keys, merge, tallies)?;
     match limit_below(merge.limit, lines.len()) {
         None => all_table(alloc, lines, tallies, keys, merge),
         Some(n) => some_table(
@@ -170,22 +171,23 @@ fn tested_table(
 /// the table, and for one line for each group.
 pub(crate) fn group_table(
     alloc: Global,
-    marks: Vec<Mark>,
+    groups: Vec<GroupEntry>,
     tallies: &[Tally],
     keys: &ColList,
     merge: &MergePlan,
 ) -> Result<Table, Stop<TotalOut>>
-    requires there { All (IsThere (length tallies.now)) marks.items }
+    requires there { All (IsThere (length tallies.now)) groups.items }
     requires may { All (λ g. All (MayMerge keys.now g) merge.now.items)
-        (map (group_of tallies.now) marks.items) }
-    requires rise { Rise key_order (map (group_of tallies.now) marks.items) }
+        (map (group_of tallies.now) groups.items) }
+    requires rise { Rise key_order (map (group_of tallies.now) groups.items) }
     ensures ok { IfOk result (λ table.
-        merged_groups keys.now merge.now (map (group_of tallies.now) marks.items) ≡ Ok table) }
+        merged_groups keys.now merge.now (map (group_of tallies.now) groups.items) ≡ Ok table) }
     ensures out { IfErr result (λ stop. IfBad stop (λ out.
-        merged_groups keys.now merge.now (map (group_of tallies.now) marks.items) ≡ Err out.total)) }
+        merged_groups keys.now merge.now (map (group_of tallies.now) groups.items)
+        ≡ Err out.total)) }
 {
-    match first_out(tallies, marks.as_slice(), merge.items.as_slice()) {
+    match first_out(tallies, groups.as_slice(), merge.items.as_slice()) {
         Some(total) => Err(Stop::Bad(TotalOut { total })),
-        None => Ok(tested_table(alloc, marks, tallies, keys, merge)?),
+        None => Ok(tested_table(alloc, groups, tallies, keys, merge)?),
     }
 }

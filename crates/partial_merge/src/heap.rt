@@ -38,7 +38,7 @@ pub(crate) fn offer(heap: &mut BinaryHeap<Ranked>, limit: usize, row: Ranked)
 pub(crate) fn comes_late(heap: &BinaryHeap<Ranked>, row: &Ranked) -> bool
     requires order { IsHeap rank_order (heap_items heap.now) }
     ensures late { OnTrue result (IsBehindAll row.now (heap_items heap.now)) }
-    ensures told { IsBehindAll row.now (heap_items heap.now) → result ≡ true }
+    ensures reported { IsBehindAll row.now (heap_items heap.now) → result ≡ true }
     ensures before { OnFalse result (IsUpToFirst row.now (heap_items heap.now)) }
     ensures some { OnFalse result (0 < heap_len heap.now) }
 {

@@ -6,7 +6,7 @@ ghost use Rattle.std.proofs.Common.{rules};
 ghost use Rattle.std.specs.Cmp.{partial_order_from_own_ties};
 ghost use Rattle.std.specs.Cmp.Rules.{comparing};
 ghost use Rattle.std.specs.Ordering.{int_cmp, on, then_cmp, as_partial_cmp, eq_by_cmp};
-ghost use Rattle.partial_merge.specs.Bags.{out_row};
+ghost use Rattle.partial_merge.specs.Multisets.{out_row};
 ghost use Rattle.partial_merge.specs.Pairs.{pair_row};
 
 use crate::merged::number;

@@ -8,10 +8,10 @@ use sky_io::Memory;
 
 /// Checks that n more rows can be counted. No memory holds more rows than can be counted.
 #[inline]
-pub(crate) fn count_more(held: usize, more: usize) -> Result<(), Memory>
-    ensures { OnOk result (held + more ≤ 2 ^ 64 - 1) }
+pub(crate) fn count_more(count: usize, more: usize) -> Result<(), Memory>
+    ensures { OnOk result (count + more ≤ 2 ^ 64 - 1) }
 {
-    if more <= usize::MAX - held {
+    if more <= usize::MAX - count {
         Ok(())
     } else {
         Err(Memory)

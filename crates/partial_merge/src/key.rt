@@ -79,7 +79,7 @@ fn packed(taken: u8, a: Option<i64>, b: Option<i64>, c: Option<i64>, d: Option<i
 }
 
 /// Returns the number of a short key of one column, if its value is a number.
-fn lone_in(
+fn single_value_in(
     taken: u8,
     present: &[bool; SHORT_KEY_MOST],
     numbers: &[i64; SHORT_KEY_MOST],
@@ -131,7 +131,7 @@ impl Key {
     }
 
     /// Returns the number of a key of one column, if its value is a number.
-    pub(crate) fn lone(&self) -> Option<i64>
+    pub(crate) fn single_value(&self) -> Option<i64>
         ensures { IfSome result (λ n. self.now ≡ Some n ∷ []) }
     {
         match &self.values {
@@ -139,7 +139,7 @@ impl Key {
                 taken,
                 present,
                 numbers,
-            } => lone_in(*taken, present, numbers),
+            } => single_value_in(*taken, present, numbers),
             Values::Long(_) => None,
         }
     }
@@ -172,7 +172,7 @@ fn order_by_values(a: &Key, b: &Key) -> Ordering
 fn order_of(a: &Key, b: &Key) -> Ordering
     ensures { result ≡ key_order a.now b.now }
 {
-    match (a.lone(), b.lone()) {
+    match (a.single_value(), b.single_value()) {
         (Some(a), Some(b)) => a.cmp(&b),
         _ => order_by_values(a, b),
     }

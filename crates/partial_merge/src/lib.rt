@@ -5,59 +5,59 @@
 //! `PieceRoot`, which the pieces of a session are defined over, as a `Base`. `PieceFor` defines what a piece
 //! represents. `absorb` preserves it, whichever two pieces are joined (`specs/Joining.antt`).
 //!
-//! A piece holds rows or groups (`held`). Rows are a multiset (`bag`, `kept`): either all of them (`lot`; `plain` are
-//! the compact rows, `ranked` the others) or the first n (`heap`). Their values are in one list (`kept_cells`, `cell`),
-//! from which the values of dropped rows are removed (`packing`). Pairs whose values are their own two ids have a list
-//! of their own (`id_pair`, `id_pairs`). A multiset becomes a table in `bag_table`: its rows in `kept_table`, such
-//! pairs in `pair_table`.
+//! A piece contains rows or groups (`contents`). Rows are a multiset (`multiset`, `row_buffer`): either all of them
+//! (`unlimited_rows`; `compact_row` and `ranked` are its two kinds) or the first n (`heap`). Their values are in one
+//! list (`buffer_cells`, `cell`), from which the values of dropped rows are removed (`vacuum`). Pairs whose values are
+//! their own two ids have a list of their own (`id_pair`, `id_pairs`). A multiset becomes a table in `multiset_table`:
+//! its rows in `buffer_table`, such pairs in `pair_table`.
 //!
-//! Groups are an aggregation table (`pile`, `mark`, `short_key`). The groups of another aggregation table are added
-//! through cache entries, found by their keys (`taking`, `hints`). An aggregation table is consolidated when it has
-//! doubled (`keeping`, `settle`). It becomes a table in `group_table`: its totals are checked (`totals`), its lines
-//! sorted (`lines`), and their items merged (`merged`, `average`).
+//! Groups are an aggregation table (`aggregation_table`, `group_entry`, `short_key`). The groups of another aggregation
+//! table are added through cache entries, found by their keys (`combine`, `group_cache`). An aggregation table is
+//! consolidated when it has doubled (`doubling`, `consolidate`). It becomes a table in `group_table`: its totals are
+//! checked (`totals`), its lines sorted (`lines`), and their items merged (`merged`, `average`).
 //!
 //! Below: `answer_rules` for the meaning of pieces and the lemmas, `expr_eval` for expressions of keys, and `scan_core`
 //! for `Work`, by which a board joins pieces (`work`). This crate has no chunks, no scans and no threads.
 #![tactic(auto)]
 
+mod aggregation_table;
 mod average;
-mod bag;
-mod bag_table;
+mod buffer_cells;
+mod buffer_table;
 mod cell;
+mod combine;
+mod compact_row;
+mod consolidate;
+mod contents;
+mod doubling;
+mod group_cache;
+mod group_entry;
 mod group_table;
 mod heap;
-mod held;
-mod hints;
 mod id_pair;
 mod id_pairs;
-mod keeping;
-mod kept;
-mod kept_cells;
-mod kept_table;
 pub mod key;
+mod keyless_group;
 pub mod limits;
 mod line;
 mod lines;
 mod lists;
-mod lone;
-mod lot;
-mod mark;
 mod merged;
-mod packing;
+mod multiset;
+mod multiset_table;
 mod pair_table;
 pub mod piece;
-mod pile;
-mod plain;
 pub mod rank;
 mod ranked;
 pub mod root;
+mod row_buffer;
 mod row_table;
-mod settle;
 mod short_key;
 pub mod table;
-mod taking;
 pub mod tally;
 mod totals;
+mod unlimited_rows;
+mod vacuum;
 mod work;
 
 pub use key::Key;

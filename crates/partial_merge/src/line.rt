@@ -10,7 +10,7 @@ ghost use Rattle.answer_rules.specs.Keys.{key_order};
 ghost use Rattle.answer_rules.proofs.Totals.{key_total};
 ghost use Rattle.partial_merge.specs.declared.line.Line.{Line};
 
-use crate::mark::Mark;
+use crate::group_entry::GroupEntry;
 use std::cmp::Ordering;
 
 /// The sort key of a group and the group. The direction of the order and NULL are encoded in the sort key.
@@ -18,16 +18,16 @@ use std::cmp::Ordering;
 pub(crate) struct Line {
     pub(crate) class: u8,
     pub(crate) value: i128,
-    pub(crate) mark: Mark,
+    pub(crate) group: GroupEntry,
 }
 
 impl Ord for Line {
     ghost cmp = { then_cmp (on (λ l. l.class) nat_cmp)
-        (then_cmp (on (λ l. l.value) int_cmp) (on (λ l. l.mark.key) key_order)) };
+        (then_cmp (on (λ l. l.value) int_cmp) (on (λ l. l.group.key) key_order)) };
 
     ghost total = { then_total (on_total (λ (l : Line). l.class) nat_cmp_total)
         (then_total (on_total (λ (l : Line). l.value) int_cmp_total)
-        (on_total (λ (l : Line). l.mark.key) key_total)) };
+        (on_total (λ (l : Line). l.group.key) key_total)) };
 
     ghost matches_partial_cmp = { Prim.search (comparing, rules) depth 9 };
 
@@ -37,17 +37,17 @@ impl Ord for Line {
         self.class
             .cmp(&other.class)
             .then(self.value.cmp(&other.value))
-            .then(self.mark.cmp(&other.mark))
+            .then(self.group.cmp(&other.group))
     }
 }
 
 impl PartialOrd for Line {
     ghost partial_cmp = { as_partial_cmp (then_cmp (on (λ l. l.class) nat_cmp)
-        (then_cmp (on (λ l. l.value) int_cmp) (on (λ l. l.mark.key) key_order))) };
+        (then_cmp (on (λ l. l.value) int_cmp) (on (λ l. l.group.key) key_order))) };
 
     ghost laws = { partial_order_from_total (then_total (on_total (λ (l : Line). l.class) nat_cmp_total)
         (then_total (on_total (λ (l : Line). l.value) int_cmp_total)
-        (on_total (λ (l : Line). l.mark.key) key_total))) };
+        (on_total (λ (l : Line). l.group.key) key_total))) };
 
     fn partial_cmp(&self, other: &Line) -> Option<Ordering> {
         Some(self.cmp(other))
@@ -60,7 +60,7 @@ impl Eq for Line {
 
 impl PartialEq for Line {
     ghost eq = { eq_by_cmp (then_cmp (on (λ l. l.class) nat_cmp)
-        (then_cmp (on (λ l. l.value) int_cmp) (on (λ l. l.mark.key) key_order))) };
+        (then_cmp (on (λ l. l.value) int_cmp) (on (λ l. l.group.key) key_order))) };
 
     ghost laws = { Prim.search (comparing, rules) depth 9 };
 

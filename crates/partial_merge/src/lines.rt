@@ -10,10 +10,10 @@ ghost use Rattle.partial_merge.specs.Lines.{line_by};
 ghost use Rattle.partial_merge.specs.Merging.{IsMergeable};
 ghost use Rattle.partial_merge.specs.Tables.{IsShort};
 
+use crate::group_entry::GroupEntry;
 use crate::key::Key;
 use crate::line::Line;
 use crate::lists::room;
-use crate::mark::Mark;
 use crate::merged::merged;
 use crate::tally::Tally;
 use answer_rules::{MergeItem, MergeKey, MergeOrder, MergePlan, Value};
@@ -77,78 +77,83 @@ fn key_of(
     keys: &ColList,
     items: &[MergeItem],
     tallies: &[Tally],
-    mark: &Mark,
+    group: &GroupEntry,
     key: MergeKey,
 ) -> Option<i128>
-    requires { IsMergeable keys.now items.now tallies.now mark.now }
-    ensures value { result ≡ merged_key keys.now items.now (group_of tallies.now mark.now) key }
+    requires { IsMergeable keys.now items.now tallies.now group.now }
+    ensures value { result ≡ merged_key keys.now items.now (group_of tallies.now group.now) key }
     ensures small { IsOfSize (2 ^ 126) result }
 {
     match key {
         MergeKey::ChunkKey => None,
-        MergeKey::Item(place) => { number_of(merged(keys, tallies, mark, items.get(place)?)) }
-        MergeKey::Key(place) => key_at(&mark.key, place),
+        MergeKey::Item(place) => { number_of(merged(keys, tallies, group, items.get(place)?)) }
+        MergeKey::Key(place) => key_at(&group.key, place),
     }
 }
 
 /// Returns the value that a group is ordered by, if there is an order.
-fn order_key(keys: &ColList, merge: &MergePlan, tallies: &[Tally], mark: &Mark) -> Option<i128>
-    requires { IsMergeable keys.now merge.now.items tallies.now mark.now }
+fn order_key(
+    keys: &ColList,
+    merge: &MergePlan,
+    tallies: &[Tally],
+    group: &GroupEntry,
+) -> Option<i128>
+    requires { IsMergeable keys.now merge.now.items tallies.now group.now }
     ensures value { result
-        ≡ merged_order keys.now merge.now.items (group_of tallies.now mark.now) merge.now.order }
+        ≡ merged_order keys.now merge.now.items (group_of tallies.now group.now) merge.now.order }
     ensures small { IsOfSize (2 ^ 126) result }
 {
     match &merge.order {
         None => None,
-        Some(order) => key_of(keys, merge.items.as_slice(), tallies, mark, order.key),
+        Some(order) => key_of(keys, merge.items.as_slice(), tallies, group, order.key),
     }
 }
 
 /// Returns the line of a group.
-fn line(keys: &ColList, merge: &MergePlan, tallies: &[Tally], mark: Mark) -> Line
-    requires { IsMergeable keys.now merge.now.items tallies.now mark }
-    ensures { result ≡ line_by tallies.now keys.now merge.now mark }
+fn line(keys: &ColList, merge: &MergePlan, tallies: &[Tally], group: GroupEntry) -> Line
+    requires { IsMergeable keys.now merge.now.items tallies.now group }
+    ensures { result ≡ line_by tallies.now keys.now merge.now group }
 {
-    let key = order_key(keys, merge, tallies, &mark);
+    let key = order_key(keys, merge, tallies, &group);
     let down = goes_down(&merge.order);
     Line {
         class: class(down, key),
         value: rank(down, key),
-        mark,
+        group,
     }
 }
 
 /// Appends the lines of the groups. Does not allocate.
 fn put_lines(
     lines: &mut Vec<Line>,
-    marks: Vec<Mark>,
+    groups: Vec<GroupEntry>,
     keys: &ColList,
     merge: &MergePlan,
     tallies: &[Tally],
 )
-    requires room { vec_len lines.old + length marks.items ≤ vec_capacity lines.old }
-    requires may { All (IsMergeable keys.now merge.now.items tallies.now) marks.items }
+    requires room { vec_len lines.old + length groups.items ≤ vec_capacity lines.old }
+    requires may { All (IsMergeable keys.now merge.now.items tallies.now) groups.items }
     ensures { lines.new.items
-        ≡ lines.old.items ++ map (line_by tallies.now keys.now merge.now) marks.items }
+        ≡ lines.old.items ++ map (line_by tallies.now keys.now merge.now) groups.items }
 {
-    for mark in marks {
-        lines.push_reserved(line(keys, merge, tallies, mark));
+    for group in groups {
+        lines.push_reserved(line(keys, merge, tallies, group));
     }
 }
 
 /// Returns the lines of the groups, in the groups' order.
 pub(crate) fn lines(
     alloc: Global,
-    marks: Vec<Mark>,
+    groups: Vec<GroupEntry>,
     keys: &ColList,
     merge: &MergePlan,
     tallies: &[Tally],
 ) -> Result<Vec<Line>, Memory>
-    requires { All (IsMergeable keys.now merge.now.items tallies.now) marks.items }
+    requires { All (IsMergeable keys.now merge.now.items tallies.now) groups.items }
     ensures { IfOk result (λ lines. lines.items
-        ≡ map (line_by tallies.now keys.now merge.now) marks.items) }
+        ≡ map (line_by tallies.now keys.now merge.now) groups.items) }
 {
-    let mut lines = room(alloc, marks.len())?;
-    put_lines(&mut lines, marks, keys, merge, tallies);
+    let mut lines = room(alloc, groups.len())?;
+    put_lines(&mut lines, groups, keys, merge, tallies);
     Ok(lines)
 }

@@ -14,8 +14,8 @@ ghost use Rattle.partial_merge.specs.Merging.{IsOnKey, IsTested, MayMerge};
 ghost use Rattle.partial_merge.specs.Tables.{IsShort};
 
 use crate::average::rounded;
+use crate::group_entry::GroupEntry;
 use crate::key::Key;
-use crate::mark::Mark;
 use crate::row_table::shown;
 use crate::tally::Tally;
 use answer_rules::{MergeItem, Value};
@@ -24,11 +24,11 @@ use sky_vector::Num;
 use sql_bound::{BoundExpr, ColList};
 
 /// Returns the aggregate states of a group.
-pub(crate) fn parts_of<'t>(tallies: &'t [Tally], mark: &Mark) -> &'t [Tally]
-    requires { IsThere (length tallies.now) mark.now }
-    ensures { result.now ≡ (group_of tallies.now mark.now).part.parts }
+pub(crate) fn parts_of<'t>(tallies: &'t [Tally], group: &GroupEntry) -> &'t [Tally]
+    requires { IsThere (length tallies.now) group.now }
+    ensures { result.now ≡ (group_of tallies.now group.now).part.parts }
 {
-    &tallies[mark.from..mark.to]
+    &tallies[group.from..group.to]
 }
 
 /// Returns how many values the aggregate state at a position counts, or 0 if there is none.
@@ -97,17 +97,22 @@ fn of_keys(e: &BoundExpr, keys: &ColList, key: &Key) -> Value
 }
 
 /// Returns a merged item of a group whose totals are checked.
-pub(crate) fn merged(keys: &ColList, tallies: &[Tally], mark: &Mark, item: &MergeItem) -> Value
-    requires there { IsThere (length tallies.now) mark.now }
-    requires may { MayMerge keys.now (group_of tallies.now mark.now) item.now }
-    requires tested { IsTested (group_of tallies.now mark.now) item.now }
-    ensures value { result ≡ merged_value keys.now (group_of tallies.now mark.now) item.now }
+pub(crate) fn merged(
+    keys: &ColList,
+    tallies: &[Tally],
+    group: &GroupEntry,
+    item: &MergeItem,
+) -> Value
+    requires there { IsThere (length tallies.now) group.now }
+    requires may { MayMerge keys.now (group_of tallies.now group.now) item.now }
+    requires tested { IsTested (group_of tallies.now group.now) item.now }
+    ensures value { result ≡ merged_value keys.now (group_of tallies.now group.now) item.now }
     ensures short { IsShort result }
 {
-    let parts = parts_of(tallies, mark);
+    let parts = parts_of(tallies, group);
     match item {
         MergeItem::Column(_) => Value::Null,
-        MergeItem::OfKeys(e) => of_keys(e, keys, &mark.key),
+        MergeItem::OfKeys(e) => of_keys(e, keys, &group.key),
         MergeItem::Count(n) => Value::Whole(number(seen_at(parts, *n) as i128)),
         MergeItem::Sum(n) => whole(value_at(parts, *n)),
         MergeItem::Min(n) => whole(value_at(parts, *n)),

@@ -12,14 +12,16 @@ ghost use Rattle.std.specs.Bool.{OnTrue};
 ghost use Rattle.answer_rules.specs.Finish.{finished};
 ghost use Rattle.answer_rules.specs.PieceLaws.{empty_view};
 ghost use Rattle.answer_rules.specs.Rows.{limit_of};
-ghost use Rattle.partial_merge.specs.Bags.{out_row};
-ghost use Rattle.partial_merge.specs.Joining.{IsNoneOfFirst, IsOfRows, IsToldLate, Joins, MayFinish};
+ghost use Rattle.partial_merge.specs.Multisets.{out_row};
+ghost use Rattle.partial_merge.specs.Joining.{IsNoneOfFirst, IsOfRows, IsReportedLate, Joins, MayFinish};
 ghost use Rattle.partial_merge.specs.Joining.{MayJoin, MayTakeGroup, TakesRow, with_group};
 ghost use Rattle.partial_merge.specs.Groups.{group_by};
 ghost use Rattle.partial_merge.specs.Sizes.{IsWithin, size_of};
 ghost use Rattle.sky_io.specs.Stops.{IfBad};
 
-use crate::held::{Held, count, finish, is_too_late, nothing, push_group, push_row, take_in};
+use crate::contents::{
+    Contents, combine_contents, count, finish, is_too_late, nothing, push_group, push_row,
+};
 use crate::key::Key;
 use crate::rank::Rank;
 use crate::table::Table;
@@ -36,17 +38,17 @@ use std::marker::{Model, PhantomData};
 #[derive(Drop)]
 pub struct Piece<'w> {
     alloc: Global,
-    held: Held,
+    contents: Contents,
     of: PhantomData<&'w Rows>,
 }
 
 impl<'w> Model for Piece<'w> {
     ghost use Rattle.answer_rules.specs.Pieces.{PieceView};
-    ghost use Rattle.partial_merge.specs.Held.{view_in};
+    ghost use Rattle.partial_merge.specs.Contents.{view_in};
 
     ghost Value = { PieceView };
 
-    ghost view = { λ p. view_in p.held };
+    ghost view = { λ p. view_in p.contents };
 }
 
 impl<'w> Piece<'w> {
@@ -56,7 +58,7 @@ impl<'w> Piece<'w> {
     {
         Piece {
             alloc,
-            held: nothing(alloc, query),
+            contents: nothing(alloc, query),
             of: PhantomData,
         }
     }
@@ -66,9 +68,9 @@ impl<'w> Piece<'w> {
     /// nor its values be computed. Does not allocate.
     pub fn is_too_late(&self, rank: &Rank) -> bool
         ensures late { OnTrue result (IsNoneOfFirst self.now rank.now) }
-        ensures told { IsToldLate self.now rank.now result }
+        ensures reported { IsReportedLate self.now rank.now result }
     {
-        is_too_late(&self.held, rank)
+        is_too_late(&self.contents, rank)
     }
 
     /// Adds a row with this sort key and these values, as a scan finds it. After `Err` nothing has changed.
@@ -77,7 +79,7 @@ impl<'w> Piece<'w> {
         ensures kept { OnOk result (TakesRow self.old (out_row rank.now values.now) self.new) }
         ensures same { OnErr result (self.new ≡ self.old) }
     {
-        push_row(&mut self.held, rank, values)
+        push_row(&mut self.contents, rank, values)
     }
 
     /// Adds a group with this key, this number of rows and these aggregate states, as a scan finds it. After `Err`
@@ -87,7 +89,7 @@ impl<'w> Piece<'w> {
         ensures put { OnOk result (self.new ≡ with_group self.old (group_by key rows parts.now)) }
         ensures same { OnErr result (self.new ≡ self.old) }
     {
-        push_group(&mut self.held, key, rows, parts)
+        push_group(&mut self.contents, key, rows, parts)
     }
 
     /// Returns the number of rows, which is at most n for a chunk query with LIMIT n. For groups it returns their
@@ -97,7 +99,7 @@ impl<'w> Piece<'w> {
         ensures most { size_of self.now ≤ result }
         ensures few { IsWithin result self.now }
     {
-        count(&self.held)
+        count(&self.contents)
     }
 
     /// Adds another piece, so that this one represents the chunks of both. After `Err` this piece is unchanged, and the
@@ -109,10 +111,10 @@ impl<'w> Piece<'w> {
     {
         let Piece {
             alloc: _,
-            held,
+            contents,
             of: _,
         } = other;
-        take_in(&mut self.held, held)
+        combine_contents(&mut self.contents, contents)
     }
 
     /// Returns the answer: its rows in order, or the first of them if there is a limit. If totals are outside ±2^100,
@@ -124,7 +126,11 @@ impl<'w> Piece<'w> {
         ensures out { IfErr result (λ stop. IfBad stop (λ out.
             finished merge.now self.entry ≡ Err out.total)) }
     {
-        let Piece { alloc, held, of: _ } = self;
-        finish(alloc, held, merge)
+        let Piece {
+            alloc,
+            contents,
+            of: _,
+        } = self;
+        finish(alloc, contents, merge)
     }
 }

@@ -4,13 +4,13 @@ ghost use Rattle.std.specs.Prelude.{◌≡◌, ◌+◌, ◌*◌, ◌≤◌, ◌+
 ghost use Rattle.std.specs.List.{flat_map};
 ghost use Rattle.answer_rules.specs.Finish.{column_value};
 ghost use Rattle.answer_rules.specs.Rows.{shown};
-ghost use Rattle.partial_merge.specs.Plains.{full, plain_values};
+ghost use Rattle.partial_merge.specs.CompactRows.{compact_values, full};
 ghost use Rattle.partial_merge.specs.Rows.{IsIn, row_of, row_values};
 ghost use Rattle.partial_merge.specs.Tables.{IsShort};
 
 use crate::cell::Cell;
+use crate::compact_row::CompactRow;
 use crate::lists::room;
-use crate::plain::Plain;
 use crate::ranked::Ranked;
 use crate::table::Table;
 use answer_rules::{MergeItem, Value};
@@ -105,38 +105,38 @@ fn part(cells: &[Cell], from: usize, width: usize) -> &[Cell]
 }
 
 /// Returns the values of compact rows, each of the given width.
-fn plain_values(
+fn compact_values(
     alloc: Global,
-    plain: &[Plain],
+    compact: &[CompactRow],
     width: usize,
     cells: &[Cell],
     items: &[MergeItem],
 ) -> Result<Vec<Value>, Memory>
-    requires { All (λ p. IsIn (length cells.now) (full width p)) plain.now }
+    requires { All (λ p. IsIn (length cells.now) (full width p)) compact.now }
     ensures { IfOk result (λ values. values.items
-        ≡ flat_map (plain_values cells.now items.now width) plain.now) }
+        ≡ flat_map (compact_values cells.now items.now width) compact.now) }
 {
-    let mut values = values_room(alloc, plain.len(), items.len())?;
-    for row in plain {
+    let mut values = values_room(alloc, compact.len(), items.len())?;
+    for row in compact {
         put_row(&mut values, part(cells, row.from, width), items)?;
     }
     Ok(values)
 }
 
 /// Returns the table of these compact rows, each of which has the given number of values. Allocates memory for it.
-pub(crate) fn plain_table(
+pub(crate) fn compact_table(
     alloc: Global,
-    plain: &[Plain],
+    compact: &[CompactRow],
     width: usize,
     cells: &[Cell],
     items: &[MergeItem],
 ) -> Result<Table, Memory>
-    requires { All (λ p. IsIn (length cells.now) (full width p)) plain.now }
+    requires { All (λ p. IsIn (length cells.now) (full width p)) compact.now }
     ensures { IfOk result (λ table. table ≡ map (λ r. map (column_value r.cells) items.now)
-        (map (row_of cells.now) (map (full width) plain.now))) }
+        (map (row_of cells.now) (map (full width) compact.now))) }
 {
-    let values = plain_values(alloc, plain, width, cells, items)?;
-    Ok(Table::of(values, items.len(), plain.len()))
+    let values = compact_values(alloc, compact, width, cells, items)?;
+    Ok(Table::of(values, items.len(), compact.len()))
 }
 
 /// Returns the table of these rows. Allocates memory for it.

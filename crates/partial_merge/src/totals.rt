@@ -6,7 +6,7 @@ ghost use Rattle.sky_vector.specs.Numbers.{is_query_number};
 ghost use Rattle.answer_rules.specs.Finish.{merged_out, merged_totals};
 ghost use Rattle.partial_merge.specs.Groups.{IsThere, group_of};
 
-use crate::mark::Mark;
+use crate::group_entry::GroupEntry;
 use crate::merged::{parts_of, value_at};
 use crate::tally::Tally;
 use answer_rules::MergeItem;
@@ -23,11 +23,11 @@ fn total_or_0(total: Option<i128>) -> i128
 }
 
 /// Returns the total of a group that an item uses, if it uses one.
-fn total(tallies: &[Tally], mark: &Mark, item: &MergeItem) -> Option<i128>
-    requires { IsThere (length tallies.now) mark.now }
-    ensures { option_to_list result ≡ merged_totals (group_of tallies.now mark.now) item.now }
+fn total(tallies: &[Tally], group: &GroupEntry, item: &MergeItem) -> Option<i128>
+    requires { IsThere (length tallies.now) group.now }
+    ensures { option_to_list result ≡ merged_totals (group_of tallies.now group.now) item.now }
 {
-    let parts = parts_of(tallies, mark);
+    let parts = parts_of(tallies, group);
     match item {
         MergeItem::Sum(n) => Some(total_or_0(value_at(parts, *n))),
         MergeItem::Avg { sum, count: _ } => Some(total_or_0(value_at(parts, *sum))),
@@ -54,22 +54,22 @@ fn if_out(total: Option<i128>) -> Option<i128>
 }
 
 /// Returns the total of a group that an item uses, if it is out of range.
-fn out_of(tallies: &[Tally], mark: &Mark, item: &MergeItem) -> Option<i128>
-    requires { IsThere (length tallies.now) mark.now }
+fn out_of(tallies: &[Tally], group: &GroupEntry, item: &MergeItem) -> Option<i128>
+    requires { IsThere (length tallies.now) group.now }
     ensures { result ≡ find (λ t. not (is_query_number t))
-        (merged_totals (group_of tallies.now mark.now) item.now) }
+        (merged_totals (group_of tallies.now group.now) item.now) }
 {
-    if_out(total(tallies, mark, item))
+    if_out(total(tallies, group, item))
 }
 
 /// Returns the first total of a group that is out of range, by item.
-fn first_of(tallies: &[Tally], mark: &Mark, items: &[MergeItem]) -> Option<i128>
-    requires { IsThere (length tallies.now) mark.now }
+fn first_of(tallies: &[Tally], group: &GroupEntry, items: &[MergeItem]) -> Option<i128>
+    requires { IsThere (length tallies.now) group.now }
     ensures { result ≡ find (λ t. not (is_query_number t))
-        (flat_map (merged_totals (group_of tallies.now mark.now)) items.now) }
+        (flat_map (merged_totals (group_of tallies.now group.now)) items.now) }
 {
     for item in items {
-        let out = out_of(tallies, mark, item);
+        let out = out_of(tallies, group, item);
         if out.is_some() {
             return out;
         }
@@ -78,12 +78,16 @@ fn first_of(tallies: &[Tally], mark: &Mark, items: &[MergeItem]) -> Option<i128>
 }
 
 /// Returns the first total that is out of range, by group, then by item.
-pub(crate) fn first_out(tallies: &[Tally], marks: &[Mark], items: &[MergeItem]) -> Option<i128>
-    requires { All (IsThere (length tallies.now)) marks.now }
-    ensures { result ≡ merged_out items.now (map (group_of tallies.now) marks.now) }
+pub(crate) fn first_out(
+    tallies: &[Tally],
+    groups: &[GroupEntry],
+    items: &[MergeItem],
+) -> Option<i128>
+    requires { All (IsThere (length tallies.now)) groups.now }
+    ensures { result ≡ merged_out items.now (map (group_of tallies.now) groups.now) }
 {
-    for mark in marks {
-        let out = first_of(tallies, mark, items);
+    for group in groups {
+        let out = first_of(tallies, group, items);
         if out.is_some() {
             return out;
         }

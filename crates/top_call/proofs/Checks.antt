@@ -8,7 +8,7 @@ use Rattle.scan_history.specs.Texts.{journal_of}
 use Rattle.scan_history.specs.Checked.{IsRight, ServesRightly}
 use Rattle.scan_history.specs.declared.fault.HistoryFault.{HistoryFault}
 use Rattle.top_call.specs.Words.{Check, names_of}
-use Rattle.top_call.specs.Reached.{Texts, IfTold, text_at}
+use Rattle.top_call.specs.Reached.{IfObservable, Texts, text_at}
 use Rattle.top_call.specs.Journals.{IsChecked, IsFaultOf, IsJournalFault, IsJournalOf}
 use Rattle.top_call.specs.Jobs.{Checks}
 use Rattle.top_call.specs.Explained.{ExplainedOf, IsStop, shown}
@@ -60,21 +60,21 @@ check_over text journal old new Memory is h = h
 check_over text journal old new (BadJournal fault) is h = (subst (λ r. IsFaultOf r fault) (sym is) h.0, h.1)
 
 -- the journal that is read of the text is that of the named one
-journal_told : (name text : List ℕ) (journal : JournalView) (told : Option Texts)
-    → IfTold told (λ texts. named_text name texts ≡ text) → length text ≤ TEXT_MOST → journal_of text ≡ Ok journal
-    → IsChecked journal → IfTold told (λ texts. IsJournalOf (named_text name texts) journal)
-journal_told name text journal None h short read checked = tt
-journal_told name text journal (Some texts) h short read checked =
+journal_visible : (name text : List ℕ) (journal : JournalView) (visible : Option Texts)
+    → IfObservable visible (λ texts. named_text name texts ≡ text) → length text ≤ TEXT_MOST → journal_of text ≡ Ok journal
+    → IsChecked journal → IfObservable visible (λ texts. IsJournalOf (named_text name texts) journal)
+journal_visible name text journal None h short read checked = tt
+journal_visible name text journal (Some texts) h short read checked =
     subst (λ t. IsJournalOf t journal) (sym h) (record { short = short; read = read; right = checked.right })
 
-fault_told : (name text : List ℕ) (fault : HistoryFault) (told : Option Texts)
-    → IfTold told (λ texts. named_text name texts ≡ text) → length text ≤ TEXT_MOST → IsFaultOf (journal_of text) fault
-    → IfTold told (λ texts. IsJournalFault (text_at (names_of (Check name)) texts Journal) fault)
-fault_told name text fault None h short is = tt
-fault_told name text fault (Some texts) h short is = subst (λ t. IsJournalFault t fault) (sym h) (short, is)
+fault_visible : (name text : List ℕ) (fault : HistoryFault) (visible : Option Texts)
+    → IfObservable visible (λ texts. named_text name texts ≡ text) → length text ≤ TEXT_MOST → IsFaultOf (journal_of text) fault
+    → IfObservable visible (λ texts. IsJournalFault (text_at (names_of (Check name)) texts Journal) fault)
+fault_visible name text fault None h short is = tt
+fault_visible name text fault (Some texts) h short is = subst (λ t. IsJournalFault t fault) (sym h) (short, is)
 
 -- no text is before a journal
-none_earlier : (told : Option Texts) → IfTold told (λ texts. Unit {0})
+none_earlier : (visible : Option Texts) → IfObservable visible (λ texts. Unit {0})
 none_earlier None = tt
 none_earlier (Some texts) = tt
 
@@ -87,7 +87,7 @@ check_explained name text old new before now (Done ends) given h =
       h.journal,
       refl,
       h.check.checked,
-      journal_told name text h.journal old.texts given.read.holds given.short h.read h.check.checked,
+      journal_visible name text h.journal old.texts given.read.holds given.short h.read h.check.checked,
     )
     (λ ends fits. tt) given.read.same h.check.work
 check_explained name text old new before now (SinkFault ends) given h =
@@ -95,7 +95,7 @@ check_explained name text old new before now (SinkFault ends) given h =
       h.journal,
       refl,
       h.check.checked,
-      journal_told name text h.journal old.texts given.read.holds given.short h.read h.check.checked,
+      journal_visible name text h.journal old.texts given.read.holds given.short h.read h.check.checked,
     )
     (λ ends fits. tt) given.read.same h.check.work
 check_explained name text old new before now Usage given h = absurd h.check.work
@@ -108,7 +108,7 @@ check_explained name text old new before now Memory given h = (given.read.same, 
 check_explained name text old new before now (BadJournal fault) given h = record {
   has = refl;
   earlier = none_earlier old.texts;
-  why = fault_told name text fault old.texts given.read.holds given.short h.0;
+  why = fault_visible name text fault old.texts given.read.holds given.short h.0;
   fetched = given.read.same;
   untouched = h.1;
 }

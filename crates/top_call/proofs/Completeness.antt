@@ -12,7 +12,7 @@ use Rattle.scan_history.specs.declared.fault.HistoryFault.TheVariants.{Syntax, N
 use Rattle.scan_rules.specs.declared.journal.Journal.{Journal as JournalView}
 use Rattle.top_call.specs.Words.{Form, Load, Asks, Check, Demo, names_of}
 use Rattle.top_call.specs.Outcomes.{name_of}
-use Rattle.top_call.specs.Reached.{Texts, IfTold, text_at, IsAccepted, IsSkyFault, IsCatalogueFault, IsScriptFault, IsLong, HasText}
+use Rattle.top_call.specs.Reached.{HasText, IfObservable, IsAccepted, IsCatalogueFault, IsLong, IsScriptFault, IsSkyFault, Texts, text_at}
 use Rattle.top_call.specs.Reached.{AreAccepted, AreEarlierAccepted, IsStill, AreStill, AreAllStill}
 use Rattle.top_call.specs.Journals.{IsFaultOf, IsJournalFault, IsJournalOf}
 use Rattle.top_call.specs.Jobs.{Job, IsJobOf}
@@ -74,11 +74,11 @@ job_accepted (Demo count seed workers) texts job is Catalogue has = absurd (cc h
 job_accepted (Demo count seed workers) texts job is Script has = absurd (cc has)
 job_accepted (Demo count seed workers) texts job is Journal has = absurd (cc has)
 
--- the same, where the texts are told
-told_accepted :
-    (form : Form) (told : Option Texts) (texts : Texts) (job : Job) → told ≡ Some texts → IsJobOf form told job →
+-- the same, if the texts are observable
+visible_accepted :
+    (form : Form) (visible : Option Texts) (texts : Texts) (job : Job) → visible ≡ Some texts → IsJobOf form visible job →
     AreAccepted (names_of form) texts
-told_accepted form told texts job is asked = job_accepted form texts job (subst (λ t. IsJobOf form t job) is asked)
+visible_accepted form visible texts job is asked = job_accepted form texts job (subst (λ t. IsJobOf form t job) is asked)
 
 -- a command that has a journal has no other text
 journal_alone : (form : Form) (which : Which) → HasText (names_of form) Journal → HasText (names_of form) which → which ≡ Journal
@@ -144,11 +144,11 @@ no_fault :
 no_fault form texts which other old new has has' isnt still earlier rose =
     still_not_risen _ _ (still_at form texts which other old new has has' isnt still earlier) rose
 
--- a fact of the texts, where they are told
+-- a fact of the texts, if they are observable
 at_texts :
-    (told : Option Texts) (texts : Texts) (P : Texts → Type 0) → told ≡ Some texts → IfTold told P →
+    (visible : Option Texts) (texts : Texts) (P : Texts → Type 0) → visible ≡ Some texts → IfObservable visible P →
     P texts
-at_texts told texts P is h = subst (λ t. IfTold t P) is h
+at_texts visible texts P is h = subst (λ t. IfObservable t P) is h
 
 -- A text was reached, and isn't accepted.
 record StopsAt (form : Form) (texts : Texts) (other : Which) : Type 0 where
@@ -161,49 +161,49 @@ why_at :
     (form : Form) (s : Shown) (texts : Texts) (other : Which) (Why : List ℕ → Type 0) →
     s.shelf_old.texts ≡ Some texts → IsRefused (names_of form) s other Why →
     Why (text_at (names_of form) texts other)
-why_at form s texts other Why told h =
-    at_texts s.shelf_old.texts texts (λ texts. Why (text_at (names_of form) texts other)) told h.why
+why_at form s texts other Why visible h =
+    at_texts s.shelf_old.texts texts (λ texts. Why (text_at (names_of form) texts other)) visible h.why
 
 -- a refused text was reached and isn't accepted
 stops :
     (form : Form) (s : Shown) (texts : Texts) (other : Which) (Why : List ℕ → Type 0) →
     s.shelf_old.texts ≡ Some texts → ((text : List ℕ) → Why text → IsAccepted other text → ⊥) →
     IsRefused (names_of form) s other Why → StopsAt form texts other
-stops form s texts other Why told refuses h = record {
+stops form s texts other Why visible refuses h = record {
   has = h.has;
-  earlier = at_texts s.shelf_old.texts texts (λ texts. AreEarlierAccepted (names_of form) texts other) told h.earlier;
-  isnt = refuses (text_at (names_of form) texts other) (why_at form s texts other Why told h);
+  earlier = at_texts s.shelf_old.texts texts (λ texts. AreEarlierAccepted (names_of form) texts other) visible h.earlier;
+  isnt = refuses (text_at (names_of form) texts other) (why_at form s texts other Why visible h);
 }
 
 -- a refused sky plan
 sky_stops : (form : Form) (s : Shown) (texts : Texts) (fault : SkyFault) → s.shelf_old.texts ≡ Some texts
     → IsRefused (names_of form) s Sky (λ text. IsSkyFault text fault) → StopsAt form texts Sky
-sky_stops form s texts fault told h =
-    stops form s texts Sky (λ text. IsSkyFault text fault) told (λ text is. sky_fault text fault is) h
+sky_stops form s texts fault visible h =
+    stops form s texts Sky (λ text. IsSkyFault text fault) visible (λ text is. sky_fault text fault is) h
 
 -- a refused catalogue
 catalogue_stops : (form : Form) (s : Shown) (texts : Texts) (fault : LoadFault) → s.shelf_old.texts ≡ Some texts
     → IsRefused (names_of form) s Catalogue (λ text. IsCatalogueFault text fault) → StopsAt form texts Catalogue
-catalogue_stops form s texts fault told h =
-    stops form s texts Catalogue (λ text. IsCatalogueFault text fault) told (λ text is. catalogue_fault text fault is) h
+catalogue_stops form s texts fault visible h =
+    stops form s texts Catalogue (λ text. IsCatalogueFault text fault) visible (λ text is. catalogue_fault text fault is) h
 
 -- a refused script
 script_stops : (form : Form) (s : Shown) (texts : Texts) (fault : ScriptFault) → s.shelf_old.texts ≡ Some texts
     → IsRefused (names_of form) s Script (λ text. IsScriptFault text fault) → StopsAt form texts Script
-script_stops form s texts fault told h =
-    stops form s texts Script (λ text. IsScriptFault text fault) told (λ text is. script_fault text fault is) h
+script_stops form s texts fault visible h =
+    stops form s texts Script (λ text. IsScriptFault text fault) visible (λ text is. script_fault text fault is) h
 
 -- a refused journal
 journal_stops : (form : Form) (s : Shown) (texts : Texts) (fault : HistoryFault) → s.shelf_old.texts ≡ Some texts
     → IsRefused (names_of form) s Journal (λ text. IsJournalFault text fault) → StopsAt form texts Journal
-journal_stops form s texts fault told h =
-    stops form s texts Journal (λ text. IsJournalFault text fault) told
+journal_stops form s texts fault visible h =
+    stops form s texts Journal (λ text. IsJournalFault text fault) visible
     (λ text is. journal_fault text fault (journal_of text) refl is.1) h
 
 -- a text that is too long
 long_stops : (form : Form) (s : Shown) (texts : Texts) (which : Which) → s.shelf_old.texts ≡ Some texts
     → IsRefused (names_of form) s which (IsLong which) → StopsAt form texts which
-long_stops form s texts which told h = stops form s texts which (IsLong which) told (long_text which) h
+long_stops form s texts which visible h = stops form s texts which (IsLong which) visible (long_text which) h
 
 -- the text at which it stops is the one that is reached and isn't accepted
 same_stop :
@@ -220,25 +220,25 @@ stops_by :
     AreEarlierAccepted (names_of form) texts which →
     (IsAccepted which (text_at (names_of form) texts which) → ⊥) →
     AreStill (names_of form) s.shelf_old.failed s.shelf_new.failed which → IsRefusalOrMemory which outcome
-stops_by form s texts (Done ends) which told h has earlier isnt still =
-    absurd (isnt (told_accepted form s.shelf_old.texts texts h.job told h.asked which has))
-stops_by form s texts Usage which told h has earlier isnt still = h
-stops_by form s texts (BadSky fault) which told h has earlier isnt still =
-    sym (same_stop form texts which Sky has earlier isnt (sky_stops form s texts fault told h))
-stops_by form s texts (BadCatalogue fault) which told h has earlier isnt still =
-    sym (same_stop form texts which Catalogue has earlier isnt (catalogue_stops form s texts fault told h))
-stops_by form s texts (BadScript fault) which told h has earlier isnt still =
-    sym (same_stop form texts which Script has earlier isnt (script_stops form s texts fault told h))
-stops_by form s texts (TooLong other) which told h has earlier isnt still =
-    same_stop form texts which other has earlier isnt (long_stops form s texts other told h)
-stops_by form s texts (ShelfFault other) which told h has earlier isnt still =
-    let earlier' = at_texts s.shelf_old.texts texts (λ texts. AreEarlierAccepted (names_of form) texts other) told h.earlier in
+stops_by form s texts (Done ends) which visible h has earlier isnt still =
+    absurd (isnt (visible_accepted form s.shelf_old.texts texts h.job visible h.asked which has))
+stops_by form s texts Usage which visible h has earlier isnt still = h
+stops_by form s texts (BadSky fault) which visible h has earlier isnt still =
+    sym (same_stop form texts which Sky has earlier isnt (sky_stops form s texts fault visible h))
+stops_by form s texts (BadCatalogue fault) which visible h has earlier isnt still =
+    sym (same_stop form texts which Catalogue has earlier isnt (catalogue_stops form s texts fault visible h))
+stops_by form s texts (BadScript fault) which visible h has earlier isnt still =
+    sym (same_stop form texts which Script has earlier isnt (script_stops form s texts fault visible h))
+stops_by form s texts (TooLong other) which visible h has earlier isnt still =
+    same_stop form texts which other has earlier isnt (long_stops form s texts other visible h)
+stops_by form s texts (ShelfFault other) which visible h has earlier isnt still =
+    let earlier' = at_texts s.shelf_old.texts texts (λ texts. AreEarlierAccepted (names_of form) texts other) visible h.earlier in
     no_fault form texts which other s.shelf_old.failed s.shelf_new.failed has h.has isnt still earlier' h.cause
-stops_by form s texts (SinkFault ends) which told h has earlier isnt still =
-    absurd (isnt (told_accepted form s.shelf_old.texts texts h.job told h.asked which has))
-stops_by form s texts Memory which told h has earlier isnt still = tt
-stops_by form s texts (BadJournal fault) which told h has earlier isnt still =
-    sym (same_stop form texts which Journal has earlier isnt (journal_stops form s texts fault told h))
+stops_by form s texts (SinkFault ends) which visible h has earlier isnt still =
+    absurd (isnt (visible_accepted form s.shelf_old.texts texts h.job visible h.asked which has))
+stops_by form s texts Memory which visible h has earlier isnt still = tt
+stops_by form s texts (BadJournal fault) which visible h has earlier isnt still =
+    sym (same_stop form texts which Journal has earlier isnt (journal_stops form s texts fault visible h))
 
 -- all being accepted, no text is refused
 none_stops : (form : Form) (texts : Texts) (other : Which) → StopsAt form texts other → AreAccepted (names_of form) texts → ⊥
@@ -250,34 +250,34 @@ done_by :
     s.shelf_old.texts ≡ Some texts → ExplainedOf form s outcome → AreAccepted (names_of form) texts →
     AreAllStill (names_of form) s.shelf_old.failed s.shelf_new.failed →
     (Rose s.sink_old.faults s.sink_new.faults → ⊥) → IsDoneOrMemory outcome
-done_by form s texts (Done ends) told h all still calm = tt
-done_by form s texts Usage told h all still calm = h
-done_by form s texts (BadSky fault) told h all still calm =
-    none_stops form texts Sky (sky_stops form s texts fault told h) all
-done_by form s texts (BadCatalogue fault) told h all still calm =
-    none_stops form texts Catalogue (catalogue_stops form s texts fault told h) all
-done_by form s texts (BadScript fault) told h all still calm =
-    none_stops form texts Script (script_stops form s texts fault told h) all
-done_by form s texts (TooLong which) told h all still calm =
-    none_stops form texts which (long_stops form s texts which told h) all
-done_by form s texts (ShelfFault other) told h all still calm = still_not_risen _ _ (still other h.has) h.cause
-done_by form s texts (SinkFault ends) told h all still calm = calm h.cause
-done_by form s texts Memory told h all still calm = tt
-done_by form s texts (BadJournal fault) told h all still calm =
-    none_stops form texts Journal (journal_stops form s texts fault told h) all
+done_by form s texts (Done ends) visible h all still calm = tt
+done_by form s texts Usage visible h all still calm = h
+done_by form s texts (BadSky fault) visible h all still calm =
+    none_stops form texts Sky (sky_stops form s texts fault visible h) all
+done_by form s texts (BadCatalogue fault) visible h all still calm =
+    none_stops form texts Catalogue (catalogue_stops form s texts fault visible h) all
+done_by form s texts (BadScript fault) visible h all still calm =
+    none_stops form texts Script (script_stops form s texts fault visible h) all
+done_by form s texts (TooLong which) visible h all still calm =
+    none_stops form texts which (long_stops form s texts which visible h) all
+done_by form s texts (ShelfFault other) visible h all still calm = still_not_risen _ _ (still other h.has) h.cause
+done_by form s texts (SinkFault ends) visible h all still calm = calm h.cause
+done_by form s texts Memory visible h all still calm = tt
+done_by form s texts (BadJournal fault) visible h all still calm =
+    none_stops form texts Journal (journal_stops form s texts fault visible h) all
 
-if_told :
-    (told : Option Texts) (P : Texts → Type 0) → ((texts : Texts) → told ≡ Some texts → P texts) →
-    IfTold told P
-if_told None P h = tt
-if_told (Some texts) P h = h texts refl
+if_observable :
+    (visible : Option Texts) (P : Texts → Type 0) → ((texts : Texts) → visible ≡ Some texts → P texts) →
+    IfObservable visible P
+if_observable None P h = tt
+if_observable (Some texts) P h = h texts refl
 
--- a form that names its texts has them where they are told
-told_completes : (form : Form) (s : Shown) (outcome : Outcome) → ExplainedOf form s outcome
-    → IfTold s.shelf_old.texts (Completes (names_of form) s outcome)
-told_completes form s outcome h = if_told s.shelf_old.texts (Completes (names_of form) s outcome) (λ texts told. record {
-  refused = λ which has earlier isnt still. stops_by form s texts outcome which told h has earlier isnt still;
-  done = λ all still calm. done_by form s texts outcome told h all still calm;
+-- a command that names its texts has them if they are observable
+visible_completes : (form : Form) (s : Shown) (outcome : Outcome) → ExplainedOf form s outcome
+    → IfObservable s.shelf_old.texts (Completes (names_of form) s outcome)
+visible_completes form s outcome h = if_observable s.shelf_old.texts (Completes (names_of form) s outcome) (λ texts visible. record {
+  refused = λ which has earlier isnt still. stops_by form s texts outcome which visible h has earlier isnt still;
+  done = λ all still calm. done_by form s texts outcome visible h all still calm;
 })
 
 -- a demo names no text
@@ -313,7 +313,7 @@ pub completes :
     (form : Option Form) (s : Shown) (outcome : Outcome) → Explained form s outcome →
     Complete form s outcome
 completes None s outcome h = tt
-completes (Some (Load sky catalogue)) s outcome h = told_completes (Load sky catalogue) s outcome h
-completes (Some (Asks task sky catalogue script)) s outcome h = told_completes (Asks task sky catalogue script) s outcome h
-completes (Some (Check journal)) s outcome h = told_completes (Check journal) s outcome h
+completes (Some (Load sky catalogue)) s outcome h = visible_completes (Load sky catalogue) s outcome h
+completes (Some (Asks task sky catalogue script)) s outcome h = visible_completes (Asks task sky catalogue script) s outcome h
+completes (Some (Check journal)) s outcome h = visible_completes (Check journal) s outcome h
 completes (Some (Demo count seed workers)) s outcome h = λ texts. demo_completes count seed workers s outcome texts h

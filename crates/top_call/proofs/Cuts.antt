@@ -3,7 +3,7 @@ use Rattle.std.proofs.Common.{◌≡◌, ℕ, ◌+◌, ◌<◌, ◌≤◌, Bool,
 use Rattle.std.proofs.lemmas.List.{take_all, length-take-le}
 use Rattle.std.proofs.lemmas.Bool.{leb-true}
 use Rattle.sky_io.specs.Shelves.{ShelfState, GivesText, named_text}
-use Rattle.top_call.specs.Reached.{Texts, IfTold, IsLong, limit_of}
+use Rattle.top_call.specs.Reached.{IfObservable, IsLong, Texts, limit_of}
 use Rattle.top_call.specs.Steps.{IsGiven, IsRead, IsWhole, OfNamed}
 use Rattle.top_call.specs.declared.outcome.Which.{Which}
 
@@ -31,16 +31,16 @@ long_by limit t true h long =
     absurd (omega (arith, subst (λ u. limit < length u) (take_all (limit + 1) t le') long))
 long_by limit t false h long = grind arith
 
-whole_told : (told : Option Texts) (name text : List ℕ) (limit : ℕ) → GivesText told name limit text → length text ≤ limit
-    → IfTold told (λ texts. named_text name texts ≡ text)
-whole_told None name text limit given short = tt
-whole_told (Some texts) name text limit given short =
+whole_visible : (visible : Option Texts) (name text : List ℕ) (limit : ℕ) → GivesText visible name limit text → length text ≤ limit
+    → IfObservable visible (λ texts. named_text name texts ≡ text)
+whole_visible None name text limit given short = tt
+whole_visible (Some texts) name text limit given short =
     whole_front limit (named_text name texts) (subst (λ t. length t ≤ limit) given short) ∙ sym given
 
-long_told : (told : Option Texts) (name text : List ℕ) (limit : ℕ) → GivesText told name limit text → limit < length text
-    → IfTold told (λ texts. limit < length (named_text name texts))
-long_told None name text limit given long = tt
-long_told (Some texts) name text limit given long =
+long_visible : (visible : Option Texts) (name text : List ℕ) (limit : ℕ) → GivesText visible name limit text → limit < length text
+    → IfObservable visible (λ texts. limit < length (named_text name texts))
+long_visible None name text limit given long = tt
+long_visible (Some texts) name text limit given long =
     long_by limit (named_text name texts) (nat_le (length (named_text name texts)) limit) refl (subst (λ t. limit < length t) given long)
 
 -- A text that is given within its limit is given whole.
@@ -48,7 +48,7 @@ pub whole_given : (old new : ShelfState) (name text : List ℕ) (which : Which) 
     → IsGiven name limit text old new → length text ≤ limit → IsWhole name which text old new
 whole_given old new name text which limit is got short = record {
   short = subst (λ n. length text ≤ n) is short;
-  read = record { same = got.same; holds = whole_told old.texts name text limit got.given short };
+  read = record { same = got.same; holds = whole_visible old.texts name text limit got.given short };
 }
 
 -- A text that is given past its limit is too long.
@@ -56,18 +56,18 @@ pub long_given : (old new : ShelfState) (name text : List ℕ) (which : Which) (
     → IsGiven name limit text old new → limit < length text → IsRead (OfNamed name (IsLong which)) old new
 long_given old new name text which limit is got long = record {
   same = got.same;
-  holds = long_told old.texts name text (limit_of which) (subst (λ n. GivesText old.texts name n text) is got.given) (subst (λ n. n < length text) is long);
+  holds = long_visible old.texts name text (limit_of which) (subst (λ n. GivesText old.texts name n text) is got.given) (subst (λ n. n < length text) is long);
 }
 
-holds_told : (told : Option Texts) (name text slice : List ℕ) (Holds : List ℕ → Type 0)
-    → IfTold told (λ texts. named_text name texts ≡ text) → slice ≡ text → Holds slice → IfTold told (OfNamed name Holds)
-holds_told None name text slice Holds given same h = tt
-holds_told (Some texts) name text slice Holds given same h = subst Holds (same ∙ sym given) h
+holds_visible : (visible : Option Texts) (name text slice : List ℕ) (Holds : List ℕ → Type 0)
+    → IfObservable visible (λ texts. named_text name texts ≡ text) → slice ≡ text → Holds slice → IfObservable visible (OfNamed name Holds)
+holds_visible None name text slice Holds given same h = tt
+holds_visible (Some texts) name text slice Holds given same h = subst Holds (same ∙ sym given) h
 
 -- What holds of the whole text that was given holds of the named one.
 pub of_whole : (old new : ShelfState) (name text slice : List ℕ) (which : Which) (Holds : List ℕ → Type 0)
     → IsWhole name which text old new → slice ≡ text → Holds slice → IsRead (OfNamed name Holds) old new
 of_whole old new name text slice which Holds whole same h = record {
   same = whole.read.same;
-  holds = holds_told old.texts name text slice Holds whole.read.holds same h;
+  holds = holds_visible old.texts name text slice Holds whole.read.holds same h;
 }

@@ -88,23 +88,23 @@ all_of P x xs first later zero d low = first
 all_of P x xs first later (suc k) d low = later k d (omega (arith, low))
 
 -- so of the queries with these lines, of which none is refused
-ends_told : (workers k : ℕ) (ss : List Step) (g : Partition) (c : Catalogue) (texts : List (List ℕ)) (ends : List EndKind)
+all_have_ends : (workers k : ℕ) (ss : List Step) (g : Partition) (c : Catalogue) (texts : List (List ℕ)) (ends : List EndKind)
     → are_queries ss ≡ true → All (λ text. refusal_of g c text ≡ None) texts
     → may_end_from workers ss k (map (judged_of g c) texts) ends ≡ true → All IsAnsweredOrSpent ends
-ends_told workers k ss g c [] [] all none may = λ i d low. absurd (omega (arith, low))
-ends_told workers k ss g c [] (end ∷ ends) all none may = absurd (cc may)
-ends_told workers k ss g c (text ∷ texts) [] all none may = absurd (cc may)
-ends_told workers k ss g c (text ∷ texts) (end ∷ ends) all none may =
+all_have_ends workers k ss g c [] [] all none may = λ i d low. absurd (omega (arith, low))
+all_have_ends workers k ss g c [] (end ∷ ends) all none may = absurd (cc may)
+all_have_ends workers k ss g c (text ∷ texts) [] all none may = absurd (cc may)
+all_have_ends workers k ss g c (text ∷ texts) (end ∷ ends) all none may =
     let one = both (may_end workers ss k (judged_of g c text) end)
     (may_end_from workers ss (k + 1) (map (judged_of g c) texts) ends) may in
     all_of IsAnsweredOrSpent end ends
     (one_end workers k ss (judged_of g c text) end all (accepted g c text (none 0 [] (omega arith))) one.0)
-    (ends_told workers (k + 1) ss g c texts ends all (λ i d low. none (suc i) d (omega (arith, low))) one.1)
+    (all_have_ends workers (k + 1) ss g c texts ends all (λ i d low. none (suc i) d (omega (arith, low))) one.1)
 
-script_told : (workers : ℕ) (g : Partition) (c : Catalogue) (s : ScriptView) (ends : List EndKind) → are_queries s.steps ≡ true
+script_has_ends : (workers : ℕ) (g : Partition) (c : Catalogue) (s : ScriptView) (ends : List EndKind) → are_queries s.steps ≡ true
     → All (λ text. refusal_of g c text ≡ None) (query_lines s) → FitEnds workers g c s ends → All IsAnsweredOrSpent ends
-script_told workers g c s ends all none fits =
-    ends_told workers 1 s.steps g c (query_lines s) ends all none
+script_has_ends workers g c s ends all none fits =
+    all_have_ends workers 1 s.steps g c (query_lines s) ends all none
     (both (nat_eq (length (map (judged_of g c) (query_lines s))) (query_count s.steps)) _ fits).1
 
 -- ---- the demo
@@ -121,13 +121,13 @@ one_steps : (ss : List Step) → script_of demo_script ≡ Ok demo_steps → scr
 one_steps ss one other = cc (one, other)
 
 -- Of the demo's queries over its survey none is refused, and none is cancelled.
-pub demo_told : DemoIsAnswered → sky_of demo_sky ≡ Ok demo_plan → script_of demo_script ≡ Ok demo_steps
+pub demo_has_ends : DemoIsAnswered → sky_of demo_sky ≡ Ok demo_plan → script_of demo_script ≡ Ok demo_steps
     → (count seed workers : ℕ) → count ≤ ROWS_MOST → (survey : Survey) (view : ScriptView) (ends : List EndKind)
     → IsDemoSurvey count seed survey → IsScriptOf demo_script view → FitEnds workers survey.plan survey.rows view ends
     → All IsAnsweredOrSpent ends
-demo_told law sky steps count seed workers few survey view ends is read fits =
+demo_has_ends law sky steps count seed workers few survey view ends is read fits =
     let plan : survey.plan ≡ demo_plan = one_plan survey.plan sky is.0 in
     let same : view ≡ demo_read = read_as view read.same (one_steps view.steps steps read.read) in
     let fits' : FitEnds workers demo_plan survey.rows demo_read ends =
     subst (λ v. FitEnds workers demo_plan survey.rows v ends) same (subst (λ g. FitEnds workers g survey.rows view ends) plan fits) in
-    script_told workers demo_plan survey.rows demo_read ends refl (law count seed survey.rows few is.1) fits'
+    script_has_ends workers demo_plan survey.rows demo_read ends refl (law count seed survey.rows few is.1) fits'

@@ -19,7 +19,7 @@ use Rattle.top_call.specs.Steps.{IsDemoOver, IsWritten}
 use Rattle.top_call.specs.declared.outcome.Outcome.{Outcome}
 use Rattle.top_call.specs.declared.outcome.Outcome.TheVariants.{Done, Usage, BadSky, BadCatalogue, BadScript}
 use Rattle.top_call.specs.declared.outcome.Outcome.TheVariants.{TooLong, ShelfFault, SinkFault, Memory, BadJournal}
-use Rattle.top_call.proofs.DemoEnds.{demo_told}
+use Rattle.top_call.proofs.DemoEnds.{demo_has_ends}
 use Rattle.top_call.proofs.Writing.{job_explained}
 
 -- What is read of a text that is the same is the script of this one.
@@ -54,11 +54,11 @@ pub demo_explained : DemoIsAnswered → sky_of demo_sky ≡ Ok demo_plan → scr
 demo_explained law sky steps count seed workers few survey old new (Done ends) shelf is h =
     job_explained (Demo count seed workers) (Runs workers survey h.view) shelf shelf old new (Done ends)
     (survey, h.view, refl, is, h.read)
-    (λ ended fits. demo_told law sky steps count seed workers few survey h.view ended is h.read fits) refl h.work
+    (λ ended fits. demo_has_ends law sky steps count seed workers few survey h.view ended is h.read fits) refl h.work
 demo_explained law sky steps count seed workers few survey old new (SinkFault ends) shelf is h =
     job_explained (Demo count seed workers) (Runs workers survey h.view) shelf shelf old new (SinkFault ends)
     (survey, h.view, refl, is, h.read)
-    (λ ended fits. demo_told law sky steps count seed workers few survey h.view ended is h.read fits) refl h.work
+    (λ ended fits. demo_has_ends law sky steps count seed workers few survey h.view ended is h.read fits) refl h.work
 demo_explained law sky steps count seed workers few survey old new Usage shelf is h = absurd h.work
 demo_explained law sky steps count seed workers few survey old new (BadSky fault) shelf is h = absurd h.work
 demo_explained law sky steps count seed workers few survey old new (BadCatalogue fault) shelf is h = absurd h.work

@@ -6,6 +6,6 @@ use Rattle.table_rules.specs.declared.fault.LoadFault.{LoadFault}
 use Rattle.top_call.specs.FaultLines.{catalogue_line}
 
 -- the line of a fault is that of the fault which it is
-pub told_of : (old new : SinkState) (fault known : LoadFault) (result : Put) → fault ≡ known
+pub reported_of : (old new : SinkState) (fault known : LoadFault) (result : Put) → fault ≡ known
     → Wrote old new (catalogue_line known) result → Wrote old new (catalogue_line fault) result
-told_of old new fault known result is wrote = subst (λ f. Wrote old new (catalogue_line f) result) (sym is) wrote
+reported_of old new fault known result is wrote = subst (λ f. Wrote old new (catalogue_line f) result) (sym is) wrote

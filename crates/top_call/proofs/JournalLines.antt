@@ -6,6 +6,6 @@ use Rattle.scan_history.specs.declared.fault.HistoryFault.{HistoryFault}
 use Rattle.top_call.specs.FaultLines.{journal_line}
 
 -- the line of a fault is that of the fault which it is
-pub told_of : (old new : SinkState) (fault known : HistoryFault) (result : Put) → fault ≡ known
+pub reported_of : (old new : SinkState) (fault known : HistoryFault) (result : Put) → fault ≡ known
     → Wrote old new (journal_line known) result → Wrote old new (journal_line fault) result
-told_of old new fault known result is wrote = subst (λ f. Wrote old new (journal_line f) result) (sym is) wrote
+reported_of old new fault known result is wrote = subst (λ f. Wrote old new (journal_line f) result) (sym is) wrote

@@ -6,6 +6,6 @@ use Rattle.session_script.specs.declared.fault.ScriptFault.{ScriptFault}
 use Rattle.top_call.specs.FaultLines.{script_line}
 
 -- the line of a fault is that of the fault which it is
-pub told_of : (old new : SinkState) (fault known : ScriptFault) (result : Put) → fault ≡ known
+pub reported_of : (old new : SinkState) (fault known : ScriptFault) (result : Put) → fault ≡ known
     → Wrote old new (script_line known) result → Wrote old new (script_line fault) result
-told_of old new fault known result is wrote = subst (λ f. Wrote old new (script_line f) result) (sym is) wrote
+reported_of old new fault known result is wrote = subst (λ f. Wrote old new (script_line f) result) (sym is) wrote

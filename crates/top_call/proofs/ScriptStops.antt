@@ -3,7 +3,7 @@ use Rattle.std.proofs.Common.{ℕ, List, Option, None, Some, refl, subst}
 use Rattle.sky_io.specs.Shelves.{ShelfState}
 use Rattle.chunk_store.specs.Survey.{Survey}
 use Rattle.top_call.specs.Words.{names_from}
-use Rattle.top_call.specs.Reached.{Texts, IfTold, AreEarlierAccepted}
+use Rattle.top_call.specs.Reached.{AreEarlierAccepted, IfObservable, Texts}
 use Rattle.top_call.specs.Jobs.{IsSurveyOf}
 use Rattle.top_call.specs.Steps.{IsRead, IsShelfStop, IsWholeStop}
 use Rattle.top_call.specs.declared.outcome.Which.TheVariants.{Sky, Catalogue, Script, Journal}
@@ -11,16 +11,16 @@ use Rattle.top_call.specs.declared.outcome.Outcome.{Outcome}
 use Rattle.top_call.specs.declared.outcome.Outcome.TheVariants.{Done, Usage, BadSky, BadCatalogue, BadScript}
 use Rattle.top_call.specs.declared.outcome.Outcome.TheVariants.{TooLong, ShelfFault, SinkFault, Memory, BadJournal}
 
--- both texts before the script are accepted, where they are told
-both_accepted : (sky catalogue script : List ℕ) (survey : Survey) (told : Option Texts)
-    → IfTold told (IsSurveyOf sky catalogue survey)
-    → IfTold told (λ texts. AreEarlierAccepted (names_from sky catalogue (Some script)) texts Script)
+-- both texts before the script are accepted, if they are observable
+both_accepted : (sky catalogue script : List ℕ) (survey : Survey) (visible : Option Texts)
+    → IfObservable visible (IsSurveyOf sky catalogue survey)
+    → IfObservable visible (λ texts. AreEarlierAccepted (names_from sky catalogue (Some script)) texts Script)
 both_accepted sky catalogue script survey None h = tt
 both_accepted sky catalogue script survey (Some texts) h = ((survey.plan, h.0), (survey.rows, h.1))
 
 -- a stop at a script is explained by the shelf
 by_shelf : (sky catalogue script : List ℕ) (old new : ShelfState) (outcome : Outcome)
-    → IfTold old.texts (λ texts. AreEarlierAccepted (names_from sky catalogue (Some script)) texts Script)
+    → IfObservable old.texts (λ texts. AreEarlierAccepted (names_from sky catalogue (Some script)) texts Script)
     → IsWholeStop script Script old new outcome → IsShelfStop sky catalogue (Some script) old new outcome
 by_shelf sky catalogue script old new (Done ends) earlier h = λ sink. absurd h
 by_shelf sky catalogue script old new Usage earlier h = λ sink. absurd h

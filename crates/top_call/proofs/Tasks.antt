@@ -8,7 +8,7 @@ use Rattle.session_script.specs.Scripts.{script_of}
 use Rattle.session_script.specs.Views.{ScriptView}
 use Rattle.session_script.specs.declared.fault.ScriptFault.{ScriptFault}
 use Rattle.top_call.specs.Words.{Form, Asks, names_from, names_of}
-use Rattle.top_call.specs.Reached.{Texts, IfTold, AreEarlierAccepted, IsScriptFault, IsScriptOf, text_at}
+use Rattle.top_call.specs.Reached.{AreEarlierAccepted, IfObservable, IsScriptFault, IsScriptOf, Texts, text_at}
 use Rattle.top_call.specs.Jobs.{AreSurveyAndScript, IsSurveyOf, job_on}
 use Rattle.top_call.specs.Explained.{ExplainedOf, IsStop, Shown, shown}
 use Rattle.top_call.specs.Steps.{AreGiven, IsTaskOver}
@@ -33,9 +33,9 @@ stop_explained form s Memory h = h
 stop_explained form s (BadJournal fault) h = h
 
 -- what the shelf gave, in short
-abbrev AreTold : (sky catalogue script : List ℕ) → Survey → List ℕ → Option Texts → Type 0
-AreTold sky catalogue script survey text told =
-    IfTold told (λ texts. IsSurveyOf sky catalogue survey texts × (named_text script texts ≡ text))
+abbrev AreVisible : (sky catalogue script : List ℕ) → Survey → List ℕ → Option Texts → Type 0
+AreVisible sky catalogue script survey text visible =
+    IfObservable visible (λ texts. IsSurveyOf sky catalogue survey texts × (named_text script texts ≡ text))
 
 -- the script that is read of the text is that of the named one
 named_script : (text named : List ℕ) (view : ScriptView) → named ≡ text → length text ≤ SCRIPT_TEXT_MOST → view.text ≡ text
@@ -46,24 +46,24 @@ named_script text named view is short same steps = record {
   read = subst (λ t. script_of t ≡ Ok view.steps) (sym is) steps;
 }
 
-both_told : (sky catalogue script : List ℕ) (survey : Survey) (text : List ℕ) (view : ScriptView) (told : Option Texts)
-    → AreTold sky catalogue script survey text told → length text ≤ SCRIPT_TEXT_MOST → view.text ≡ text
-    → script_of text ≡ Ok view.steps → IfTold told (AreSurveyAndScript sky catalogue script survey view)
-both_told sky catalogue script survey text view None h short same steps = tt
-both_told sky catalogue script survey text view (Some texts) h short same steps =
+both_visible : (sky catalogue script : List ℕ) (survey : Survey) (text : List ℕ) (view : ScriptView) (visible : Option Texts)
+    → AreVisible sky catalogue script survey text visible → length text ≤ SCRIPT_TEXT_MOST → view.text ≡ text
+    → script_of text ≡ Ok view.steps → IfObservable visible (AreSurveyAndScript sky catalogue script survey view)
+both_visible sky catalogue script survey text view None h short same steps = tt
+both_visible sky catalogue script survey text view (Some texts) h short same steps =
     (h.0, named_script text (named_text script texts) view h.1 short same steps)
 
-earlier_told : (sky catalogue script : List ℕ) (survey : Survey) (text : List ℕ) (told : Option Texts)
-    → AreTold sky catalogue script survey text told
-    → IfTold told (λ texts. AreEarlierAccepted (names_from sky catalogue (Some script)) texts Script)
-earlier_told sky catalogue script survey text None h = tt
-earlier_told sky catalogue script survey text (Some texts) h = ((survey.plan, h.0.0), (survey.rows, h.0.1))
+earlier_visible : (sky catalogue script : List ℕ) (survey : Survey) (text : List ℕ) (visible : Option Texts)
+    → AreVisible sky catalogue script survey text visible
+    → IfObservable visible (λ texts. AreEarlierAccepted (names_from sky catalogue (Some script)) texts Script)
+earlier_visible sky catalogue script survey text None h = tt
+earlier_visible sky catalogue script survey text (Some texts) h = ((survey.plan, h.0.0), (survey.rows, h.0.1))
 
-fault_told : (sky catalogue script : List ℕ) (survey : Survey) (text : List ℕ) (fault : ScriptFault) (told : Option Texts)
-    → AreTold sky catalogue script survey text told → length text ≤ SCRIPT_TEXT_MOST → script_of text ≡ Err fault
-    → IfTold told (λ texts. IsScriptFault (text_at (names_from sky catalogue (Some script)) texts Script) fault)
-fault_told sky catalogue script survey text fault None h short is = tt
-fault_told sky catalogue script survey text fault (Some texts) h short is =
+fault_visible : (sky catalogue script : List ℕ) (survey : Survey) (text : List ℕ) (fault : ScriptFault) (visible : Option Texts)
+    → AreVisible sky catalogue script survey text visible → length text ≤ SCRIPT_TEXT_MOST → script_of text ≡ Err fault
+    → IfObservable visible (λ texts. IsScriptFault (text_at (names_from sky catalogue (Some script)) texts Script) fault)
+fault_visible sky catalogue script survey text fault None h short is = tt
+fault_visible sky catalogue script survey text fault (Some texts) h short is =
     subst (λ t. IsScriptFault t fault) (sym h.1) (short, is)
 
 -- What the work on the given script comes to explains the outcome.
@@ -76,7 +76,7 @@ task_explained task sky catalogue script survey text old new before now (Done en
       survey,
       h.view,
       refl,
-      both_told sky catalogue script survey text h.view old.texts given.read.holds given.short h.same h.steps,
+      both_visible sky catalogue script survey text h.view old.texts given.read.holds given.short h.same h.steps,
     )
     (λ ends fits. tt) given.read.same h.work
 task_explained task sky catalogue script survey text old new before now (SinkFault ends) given h =
@@ -84,7 +84,7 @@ task_explained task sky catalogue script survey text old new before now (SinkFau
       survey,
       h.view,
       refl,
-      both_told sky catalogue script survey text h.view old.texts given.read.holds given.short h.same h.steps,
+      both_visible sky catalogue script survey text h.view old.texts given.read.holds given.short h.same h.steps,
     )
     (λ ends fits. tt) given.read.same h.work
 task_explained task sky catalogue script survey text old new before now Usage given h = absurd h.work
@@ -92,8 +92,8 @@ task_explained task sky catalogue script survey text old new before now (BadSky 
 task_explained task sky catalogue script survey text old new before now (BadCatalogue fault) given h = absurd h.work
 task_explained task sky catalogue script survey text old new before now (BadScript fault) given h = record {
   has = refl;
-  earlier = earlier_told sky catalogue script survey text old.texts given.read.holds;
-  why = fault_told sky catalogue script survey text fault old.texts given.read.holds given.short h.0;
+  earlier = earlier_visible sky catalogue script survey text old.texts given.read.holds;
+  why = fault_visible sky catalogue script survey text fault old.texts given.read.holds given.short h.0;
   fetched = given.read.same;
   untouched = h.1;
 }

@@ -6,7 +6,7 @@ use Rattle.sky_io.specs.Sinks.{SinkState, Wrote, Flushed, Appended, AppendedPart
 use Rattle.sky_io.specs.declared.sink.Put.TheVariants as Put
 use Rattle.session_rules.specs.declared.end.EndKind.{EndKind}
 use Rattle.top_call.specs.Words.{Form}
-use Rattle.top_call.specs.Jobs.{Job, DemoIsTold, EndsFit, IsJobOf, Writes}
+use Rattle.top_call.specs.Jobs.{EndsFit, HasDemoEnds, IsJobOf, Job, Writes}
 use Rattle.top_call.specs.Explained.{ExplainedOf, shown}
 use Rattle.top_call.specs.Steps.{IsSent, IsTorn, IsWritten, IsFlushed}
 use Rattle.top_call.specs.declared.outcome.Outcome.{Outcome}
@@ -55,11 +55,11 @@ torn job ends text old new fits writes wrote = record {
 -- A job whose text was written is done where all was sent, and else the sink failed.
 pub written : (job : Job) (ends : List EndKind) (text : List ℕ) (old mid new : SinkState) (outcome : Outcome) → EndsFit job ends
     → Writes job ends text → Wrote old mid text Put.Done → IsFlushed ends mid new outcome → IsWritten job old new outcome
-written job ends text old mid new (Done told) fits writes wrote h =
-    sent job told text old mid new (subst (EndsFit job) (sym h.0) fits) (subst (λ e. Writes job e text) (sym h.0) writes)
+written job ends text old mid new (Done reported) fits writes wrote h =
+    sent job reported text old mid new (subst (EndsFit job) (sym h.0) fits) (subst (λ e. Writes job e text) (sym h.0) writes)
     wrote h.1
-written job ends text old mid new (SinkFault told) fits writes wrote h =
-    unsent job told text old mid new (subst (EndsFit job) (sym h.0) fits) (subst (λ e. Writes job e text) (sym h.0) writes)
+written job ends text old mid new (SinkFault reported) fits writes wrote h =
+    unsent job reported text old mid new (subst (EndsFit job) (sym h.0) fits) (subst (λ e. Writes job e text) (sym h.0) writes)
     wrote h.1
 written job ends text old mid new Usage fits writes wrote h = absurd h
 written job ends text old mid new (BadSky fault) fits writes wrote h = absurd h
@@ -70,7 +70,7 @@ written job ends text old mid new (ShelfFault which) fits writes wrote h = absur
 written job ends text old mid new Memory fits writes wrote h = absurd h
 written job ends text old mid new (BadJournal fault) fits writes wrote h = absurd h
 
--- The same, where the ends that are told are those that were written.
+-- The same, if the ends that are reported are those that were written.
 pub written_as : (job : Job) (ends kinds : List EndKind) (text : List ℕ) (old mid new : SinkState) (outcome : Outcome)
     → kinds ≡ ends → EndsFit job ends → Writes job ends text → Wrote old mid text Put.Done → IsFlushed kinds mid new outcome
     → IsWritten job old new outcome
@@ -86,36 +86,36 @@ torn_as job ends kinds text old new is fits writes wrote =
 
 -- What the writing of what the form asks for comes to explains the outcome.
 pub job_explained : (form : Form) (job : Job) (old new : ShelfState) (before now : SinkState) (outcome : Outcome)
-    → IsJobOf form old.texts job → ((ends : List EndKind) → EndsFit job ends → DemoIsTold form ends) → new ≡ old
+    → IsJobOf form old.texts job → ((ends : List EndKind) → EndsFit job ends → HasDemoEnds form ends) → new ≡ old
     → IsWritten job before now outcome → ExplainedOf form (shown old new before now) outcome
-job_explained form job old new before now (Done ends) asked told same h = record {
+job_explained form job old new before now (Done ends) asked reported same h = record {
   job = job;
   asked = asked;
   fetched = same;
   fits = h.fits;
-  demo = told ends h.fits;
+  demo = reported ends h.fits;
   text = h.text;
   writes = h.writes;
   written = h.written;
   calm = h.calm;
   sent = h.sent;
 }
-job_explained form job old new before now (SinkFault ends) asked told same h = record {
+job_explained form job old new before now (SinkFault ends) asked reported same h = record {
   job = job;
   asked = asked;
   fetched = same;
   fits = h.fits;
-  demo = told ends h.fits;
+  demo = reported ends h.fits;
   text = h.text;
   writes = h.writes;
   written = h.written;
   cause = h.cause;
 }
-job_explained form job old new before now Memory asked told same h = (same, h)
-job_explained form job old new before now Usage asked told same h = absurd h
-job_explained form job old new before now (BadSky fault) asked told same h = absurd h
-job_explained form job old new before now (BadCatalogue fault) asked told same h = absurd h
-job_explained form job old new before now (BadScript fault) asked told same h = absurd h
-job_explained form job old new before now (TooLong which) asked told same h = absurd h
-job_explained form job old new before now (ShelfFault which) asked told same h = absurd h
-job_explained form job old new before now (BadJournal fault) asked told same h = absurd h
+job_explained form job old new before now Memory asked reported same h = (same, h)
+job_explained form job old new before now Usage asked reported same h = absurd h
+job_explained form job old new before now (BadSky fault) asked reported same h = absurd h
+job_explained form job old new before now (BadCatalogue fault) asked reported same h = absurd h
+job_explained form job old new before now (BadScript fault) asked reported same h = absurd h
+job_explained form job old new before now (TooLong which) asked reported same h = absurd h
+job_explained form job old new before now (ShelfFault which) asked reported same h = absurd h
+job_explained form job old new before now (BadJournal fault) asked reported same h = absurd h

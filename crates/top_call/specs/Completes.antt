@@ -2,7 +2,7 @@
 use Rattle.std.specs.Prelude.{◌≡◌, Option, None, Some}
 use Rattle.sky_io.specs.Sinks.{Rose}
 use Rattle.top_call.specs.Words.{Form, Load, Asks, Check, Demo, Names, names_of}
-use Rattle.top_call.specs.Reached.{Texts, IfTold, text_at, IsAccepted, HasText, AreEarlierAccepted}
+use Rattle.top_call.specs.Reached.{AreEarlierAccepted, HasText, IfObservable, IsAccepted, Texts, text_at}
 use Rattle.top_call.specs.Reached.{AreAccepted, AreStill, AreAllStill}
 use Rattle.top_call.specs.Explained.{Shown}
 use Rattle.top_call.specs.declared.outcome.Which.{Which}
@@ -41,11 +41,11 @@ pub record Completes (names : Names) (shown : Shown) (outcome : Outcome) (texts 
 -- the outcome that must occur for a command occurs, if the shelf's texts are observable; a demo does not use the shelf
 abbrev pub CompleteOf : Form → Shown → Outcome → Type 0
 CompleteOf (Load sky catalogue) shown outcome =
-    IfTold shown.shelf_old.texts (Completes (names_of (Load sky catalogue)) shown outcome)
+    IfObservable shown.shelf_old.texts (Completes (names_of (Load sky catalogue)) shown outcome)
 CompleteOf (Asks task sky catalogue script) shown outcome =
-    IfTold shown.shelf_old.texts (Completes (names_of (Asks task sky catalogue script)) shown outcome)
+    IfObservable shown.shelf_old.texts (Completes (names_of (Asks task sky catalogue script)) shown outcome)
 CompleteOf (Check journal) shown outcome =
-    IfTold shown.shelf_old.texts (Completes (names_of (Check journal)) shown outcome)
+    IfObservable shown.shelf_old.texts (Completes (names_of (Check journal)) shown outcome)
 CompleteOf (Demo count seed workers) shown outcome =
     (texts : Texts) → Completes (names_of (Demo count seed workers)) shown outcome texts
 

@@ -5,10 +5,10 @@ use Rattle.sky_io.specs.Sinks.{SinkState, Appended, AppendedPart, Rose}
 use Rattle.session_rules.specs.declared.end.EndKind.{EndKind}
 use Rattle.top_call.specs.Words.{Form, Names, names_of}
 use Rattle.top_call.specs.Outcomes.{name_of}
-use Rattle.top_call.specs.Reached.{IfTold, text_at, HasText, AreEarlierAccepted}
+use Rattle.top_call.specs.Reached.{AreEarlierAccepted, HasText, IfObservable, text_at}
 use Rattle.top_call.specs.Reached.{IsSkyFault, IsCatalogueFault, IsScriptFault, IsLong}
 use Rattle.top_call.specs.Journals.{IsJournalFault}
-use Rattle.top_call.specs.Jobs.{Job, DemoIsTold, EndsFit, IsJobOf, Writes}
+use Rattle.top_call.specs.Jobs.{EndsFit, HasDemoEnds, IsJobOf, Job, Writes}
 use Rattle.top_call.specs.declared.outcome.Which.{Which}
 use Rattle.top_call.specs.declared.outcome.Which.TheVariants.{Sky, Catalogue, Script, Journal}
 use Rattle.top_call.specs.declared.outcome.Outcome.{Outcome}
@@ -41,7 +41,7 @@ pub record IsDone (form : Form) (shown : Shown) (ends : List EndKind) : Type 0 w
   pub asked : IsJobOf form shown.shelf_old.texts job
   pub fetched : AllFetched shown
   pub fits : EndsFit job ends
-  pub demo : DemoIsTold form ends
+  pub demo : HasDemoEnds form ends
   pub text : List ℕ
   pub writes : Writes job ends text
   pub written : Appended shown.sink_old.written text shown.sink_new.written
@@ -54,7 +54,7 @@ pub record IsSinkFault (form : Form) (shown : Shown) (ends : List EndKind) : Typ
   pub asked : IsJobOf form shown.shelf_old.texts job
   pub fetched : AllFetched shown
   pub fits : EndsFit job ends
-  pub demo : DemoIsTold form ends
+  pub demo : HasDemoEnds form ends
   pub text : List ℕ
   pub writes : Writes job ends text
   pub written : AppendedPart shown.sink_old.written text shown.sink_new.written
@@ -64,15 +64,15 @@ pub record IsSinkFault (form : Form) (shown : Shown) (ends : List EndKind) : Typ
 -- failed. Nothing was written.
 pub record IsRefused (names : Names) (shown : Shown) (which : Which) (Why : List ℕ → Type 0) : Type 0 where
   pub has : HasText names which
-  pub earlier : IfTold shown.shelf_old.texts (λ texts. AreEarlierAccepted names texts which)
-  pub why : IfTold shown.shelf_old.texts (λ texts. Why (text_at names texts which))
+  pub earlier : IfObservable shown.shelf_old.texts (λ texts. AreEarlierAccepted names texts which)
+  pub why : IfObservable shown.shelf_old.texts (λ texts. Why (text_at names texts which))
   pub fetched : AllFetched shown
   pub untouched : IsUntouched shown
 
 -- The shelf failed at a text: the count of that very name rose and no other's, and each earlier text is accepted.
 pub record IsShelfFault (names : Names) (shown : Shown) (which : Which) : Type 0 where
   pub has : HasText names which
-  pub earlier : IfTold shown.shelf_old.texts (λ texts. AreEarlierAccepted names texts which)
+  pub earlier : IfObservable shown.shelf_old.texts (λ texts. AreEarlierAccepted names texts which)
   pub grew : GrewBy (name_of names which) shown.shelf_old.failed shown.shelf_new.failed
   pub cause :
       times (name_of names which) shown.shelf_old.failed < times (name_of names which) shown.shelf_new.failed

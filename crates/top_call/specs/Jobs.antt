@@ -17,7 +17,7 @@ use Rattle.transcript_rules.specs.Explained.{explained}
 use Rattle.czar.specs.Traces.{IsTraceOf}
 use Rattle.top_call.specs.Words.{Form, Load, Asks, Check, Demo}
 use Rattle.top_call.specs.Journals.{IsChecked, IsJournalOf, tally_line}
-use Rattle.top_call.specs.Reached.{Texts, IfTold, IsCatalogueOf, IsScriptOf, IsSkyOf}
+use Rattle.top_call.specs.Reached.{IfObservable, IsCatalogueOf, IsScriptOf, IsSkyOf, Texts}
 use Rattle.top_call.specs.declared.task.Task.{Task}
 use Rattle.top_call.specs.declared.task.Task.TheVariants.{Answer, Trace, Explain}
 
@@ -65,11 +65,11 @@ IsAnsweredOrSpent Cancelled = ⊥
 IsAnsweredOrSpent Spent = Unit {0}
 
 -- no query of a demo is refused, and none is cancelled
-abbrev pub DemoIsTold : Form → List EndKind → Type 0
-DemoIsTold (Load sky catalogue) ends = Unit {0}
-DemoIsTold (Asks task sky catalogue script) ends = Unit {0}
-DemoIsTold (Check journal) ends = Unit {0}
-DemoIsTold (Demo count seed workers) ends = All IsAnsweredOrSpent ends
+abbrev pub HasDemoEnds : Form → List EndKind → Type 0
+HasDemoEnds (Load sky catalogue) ends = Unit {0}
+HasDemoEnds (Asks task sky catalogue script) ends = Unit {0}
+HasDemoEnds (Check journal) ends = Unit {0}
+HasDemoEnds (Demo count seed workers) ends = All IsAnsweredOrSpent ends
 
 -- the named sky plan and catalogue are accepted as this survey
 abbrev pub IsSurveyOf : (sky catalogue : List ℕ) → Survey → Texts → Type 0
@@ -93,14 +93,14 @@ IsDemoSurvey count seed survey = (sky_of demo_sky ≡ Ok survey.plan) × IsDemoC
 
 -- This is the job of the command, if the shelf's texts are observable; the demo uses none of them.
 abbrev pub IsJobOf : Form → Option Texts → Job → Type 0
-IsJobOf (Load sky catalogue) told job =
-    (survey : Survey) × (job ≡ Reports survey) × IfTold told (IsSurveyOf sky catalogue survey)
-IsJobOf (Asks task sky catalogue script) told job =
+IsJobOf (Load sky catalogue) visible job =
+    (survey : Survey) × (job ≡ Reports survey) × IfObservable visible (IsSurveyOf sky catalogue survey)
+IsJobOf (Asks task sky catalogue script) visible job =
     (survey : Survey) × (view : ScriptView) × (job ≡ job_on task survey view)
-    × IfTold told (AreSurveyAndScript sky catalogue script survey view)
-IsJobOf (Check name) told job =
+    × IfObservable visible (AreSurveyAndScript sky catalogue script survey view)
+IsJobOf (Check name) visible job =
     (journal : Journal) × (job ≡ Checks journal) × IsChecked journal
-    × IfTold told (λ texts. IsJournalOf (named_text name texts) journal)
-IsJobOf (Demo count seed workers) told job =
+    × IfObservable visible (λ texts. IsJournalOf (named_text name texts) journal)
+IsJobOf (Demo count seed workers) visible job =
     (survey : Survey) × (view : ScriptView) × (job ≡ Runs workers survey view) × IsDemoSurvey count seed survey
     × IsScriptOf demo_script view

@@ -24,9 +24,9 @@ abbrev pub Texts : Type 0
 Texts = List (List ℕ × List ℕ)
 
 -- a fact of the texts, if the shelf's texts are observable
-abbrev pub IfTold : Option Texts → (Texts → Type 0) → Type 0
-IfTold None P = Unit {0}
-IfTold (Some texts) P = P texts
+abbrev pub IfObservable : Option Texts → (Texts → Type 0) → Type 0
+IfObservable None P = Unit {0}
+IfObservable (Some texts) P = P texts
 
 -- the text of a name of the command
 abbrev pub text_at : Names → Texts → Which → List ℕ

@@ -9,7 +9,7 @@ use Rattle.session_script.specs.Scripts.{script_of}
 use Rattle.session_script.specs.Views.{ScriptView}
 use Rattle.session_rules.specs.declared.end.EndKind.{EndKind}
 use Rattle.top_call.specs.Words.{Demo, names_from}
-use Rattle.top_call.specs.Reached.{Texts, IfTold, IsScriptOf, IsSkyFault, IsCatalogueFault, IsLong, limit_of}
+use Rattle.top_call.specs.Reached.{IfObservable, IsCatalogueFault, IsLong, IsScriptOf, IsSkyFault, Texts, limit_of}
 use Rattle.top_call.specs.Jobs.{Job, Runs, EndsFit, IsSurveyOf, job_on, Writes}
 use Rattle.top_call.specs.Explained.{ExplainedOf, IsStop, shown}
 use Rattle.top_call.specs.declared.task.Task.{Task}
@@ -38,7 +38,7 @@ IsFetchFault name which old new _ = ⊥
 -- Something holds of the texts, if they are observable, and the shelf is as it was.
 pub record IsRead (Holds : Texts → Type 0) (old new : ShelfState) : Type 0 where
   pub same : new ≡ old
-  pub holds : IfTold old.texts Holds
+  pub holds : IfObservable old.texts Holds
 
 -- something holds of the named text
 abbrev pub OfNamed : List ℕ → (List ℕ → Type 0) → Texts → Type 0
@@ -108,8 +108,8 @@ IsWritten job old new _ = ⊥
 
 -- the bytes that are held back were sent, or the sink failed
 abbrev pub IsFlushed : List EndKind → SinkState → SinkState → Outcome → Type 0
-IsFlushed ends old new (Done told) = (told ≡ ends) × Flushed old new Put.Done
-IsFlushed ends old new (SinkFault told) = (told ≡ ends) × Flushed old new Put.Failed
+IsFlushed ends old new (Done reported) = (reported ≡ ends) × Flushed old new Put.Done
+IsFlushed ends old new (SinkFault reported) = (reported ≡ ends) × Flushed old new Put.Failed
 IsFlushed ends old new _ = ⊥
 
 -- The text is read as a script, and the outcome is that of the writing of its job.

@@ -15,15 +15,15 @@ mod inputs;
 mod journal_check;
 mod limits;
 mod outcome;
+mod outcome_line;
 mod script_lines;
 mod task;
 mod threads;
-mod told;
 mod top;
 mod trace;
 mod words;
 mod work;
 
 pub use outcome::{Outcome, Which, status};
-pub use told::put_outcome;
+pub use outcome_line::put_outcome;
 pub use top::qserv;

@@ -3,7 +3,7 @@ use Rattle.std.specs.List.{list_all}
 use Rattle.sky_row.specs.Columns.{cells_in, objects_at}
 use Rattle.sql_bound.specs.declared.query.Shape.{Shape}
 use Rattle.answer_rules.specs.SoundChunks.{is_sound_chunk_order, is_sound_part}
-use Rattle.partial_merge.specs.Bags.{out_row as ranked}
+use Rattle.partial_merge.specs.Multisets.{out_row as ranked}
 use Rattle.chunk_scan.specs.Computed.{item_on}
 use Rattle.chunk_scan.proofs.Computing.{columns_ready, columns_there, keys_ready, line_there}
 use Rattle.chunk_scan.proofs.Rows.{rows_more}

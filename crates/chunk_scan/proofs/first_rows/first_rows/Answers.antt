@@ -5,7 +5,7 @@ use Rattle.sql_bound.specs.declared.query.Shape.{Shape}
 use Rattle.value_rules.specs.Values.{row}
 use Rattle.answer_rules.specs.Pieces.{chunk_value}
 use Rattle.answer_rules.specs.SoundChunks.{is_sound_chunk_order}
-use Rattle.partial_merge.specs.Bags.{out_row as ranked}
+use Rattle.partial_merge.specs.Multisets.{out_row as ranked}
 use Rattle.chunk_scan.proofs.Computing.{keys_ready, line_there}
 use Rattle.chunk_scan.proofs.Rows.{rows_more}
 use Rattle.chunk_scan.proofs.first_rows.first_rows.Goals as goal

@@ -12,9 +12,9 @@ use Rattle.partial_merge.proofs.group_table.all_table.Goals as goal
 
 pub line_table-requires : goal.line_table-requires
 line_table-requires c =
-    subst (λ (is : List MergeItem). All (λ l. IsMergeable c.args.keys.now is c.args.tallies.now l.mark) c.as_slice.result.now) (sym c.as_slice-2.ensures)
-    (subst (λ (ls : List Line). All (λ l. IsMergeable c.args.keys.now c.args.merge.now.items c.args.tallies.now l.mark) ls) (sym (c.as_slice.ensures.value ∙ c.cut.ensures))
-    (first_hold (λ (l : Line). IsMergeable c.args.keys.now c.args.merge.now.items c.args.tallies.now l.mark) (limit_of c.args.merge.now.limit) c.args.lines.items c.sort_unstable.new.self.items c.requires.may c.sort_unstable.ensures.permutation))
+    subst (λ (is : List MergeItem). All (λ l. IsMergeable c.args.keys.now is c.args.tallies.now l.group) c.as_slice.result.now) (sym c.as_slice-2.ensures)
+    (subst (λ (ls : List Line). All (λ l. IsMergeable c.args.keys.now c.args.merge.now.items c.args.tallies.now l.group) ls) (sym (c.as_slice.ensures.value ∙ c.cut.ensures))
+    (first_hold (λ (l : Line). IsMergeable c.args.keys.now c.args.merge.now.items c.args.tallies.now l.group) (limit_of c.args.merge.now.limit) c.args.lines.items c.sort_unstable.new.self.items c.requires.may c.sort_unstable.ensures.permutation))
 
 pub returns : goal.returns
 returns c =

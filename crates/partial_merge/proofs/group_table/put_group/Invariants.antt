@@ -6,6 +6,6 @@ use Rattle.partial_merge.proofs.group_table.put_group.Given as goal
 
 abbrev pub invariant-loop-item : goal.invariant-loop-item
 invariant-loop-item l = record {
-  items : l.values.items ≡ l.fn.values.items ++ map (merged_value l.keys (group_of l.tallies l.mark)) (take l.item-index l.items);
+  items : l.values.items ≡ l.fn.values.items ++ map (merged_value l.keys (group_of l.tallies l.group)) (take l.item-index l.items);
   short : All IsShort l.values.items;
 }

@@ -8,7 +8,7 @@ use Rattle.partial_merge.proofs.group_table.some_table.Goals as goal
 
 pub line_table-requires : goal.line_table-requires
 line_table-requires c =
-    front_hold (λ (l : Line). IsMergeable c.args.keys.now c.args.items.now c.args.tallies.now l.mark) c.args.lines.now c.select_nth_unstable-front.result.0.now c.select_nth_unstable-front.result.1.now c.select_nth_unstable-front.result.2.now c.sort_unstable.new.self
+    front_hold (λ (l : Line). IsMergeable c.args.keys.now c.args.items.now c.args.tallies.now l.group) c.args.lines.now c.select_nth_unstable-front.result.0.now c.select_nth_unstable-front.result.1.now c.select_nth_unstable-front.result.2.now c.sort_unstable.new.self
     c.requires.may c.select_nth_unstable-front.ensures.permutation c.sort_unstable.ensures.permutation
 
 pub returns : goal.returns

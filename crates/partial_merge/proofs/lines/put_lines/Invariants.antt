@@ -4,10 +4,10 @@ use Rattle.partial_merge.specs.Lines.{line_by}
 use Rattle.partial_merge.specs.Merging.{IsMergeable}
 use Rattle.partial_merge.proofs.lines.put_lines.Given as goal
 
-abbrev pub invariant-loop-mark : goal.invariant-loop-mark
-invariant-loop-mark l = record {
+abbrev pub invariant-loop-group : goal.invariant-loop-group
+invariant-loop-group l = record {
   items : l.lines.items ≡ l.initial.lines.items ++ map (line_by l.tallies l.keys l.merge) l.yielded;
-  all : l.fn.marks.items ≡ l.yielded ++ into_iter_items l.mark-iterator;
-  room : vec_len l.lines + length (into_iter_items l.mark-iterator) ≤ vec_capacity l.lines;
-  may : All (IsMergeable l.keys l.merge.items l.tallies) (into_iter_items l.mark-iterator);
+  all : l.fn.groups.items ≡ l.yielded ++ into_iter_items l.group-iterator;
+  room : vec_len l.lines + length (into_iter_items l.group-iterator) ≤ vec_capacity l.lines;
+  may : All (IsMergeable l.keys l.merge.items l.tallies) (into_iter_items l.group-iterator);
 }

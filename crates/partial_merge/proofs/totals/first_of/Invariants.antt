@@ -7,5 +7,5 @@ use Rattle.partial_merge.proofs.totals.first_of.Given as goal
 
 abbrev pub invariant-loop-item : goal.invariant-loop-item
 invariant-loop-item l =
-    find (λ t. not (is_query_number t)) (flat_map (merged_totals (group_of l.tallies l.mark)) (drop l.item-index l.items))
-    ≡ find (λ t. not (is_query_number t)) (flat_map (merged_totals (group_of l.tallies l.mark)) l.items)
+    find (λ t. not (is_query_number t)) (flat_map (merged_totals (group_of l.tallies l.group)) (drop l.item-index l.items))
+    ≡ find (λ t. not (is_query_number t)) (flat_map (merged_totals (group_of l.tallies l.group)) l.items)

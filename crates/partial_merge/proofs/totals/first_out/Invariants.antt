@@ -5,7 +5,7 @@ use Rattle.answer_rules.specs.Finish.{merged_totals}
 use Rattle.partial_merge.specs.Groups.{group_of}
 use Rattle.partial_merge.proofs.totals.first_out.Given as goal
 
-abbrev pub invariant-loop-mark : goal.invariant-loop-mark
-invariant-loop-mark l =
-    find (λ t. not (is_query_number t)) (flat_map (λ m. flat_map (merged_totals (group_of l.tallies m)) l.items) (drop l.mark-index l.marks))
-    ≡ find (λ t. not (is_query_number t)) (flat_map (λ m. flat_map (merged_totals (group_of l.tallies m)) l.items) l.marks)
+abbrev pub invariant-loop-group : goal.invariant-loop-group
+invariant-loop-group l =
+    find (λ t. not (is_query_number t)) (flat_map (λ m. flat_map (merged_totals (group_of l.tallies m)) l.items) (drop l.group-index l.groups))
+    ≡ find (λ t. not (is_query_number t)) (flat_map (λ m. flat_map (merged_totals (group_of l.tallies m)) l.items) l.groups)

@@ -1,0 +1,171 @@
+//! The end of a query, by its plan and by how it ended at the board.
+//!
+//! What a plan still holds is dropped by name, as in `plan`.
+
+ghost use Rattle.std.specs.Prelude.{◌≡◌, ◌≤◌, ◌++◌, ◌∷◌, [], IfErr, IfOk, OnOk, length};
+ghost use Rattle.std.specs.Vec.Iter.{into_iter_items, into_iter_len};
+ghost use Rattle.sky_rules.specs.declared.limits.TheConstants.{CHUNKS_MOST};
+ghost use Rattle.answer_rules.specs.Finish.{finished};
+ghost use Rattle.partial_merge.specs.Joining.{MayFinish};
+ghost use Rattle.czar.specs.Ended.{AllMayEnd, IsNextEnd, IsRefusal, MayAnswer, MayEnd, PushesNextEnd};
+ghost use Rattle.czar.specs.Ended.{all_ended, answer_end, ended, finished_end, refused_end};
+ghost use Rattle.czar.specs.Running.{IsOutOfRange};
+
+use crate::end::End;
+use crate::plan::Plan;
+use answer_rules::{MergePlan, TotalOut};
+use partial_merge::Piece;
+use scan_rules::ChunkSet;
+use scan_session::End as BoardEnd;
+use sky_io::{Memory, Stop};
+use sql_tree::Query;
+use std::alloc::Global;
+use std::vec::IntoIter;
+use transcript_rules::Refusal;
+
+/// Returns the answer of a query with this piece over these chunks, or its refusal for a total out of range.
+fn answer_of(
+    head: Query,
+    merge: &MergePlan,
+    chunks: &ChunkSet,
+    piece: Piece<'_>,
+) -> Result<End, Memory>
+    requires may { MayFinish merge.now piece }
+    requires few { length chunks.now ≤ CHUNKS_MOST }
+    ensures { IfOk result (λ end.
+        end ≡ answer_end head (length chunks.now) (finished merge.now piece.entry)) }
+{
+    match piece.finish(merge) {
+        Ok(table) => Ok(End::Answered {
+            head,
+            table,
+            chunks: chunks.as_slice().len() as u32,
+        }),
+        Err(stop) => {
+            drop(head);
+            out_of_range(stop)
+        }
+    }
+}
+
+/// Returns the end of a query whose finish stops with this error.
+fn out_of_range(stop: Stop<TotalOut>) -> Result<End, Memory>
+    ensures { IfOk result (IsOutOfRange stop) }
+{
+    match stop {
+        Stop::Bad(out) => Ok(End::Refused(Refusal::Total(out))),
+        Stop::Memory => Err(Memory),
+    }
+}
+
+/// Returns the end of a query with this plan and this piece over all its chunks.
+fn finished_by(plan: Plan, piece: Piece<'_>) -> Result<End, Memory>
+    requires { MayAnswer plan piece }
+    ensures { IfOk result (λ end. end ≡ finished_end plan piece.entry) }
+{
+    match plan {
+        Plan::Planned {
+            head,
+            query,
+            chunks,
+        } => {
+            let end = answer_of(head, &query.merge, &chunks, piece);
+            drop((chunks, query));
+            end
+        }
+        Plan::Refused(_) => unreachable!(),
+    }
+}
+
+/// Returns the end of a query that was not attached.
+fn refused_by(plan: Plan) -> End
+    requires { IsRefusal plan }
+    ensures { result ≡ refused_end plan }
+{
+    match plan {
+        Plan::Refused(why) => End::Refused(why),
+        Plan::Planned { .. } => unreachable!(),
+    }
+}
+
+/// Returns the end of a query that was cancelled.
+fn cancelled_by(plan: Plan) -> End
+    ensures { result ≡ End.Cancelled }
+{
+    drop(plan);
+    End::Cancelled
+}
+
+/// Returns the end of a query in whose work an allocation failed.
+fn spent_by(plan: Plan) -> End
+    ensures { result ≡ End.Spent }
+{
+    drop(plan);
+    End::Spent
+}
+
+/// Returns the end of a query with this plan, by how it ended at the board.
+fn end_by(plan: Plan, end: BoardEnd<Piece<'_>>) -> Result<End, Memory>
+    requires { MayEnd plan end }
+    ensures { IfOk result (λ query_end. query_end ≡ ended plan end.entry) }
+{
+    match end {
+        BoardEnd::Answered(piece) => finished_by(plan, piece),
+        BoardEnd::Refused => Ok(refused_by(plan)),
+        BoardEnd::Cancelled => Ok(cancelled_by(plan)),
+        BoardEnd::Spent => Ok(spent_by(plan)),
+    }
+}
+
+/// Appends the end of a query with this plan, by how it ended at the board.
+fn push_query_end(
+    plan: Plan,
+    end: BoardEnd<Piece<'_>>,
+    query_ends: &mut Vec<End>,
+) -> Result<(), Memory>
+    requires { MayEnd plan end }
+    ensures { OnOk result (query_ends.new.items
+        ≡ query_ends.old.items ++ ended plan end.entry ∷ []) }
+{
+    match end_by(plan, end) {
+        Ok(one) => Ok(query_ends.push(one)?),
+        Err(Memory) => Err(Memory),
+    }
+}
+
+/// Appends the end of the query with this plan, by the next of these ends at the board.
+fn push_next_end(
+    plan: Plan,
+    ends: &mut IntoIter<BoardEnd<Piece<'_>>, Global>,
+    query_ends: &mut Vec<End>,
+) -> Result<(), Memory>
+    requires may { IsNextEnd plan (into_iter_items ends.old) }
+    requires len { into_iter_len ends.old ≡ length (into_iter_items ends.old) }
+    ensures len { into_iter_len ends.new ≡ length (into_iter_items ends.new) }
+    ensures query_ends { OnOk result (PushesNextEnd plan
+        (into_iter_items ends.old) (into_iter_items ends.new)
+        query_ends.old.items query_ends.new.items) }
+{
+    match ends.next() {
+        Some(end) => push_query_end(plan, end, query_ends),
+        None => unreachable!(),
+    }
+}
+
+/// Returns the end of each query of a script, in their order.
+pub(crate) fn all_query_ends(
+    alloc: Global,
+    plans: Vec<Plan>,
+    ends: Vec<BoardEnd<Piece<'_>>>,
+) -> Result<Vec<End>, Memory>
+    requires may { AllMayEnd plans.items ends.items }
+    ensures { IfOk result (λ query_ends.
+        query_ends.items ≡ all_ended plans.items ends.entry.items) }
+{
+    let mut query_ends = Vec::new(alloc);
+    let mut rest = ends.into_iter();
+    for plan in plans {
+        push_next_end(plan, &mut rest, &mut query_ends)?;
+    }
+    Ok(query_ends)
+}

@@ -1,0 +1,157 @@
+//! What a piece holds: rows, or groups.
+
+ghost use Rattle.std.specs.Prelude.{◌≡◌, ◌≤◌, Err, IfErr, IfOk, Ok, OnErr, OnOk};
+ghost use Rattle.std.specs.Bool.{OnTrue};
+ghost use Rattle.answer_rules.specs.PieceLaws.{empty_view};
+ghost use Rattle.answer_rules.specs.Rows.{limit_of};
+ghost use Rattle.partial_merge.specs.Contents.{IsCombined, MayCombine, view_in};
+ghost use Rattle.partial_merge.specs.Multisets.{out_row};
+ghost use Rattle.partial_merge.specs.Joining.{IsNoneOfFirst, IsOfRows, IsReportedLate, MayTakeGroup, TakesRow, with_group};
+ghost use Rattle.partial_merge.specs.Groups.{group_by};
+ghost use Rattle.partial_merge.specs.Sizes.{IsWithin, size_of};
+ghost use Rattle.answer_rules.specs.Finish.{finished};
+ghost use Rattle.answer_rules.specs.Pieces.{OfGroups};
+ghost use Rattle.partial_merge.specs.Merging.{CanFinish, CanMerge};
+ghost use Rattle.sky_io.specs.Stops.{IfBad};
+
+use crate::aggregation_table::AggregationTable;
+use crate::key::Key;
+use crate::multiset::Multiset;
+use crate::rank::Rank;
+use crate::table::Table;
+use crate::tally::Tally;
+use answer_rules::{ChunkQuery, MergePlan, TotalOut};
+use sky_io::{Memory, Stop};
+use sky_vector::Num;
+use sql_bound::{Int, Shape};
+use std::alloc::Global;
+
+/// Rows, or groups.
+#[derive(Drop)]
+pub(crate) enum Contents {
+    Rows(Multiset),
+    Groups(AggregationTable),
+}
+
+/// Returns a limit as a number of rows.
+fn limit(limit: Option<Int>) -> Option<usize>
+    ensures { result ≡ limit_of limit }
+{
+    Some(limit?.get().unsigned_abs() as usize)
+}
+
+/// Creates an empty value of the kind that the chunk query produces. Does not allocate.
+pub(crate) fn nothing(alloc: Global, query: &ChunkQuery) -> Contents
+    ensures { view_in result ≡ empty_view query.now.shape (limit_of query.now.limit) }
+{
+    match &query.shape {
+        Shape::Rows => Contents::Rows(Multiset::empty(alloc, limit(query.limit))),
+        Shape::Pairs { limit: _ } => Contents::Rows(Multiset::empty(alloc, limit(query.limit))),
+        Shape::Groups { keys: _ } => Contents::Groups(AggregationTable::empty(alloc)),
+    }
+}
+
+/// Adds what another piece holds. After `Err` nothing has changed.
+pub(crate) fn combine_contents(contents: &mut Contents, other: Contents) -> Result<(), Memory>
+    requires { MayCombine contents.old other }
+    ensures joined { OnOk result (IsCombined contents.old other contents.new) }
+    ensures same { OnErr result (view_in contents.new ≡ view_in contents.old) }
+{
+    match (contents, other) {
+        (Contents::Rows(mine), Contents::Rows(theirs)) => mine.absorb(theirs),
+        (Contents::Groups(mine), Contents::Groups(theirs)) => mine.absorb(theirs),
+        _ => unreachable!(),
+    }
+}
+
+/// Returns true only if a row with this sort key is none of the first that are kept, whatever its values.
+pub(crate) fn is_too_late(contents: &Contents, rank: &Rank) -> bool
+    ensures late { OnTrue result (IsNoneOfFirst (view_in contents.now) rank.now) }
+    ensures reported { IsReportedLate (view_in contents.now) rank.now result }
+{
+    match contents {
+        Contents::Rows(multiset) => multiset.is_too_late(rank),
+        Contents::Groups(_) => false,
+    }
+}
+
+/// Adds a row with this sort key and these values. After `Err` nothing has changed.
+pub(crate) fn push_row(
+    contents: &mut Contents,
+    rank: &Rank,
+    values: &[Option<Num>],
+) -> Result<(), Memory>
+    requires rows { IsOfRows (view_in contents.old) }
+    ensures kept { OnOk result (TakesRow (view_in contents.old) (out_row rank.now values.now)
+        (view_in contents.new)) }
+    ensures same { OnErr result (view_in contents.new ≡ view_in contents.old) }
+{
+    match contents {
+        Contents::Rows(multiset) => multiset.push(rank, values),
+        Contents::Groups(_) => unreachable!(),
+    }
+}
+
+/// Adds a group with this key. After `Err` nothing has changed.
+pub(crate) fn push_group(
+    contents: &mut Contents,
+    key: Key,
+    rows: u32,
+    parts: &[Tally],
+) -> Result<(), Memory>
+    requires alike { MayTakeGroup (view_in contents.old) (group_by key rows parts.now) }
+    ensures put { OnOk result (view_in contents.new
+        ≡ with_group (view_in contents.old) (group_by key rows parts.now)) }
+    ensures same { OnErr result (view_in contents.new ≡ view_in contents.old) }
+{
+    match contents {
+        Contents::Rows(_) => unreachable!(),
+        Contents::Groups(aggregation_table) => aggregation_table.push(key, rows, parts),
+    }
+}
+
+/// Returns the number of rows, or of groups, where one key may count more than once.
+pub(crate) fn count(contents: &Contents) -> usize
+    ensures held { IsOfRows (view_in contents.now) → result ≡ size_of (view_in contents.now) }
+    ensures most { size_of (view_in contents.now) ≤ result }
+    ensures few { IsWithin result (view_in contents.now) }
+{
+    match contents {
+        Contents::Rows(multiset) => multiset.row_count(),
+        Contents::Groups(aggregation_table) => aggregation_table.len(),
+    }
+}
+
+/// Returns the table of the rows or groups, or the first total that is out of range.
+pub(crate) fn finish(
+    alloc: Global,
+    contents: Contents,
+    merge: &MergePlan,
+) -> Result<Table, Stop<TotalOut>>
+    requires { CanFinish merge.now (view_in contents) }
+    ensures ok { IfOk result (λ table. finished merge.now (view_in contents) ≡ Ok table) }
+    ensures out { IfErr result (λ stop. IfBad stop (λ out.
+        finished merge.now (view_in contents) ≡ Err out.total)) }
+{
+    match contents {
+        Contents::Rows(multiset) => Ok(multiset.finish(alloc, merge)?),
+        Contents::Groups(aggregation_table) => finish_groups(alloc, aggregation_table, merge),
+    }
+}
+
+/// Returns the table of groups, or the first total that is out of range.
+fn finish_groups(
+    alloc: Global,
+    aggregation_table: AggregationTable,
+    merge: &MergePlan,
+) -> Result<Table, Stop<TotalOut>>
+    requires { CanMerge merge.now.shape merge.now.items aggregation_table }
+    ensures ok { IfOk result (λ table. finished merge.now (OfGroups aggregation_table) ≡ Ok table) }
+    ensures out { IfErr result (λ stop. IfBad stop (λ out.
+        finished merge.now (OfGroups aggregation_table) ≡ Err out.total)) }
+{
+    match &merge.shape {
+        Shape::Groups { keys } => aggregation_table.finish(alloc, keys, merge),
+        _ => unreachable!(),
+    }
+}
