@@ -1,5 +1,4 @@
-//! The scan of a chunk: which of its rows meet the conditions of a chunk query, and the piece of the answer that they
-//! are.
+//! The scan of a chunk: which of its rows meet the conditions of a chunk query, and the partial result of these rows.
 //!
 //! Callers see `mask` as a flag for each row, and `scan` as a piece that represents the chunk alone (`PieceFor`). The
 //! program calls `scan`; nothing in it calls `mask`. Conditions that are vectorizable predicates are evaluated first by
