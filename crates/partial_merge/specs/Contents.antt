@@ -1,4 +1,4 @@
--- What a piece holds, by its fields.
+-- What a piece contains, by its fields.
 use Rattle.std.specs.Prelude.{◌≡◌, ◌++◌, List, []}
 use Rattle.answer_rules.specs.declared.row.OutRow.{OutRow}
 use Rattle.answer_rules.specs.Gather.{gather}

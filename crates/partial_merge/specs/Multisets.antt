@@ -1,4 +1,4 @@
--- What a multiset of rows holds, by its fields.
+-- What a multiset of rows contains, by its fields.
 use Rattle.std.specs.Prelude.{◌≡◌, ℕ, ℤ, ◌≤◌, ◌+◌, ◌-◌, ◌^◌, ◌++◌, List, [], map, length, Option, Some, None, All, IfSome, false}
 use Rattle.std.specs.List.{AllByRecursion}
 use Rattle.std.specs.Ordering.{is_lt}

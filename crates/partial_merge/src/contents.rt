@@ -1,4 +1,4 @@
-//! What a piece holds: rows, or groups.
+//! What a piece contains: rows, or groups.
 
 ghost use Rattle.std.specs.Prelude.{◌≡◌, ◌≤◌, Err, IfErr, IfOk, Ok, OnErr, OnOk};
 ghost use Rattle.std.specs.Bool.{OnTrue};
@@ -51,7 +51,7 @@ pub(crate) fn nothing(alloc: Global, query: &ChunkQuery) -> Contents
     }
 }
 
-/// Adds what another piece holds. After `Err` nothing has changed.
+/// Adds what another piece contains. After `Err` nothing has changed.
 pub(crate) fn combine_contents(contents: &mut Contents, other: Contents) -> Result<(), Memory>
     requires { MayCombine contents.old other }
     ensures joined { OnOk result (IsCombined contents.old other contents.new) }
