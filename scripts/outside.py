@@ -5,9 +5,9 @@
 
 PROGRAM is the built program, by default crates/qserv_cli/out/qserv_cli, where the whole check leaves it.
 
-Standard output is full, closed, or a pipe whose reader is gone at once or after the first bytes; standard error is closed. A text
-is a folder, a device, a named pipe, a file that may not be read, or one that grows or shrinks while it is read; a name has 5,000
-bytes, and words are no UTF-8. What has to come is a row of the table of outcomes in docs/FORMATS.md: a status and its line, with
+Each form of the command line is run. Standard output is full, closed, or a pipe whose reader is gone at once or after the first
+bytes; standard error or standard input is closed. Each text is a folder, a device, or a file that may not be read, the sky plan a
+named pipe, and the catalogue grows or shrinks while it is read. A name has 5,000 bytes, and words are no UTF-8. What has to come is a row of the table of outcomes in docs/FORMATS.md: a status and its line, with
 nothing on standard output unless it is 0 or 8. No run may end by a signal. Of a text that changes while it is read any state may
 be seen, so there only the statuses that may come are listed, and that a fault has one line and no output.
 
@@ -28,8 +28,24 @@ import worked_streams
 
 HERE = os.path.dirname(os.path.abspath(__file__))
 PROGRAM = os.path.join(HERE, "..", "crates", "qserv_cli", "out", "qserv_cli")
-TEXTS = {"sky": worked_runs.SKY, "csv": "objectId,x,y,z\n1,268435456,0,0\n", "script": worked_streams.SCRIPT}
-LOAD, EXPLAIN, ASK = ["load", "sky", "csv"], ["explain", "sky", "csv", "script"], ["query", "sky", "csv", "script", "2"]
+TEXTS = {
+    "sky": worked_runs.SKY,
+    "csv": "objectId,x,y,z\n1,268435456,0,0\n",
+    "script": worked_streams.SCRIPT,
+    "journal": worked_runs.BOARD,
+}
+LOAD, EXPLAIN, CHECK = ["load", "sky", "csv"], ["explain", "sky", "csv", "script"], ["check", "journal"]
+ASK, TRACE = ([word, "sky", "csv", "script", "2"] for word in ("query", "trace"))
+FORMS = [LOAD, EXPLAIN, ASK, TRACE, CHECK, ["demo", "300", "7", "2"]]
+# each place of a form in which the name of a text is
+PLACES = [(words, place) for words in FORMS for place, word in enumerate(words) if word in TEXTS]
+# how a run ends of which the text in a place is empty
+EMPTY = [
+    (LOAD, 1, 3, b"sky line 1: syntax\n"),
+    (LOAD, 2, 4, b"catalogue header: field 1\n"),
+    (ASK, 3, 0, b""),
+    (CHECK, 1, 12, b"journal line 1: syntax\n"),
+]
 REPORT = b"1 rows, 1 of 8 chunks\nchunk 4: 1 rows, 0 overlap\n"
 USAGE, FAILED = (worked_runs.USAGE + "\n").encode(), b"output failed\n"
 # a row of the catalogues that change, and how often one is tried; far more seconds than a run takes
@@ -45,9 +61,9 @@ class Runs:
     def ended(self, words, out=subprocess.PIPE, closed=None, **more):
         """The status and the bytes of a run; one of its streams may be closed."""
         close = None if closed is None else lambda: os.close(closed)
-        streams = {"stdout": out, "stderr": subprocess.PIPE}
+        streams = {"stdin": subprocess.DEVNULL, "stdout": out, "stderr": subprocess.PIPE}
         if closed is not None:
-            streams[{1: "stdout", 2: "stderr"}[closed]] = None
+            streams[["stdin", "stdout", "stderr"][closed]] = None
         end = subprocess.run(
             [self.program, *words], cwd=self.folder, timeout=SECONDS, preexec_fn=close, check=False, **streams, **more
         )
@@ -66,8 +82,8 @@ class Runs:
 
 
 def outputs(runs):
-    """Standard output that takes nothing, and standard error that is closed."""
-    for words in (LOAD, EXPLAIN, ASK):
+    """Standard output that takes nothing, and standard error or standard input that is closed."""
+    for words in FORMS:
         with open("/dev/full", "wb") as full:
             runs.compare(f"{words[0]}, a full device", runs.ended(words, full), 8, err=FAILED)
         runs.compare(f"{words[0]}, no standard output", runs.ended(words, closed=1), 8, err=FAILED)
@@ -78,7 +94,9 @@ def outputs(runs):
     runs.compare("no standard error", runs.ended(LOAD, closed=2), 0, REPORT)
     runs.compare("no standard error, no form", runs.ended(["load"], closed=2), 2)
     runs.compare("no standard error, a fault", runs.ended(["load", "csv", "csv"], closed=2), 3)
-    runs.compare("no standard input", runs.ended(LOAD, stdin=subprocess.DEVNULL), 0, REPORT)
+    with open("/dev/full", "wb") as full:
+        runs.compare("no standard error, a full device", runs.ended(LOAD, full, closed=2), 8)
+    runs.compare("no standard input", runs.ended(LOAD, closed=0), 0, REPORT)
 
 
 def to_nobody(runs, words):
@@ -115,14 +133,21 @@ def cannot_be_read(name):
     return os.fsencode(name) + b": cannot be read\n"
 
 
+def named(words, place, name):
+    """The words with another name in a place."""
+    return words[:place] + [name] + words[place + 1 :]
+
+
 def texts(runs):
     """Names of what is no file, or no file that may be read."""
-    for name in [".", "/", "none", "sky/csv", "n" * 5000, "n/" * 2500]:
-        runs.compare(f"the sky plan {name[:9]}", runs.ended(["load", name, "csv"]), 7, err=cannot_be_read(name))
-        runs.compare(f"the script {name[:9]}", runs.ended(["explain", "sky", "csv", name]), 7, err=cannot_be_read(name))
-    runs.compare("zeros without end", runs.ended(["load", "/dev/zero", "csv"]), 6, err=b"/dev/zero: too long\n")
-    runs.compare("a script of zeros", runs.ended(["explain", "sky", "csv", "/dev/zero"]), 6, err=b"/dev/zero: too long\n")
-    runs.compare("a device without bytes", runs.ended(["load", "/dev/null", "csv"]), 3, err=b"sky line 1: syntax\n")
+    for words, place in PLACES:
+        for name in [".", "/", "none", "sky/csv", "n" * 5000, "n/" * 2500]:
+            what = f"{words[0]}, the {words[place]} {name[:9]}"
+            runs.compare(what, runs.ended(named(words, place, name)), 7, err=cannot_be_read(name))
+    for words, place, status, told in EMPTY:
+        zeros, empty = (runs.ended(named(words, place, device)) for device in ("/dev/zero", "/dev/null"))
+        runs.compare(f"{words[place]} of zeros without end", zeros, 6, err=b"/dev/zero: too long\n")
+        runs.compare(f"{words[place]} without bytes", empty, status, err=told)
     pipes(runs)
     unreadable(runs)
 
@@ -149,7 +174,9 @@ def unreadable(runs):
         except KeyError:
             runs.left_out.append("there is no user nobody: a file that may not be read is left out")
             return
-    runs.compare("a file that may not be read", runs.ended(["load", "secret", "csv"], **who), 7, err=cannot_be_read("secret"))
+    for words, place in PLACES:
+        what = f"{words[0]}, the {words[place]} may not be read"
+        runs.compare(what, runs.ended(named(words, place, "secret"), **who), 7, err=cannot_be_read("secret"))
 
 
 def changing(runs):
@@ -195,7 +222,7 @@ def shrink(path, going):
 
 def words_of_bytes(runs):
     """Words that are no UTF-8, in each place."""
-    for words in (LOAD, ASK):
+    for words in FORMS:
         for place in range(len(words)):
             other = [os.fsencode(word) for word in words]
             other[place] += b"\xff"
