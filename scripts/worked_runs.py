@@ -5,10 +5,8 @@ The texts of the folder scripts/worked/ are there for each run; those that a run
 journal.
 """
 import collections
-import itertools
 
 import worked_demo
-import worked_laps
 import worked_world
 
 # the words of a run, and the texts that it reads, by their names and in pieces, or as how many zeros one is; its status, its
@@ -492,45 +490,7 @@ TRACED_SCRIPT = THREE + "cancel 2\nwait 1\n"
 TRACED_QUERIES = 3
 TRACED = ["0", "4"]
 
-# ---- limits
-
-# With as many chunks as there may be, row 5 is in the lowest stripe, and rows 1 to 4 in the next one. Rows 1 and 3, with y = 0,
-# are on the border of the last wedge of their stripe, which holds row 4. Row 6, at the pole, is in the first chunk of the last
-# stripe.
-REPORT_OF_MOST_CHUNKS = """6 rows, 4 of 16384 chunks
-chunk 0: 1 rows, 0 overlap
-chunk 1024: 3 rows, 0 overlap
-chunk 2047: 1 rows, 2 overlap
-chunk 15360: 1 rows, 0 overlap
-"""
-
-
-# a script of as many bytes as there may be: notes of 32 bytes
-MOST_NOTES = ("#" * 31 + "\n") * 262144
-
-
-def more_rows():
-    """A row more than there may be."""
-    return itertools.chain([FOUR], map("%d,268435456,0,0\n".__mod__, range(4194305)))
-
-
-LAPS = {"sky": worked_laps.SKY, "csv": worked_laps.CSV, "script": worked_laps.SCRIPT}
-LIMITS = [
-    done(LOAD_SKY, REPORT_OF_MOST_CHUNKS, sky=worked_laps.SKY),
-    # one chunk too many, on the line after the 17
-    fault(LOAD_SKY, 3, "sky line 18: too many", sky=worked_laps.SKY + "stripe 960 1 1 1\n"),
-    # as many queries as there may be, over a row in each chunk
-    *(done(["query", "sky", "csv", "script", workers], worked_laps.TRANSCRIPT, **LAPS) for workers in ["0", "4"]),
-    # the row's number is not written
-    fault(LOAD_CSV, 4, "catalogue: too many rows", csv=more_rows()),
-    # a text of as many bytes as there may be is read: notes ask nothing, and zeros are no header
-    done(EXPLAIN, "", script=MOST_NOTES),
-    fault(EXPLAIN, 6, "script: too long", script=MOST_NOTES + "\n"),
-    fault(LOAD_CSV, 4, "catalogue header: field 1", csv=536870912),
-    fault(LOAD_CSV, 6, "csv: too long", csv=536870913),
-]
-
-RUNS = SKIES + CATALOGUES + STEPS + DEMOS + STATUSES + JOURNALS + LIMITS
+RUNS = SKIES + CATALOGUES + STEPS + DEMOS + STATUSES + JOURNALS
 RUNS.append(done(["load", "sky", "csv"], worked_world.report(), sky=worked_world.SKY, csv=worked_world.CSV))
 # whatever is written to the full device fails
 OUTPUT_FAILED = fault(["load", *TEXTS], 8, "output failed")
