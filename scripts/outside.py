@@ -5,9 +5,10 @@
 
 PROGRAM is the built program, by default crates/qserv_cli/out/qserv_cli, where the whole check leaves it.
 
-Each form of the command line is run. Standard output is full, closed, or a pipe whose reader is gone at once or after the first
-bytes; standard error or standard input is closed. Each text is a folder, a device, or a file that may not be read, the sky plan a
-named pipe, and the catalogue grows or shrinks while it is read. A name has 5,000 bytes, and words are no UTF-8. What has to come is a row of the table of outcomes in docs/FORMATS.md: a status and its line, with
+Each form of the command line is run. Standard output is full, closed, a pipe whose reader is gone at once or after the first
+bytes, a full pipe that does not wait, or a file at its greatest length; standard error is full or closed, and standard input is
+closed. Each text is a folder, a device, or a file that may not be read or whose read fails, the sky plan a named pipe, and the
+catalogue grows or shrinks while it is read. A name has 5,000 bytes, and words are no UTF-8. What has to come is a row of the table of outcomes in docs/FORMATS.md: a status and its line, with
 nothing on standard output unless it is 0 or 8. No run may end by a signal. Of a text that changes while it is read any state may
 be seen, so there only the statuses that may come are listed, and that a fault has one line and no output.
 
@@ -17,6 +18,7 @@ where none ended otherwise, and 1 else, also where there is no program. It write
 import argparse
 import os
 import pwd
+import resource
 import shutil
 import subprocess
 import sys
@@ -28,13 +30,18 @@ import worked_streams
 
 HERE = os.path.dirname(os.path.abspath(__file__))
 PROGRAM = os.path.join(HERE, "..", "crates", "qserv_cli", "out", "qserv_cli")
+# a heading of 1,022 names for each query: 255 of them are more than half a million bytes
+LONG = ("SELECT x" + ",x" * 1021 + " FROM Object LIMIT 0\n") * 255
+HEADINGS = "".join(f"query {number}\nx{',x' * 1021}\n0 rows, 1 chunks\n" for number in range(1, 256)).encode()
 TEXTS = {
     "sky": worked_runs.SKY,
     "csv": "objectId,x,y,z\n1,268435456,0,0\n",
     "script": worked_streams.SCRIPT,
     "journal": worked_runs.BOARD,
+    "long": LONG,
 }
 LOAD, EXPLAIN, CHECK = ["load", "sky", "csv"], ["explain", "sky", "csv", "script"], ["check", "journal"]
+ASK_LONG = ["query", "sky", "csv", "long", "0"]
 ASK, TRACE = ([word, "sky", "csv", "script", "2"] for word in ("query", "trace"))
 FORMS = [LOAD, EXPLAIN, ASK, TRACE, CHECK, ["demo", "300", "7", "2"]]
 # each place of a form in which the name of a text is
@@ -48,6 +55,8 @@ EMPTY = [
 ]
 REPORT = b"1 rows, 1 of 8 chunks\nchunk 4: 1 rows, 0 overlap\n"
 USAGE, FAILED = (worked_runs.USAGE + "\n").encode(), b"output failed\n"
+# the bytes that a file may have at most where it may have no more
+LENGTH = 100000
 # a row of the catalogues that change, and how often one is tried; far more seconds than a run takes
 ROW, TIMES, SECONDS = "%d,268435456,0,0\n", 5, 120
 
@@ -60,13 +69,10 @@ class Runs:
 
     def ended(self, words, out=subprocess.PIPE, closed=None, **more):
         """The status and the bytes of a run; one of its streams may be closed."""
-        close = None if closed is None else lambda: os.close(closed)
-        streams = {"stdin": subprocess.DEVNULL, "stdout": out, "stderr": subprocess.PIPE}
+        given = {"stdin": subprocess.DEVNULL, "stdout": out, "stderr": subprocess.PIPE, **more}
         if closed is not None:
-            streams[["stdin", "stdout", "stderr"][closed]] = None
-        end = subprocess.run(
-            [self.program, *words], cwd=self.folder, timeout=SECONDS, preexec_fn=close, check=False, **streams, **more
-        )
+            given |= {["stdin", "stdout", "stderr"][closed]: None, "preexec_fn": lambda: os.close(closed)}
+        end = subprocess.run([self.program, *words], cwd=self.folder, timeout=SECONDS, check=False, **given)
         return end.returncode, end.stdout or b"", end.stderr or b""
 
     def compare(self, what, told, status, out=b"", err=b""):
@@ -82,13 +88,15 @@ class Runs:
 
 
 def outputs(runs):
-    """Standard output that takes nothing, and standard error or standard input that is closed."""
+    """Standard output that takes nothing or not all, and standard error or standard input that is closed."""
     for words in FORMS:
         with open("/dev/full", "wb") as full:
             runs.compare(f"{words[0]}, a full device", runs.ended(words, full), 8, err=FAILED)
         runs.compare(f"{words[0]}, no standard output", runs.ended(words, closed=1), 8, err=FAILED)
         runs.compare(f"{words[0]}, a pipe without a reader", to_nobody(runs, words), 8, err=FAILED)
-    runs.compare("a reader that goes", to_a_reader_that_goes(runs), 8, worked_streams.EXPLAINED[:1], FAILED)
+    runs.compare("a reader that goes", to_a_reader_that_goes(runs), 8, HEADINGS[:1], FAILED)
+    runs.compare("a full pipe", to_a_full_pipe(runs), 8, err=FAILED)
+    runs.compare("a file at its greatest length", to_a_short_file(runs), 8, HEADINGS[:LENGTH], FAILED)
     with open("/dev/full", "wb") as full:
         runs.compare("a full device, nothing written", runs.ended(["explain", "sky", "csv", os.devnull], full), 0)
     runs.compare("no standard error", runs.ended(LOAD, closed=2), 0, REPORT)
@@ -96,6 +104,7 @@ def outputs(runs):
     runs.compare("no standard error, a fault", runs.ended(["load", "csv", "csv"], closed=2), 3)
     with open("/dev/full", "wb") as full:
         runs.compare("no standard error, a full device", runs.ended(LOAD, full, closed=2), 8)
+        runs.compare("a full standard error, a fault", runs.ended(["load", "csv", "csv"], stderr=full), 3)
     runs.compare("no standard input", runs.ended(LOAD, closed=0), 0, REPORT)
 
 
@@ -111,19 +120,37 @@ def to_nobody(runs, words):
 
 def to_a_reader_that_goes(runs):
     """A run that writes more than a pipe holds, of which one byte is read."""
-    script = runs.path("long")
-    with open(script, "w", encoding="ascii") as file:
-        # a heading of 1,022 names for each query: 255 of them are more than half a million bytes
-        file.write(("SELECT x" + ",x" * 1021 + " FROM Object LIMIT 0\n") * 255)
-    words = ["query", "sky", "csv", "long", "0"]
     with subprocess.Popen(
-        [runs.program, *words], cwd=runs.folder, stdout=subprocess.PIPE, stderr=subprocess.PIPE, bufsize=0
+        [runs.program, *ASK_LONG], cwd=runs.folder, stdout=subprocess.PIPE, stderr=subprocess.PIPE, bufsize=0
     ) as process:
         told = process.stdout.read(1)
         process.stdout.close()
         err = process.stderr.read()
         process.wait(SECONDS)
     return process.returncode, told, err
+
+
+def to_a_full_pipe(runs):
+    """A run whose writes fail when the pipe is full, since they do not wait. What is in the pipe is left out if it is a prefix."""
+    out, into = os.pipe()
+    os.set_blocking(into, False)
+    status, _, err = runs.ended(ASK_LONG, into)
+    os.close(into)
+    with open(out, "rb") as pipe:
+        told = pipe.read()
+    return status, b"" if told and HEADINGS.startswith(told) else told, err
+
+
+def to_a_short_file(runs):
+    """A run that writes more than a file may have; the signal of that limit is ignored, as this process has it."""
+
+    def limit():
+        resource.setrlimit(resource.RLIMIT_FSIZE, (LENGTH, LENGTH))
+
+    with open(runs.path("short"), "wb") as file:
+        status, _, err = runs.ended(ASK_LONG, file, preexec_fn=limit, restore_signals=False)
+    with open(runs.path("short"), "rb") as file:
+        return status, file.read(), err
 
 
 # ---- texts
@@ -141,7 +168,8 @@ def named(words, place, name):
 def texts(runs):
     """Names of what is no file, or no file that may be read."""
     for words, place in PLACES:
-        for name in [".", "/", "none", "sky/csv", "n" * 5000, "n/" * 2500]:
+        # the last one opens, and each read of it fails
+        for name in [".", "/", "none", "sky/csv", "n" * 5000, "n/" * 2500, "/proc/self/mem"]:
             what = f"{words[0]}, the {words[place]} {name[:9]}"
             runs.compare(what, runs.ended(named(words, place, name)), 7, err=cannot_be_read(name))
     for words, place, status, told in EMPTY:
