@@ -1,5 +1,5 @@
 #!/usr/bin/env python3
-"""Runs the built program again and again, each time with another of its requests for memory refused.
+"""Runs the built program again and again, each time with another of its requests for memory, or for threads, refused.
 
     scripts/fail_allocations.py FOLDER [--program FILE] [--workers N ..] [--session] [--processes N]
 
@@ -12,6 +12,9 @@ Nth request of the run is refused, for N from 1 until a run makes fewer, and the
 - with the right text but for `out of memory` in the place of an answer that wants chunks to be scanned, and status 0;
 - or with nothing written, `out of memory` on standard error, and status 9.
 A journal of trace is right as `random_journals.py` has it; it may lose a query in the place of an answer.
+
+Then no thread is started from the Nth on, for N from 1 to 20, and no request for memory is refused. Each of these runs has to end
+with the whole right text: whoever runs the script does the work that no other thread does.
 
 It prints how many runs of each form ended how, and each run that ended otherwise; the status is 0 where none did, and 1 else.
 The right texts are computed here from the flat table. With --session the script also waits and cancels. Between the program
@@ -40,17 +43,24 @@ import worked_runs
 import demo_files
 import program_words
 
-# Counts the requests for memory in a given file, and refuses the given ones. It does not depend on how the program ends.
+# Counts the requests for memory in a given file, and refuses the given ones. It does not depend on how the program ends. It refuses
+# all starts of threads but a given number of the first.
 REFUSER = r"""
+#define _GNU_SOURCE
+#include <dlfcn.h>
 #include <errno.h>
+#include <pthread.h>
 #include <stdatomic.h>
 #include <stdlib.h>
 #include <sys/mman.h>
 
 extern void *__libc_malloc(size_t), *__libc_calloc(size_t, size_t), *__libc_realloc(void *, size_t);
 
-static atomic_ulong *requests;
-static unsigned long first, last;
+typedef int started(pthread_t *, const pthread_attr_t *, void *(*)(void *), void *);
+
+static atomic_ulong *requests, starts;
+static unsigned long first, last, most;
+static started *start;
 
 static unsigned long number(const char *name) {
     const char *text = getenv(name);
@@ -62,6 +72,8 @@ __attribute__((constructor)) static void begin(void) {
     if (counted == MAP_FAILED) abort();
     first = number("REFUSED_FROM");
     last = number("REFUSED_TO");
+    most = number("STARTED");
+    start = (started *)dlsym(RTLD_NEXT, "pthread_create");
     requests = counted;
 }
 
@@ -77,6 +89,10 @@ static int is_refused(void) {
 void *malloc(size_t size) { return is_refused() ? NULL : __libc_malloc(size); }
 void *calloc(size_t count, size_t size) { return is_refused() ? NULL : __libc_calloc(count, size); }
 void *realloc(void *old, size_t size) { return is_refused() ? NULL : __libc_realloc(old, size); }
+
+int pthread_create(pthread_t *thread, const pthread_attr_t *how, void *(*work)(void *), void *with) {
+    return ++starts > most ? EAGAIN : start(thread, how, work, with);
+}
 """
 NAMES = ["objectId", "x", "y", "z", "flux", "g"]
 EDGE = 268435456
@@ -132,6 +148,8 @@ ASKED = [
     "SELECT flux,COUNT(g) FROM Object GROUP BY flux",
 ]
 KINDS = ["right text", "right but for queries out of memory", "out of memory, nothing written"]
+# more threads than any of the runs starts, and a number that no request has
+THREADS, NEVER = 20, 1 << 62
 
 
 class Form:
@@ -210,16 +228,18 @@ def compiled(folder):
     source, made = os.path.join(folder, "refuser.c"), os.path.join(folder, "refuser.so")
     with open(source, "w", encoding="ascii") as file:
         file.write(REFUSER)
-    subprocess.run(["cc", "-O1", "-shared", "-fPIC", "-o", made, source], check=True)
+    subprocess.run(["cc", "-O1", "-shared", "-fPIC", "-o", made, source, "-ldl"], check=True)
     return made
 
 
-def run(words, folder, refuser, first, last):
-    """Runs the program with the requests from one to another refused: its status, what it writes, and its requests."""
+def run(words, folder, refuser, first, last, threads=NEVER):
+    """Runs the program with the requests from one to another refused, and all starts of threads but a number of them: its status,
+    what it writes, and its requests."""
     with tempfile.TemporaryFile(buffering=0) as counted:
         counted.write(bytes(8))
         file = counted.fileno()
         refused = {"LD_PRELOAD": refuser, "REFUSED_FROM": str(first), "REFUSED_TO": str(last), "COUNTED": str(file)}
+        refused["STARTED"] = str(threads)
         ended = subprocess.run(
             words, cwd=folder, env={**os.environ, **refused}, capture_output=True, timeout=60, pass_fds=[file]
         )
@@ -230,11 +250,18 @@ def run(words, folder, refuser, first, last):
 def tried(words, form, folder, refuser, first, is_one):
     """How a run ended whose request of this number is refused, and those after it too unless it is one; and whether it made
     that many requests. The end is the exit status and the output where none may end so."""
-    status, output, told, requests = run([words.program, *form.words], folder, refuser, first, first if is_one else 1 << 62)
+    status, output, told, requests = run([words.program, *form.words], folder, refuser, first, first if is_one else NEVER)
     kind = form.kind(status, output, told) if requests else None
     if requests < first and kind != KINDS[0]:
         kind = None
     return kind or f"request {first}{'' if is_one else ' and on'}: status {status}, {told!r}, {output[:300]!r}", requests >= first
+
+
+def with_threads(words, form, folder, refuser, threads):
+    """How a run ended of which so many threads are started."""
+    status, output, told, _ = run([words.program, *form.words], folder, refuser, NEVER, NEVER, threads)
+    kind = form.kind(status, output, told)
+    return KINDS[0] if kind == KINDS[0] else f"{threads} threads: status {status}, {told!r}, {output[:300]!r}"
 
 
 def numbered(pool, words, form, folder, refuser, is_one):
@@ -267,6 +294,7 @@ def main():
         refuser = compiled(made)
         for form in forms(world, script, words.workers):
             ends = [end for is_one in (True, False) for end in numbered(pool, words, form, folder, refuser, is_one)]
+            ends += pool.map(functools.partial(with_threads, words, form, folder, refuser), range(THREADS))
             counts = collections.Counter(ends)
             others = [end for end in counts if end not in KINDS]
             told = ", ".join(f"{counts[kind]} {kind}" for kind in KINDS if counts[kind])
