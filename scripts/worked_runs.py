@@ -117,7 +117,7 @@ ACCEPTED = [
     (f"objectId,x,y,z,flux,Flux,_9,{'q' * 32}\n", NONE),
     # twelve extra columns, a NULL among their values
     (f"objectId,x,y,z,{FURTHER}\n9,268435456,0,0,1,,-3,4,5,,7,-8,9,,11,12\n", in_chunk_4(1)),
-    ("objectId,x,y,z,flux\n1,268435456,0,0,", in_chunk_4(1)),
+    (FLUX, in_chunk_4(1)),
     ('objectId,x,y,z,f\n1,268435456,0,0,""\n', in_chunk_4(1)),
     # quotes, and no end of the last line
     (FOUR + '1,"268435456",0,0', in_chunk_4(1)),
@@ -138,6 +138,7 @@ CSV_FAULTS = [
     *((f"objectId,x,y,z,{name}\n", "header: field 5") for name in ["9a", "a b", "q" * 33, "objectId"]),
     ("objectId,x,y,z,flux,flux\n", "header: field 6"),
     (FOUR + "1,268435456,0\n", "row 1: 3 fields"),
+    (FLUX.removesuffix(",0,"), "row 1: 3 fields"),
     (FOUR + '""\n', "row 1: 1 fields"),
     (FOUR + "  \n", "row 1: 1 fields"),
     # the quote goes on to the end
@@ -269,6 +270,15 @@ SCRIPTS = [
 ]
 STEPS = [
     done([*QUERY, workers], *outs, script=text) for numbers, text, *outs in SCRIPTS for workers in numbers.split()
+]
+# the row of a cut catalogue, without its extra value
+STEPS += [
+    done(
+        ["query", "sky.txt", "csv", "script", "0"],
+        "query 1\nobjectId,flux\n1,NULL\n1 rows, 1 chunks\n",
+        csv=FLUX,
+        script="SELECT objectId,flux FROM Object\n",
+    )
 ]
 # a cancel and a wait have no block
 OF_THREE = """query 1
