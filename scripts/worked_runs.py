@@ -471,6 +471,8 @@ OF_ENDS = """ring 3
 0 close
 """
 OK = "ok: 11 entries, 2 queries, 3 takes\n"
+# a query that got no partial result for its first chunk has no further one, and is collected once
+LOST = "ring 2\n0 attach 1 0 1\n0 take 0 0 1\n0 deliver 0 lost 1\n"
 FULL = "ring 1\n" + "".join(f"0 attach {query} 0\n" for query in range(1, 65))
 JOURNALS = [
     done(CHECK, OK, journal=BOARD),
@@ -480,6 +482,9 @@ JOURNALS = [
     done(CHECK, "ok: 0 entries, 0 queries, 0 takes\n", journal="ring 16384"),
     done(CHECK, "ok: 1 entries, 0 queries, 0 takes\n", journal="ring 0\n4294967295 close\n"),
     *(fault(CHECK, 12, line, journal=with_lines(lines)) for line, lines in CHANGED),
+    done(CHECK, "ok: 4 entries, 1 queries, 1 takes\n", journal=LOST + "0 collect 1\n"),
+    fault(CHECK, 12, "journal line 6: not a step", journal=LOST + "0 collect 1\n0 collect 1\n"),
+    fault(CHECK, 12, "journal line 5: not a step", journal=LOST + "0 take 1 1 1\n"),
     # after the close nothing is attached, and no other close follows
     fault(CHECK, 12, "journal line 13: not a step", journal=BOARD + "0 attach 3 0\n"),
     fault(CHECK, 12, "journal line 13: not a step", journal=BOARD + "0 close\n"),
@@ -494,6 +499,20 @@ JOURNALS = [
     fault(CHECK, 12, "journal line 1: syntax", journal=536870912),
     fault(CHECK, 6, "journal: too long", journal=536870913),
 ]
+
+
+def cancelled_after(made):
+    """The journal of the board up to so many entries, and then a cancel of query 1."""
+    before = BOARD.splitlines(keepends=True)[: made + 1]
+    text = "".join([*before, "0 cancel 1\n"])
+    # it runs from its attach, the first entry, to the deliver of its last chunk, the sixth
+    if not 1 <= made <= 5:
+        return fault(CHECK, 12, f"journal line {made + 2}: not a step", journal=text)
+    queries, takes = (sum(f" {word} " in line for line in before) for word in ("attach", "take"))
+    return done(CHECK, f"ok: {made + 1} entries, {queries} queries, {takes} takes\n", journal=text)
+
+
+JOURNALS += map(cancelled_after, range(9))
 
 # a script that is traced, how many of its queries are attached, and the numbers of workers
 TRACED_SCRIPT = THREE + "cancel 2\nwait 1\n"
