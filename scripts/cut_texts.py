@@ -1,15 +1,16 @@
 #!/usr/bin/env python3
-"""Cuts each text of the example at each byte, and compares what the built program does with each part with what it has to do.
+"""Cuts each text of the example, and a journal, at each byte, and compares what the built program does with each part with what
+it has to do.
 
     scripts/cut_texts.py [PROGRAM]
 
 PROGRAM is the built program, by default crates/qserv_cli/out/qserv_cli, where the whole check leaves it.
 
 Of a cut both parts are texts: the bytes before it, and those after it. The program is given each part in the place of the whole
-text, the two others as they are: it reports, explains and answers. What it has to do is computed here from the rules in
-docs/FORMATS.md: the first fault of the text (`text_faults.py`), or what is written for the sky, the table and the script that
-the text contains (`flat_answers.py`, `session_ends.py`). The status, standard output and standard error are compared byte by
-byte, so nothing is on standard output unless the status is 0.
+text, the two others as they are: it reports, explains and answers. A part of the journal it checks. What it has to do is computed
+here from the rules in docs/FORMATS.md: the first fault of the text (`text_faults.py`), or what is written for the sky, the table
+and the script that the text contains (`flat_answers.py`, `session_ends.py`), or for the journal (`journals.py`). The status,
+standard output and standard error are compared byte by byte, so nothing is on standard output unless the status is 0.
 
 It prints the first runs that ended otherwise, and then how many ended how. The status is 0 where none ended otherwise, and 1
 else, also where there is no program. It writes into a temporary folder alone.
@@ -24,15 +25,17 @@ import sys
 import tempfile
 
 import flat_answers
+import journals
 import session_ends
 import text_faults
+import worked_runs
 from random_worlds import Chunk
 
 HERE = os.path.dirname(os.path.abspath(__file__))
 PROGRAM = os.path.join(HERE, "..", "crates", "qserv_cli", "out", "qserv_cli")
 EXAMPLES = os.path.join(HERE, "..", "examples")
 NAMES = {"sky": "sky.txt", "csv": "catalogue.csv", "script": "script.sql"}
-FORMS = [["load", "sky", "csv"], ["explain", "sky", "csv", "script"], ["query", "sky", "csv", "script", "0"]]
+FORMS = [["load", "sky", "csv"], ["explain", "sky", "csv", "script"], ["query", "sky", "csv", "script", "0"], ["check", "journal"]]
 # how many runs that differ are printed; far more seconds than a run takes
 SHOWN, SECONDS = 5, 60
 
@@ -66,6 +69,9 @@ def explained(sky, csv, line):
 
 def wanted(form, texts):
     """The status, the output and the text on standard error that a run has to end with."""
+    if form[0] == "check":
+        status, out, err = journals.told(texts["journal"].encode("latin-1"))
+        return status, out.decode("latin-1"), err.decode("latin-1")
     places = texts["sky"], texts["csv"]
     try:
         world = world_of(*places)
@@ -108,16 +114,17 @@ def parts_of(text):
 
 def compare(program, folder):
     """How many runs ended with each status, and how those ended that ended otherwise."""
-    texts = {}
+    texts = {"journal": worked_runs.BOARD}
     for name, file_name in NAMES.items():
         with open(os.path.join(EXAMPLES, file_name), encoding="latin-1", newline="") as file:
             texts[name] = file.read()
+    for name, text in texts.items():
         with open(os.path.join(folder, name), "w", encoding="latin-1", newline="") as file:
-            file.write(texts[name])
+            file.write(text)
     with concurrent.futures.ThreadPoolExecutor(os.cpu_count()) as pool:
         jobs = [
             pool.submit(compared, program, folder, texts, name, number, part)
-            for name in NAMES
+            for name in texts
             for number, part in enumerate(parts_of(texts[name]))
         ]
         runs = [run for job in jobs for run in job.result()]

@@ -1,26 +1,31 @@
 #!/usr/bin/env python3
-"""Runs the built program again and again, each time with another of its requests for memory refused.
+"""Runs the built program again and again, each time with another of its requests for memory, or for threads, refused.
 
     scripts/fail_allocations.py FOLDER [--program FILE] [--workers N ..] [--session] [--processes N]
 
 The run is small: six rows, and a script with a query of every kind and one of every refusal. Each form of the command line
-is run: load, explain, check, query and demo, the last two with each number of workers (0). So are query over three scripts of the worked
-rows, all ids, the pairs of neighbours, and a cancel with a wait, and query over 150 rows of one chunk, whose columns are gathered
-in three parts, with a first NULL in the second. First the Nth request of the run is refused, for N from 1
-until a run makes fewer, and then the Nth and all after it. A run has to end so:
+is run: load, explain, check, query, trace and demo, the last three with each number of workers (0). So are query over three
+scripts and the catalogue of the worked rows, all ids, the pairs of neighbours, and a cancel with a wait, trace over the last of
+them, and query over 150 rows of one chunk, whose columns are gathered in three parts, with a first NULL in the second. First the
+Nth request of the run is refused, for N from 1 until a run makes fewer, and then the Nth and all after it. A run has to end so:
 - with the whole right text and status 0;
 - with the right text but for `out of memory` in the place of an answer that wants chunks to be scanned, and status 0;
 - or with nothing written, `out of memory` on standard error, and status 9.
+A journal of trace is right as `random_journals.py` has it; it may lose a query in the place of an answer.
+
+Then no thread is started from the Nth on, for N from 1 to 20, and no request for memory is refused. Each of these runs has to end
+with the whole right text: whoever runs the script does the work that no other thread does.
 
 It prints how many runs of each form ended how, and each run that ended otherwise; the status is 0 where none did, and 1 else.
 The right texts are computed here from the flat table. With --session the script also waits and cancels. Between the program
 and the C library is a small library in C that refuses the requests; it is compiled with cc into a folder that goes again.
 
 FILE is the built program, by default .qserv/qserv, where ./qserv leaves it. FOLDER is made where it isn't there, and gets the
-texts sky, csv, script and journal, those of the worked rows, and one, many and asked for the chunk of 150 rows.
+texts sky, csv, script and journal, the catalogue and scripts of the worked rows, and one, many and asked for the chunk of 150 rows.
 """
 import collections
 import concurrent.futures
+import functools
 import os
 import subprocess
 import sys
@@ -28,6 +33,8 @@ import tempfile
 
 import compare_answers
 import flat_answers
+import journals
+import random_journals
 import random_worlds
 import session_ends
 import worked_runs
@@ -36,17 +43,24 @@ import worked_runs
 import demo_files
 import program_words
 
-# Counts the requests for memory in a given file, and refuses the given ones. It does not depend on how the program ends.
+# Counts the requests for memory in a given file, and refuses the given ones. It does not depend on how the program ends. It refuses
+# all starts of threads but a given number of the first.
 REFUSER = r"""
+#define _GNU_SOURCE
+#include <dlfcn.h>
 #include <errno.h>
+#include <pthread.h>
 #include <stdatomic.h>
 #include <stdlib.h>
 #include <sys/mman.h>
 
 extern void *__libc_malloc(size_t), *__libc_calloc(size_t, size_t), *__libc_realloc(void *, size_t);
 
-static atomic_ulong *requests;
-static unsigned long first, last;
+typedef int started(pthread_t *, const pthread_attr_t *, void *(*)(void *), void *);
+
+static atomic_ulong *requests, starts;
+static unsigned long first, last, most;
+static started *start;
 
 static unsigned long number(const char *name) {
     const char *text = getenv(name);
@@ -58,6 +72,8 @@ __attribute__((constructor)) static void begin(void) {
     if (counted == MAP_FAILED) abort();
     first = number("REFUSED_FROM");
     last = number("REFUSED_TO");
+    most = number("STARTED");
+    start = (started *)dlsym(RTLD_NEXT, "pthread_create");
     requests = counted;
 }
 
@@ -73,6 +89,10 @@ static int is_refused(void) {
 void *malloc(size_t size) { return is_refused() ? NULL : __libc_malloc(size); }
 void *calloc(size_t count, size_t size) { return is_refused() ? NULL : __libc_calloc(count, size); }
 void *realloc(void *old, size_t size) { return is_refused() ? NULL : __libc_realloc(old, size); }
+
+int pthread_create(pthread_t *thread, const pthread_attr_t *how, void *(*work)(void *), void *with) {
+    return ++starts > most ? EAGAIN : start(thread, how, work, with);
+}
 """
 NAMES = ["objectId", "x", "y", "z", "flux", "g"]
 EDGE = 268435456
@@ -112,7 +132,8 @@ SCRIPT = [
 ]
 # after the script if it is a session: a late cancel, one of a refused query, and one in time after a wait for another
 SESSION = ["wait 2", "cancel 2", "cancel 12", "cancel 8", "SELECT MAX(flux) FROM Object GROUP BY g", "cancel 25", "wait 9"]
-# the scripts of three worked rows
+# the table and the scripts of three worked rows
+FLUX = [[1, EDGE, 0, 0, 10], [2, EDGE, 3, 0, 20], [3, EDGE, 0, 4, 30], [4, EDGE, -3, 0, 40], [5, EDGE, 0, -1, 50], [6, 0, 0, EDGE, 60]]
 WORKED = {
     "ids": ["SELECT objectId FROM Object"],
     "pairs": ["SELECT a.objectId, b.objectId FROM Object a, Object b WHERE chord2(a,b) <= 9 AND a.objectId < b.objectId"],
@@ -127,46 +148,79 @@ ASKED = [
     "SELECT flux,COUNT(g) FROM Object GROUP BY flux",
 ]
 KINDS = ["right text", "right but for queries out of memory", "out of memory, nothing written"]
+# more threads than any of the runs starts, and a number that no request has
+THREADS, NEVER = 20, 1 << 62
 
 
 class Form:
-    """The words of a command line, and for each part of what it writes the texts that may be there."""
+    """The words of a command line, and what finds how the queries end in a text that it may write."""
 
-    def __init__(self, words, parts):
-        self.words, self.parts = words, parts
+    def __init__(self, words, ends_in):
+        self.words, self.ends_in = words, ends_in
 
     def kind(self, status, output, told):
         """How a run ended, or None where none may end so."""
         if (status, output, told) == (9, b"", b"out of memory\n"):
             return KINDS[2]
-        ends = session_ends.ends_told(output.decode("latin-1"), self.parts)
-        if status or told or not isinstance(ends, list):
+        ends = self.ends_in(output) if (status, told) == (0, b"") else None
+        if not isinstance(ends, list):
             return None
         return KINDS[1] if session_ends.SPENT in ends else KINDS[0]
 
 
-def forms(world, many, script, workers):
-    """The forms that are run over the texts of the two worlds."""
+def written(words, parts):
+    """A form that writes a text, each part of which may be one of a few."""
+    return Form(words, lambda output: session_ends.ends_told(output.decode("latin-1"), parts))
+
+
+def traced(words, world, lines, workers):
+    """A form that writes a journal which the session of a script may leave."""
+    steps = session_ends.steps_of(lines)
+
+    @functools.cache
+    def ends_in(output):
+        if journals.told(output)[0]:
+            return None
+        journal = journals.read(output)
+        if not random_journals.is_of_session(world, journal, steps, workers, may_be_spent=True):
+            return None
+        return [random_journals.end_in(journal, line.query) for line in journal.entries if isinstance(line, journals.Attach)]
+
+    return Form(words, ends_in)
+
+
+def sessions(world, script):
+    """The texts that are asked of, each time with the world and the lines of the script."""
+    worked = random_worlds.World(random_worlds.SKIES[0], NAMES[:5], FLUX)
+    yield ["sky", "csv", "script"], world, script
+    for name, lines in WORKED.items():
+        yield ["sky", "worked", name], worked, lines
+    yield ["one", "many", "asked"], random_worlds.World(ONE, NAMES, MANY), ASKED
+
+
+def forms(world, script, workers):
+    """The forms that are run."""
     whole = {
         ("load", "sky", "csv"): flat_answers.report(world),
         ("explain", "sky", "csv", "script"): flat_answers.explanation(world, [line for line in script if line.startswith("S")]),
         ("check", "journal"): worked_runs.OK,
     }
-    found = [Form(list(words), [{"told": text}]) for words, text in whole.items()]
+    found = [written(list(words), [{"told": text}]) for words, text in whole.items()]
     demo = random_worlds.World(demo_files.SKY, compare_answers.DEMO_NAMES, [list(row) for row in demo_files.rows(5, 7)])
     lines = compare_answers.queries_of(demo_files.SCRIPT)
     for number in workers:
-        found.append(Form(["query", "sky", "csv", "script", str(number)], session_ends.choices(world, script, number, True)))
-        found.append(Form(["demo", "5", "7", str(number)], session_ends.choices(demo, lines, number, True)))
-        for name, asked in WORKED.items():
-            found.append(Form(["query", "sky", "csv", name, str(number)], session_ends.choices(world, asked, number, True)))
-        found.append(Form(["query", "one", "many", "asked", str(number)], session_ends.choices(many, ASKED, number, True)))
+        found.append(written(["demo", "5", "7", str(number)], session_ends.choices(demo, lines, number, True)))
+        for texts, over, asked in sessions(world, script):
+            found.append(written(["query", *texts, str(number)], session_ends.choices(over, asked, number, True)))
+            if texts[2] in ("script", "steps"):
+                found.append(traced(["trace", *texts, str(number)], over, asked, number))
     return found
 
 
 def lines_of(rows):
     """The lines of a catalogue, from the last row, so that they have to be put in order."""
-    return [",".join(NAMES), *(",".join("" if value is None else str(value) for value in row) for row in reversed(rows))]
+    names = NAMES[: len(rows[0])]
+    return [",".join(names), *(",".join("" if value is None else str(value) for value in row) for row in reversed(rows))]
 
 
 def compiled(folder):
@@ -174,16 +228,18 @@ def compiled(folder):
     source, made = os.path.join(folder, "refuser.c"), os.path.join(folder, "refuser.so")
     with open(source, "w", encoding="ascii") as file:
         file.write(REFUSER)
-    subprocess.run(["cc", "-O1", "-shared", "-fPIC", "-o", made, source], check=True)
+    subprocess.run(["cc", "-O1", "-shared", "-fPIC", "-o", made, source, "-ldl"], check=True)
     return made
 
 
-def run(words, folder, refuser, first, last):
-    """Runs the program with the requests from one to another refused: its status, what it writes, and its requests."""
+def run(words, folder, refuser, first, last, threads=NEVER):
+    """Runs the program with the requests from one to another refused, and all starts of threads but a number of them: its status,
+    what it writes, and its requests."""
     with tempfile.TemporaryFile(buffering=0) as counted:
         counted.write(bytes(8))
         file = counted.fileno()
         refused = {"LD_PRELOAD": refuser, "REFUSED_FROM": str(first), "REFUSED_TO": str(last), "COUNTED": str(file)}
+        refused["STARTED"] = str(threads)
         ended = subprocess.run(
             words, cwd=folder, env={**os.environ, **refused}, capture_output=True, timeout=60, pass_fds=[file]
         )
@@ -194,11 +250,18 @@ def run(words, folder, refuser, first, last):
 def tried(words, form, folder, refuser, first, is_one):
     """How a run ended whose request of this number is refused, and those after it too unless it is one; and whether it made
     that many requests. The end is the exit status and the output where none may end so."""
-    status, output, told, requests = run([words.program, *form.words], folder, refuser, first, first if is_one else 1 << 62)
+    status, output, told, requests = run([words.program, *form.words], folder, refuser, first, first if is_one else NEVER)
     kind = form.kind(status, output, told) if requests else None
     if requests < first and kind != KINDS[0]:
         kind = None
     return kind or f"request {first}{'' if is_one else ' and on'}: status {status}, {told!r}, {output[:300]!r}", requests >= first
+
+
+def with_threads(words, form, folder, refuser, threads):
+    """How a run ended of which so many threads are started."""
+    status, output, told, _ = run([words.program, *form.words], folder, refuser, NEVER, NEVER, threads)
+    kind = form.kind(status, output, told)
+    return KINDS[0] if kind == KINDS[0] else f"{threads} threads: status {status}, {told!r}, {output[:300]!r}"
 
 
 def numbered(pool, words, form, folder, refuser, is_one):
@@ -222,15 +285,16 @@ def main():
     folder = os.path.abspath(words.folder)
     os.makedirs(folder, exist_ok=True)
     world, script = random_worlds.World(random_worlds.SKIES[0], NAMES, ROWS), SCRIPT + SESSION * words.session
-    many = random_worlds.World(ONE, NAMES, MANY)
     texts = {"sky": [random_worlds.SKIES[0].rstrip()], "csv": lines_of(ROWS), "script": script, **WORKED}
-    texts |= {"one": [ONE.rstrip()], "many": lines_of(MANY), "asked": ASKED, "journal": worked_runs.BOARD.splitlines()}
+    texts |= {"one": [ONE.rstrip()], "many": lines_of(MANY), "asked": ASKED, "worked": lines_of(FLUX)}
+    texts["journal"] = worked_runs.BOARD.splitlines()
     compare_answers.write(folder, {name: "\n".join(lines) + "\n" for name, lines in texts.items()})
     wrong = 0
     with tempfile.TemporaryDirectory() as made, concurrent.futures.ThreadPoolExecutor(words.processes) as pool:
         refuser = compiled(made)
-        for form in forms(world, many, script, words.workers):
+        for form in forms(world, script, words.workers):
             ends = [end for is_one in (True, False) for end in numbered(pool, words, form, folder, refuser, is_one)]
+            ends += pool.map(functools.partial(with_threads, words, form, folder, refuser), range(THREADS))
             counts = collections.Counter(ends)
             others = [end for end in counts if end not in KINDS]
             told = ", ".join(f"{counts[kind]} {kind}" for kind in KINDS if counts[kind])

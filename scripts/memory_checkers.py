@@ -4,8 +4,9 @@
     scripts/memory_checkers.py [PROGRAM] [--threads] [--scripts N] [--seed SEED] [--workers N ..] [--processes N]
     scripts/memory_checkers.py [PROGRAM] --why
 
-The example is reported, explained and answered with each number of workers, and a small demo is drawn. Then come N (200) random
-scripts that wait and cancel, each over a world of its own (`random_sessions.py`), with each number of workers.
+The example is reported, explained, answered and traced with each number of workers, a small demo is drawn, and a journal is
+checked. Then come N (200) random scripts that wait and cancel, each over a world of its own (`random_sessions.py`), with each
+number of workers.
 
 PROGRAM is the built program, by default crates/qserv_cli/out/qserv_cli, where the whole check leaves it. It runs under valgrind's
 memcheck, with 0, 2 and 16 workers. Whatever memcheck reports fails: a read or a write outside of what was allocated, a decision
@@ -40,6 +41,7 @@ import tempfile
 
 import compare_answers
 import random_sessions
+import worked_runs
 
 HERE = os.path.dirname(os.path.abspath(__file__))
 PROGRAM = os.path.join(HERE, "..", "crates", "qserv_cli", "out", "qserv_cli")
@@ -93,9 +95,9 @@ def failed(checker, program, folder, words):
     return f"{' '.join(words)}: status {ended.returncode}, {ended.stderr.decode('latin-1')[:2000]}"
 
 
-def asked(workers):
-    """The words that ask for answers, with each number of workers."""
-    return [["query", "sky", "csv", "script", str(number)] for number in workers]
+def asked(workers, command="query"):
+    """The words that ask for answers, or for the journal, with each number of workers."""
+    return [[command, "sky", "csv", "script", str(number)] for number in workers]
 
 
 def worlds(words, folder):
@@ -104,7 +106,9 @@ def worlds(words, folder):
     os.mkdir(first)
     for name, source in EXAMPLE.items():
         shutil.copyfile(os.path.join(EXAMPLES, source), os.path.join(first, name))
-    forms = [["load", "sky", "csv"], ["explain", "sky", "csv", "script"], *asked(words.workers)]
+    compare_answers.write(first, {"journal": worked_runs.BOARD})
+    forms = [["load", "sky", "csv"], ["explain", "sky", "csv", "script"], ["check", "journal"]]
+    forms += asked(words.workers) + asked(words.workers, "trace")
     yield from ((first, form) for form in [*forms, *(["demo", "300", "7", str(number)] for number in words.workers)])
     for number in range(words.scripts):
         draw, own = random.Random(f"{words.seed} {number}"), os.path.join(folder, str(number))

@@ -5,9 +5,10 @@
 
 PROGRAM is the built program, by default crates/qserv_cli/out/qserv_cli, where the whole check leaves it.
 
-Standard output is full, closed, or a pipe whose reader is gone at once or after the first bytes; standard error is closed. A text
-is a folder, a device, a named pipe, a file that may not be read, or one that grows or shrinks while it is read; a name has 5,000
-bytes, and words are no UTF-8. What has to come is a row of the table of outcomes in docs/FORMATS.md: a status and its line, with
+Each form of the command line is run. Standard output is full, closed, a pipe whose reader is gone at once or after the first
+bytes, a full pipe that does not wait, or a file at its greatest length; standard error is full or closed, and standard input is
+closed. Each text is a folder, a device, or a file that may not be read or whose read fails, the sky plan a named pipe, and the
+catalogue grows or shrinks while it is read. A name has 5,000 bytes, and words are no UTF-8. What has to come is a row of the table of outcomes in docs/FORMATS.md: a status and its line, with
 nothing on standard output unless it is 0 or 8. No run may end by a signal. Of a text that changes while it is read any state may
 be seen, so there only the statuses that may come are listed, and that a fault has one line and no output.
 
@@ -17,6 +18,7 @@ where none ended otherwise, and 1 else, also where there is no program. It write
 import argparse
 import os
 import pwd
+import resource
 import shutil
 import subprocess
 import sys
@@ -28,10 +30,33 @@ import worked_streams
 
 HERE = os.path.dirname(os.path.abspath(__file__))
 PROGRAM = os.path.join(HERE, "..", "crates", "qserv_cli", "out", "qserv_cli")
-TEXTS = {"sky": worked_runs.SKY, "csv": "objectId,x,y,z\n1,268435456,0,0\n", "script": worked_streams.SCRIPT}
-LOAD, EXPLAIN, ASK = ["load", "sky", "csv"], ["explain", "sky", "csv", "script"], ["query", "sky", "csv", "script", "2"]
+# a heading of 1,022 names for each query: 255 of them are more than half a million bytes
+LONG = ("SELECT x" + ",x" * 1021 + " FROM Object LIMIT 0\n") * 255
+HEADINGS = "".join(f"query {number}\nx{',x' * 1021}\n0 rows, 1 chunks\n" for number in range(1, 256)).encode()
+TEXTS = {
+    "sky": worked_runs.SKY,
+    "csv": "objectId,x,y,z\n1,268435456,0,0\n",
+    "script": worked_streams.SCRIPT,
+    "journal": worked_runs.BOARD,
+    "long": LONG,
+}
+LOAD, EXPLAIN, CHECK = ["load", "sky", "csv"], ["explain", "sky", "csv", "script"], ["check", "journal"]
+ASK_LONG = ["query", "sky", "csv", "long", "0"]
+ASK, TRACE = ([word, "sky", "csv", "script", "2"] for word in ("query", "trace"))
+FORMS = [LOAD, EXPLAIN, ASK, TRACE, CHECK, ["demo", "300", "7", "2"]]
+# each place of a form in which the name of a text is
+PLACES = [(words, place) for words in FORMS for place, word in enumerate(words) if word in TEXTS]
+# how a run ends of which the text in a place is empty
+EMPTY = [
+    (LOAD, 1, 3, b"sky line 1: syntax\n"),
+    (LOAD, 2, 4, b"catalogue header: field 1\n"),
+    (ASK, 3, 0, b""),
+    (CHECK, 1, 12, b"journal line 1: syntax\n"),
+]
 REPORT = b"1 rows, 1 of 8 chunks\nchunk 4: 1 rows, 0 overlap\n"
 USAGE, FAILED = (worked_runs.USAGE + "\n").encode(), b"output failed\n"
+# the bytes that a file may have at most where it may have no more
+LENGTH = 100000
 # a row of the catalogues that change, and how often one is tried; far more seconds than a run takes
 ROW, TIMES, SECONDS = "%d,268435456,0,0\n", 5, 120
 
@@ -44,13 +69,10 @@ class Runs:
 
     def ended(self, words, out=subprocess.PIPE, closed=None, **more):
         """The status and the bytes of a run; one of its streams may be closed."""
-        close = None if closed is None else lambda: os.close(closed)
-        streams = {"stdout": out, "stderr": subprocess.PIPE}
+        given = {"stdin": subprocess.DEVNULL, "stdout": out, "stderr": subprocess.PIPE, **more}
         if closed is not None:
-            streams[{1: "stdout", 2: "stderr"}[closed]] = None
-        end = subprocess.run(
-            [self.program, *words], cwd=self.folder, timeout=SECONDS, preexec_fn=close, check=False, **streams, **more
-        )
+            given |= {["stdin", "stdout", "stderr"][closed]: None, "preexec_fn": lambda: os.close(closed)}
+        end = subprocess.run([self.program, *words], cwd=self.folder, timeout=SECONDS, check=False, **given)
         return end.returncode, end.stdout or b"", end.stderr or b""
 
     def compare(self, what, told, status, out=b"", err=b""):
@@ -66,19 +88,24 @@ class Runs:
 
 
 def outputs(runs):
-    """Standard output that takes nothing, and standard error that is closed."""
-    for words in (LOAD, EXPLAIN, ASK):
+    """Standard output that takes nothing or not all, and standard error or standard input that is closed."""
+    for words in FORMS:
         with open("/dev/full", "wb") as full:
             runs.compare(f"{words[0]}, a full device", runs.ended(words, full), 8, err=FAILED)
         runs.compare(f"{words[0]}, no standard output", runs.ended(words, closed=1), 8, err=FAILED)
         runs.compare(f"{words[0]}, a pipe without a reader", to_nobody(runs, words), 8, err=FAILED)
-    runs.compare("a reader that goes", to_a_reader_that_goes(runs), 8, worked_streams.EXPLAINED[:1], FAILED)
+    runs.compare("a reader that goes", to_a_reader_that_goes(runs), 8, HEADINGS[:1], FAILED)
+    runs.compare("a full pipe", to_a_full_pipe(runs), 8, err=FAILED)
+    runs.compare("a file at its greatest length", to_a_short_file(runs), 8, HEADINGS[:LENGTH], FAILED)
     with open("/dev/full", "wb") as full:
         runs.compare("a full device, nothing written", runs.ended(["explain", "sky", "csv", os.devnull], full), 0)
     runs.compare("no standard error", runs.ended(LOAD, closed=2), 0, REPORT)
     runs.compare("no standard error, no form", runs.ended(["load"], closed=2), 2)
     runs.compare("no standard error, a fault", runs.ended(["load", "csv", "csv"], closed=2), 3)
-    runs.compare("no standard input", runs.ended(LOAD, stdin=subprocess.DEVNULL), 0, REPORT)
+    with open("/dev/full", "wb") as full:
+        runs.compare("no standard error, a full device", runs.ended(LOAD, full, closed=2), 8)
+        runs.compare("a full standard error, a fault", runs.ended(["load", "csv", "csv"], stderr=full), 3)
+    runs.compare("no standard input", runs.ended(LOAD, closed=0), 0, REPORT)
 
 
 def to_nobody(runs, words):
@@ -93,19 +120,37 @@ def to_nobody(runs, words):
 
 def to_a_reader_that_goes(runs):
     """A run that writes more than a pipe holds, of which one byte is read."""
-    script = runs.path("long")
-    with open(script, "w", encoding="ascii") as file:
-        # a heading of 1,022 names for each query: 255 of them are more than half a million bytes
-        file.write(("SELECT x" + ",x" * 1021 + " FROM Object LIMIT 0\n") * 255)
-    words = ["query", "sky", "csv", "long", "0"]
     with subprocess.Popen(
-        [runs.program, *words], cwd=runs.folder, stdout=subprocess.PIPE, stderr=subprocess.PIPE, bufsize=0
+        [runs.program, *ASK_LONG], cwd=runs.folder, stdout=subprocess.PIPE, stderr=subprocess.PIPE, bufsize=0
     ) as process:
         told = process.stdout.read(1)
         process.stdout.close()
         err = process.stderr.read()
         process.wait(SECONDS)
     return process.returncode, told, err
+
+
+def to_a_full_pipe(runs):
+    """A run whose writes fail when the pipe is full, since they do not wait. What is in the pipe is left out if it is a prefix."""
+    out, into = os.pipe()
+    os.set_blocking(into, False)
+    status, _, err = runs.ended(ASK_LONG, into)
+    os.close(into)
+    with open(out, "rb") as pipe:
+        told = pipe.read()
+    return status, b"" if told and HEADINGS.startswith(told) else told, err
+
+
+def to_a_short_file(runs):
+    """A run that writes more than a file may have; the signal of that limit is ignored, as this process has it."""
+
+    def limit():
+        resource.setrlimit(resource.RLIMIT_FSIZE, (LENGTH, LENGTH))
+
+    with open(runs.path("short"), "wb") as file:
+        status, _, err = runs.ended(ASK_LONG, file, preexec_fn=limit, restore_signals=False)
+    with open(runs.path("short"), "rb") as file:
+        return status, file.read(), err
 
 
 # ---- texts
@@ -115,14 +160,22 @@ def cannot_be_read(name):
     return os.fsencode(name) + b": cannot be read\n"
 
 
+def named(words, place, name):
+    """The words with another name in a place."""
+    return words[:place] + [name] + words[place + 1 :]
+
+
 def texts(runs):
     """Names of what is no file, or no file that may be read."""
-    for name in [".", "/", "none", "sky/csv", "n" * 5000, "n/" * 2500]:
-        runs.compare(f"the sky plan {name[:9]}", runs.ended(["load", name, "csv"]), 7, err=cannot_be_read(name))
-        runs.compare(f"the script {name[:9]}", runs.ended(["explain", "sky", "csv", name]), 7, err=cannot_be_read(name))
-    runs.compare("zeros without end", runs.ended(["load", "/dev/zero", "csv"]), 6, err=b"/dev/zero: too long\n")
-    runs.compare("a script of zeros", runs.ended(["explain", "sky", "csv", "/dev/zero"]), 6, err=b"/dev/zero: too long\n")
-    runs.compare("a device without bytes", runs.ended(["load", "/dev/null", "csv"]), 3, err=b"sky line 1: syntax\n")
+    for words, place in PLACES:
+        # the last one opens, and each read of it fails
+        for name in [".", "/", "none", "sky/csv", "n" * 5000, "n/" * 2500, "/proc/self/mem"]:
+            what = f"{words[0]}, the {words[place]} {name[:9]}"
+            runs.compare(what, runs.ended(named(words, place, name)), 7, err=cannot_be_read(name))
+    for words, place, status, told in EMPTY:
+        zeros, empty = (runs.ended(named(words, place, device)) for device in ("/dev/zero", "/dev/null"))
+        runs.compare(f"{words[place]} of zeros without end", zeros, 6, err=b"/dev/zero: too long\n")
+        runs.compare(f"{words[place]} without bytes", empty, status, err=told)
     pipes(runs)
     unreadable(runs)
 
@@ -149,7 +202,9 @@ def unreadable(runs):
         except KeyError:
             runs.left_out.append("there is no user nobody: a file that may not be read is left out")
             return
-    runs.compare("a file that may not be read", runs.ended(["load", "secret", "csv"], **who), 7, err=cannot_be_read("secret"))
+    for words, place in PLACES:
+        what = f"{words[0]}, the {words[place]} may not be read"
+        runs.compare(what, runs.ended(named(words, place, "secret"), **who), 7, err=cannot_be_read("secret"))
 
 
 def changing(runs):
@@ -195,7 +250,7 @@ def shrink(path, going):
 
 def words_of_bytes(runs):
     """Words that are no UTF-8, in each place."""
-    for words in (LOAD, ASK):
+    for words in FORMS:
         for place in range(len(words)):
             other = [os.fsencode(word) for word in words]
             other[place] += b"\xff"

@@ -215,13 +215,13 @@ def is_obeyed(journal, steps):
     return True
 
 
-def is_of_session(world, journal, steps, workers):
+def is_of_session(world, journal, steps, workers, may_be_spent=False):
     """Whether a right journal is that of a session with these steps: its ring is the sky's chunks; the queries that are not refused
     before they run are attached in their order, each with its chunks, and collected once; each ends as it may; each task is
     delivered; the lines that wait and cancel are obeyed; it is closed once."""
     plans = [chunks_of(text, world) for word, text in steps if word == "query"]
     planned = [(at, chunks) for at, chunks in enumerate(plans, 1) if chunks is not None]
-    ends = session_ends.chosen(steps, [([], bool(chunks)) for chunks in plans], workers)
+    ends = session_ends.chosen(steps, [([], bool(chunks)) for chunks in plans], workers, may_be_spent)
     of = collections.Counter(type(line) for line in journal.entries)
     return (
         journal.ring == len(world.chunks)

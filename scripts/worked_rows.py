@@ -10,7 +10,8 @@ The rows are in the files scripts/worked/*.rows. A line `[FORMS: SKY CSV]` begin
 indented lines after it are its block; lines with a # at their head say why it is so. The queries of a part are one script:
 it is answered with 0, 1, 4 and 16 workers, and explained. A few texts are too long to be written down, and are made here.
 Runs of other kinds are in scripts/worked_runs.py: sky plans and catalogues with their reports or their first faults, scripts
-that wait and cancel, the demo, words of no form, and an outcome of each status that a run can be brought to. A larger sky, whose
+that wait and cancel, the demo, words of no form, and an outcome of each status that a run can be brought to. Texts at each
+limit, and one beyond it, are in scripts/worked_limits.py. A larger sky, whose
 rows are drawn, is in scripts/worked_world.py, catalogues of certain lengths in scripts/worked_lanes.py, as many queries and
 chunks as there may be in scripts/worked_laps.py, runs over pipes in scripts/worked_streams.py, and what the demo of 20,000 objects
 has to write in scripts/worked_demo.py.
@@ -29,6 +30,7 @@ import sys
 import tempfile
 
 import worked_lanes
+import worked_limits
 import worked_runs
 import worked_streams
 import worked_world
@@ -242,8 +244,9 @@ def compare(program, folder):
     for name, text in texts.items():
         write(folder, name, text)
     found = [is_full_told(program, folder), are_streams_told(program, folder), are_traces_checked(program, folder)]
-    rows = len(worked_runs.RUNS) + 3 + len(worked_runs.TRACED)
-    for run in worked_runs.RUNS:
+    runs = worked_runs.RUNS + worked_limits.RUNS
+    rows = len(runs) + 3 + len(worked_runs.TRACED)
+    for run in runs:
         found.append(is_told(program, folder, run))
     for part in parts() + made:
         found.append(is_part_told(program, folder, part))

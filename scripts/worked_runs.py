@@ -5,10 +5,8 @@ The texts of the folder scripts/worked/ are there for each run; those that a run
 journal.
 """
 import collections
-import itertools
 
 import worked_demo
-import worked_laps
 import worked_world
 
 # the words of a run, and the texts that it reads, by their names and in pieces, or as how many zeros one is; its status, its
@@ -119,7 +117,7 @@ ACCEPTED = [
     (f"objectId,x,y,z,flux,Flux,_9,{'q' * 32}\n", NONE),
     # twelve extra columns, a NULL among their values
     (f"objectId,x,y,z,{FURTHER}\n9,268435456,0,0,1,,-3,4,5,,7,-8,9,,11,12\n", in_chunk_4(1)),
-    ("objectId,x,y,z,flux\n1,268435456,0,0,", in_chunk_4(1)),
+    (FLUX, in_chunk_4(1)),
     ('objectId,x,y,z,f\n1,268435456,0,0,""\n', in_chunk_4(1)),
     # quotes, and no end of the last line
     (FOUR + '1,"268435456",0,0', in_chunk_4(1)),
@@ -140,6 +138,7 @@ CSV_FAULTS = [
     *((f"objectId,x,y,z,{name}\n", "header: field 5") for name in ["9a", "a b", "q" * 33, "objectId"]),
     ("objectId,x,y,z,flux,flux\n", "header: field 6"),
     (FOUR + "1,268435456,0\n", "row 1: 3 fields"),
+    (FLUX.removesuffix(",0,"), "row 1: 3 fields"),
     (FOUR + '""\n', "row 1: 1 fields"),
     (FOUR + "  \n", "row 1: 1 fields"),
     # the quote goes on to the end
@@ -271,6 +270,15 @@ SCRIPTS = [
 ]
 STEPS = [
     done([*QUERY, workers], *outs, script=text) for numbers, text, *outs in SCRIPTS for workers in numbers.split()
+]
+# the row of a cut catalogue, without its extra value
+STEPS += [
+    done(
+        ["query", "sky.txt", "csv", "script", "0"],
+        "query 1\nobjectId,flux\n1,NULL\n1 rows, 1 chunks\n",
+        csv=FLUX,
+        script="SELECT objectId,flux FROM Object\n",
+    )
 ]
 # a cancel and a wait have no block
 OF_THREE = """query 1
@@ -463,6 +471,8 @@ OF_ENDS = """ring 3
 0 close
 """
 OK = "ok: 11 entries, 2 queries, 3 takes\n"
+# a query that got no partial result for its first chunk has no further one, and is collected once
+LOST = "ring 2\n0 attach 1 0 1\n0 take 0 0 1\n0 deliver 0 lost 1\n"
 FULL = "ring 1\n" + "".join(f"0 attach {query} 0\n" for query in range(1, 65))
 JOURNALS = [
     done(CHECK, OK, journal=BOARD),
@@ -472,6 +482,9 @@ JOURNALS = [
     done(CHECK, "ok: 0 entries, 0 queries, 0 takes\n", journal="ring 16384"),
     done(CHECK, "ok: 1 entries, 0 queries, 0 takes\n", journal="ring 0\n4294967295 close\n"),
     *(fault(CHECK, 12, line, journal=with_lines(lines)) for line, lines in CHANGED),
+    done(CHECK, "ok: 4 entries, 1 queries, 1 takes\n", journal=LOST + "0 collect 1\n"),
+    fault(CHECK, 12, "journal line 6: not a step", journal=LOST + "0 collect 1\n0 collect 1\n"),
+    fault(CHECK, 12, "journal line 5: not a step", journal=LOST + "0 take 1 1 1\n"),
     # after the close nothing is attached, and no other close follows
     fault(CHECK, 12, "journal line 13: not a step", journal=BOARD + "0 attach 3 0\n"),
     fault(CHECK, 12, "journal line 13: not a step", journal=BOARD + "0 close\n"),
@@ -487,50 +500,26 @@ JOURNALS = [
     fault(CHECK, 6, "journal: too long", journal=536870913),
 ]
 
+
+def cancelled_after(made):
+    """The journal of the board up to so many entries, and then a cancel of query 1."""
+    before = BOARD.splitlines(keepends=True)[: made + 1]
+    text = "".join([*before, "0 cancel 1\n"])
+    # it runs from its attach, the first entry, to the deliver of its last chunk, the sixth
+    if not 1 <= made <= 5:
+        return fault(CHECK, 12, f"journal line {made + 2}: not a step", journal=text)
+    queries, takes = (sum(f" {word} " in line for line in before) for word in ("attach", "take"))
+    return done(CHECK, f"ok: {made + 1} entries, {queries} queries, {takes} takes\n", journal=text)
+
+
+JOURNALS += map(cancelled_after, range(9))
+
 # a script that is traced, how many of its queries are attached, and the numbers of workers
 TRACED_SCRIPT = THREE + "cancel 2\nwait 1\n"
 TRACED_QUERIES = 3
 TRACED = ["0", "4"]
 
-# ---- limits
-
-# With as many chunks as there may be, row 5 is in the lowest stripe, and rows 1 to 4 in the next one. Rows 1 and 3, with y = 0,
-# are on the border of the last wedge of their stripe, which holds row 4. Row 6, at the pole, is in the first chunk of the last
-# stripe.
-REPORT_OF_MOST_CHUNKS = """6 rows, 4 of 16384 chunks
-chunk 0: 1 rows, 0 overlap
-chunk 1024: 3 rows, 0 overlap
-chunk 2047: 1 rows, 2 overlap
-chunk 15360: 1 rows, 0 overlap
-"""
-
-
-# a script of as many bytes as there may be: notes of 32 bytes
-MOST_NOTES = ("#" * 31 + "\n") * 262144
-
-
-def more_rows():
-    """A row more than there may be."""
-    return itertools.chain([FOUR], map("%d,268435456,0,0\n".__mod__, range(4194305)))
-
-
-LAPS = {"sky": worked_laps.SKY, "csv": worked_laps.CSV, "script": worked_laps.SCRIPT}
-LIMITS = [
-    done(LOAD_SKY, REPORT_OF_MOST_CHUNKS, sky=worked_laps.SKY),
-    # one chunk too many, on the line after the 17
-    fault(LOAD_SKY, 3, "sky line 18: too many", sky=worked_laps.SKY + "stripe 960 1 1 1\n"),
-    # as many queries as there may be, over a row in each chunk
-    *(done(["query", "sky", "csv", "script", workers], worked_laps.TRANSCRIPT, **LAPS) for workers in ["0", "4"]),
-    # the row's number is not written
-    fault(LOAD_CSV, 4, "catalogue: too many rows", csv=more_rows()),
-    # a text of as many bytes as there may be is read: notes ask nothing, and zeros are no header
-    done(EXPLAIN, "", script=MOST_NOTES),
-    fault(EXPLAIN, 6, "script: too long", script=MOST_NOTES + "\n"),
-    fault(LOAD_CSV, 4, "catalogue header: field 1", csv=536870912),
-    fault(LOAD_CSV, 6, "csv: too long", csv=536870913),
-]
-
-RUNS = SKIES + CATALOGUES + STEPS + DEMOS + STATUSES + JOURNALS + LIMITS
+RUNS = SKIES + CATALOGUES + STEPS + DEMOS + STATUSES + JOURNALS
 RUNS.append(done(["load", "sky", "csv"], worked_world.report(), sky=worked_world.SKY, csv=worked_world.CSV))
 # whatever is written to the full device fails
 OUTPUT_FAILED = fault(["load", *TEXTS], 8, "output failed")

@@ -1,10 +1,37 @@
 -- The order in which a gate lets workers pass.
-use Rattle.std.specs.Prelude.{ℕ, ◌+◌, ◌==◌, nat_lt, List, length, Bool, unwrap_or, slice_get, if◌then◌else◌}
+use Rattle.std.specs.Prelude.{ℕ, ◌+◌, ◌==◌, nat_lt, nat_le, List, length, Bool, true, false, ◌||◌, ◌&&◌, unwrap_or, slice_get, if◌then◌else◌}
 
--- after the given number of passes of an order, a worker may pass: the order names it next, or names no other worker
-abbrev pub may_pass : List ℕ → ℕ → ℕ → Bool
-may_pass order passed worker = unwrap_or (slice_get order passed) worker == worker
+-- The state of an order: the workers in the order in which they pass, for how many turns a pass is held at most, how
+-- many passes of the order were made, and whether a pass was held for as many turns.
+pub record PassState : Type 0 where
+  pub order : List ℕ
+  pub turns : ℕ
+  pub made : ℕ
+  pub given_up : Bool
 
--- the number of passes of the order after a worker was let pass or held
-abbrev pub passed_after : List ℕ → ℕ → Bool → ℕ
-passed_after order passed lets = if nat_lt passed (length order) then (if lets then passed + 1 else passed) else passed
+-- an order of which no pass was made
+abbrev pub new_order : List ℕ → ℕ → PassState
+new_order order turns = record { order = order; turns = turns; made = 0; given_up = false }
+
+-- the order names the worker next, or has come to its end
+abbrev pub is_next : PassState → ℕ → Bool
+is_next s worker = unwrap_or (slice_get s.order s.made) worker == worker
+
+-- a worker that was held for some turns may pass: by the order, or since it is given up before or now
+abbrev pub may_pass : PassState → ℕ → ℕ → Bool
+may_pass s worker held = s.given_up || (is_next s worker || nat_le s.turns held)
+
+-- a pass of the order was made, if it has not come to its end
+abbrev pub counted_pass : PassState → PassState
+counted_pass s = record s { made = if nat_lt s.made (length s.order) then s.made + 1 else s.made }
+
+-- the order after a worker was let pass by it, or not
+abbrev pub after_turn : PassState → ℕ → PassState
+after_turn s worker = if is_next s worker then counted_pass s else s
+
+-- the order after a worker that was held for some turns was let pass, or held for another
+abbrev pub after_ask : PassState → ℕ → ℕ → PassState
+after_ask s worker held =
+    if s.given_up then s
+    else if is_next s worker then counted_pass s
+    else record s { given_up = nat_le s.turns held }
