@@ -9,7 +9,7 @@ It prints each finding, or 'check_text: ok', and writes nothing. It looks for:
 - a mark of a merge that is not done, as git puts it at the head of a line;
 - an .rt or .antt file outside of a crate's src/, specs/ and proofs/;
 - a clause of more than 100 columns;
-- a must-fail edit that the claims of docs/proofs don't name in as many rows as there are crates with that edit;
+- a mutant that the claims of docs/proofs don't name in as many rows as there are crates with that edit;
 - a mutant that a claim names and no crate has;
 - an idea of a mutant, in docs/proofs/ideas.md, that cannot be read or no longer fits the code;
 - a call, a clause or a word that a claim names and that is neither in the crates of its section nor in a crate that
@@ -100,8 +100,8 @@ def claim_findings():
 
 
 def edit_findings(listed):
-    """Where the must-fail edits and the table of claims disagree."""
-    edits = [name for name in listed if "/must-fail/" in name]
+    """Where the mutants and the table of claims disagree."""
+    edits = [name for name in listed if name.split("/")[2:3] in ([folder] for folder in mutants.FOLDERS)]
     there = collections.Counter(os.path.basename(name)[: -len(".edit")] for name in edits)
     claimed = claimed_edits()
     for name in sorted(there.keys() | claimed.keys()):

@@ -1,13 +1,11 @@
 #!/usr/bin/env python3
-"""Proves everything anew and prints what each crate cost: seconds of processor time for its proof, its tests and its
-must-fail edits.
+"""Proves everything anew and prints what each crate cost: seconds of processor time for its proof, its tests and its mutants.
 
     scripts/check_times.py [--every SECONDS]
 
-It runs `rt ci` at the top of the repository, with `--anew` if the toolchain has that flag: what an earlier run has kept counts
-for nothing. Every half second it
-inspects the provers that run below it, each with the processes that help it, which are called by the same words; a prover's
-last reading counts, so that a run shorter than that is missed. Whatever else runs meanwhile is not counted, but makes all
+It runs `rt ci` at the top of the repository, with `--anew` if the toolchain has that flag, so what an earlier run has kept counts
+for nothing, and then scripts/try_mutants.py. Every half second it inspects the provers that run below it, each with the processes
+that help it, which are called by the same words. A prover's last reading counts, so that a run shorter than that is missed. Whatever else runs meanwhile is not counted, but makes all
 slower. The check's own lines go to standard error, the table to standard output, dearest crate first. It ends with the
 check's status and writes nothing else. Linux alone, since it reads /proc.
 """
@@ -19,7 +17,7 @@ import sys
 import time
 
 TICKS = os.sysconf("SC_CLK_TCK")
-KINDS = ("proof", "tests", "edits")
+KINDS = ("proof", "tests", "mutants")
 
 # a process that runs: the number of its parent, when it began, its words, and its seconds with those of its ended children
 Process = collections.namedtuple("Process", "parent began words seconds")
@@ -72,10 +70,10 @@ def provers(top):
 
 
 def kind_of(words):
-    """What a prover's call is for: an edit is checked and nothing is written; a library is built, and a program is checked
+    """What a prover's call is for: mutants are checked and nothing is written; a library is built, and a program is checked
     into a file that its compilers take."""
     if "check" in words[1:2] and "-o" not in words:
-        return "edits"
+        return "mutants"
     return "tests" if "--test" in words else "proof"
 
 
@@ -115,11 +113,15 @@ def main():
     every = words.parse_args().every
     os.chdir(os.path.join(os.path.dirname(os.path.abspath(__file__)), ".."))
     began = time.time()
-    check = subprocess.Popen(["rt", "ci", *anew()], stdout=sys.stderr)
-    for line in table(watch(check, every)):
+    seen, status = collections.Counter(), 0
+    for call in (["rt", "ci", *anew()], ["scripts/try_mutants.py"]):
+        check = subprocess.Popen(call, stdout=sys.stderr)
+        seen.update(watch(check, every))
+        status = status or check.returncode
+    for line in table(seen):
         print(line)
     print(f"{(time.time() - began) / 60:.1f} minutes by the clock")
-    return check.returncode
+    return status
 
 
 if __name__ == "__main__":

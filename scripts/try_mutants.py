@@ -1,0 +1,252 @@
+#!/usr/bin/env python3
+"""Tries the mutants of large crates after `rt ci`: all those of a crate in one check.
+
+    scripts/try_mutants.py [--processes N] [--times] [CRATE ..]
+    scripts/try_mutants.py --list
+
+A mutant is code with one thing changed, which the prover must refuse. `rt ci` tries the mutants in the folders must-fail/. For
+the first it checks the crate from nothing, for each other it reads the whole crate once more, so that in a large crate they cost
+more than its proof. A large crate has its mutants in the folder mutants/ instead, and this script tries them. Their form is that
+of must-fail/ with one line more:
+
+    refused: FUNCTION CLAUSE
+
+FUNCTION is the function whose proof must fail, as a check prints it below the crate, and CLAUSE what must not be proved of it.
+
+A function is proved by the contracts of those that it calls, not by their code. So each mutant is refused by itself, though all
+those of a crate are made in one copy; two of one function take a check each. A check is of these functions and of those that they
+call, over the libraries that `rt ci` proved and left in crates/*/out/rlib. That the crate is proved without its mutants is what
+`rt ci` has shown.
+
+It prints a line for each mutant, and those that were not refused last; then the status is 1. With --times it prints the processor
+seconds of each check. Without the libraries it ends with 1, without `rt` with 0, each with a line that says so. It writes into a
+temporary folder alone.
+"""
+import argparse
+import concurrent.futures
+import functools
+import glob
+import os
+import re
+import resource
+import shutil
+import subprocess
+import sys
+import tempfile
+
+import mutants
+
+# what a check of a large crate may take
+MEMORY = 3_000_000_000
+PARTS = ("src", "specs", "proofs")
+
+
+class Unfit(Exception):
+    """A mutant that does not fit its crate, or a check that gave no verdict."""
+
+
+def refusal_of(path):
+    """The function and the clause of a mutant's line `refused:`."""
+    with open(path, encoding="utf-8") as file:
+        found = re.findall(r"^refused: (\S+) (\S+)$", file.read(), re.MULTILINE)
+    if len(found) != 1:
+        raise Unfit(f"{path}: it has not one line 'refused: FUNCTION CLAUSE'")
+    return found[0]
+
+
+def large_crates():
+    return sorted({path.split("/")[1] for path in glob.glob("crates/*/mutants/*.edit")})
+
+
+def mutants_of(crate):
+    """The mutants of a crate, each with its function and its clause."""
+    paths = sorted(glob.glob(f"crates/{crate}/mutants/*.edit"))
+    return [(mutants.edit_of(path), *refusal_of(path)) for path in paths]
+
+
+def rounds(tried):
+    """The mutants by checks: in one check no two are of one function."""
+    found = []
+    for mutant in tried:
+        free = next((it for it in found if all(mutant[1] != other[1] for other in it)), None)
+        if free is None:
+            found.append([mutant])
+        else:
+            free.append(mutant)
+    return found
+
+
+@functools.cache
+def edges():
+    """The libraries that each crate names in crates.txt."""
+    found = {}
+    with open("crates.txt", encoding="utf-8") as file:
+        for line in file:
+            head, colon, names = line.partition("#")[0].partition(":")
+            if colon:
+                found[head.split()[0]] = names.split()
+    return found
+
+
+def below(crate):
+    """The repository's crates below a crate."""
+    found = set()
+    for name in edges()[crate]:
+        if name in edges():
+            found |= {name} | below(name)
+    return found
+
+
+def library(crate):
+    return os.path.abspath(f"crates/{crate}/out/rlib")
+
+
+def check_words(crate, kit):
+    """The words of a check of a crate over the libraries below it, as `rt` gives them."""
+    words = [f"{kit}/bin/rattle", "check", "--crate-name", crate, "src/lib.rt", "--extern", f"std={kit}/rlibs/std.rlib"]
+    for name in edges()[crate]:
+        words += ["--extern", f"{name}={library(name) if name in edges() else f'{kit}/rlibs'}/{name}.rlib"]
+    for folder in [f"{kit}/rlibs", *map(library, sorted(below(crate)))]:
+        words += ["-L", f"dependency={folder}"]
+    words += ["--antt-project", f"{kit}/rattle/logic/antt-project.json", "--logic-built", f"{kit}/logic_built"]
+    return [*words, "--jobs", "1", "--empty-contracts"]
+
+
+def make(mutant, room):
+    """Makes a mutant in a copy of its crate."""
+    path = f"{room}/{mutant.file}"
+    with open(path, encoding="utf-8") as file:
+        text = file.read()
+    for old, new in mutant.pairs:
+        if text.count(old) != 1:
+            raise Unfit(f"{mutant.crate}/{mutant.name}: an old text is {text.count(old)} times in {mutant.file}, and not once")
+        text = text.replace(old, new)
+    with open(path, "w", encoding="utf-8") as file:
+        file.write(text)
+
+
+def output_of(crate, tried, kit):
+    """What a check says of a copy of the crate with these mutants, and its processor seconds."""
+    with tempfile.TemporaryDirectory(prefix="mutants-") as room:
+        for part in PARTS:
+            if os.path.isdir(f"crates/{crate}/{part}"):
+                shutil.copytree(f"crates/{crate}/{part}", f"{room}/{part}")
+        for mutant, _, _ in tried:
+            make(mutant, room)
+        words = check_words(crate, kit)
+        for function in sorted({function for _, function, _ in tried}):
+            words += ["--only", function]
+        ran = subprocess.run(words, cwd=room, stdin=subprocess.DEVNULL, stdout=subprocess.PIPE, stderr=subprocess.STDOUT, text=True, errors="replace", check=False)
+    if not re.search(r"^only=\d+ proved=\d+$", ran.stdout, re.MULTILINE):
+        raise Unfit(f"{crate}: the check gave no verdict; its last lines:\n" + "\n".join(ran.stdout.splitlines()[-5:]))
+    return ran.stdout
+
+
+def said_of(function, crate, output):
+    """What the check says of a function: errors in its proof, then the lines after those of the function before it."""
+    module, _, name = f"/{function}".replace("::", "/").rpartition("/")
+    # functions that call each other have one proof, in a folder that begins with +
+    own = (f"./proofs{module}/{name}/", f"./proofs{module}/+")
+    errors, lines = [], []
+    for line in output.splitlines():
+        errors += [line] if line.startswith(own) else []
+        lines.append(line)
+        if line.startswith(f"fn {crate}::{function}: "):
+            return [it for it in errors if it not in lines] + lines
+        if line.startswith("fn "):
+            lines = []
+    return []
+
+
+def is_refused(function, clause, crate, output):
+    """Whether the function is not proved, for this clause."""
+    lines = said_of(function, crate, output)
+    if not lines or not re.match(r"fn \S+: (not proved|no proof)", lines[-1]):
+        return False
+    return any(f"`{clause}`" in line for line in lines)
+
+
+def verdicts(crate, tried, kit):
+    """For each mutant of a check whether it is refused, and what to say."""
+    try:
+        output = output_of(crate, tried, kit)
+    except Unfit as fault:
+        return [(False, f"{mutant.crate}/{mutant.name}: {fault}") for mutant, _, _ in tried]
+    found = []
+    for mutant, function, clause in tried:
+        label = f"{crate}/{mutant.name}"
+        if is_refused(function, clause, crate, output):
+            found.append((True, f"{label}: refused at `{function}`: `{clause}`"))
+        else:
+            told = "\n    ".join(it[:300] for it in said_of(function, crate, output)) or "nothing was said of the function"
+            found.append((False, f"{label}: NOT REFUSED at `{function}`: `{clause}`; the check says:\n    {told}"))
+    return found
+
+
+def processes():
+    """How many checks run at a time: one a processor, as many as memory holds."""
+    with open("/proc/meminfo", encoding="ascii") as file:
+        free = 1024 * int(re.search(r"MemAvailable:\s+(\d+)", file.read())[1])
+    return max(1, min(len(os.sched_getaffinity(0)), free // MEMORY))
+
+
+def unbuilt(crates):
+    """The crates whose library is lacking."""
+    needed = set().union(*map(below, crates))
+    return sorted(it for it in needed if not os.path.isdir(f"{library(it)}/{it}.rlib"))
+
+
+def run(crates, number, kit):
+    """Tries the mutants of the crates, prints what was said of each, and returns the status."""
+    failed = []
+    with concurrent.futures.ThreadPoolExecutor(number) as pool:
+        checks = [pool.submit(verdicts, crate, tried, kit) for crate in crates for tried in rounds(mutants_of(crate))]
+        for check in concurrent.futures.as_completed(checks):
+            for well, told in check.result():
+                print(told, flush=True)
+                failed += [] if well else [told]
+    count = sum(len(mutants_of(crate)) for crate in crates)
+    print(f"try_mutants: {count - len(failed)} of {count} mutants refused, in {len(checks)} checks of {len(crates)} crates")
+    for told in failed:
+        print(told)
+    return 1 if failed else 0
+
+
+def words():
+    parser = argparse.ArgumentParser(description=__doc__, formatter_class=argparse.RawDescriptionHelpFormatter)
+    parser.add_argument("crates", nargs="*", metavar="CRATE")
+    parser.add_argument("--processes", type=int, metavar="N")
+    parser.add_argument("--times", action="store_true")
+    parser.add_argument("--list", action="store_true")
+    return parser.parse_args()
+
+
+def main():
+    given = words()
+    os.chdir(os.path.join(os.path.dirname(os.path.abspath(__file__)), ".."))
+    crates = given.crates or large_crates()
+    if given.list:
+        for crate in crates:
+            for mutant, function, clause in mutants_of(crate):
+                print(f"{crate}/{mutant.name}: {function} {clause}")
+        return 0
+    if shutil.which("rt") is None:
+        print("try_mutants: skipped: rt is not on the PATH")
+        return 0
+    lacking = unbuilt(crates)
+    if lacking:
+        print(f"try_mutants: there is no library of {', '.join(lacking)}: run rt ci first")
+        return 1
+    page = subprocess.run(["rt", "doc"], stdout=subprocess.PIPE, text=True, check=True).stdout.strip()
+    status = run(crates, given.processes or processes(), os.path.dirname(page))
+    if given.times:
+        used = resource.getrusage(resource.RUSAGE_CHILDREN)
+        print(f"try_mutants: {used.ru_utime + used.ru_stime:.0f} processor seconds")
+    return status
+
+
+if __name__ == "__main__":
+    try:
+        sys.exit(main())
+    except Unfit as unfit:
+        sys.exit(f"try_mutants: {unfit}")
