@@ -6,12 +6,11 @@ use Rattle.std.proofs.lemmas.List.{drop-drop, drop_more, length-drop}
 use Rattle.sql_token.specs.declared.limits.TheConstants.{INT_MOST}
 use Rattle.text_rules.specs.Numbers.{is_digit, value_after}
 use Rattle.sql_token.specs.declared.token.Token.{Token}
-use Rattle.sql_token.specs.declared.token.TokenKind.{TokenKind}
 use Rattle.sql_token.specs.Answers.{behind}
 use Rattle.sql_token.specs.Bytes.{is_blank}
-use Rattle.sql_token.specs.Faults.{TokenFault, BadByte, Literal, TooMany, Depth}
+use Rattle.sql_token.specs.Faults.{TokenFault, BadByte, Literal, TooMany}
 use Rattle.sql_token.specs.Faulty.{IsBadByte, IsLargeInt, IsTooMany, NoneBehind, StandUpTo}
-use Rattle.sql_token.specs.Laws.{IsShaped, StandFrom}
+use Rattle.sql_token.specs.Laws.{IsShaped}
 use Rattle.text_rules.specs.Readings.{put_before}
 use Rattle.sql_token.specs.Tokens.{and_behind, and_then, begins, if_flat, token_at, tokens_from, tokens_of, too_deep, within_limits}
 use Rattle.sql_token.proofs.Fronts.{both}
@@ -19,12 +18,12 @@ use Rattle.sql_token.proofs.Longest.{Longest}
 use Rattle.sql_token.proofs.Only.{first_read, only_tokens, some_blanks}
 use Rattle.sql_token.proofs.Stand.{At, at_place, end_here, first_before, first_here, stand_from}
 use Rattle.sql_token.proofs.Steps.{behind_blank, behind_token, in_token, no_byte}
-use Rattle.sql_token.proofs.Unread.{Large, Told, bad_read, large_read, told}
+use Rattle.sql_token.proofs.Unread.{Told, bad_read, large_read, told}
 
 -- ---- the fault of a text stands behind tokens
 
 -- Tokens stand from the place up to another, at which the fault is met.
-record Meets (text : List ℕ) (place : ℕ) (fault : TokenFault) : Type 0 where
+pub record Meets (text : List ℕ) (place : ℕ) (fault : TokenFault) : Type 0 where
   pub tokens : List Token
   pub at : ℕ
   pub before : StandUpTo text place tokens at
@@ -126,7 +125,7 @@ meets_from text place zero (b ∷ bs) fault same e =
     subst (λ p. Meets text p fault) (sym (add-zero place))
     (front_by text place b bs fault (is_blank b) refl same (λ inside f. meets_from text (place + 1) inside bs fault here.rest f) e)
 
-meets : (text : List ℕ) (fault : TokenFault) → tokens_from 0 0 text ≡ Err fault → Meets text 0 fault
+pub meets : (text : List ℕ) (fault : TokenFault) → tokens_from 0 0 text ≡ Err fault → Meets text 0 fault
 meets text fault e = meets_from text 0 0 text fault refl e
 
 -- ---- what the fault is

@@ -11,3 +11,4 @@ pub mod FrontTokens
 pub mod Only
 pub mod Unread
 pub mod Faulty
+pub mod Deep

@@ -7,4 +7,5 @@ pub mod Tokens
 pub mod Answers
 pub mod Laws
 pub mod Faulty
+pub mod Deep
 pub mod Examples
