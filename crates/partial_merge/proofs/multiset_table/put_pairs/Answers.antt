@@ -7,5 +7,5 @@ pub loop-pair-preserved : goal.loop-pair-preserved
 loop-pair-preserved c = record {
   mine = c.put_pair.ensures.mine;
   all = c.put_pair.ensures.all;
-  put = one_more_put pair_row (rows_in c.args.cells.now.items c.args.buffer.now) (rows_in c.loop-pair.cells.items c.loop-pair.kept) (rows_in c.put_pair.new.cells.items c.put_pair.new.buffer) c.args.pairs.now c.loop-pair.pair-index _ c.loop-pair-test.true c.loop-pair.invariant.put c.in_ok-put_pair.ensures.put;
+  put = one_more_put pair_row (rows_in c.args.cells.now.items c.args.buffer.now) (rows_in c.loop-pair.cells.items c.loop-pair.buffer) (rows_in c.put_pair.new.cells.items c.put_pair.new.buffer) c.args.pairs.now c.loop-pair.pair-index _ c.loop-pair-test.true c.loop-pair.invariant.put c.in_ok-put_pair.ensures.put;
 }
