@@ -11,17 +11,19 @@ use std::thread::Threads;
 use text_rules::limits::TEXT_MOST;
 use top_call::{qserv, status};
 
-const SKY: &[u8] = b"overlap 5\nstripe -268435472 4 2 2\nstripe 0 4 2 2\n";
+mod cuts;
 
-const CATALOGUE: &[u8] =
+pub(crate) const SKY: &[u8] = b"overlap 5\nstripe -268435472 4 2 2\nstripe 0 4 2 2\n";
+
+pub(crate) const CATALOGUE: &[u8] =
     b"objectId,x,y,z,flux\n1,268435456,0,0,10\n2,268435456,3,0,20\n3,268435456,0,4,30\n4,268435456,-3,0,40\n5,268435456,0,-1,50\n6,0,0,268435456,60\n";
 
-const SCRIPT: &[u8] = b"SELECT objectId FROM Object\n";
+pub(crate) const SCRIPT: &[u8] = b"SELECT objectId FROM Object\n";
 
 const ANSWER: &[u8] = b"query 1\nobjectId\n1\n2\n3\n4\n5\n6\n6 rows, 3 chunks\n";
 
 // The words that ask for the answers of the script with the given number of workers.
-fn words_of(alloc: Global, workers: &str) -> Result<Vec<String>, Fail> {
+pub(crate) fn words_of(alloc: Global, workers: &str) -> Result<Vec<String>, Fail> {
     words_for(alloc, "query", workers)
 }
 
@@ -70,6 +72,15 @@ fn run_past<R: Threads + Wait + Sync, G: Gate + Sync>(
     Ok(status_past(rt, alloc, words.as_slice(), &mut shelf, sink, gate))
 }
 
+// A sink that fails at one call. A put that fails there keeps some bytes of its piece, or none by `MemSink::new`.
+fn failing_sink(alloc: Global, call: u64, keep: u32) -> Result<MemSink, Fail> {
+    let failing = vec![in alloc; call]?;
+    if keep == 0 {
+        return Ok(MemSink::new(alloc, 1000, failing)?);
+    }
+    Ok(MemSink::cutting(alloc, 1000, failing, keep)?)
+}
+
 // The status of the script's run over a sink that fails at one call, and whether its bytes are a prefix of the answer.
 // If the first call fails, their number is exactly what a failing put keeps.
 fn run_failing_at<R: Threads + Wait + Sync>(
@@ -78,7 +89,7 @@ fn run_failing_at<R: Threads + Wait + Sync>(
     call: u64,
     keep: u32,
 ) -> Result<(u8, bool), Fail> {
-    let mut sink = MemSink::cutting(alloc, 1000, vec![in alloc; call]?, keep)?;
+    let mut sink = failing_sink(alloc, call, keep)?;
     let status = run_past(rt, alloc, "0", SCRIPT, &mut sink, &OpenGate)?;
     let is_kept = call > 1 || sink.bytes().len() == keep as usize;
     let is_whole = status > 0 || sink.bytes() == ANSWER;
