@@ -26,7 +26,7 @@ use crate::slot::Slot;
 use crate::slots::{
     attached_at, blank_slots, collect_at, enter_at, running_in, runs_at, stop_at, waits_at,
 };
-use crate::taken::Taken;
+use crate::take_record::TakeRecord;
 use scan_rules::limits::{QUERY_MOST, RUNNING_MOST};
 use scan_rules::{ChunkSet, JournalLine, QuerySet};
 use sky_io::Memory;
@@ -44,7 +44,7 @@ pub struct Replay<'a> {
     closed: bool,
     slots: Vec<Slot>,
     /// A record of each take, at the position of its ticket.
-    taken: Vec<Taken>,
+    taken: Vec<TakeRecord>,
 }
 
 impl<'a> Model for Replay<'a> {
@@ -92,7 +92,7 @@ fn may_lose_all(slots: &Vec<Slot>, taken: &QuerySet, lost: &[u32]) -> bool
 }
 
 /// Marks the take with this ticket as delivered.
-fn deliver_at(taken: &mut Vec<Taken>, ticket: usize)
+fn deliver_at(taken: &mut Vec<TakeRecord>, ticket: usize)
     requires { ticket < length taken.old.items }
     ensures { DeliveredAt taken.old.items taken.new.items ticket }
 {
@@ -212,7 +212,7 @@ impl<'a> Replay<'a> {
         if takers.as_slice() != named.as_slice() {
             return Ok(false);
         }
-        self.taken.push(Taken {
+        self.taken.push(TakeRecord {
             seat,
             queries: *queries,
             delivered: false,
