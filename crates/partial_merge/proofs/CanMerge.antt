@@ -81,7 +81,7 @@ some_counted (z ∷ vs) = omega arith
 
 -- an expression of the keys can be computed on the key
 abbrev OnKey : List BoundCol → Key → BoundItem → Type 0
-OnKey keys key (item.CompactRow e) = IsOnKey keys key e
+OnKey keys key (item.Plain e) = IsOnKey keys key e
 OnKey keys key item.Count = Unit {0}
 OnKey keys key (item.CountOf e) = Unit {0}
 OnKey keys key (item.Sum e) = Unit {0}
@@ -90,7 +90,7 @@ OnKey keys key (item.Max e) = Unit {0}
 OnKey keys key (item.Avg e) = Unit {0}
 
 item_may : (keys : List BoundCol) (key : Key) (size : ℕ) (rows : List Pick) (pre post : List ChunkItem) (n : ℕ) (i : BoundItem) → OnKey keys key i → n ≡ length pre → Each (IsSmallPart size) (map (part_over rows) (pre ++ (group_parts i ++ post))) → MayMerge keys (of_rows key size rows (pre ++ (group_parts i ++ post))) (group_merged n i)
-item_may keys key size rows pre post n (item.CompactRow e) k l h = k
+item_may keys key size rows pre post n (item.Plain e) k l h = k
 item_may keys key size rows pre post n item.Count k l h = tt
 item_may keys key size rows pre post n (item.CountOf e) k l h = tt
 item_may keys key size rows pre post n (item.Sum e) k l h = tt
@@ -126,7 +126,7 @@ none_of_size n = subst (λ (p : Part). IsOfSize most p.value) (sym (none_at n)) 
 
 none_may : (items : List BoundItem) (n : ℕ) → Each (OnKey [] []) items → Each (MayMerge [] no_rows) (merged_from (Groups []) n items)
 none_may [] n k = tt
-none_may (item.CompactRow e ∷ items) n k = (k.0, none_may items (n + 0) k.1)
+none_may (item.Plain e ∷ items) n k = (k.0, none_may items (n + 0) k.1)
 none_may (item.Count ∷ items) n k = (tt, none_may items (n + 1) k.1)
 none_may (item.CountOf e ∷ items) n k = (tt, none_may items (n + 1) k.1)
 none_may (item.Sum e ∷ items) n k = (tt, none_may items (n + 1) k.1)
@@ -147,7 +147,7 @@ items_on_key columns keys key l f (i ∷ items) h =
     (one i both.0, items_on_key columns keys key l f items both.1)
   where
     one : (i : BoundItem) → is_sound_item columns (Groups keys) i ≡ true → OnKey keys key i
-    one (item.CompactRow e) k = record { long = l; range = f e k }
+    one (item.Plain e) k = record { long = l; range = f e k }
     one item.Count k = tt
     one (item.CountOf e) k = tt
     one (item.Sum e) k = tt

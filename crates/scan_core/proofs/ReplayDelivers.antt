@@ -14,7 +14,7 @@ use Rattle.scan_rules.proofs.Lists.{any_finds, any_there}
 use Rattle.scan_rules.proofs.Numbers.{all_has}
 use Rattle.scan_rules.proofs.Scan.{attached_low}
 use Rattle.scan_core.specs.declared.slot.Slot.{Slot}
-use Rattle.scan_core.specs.declared.taken.Taken.{Taken}
+use Rattle.scan_core.specs.declared.take_record.TakeRecord.{TakeRecord}
 use Rattle.scan_core.specs.Delivering.{PaidAll, AllOwed}
 use Rattle.scan_core.specs.Kept.{Kept}
 use Rattle.scan_core.specs.Replays.{shown, IsNext, IsReplayed, IsRecorded, runs_among, DeliveredAt}
@@ -41,9 +41,9 @@ named_are {past = past} {t = t} {c = c} {queries = queries} f q = same_test (lis
     (and_parts (c == v.0) (has queries q) (sym (f.served q v.0) ∙ there)).1)
     (λ y. f.named q y)
 
-module _ {ring : ℕ} {lines : Journal} {done here : ℕ} {closed : Bool} {slots : List Slot} {taken : List Taken} where
+module _ {ring : ℕ} {lines : Journal} {done here : ℕ} {closed : Bool} {slots : List Slot} {taken : List TakeRecord} where
   -- the task of a ticket that was not delivered
-  pub its_flight : IsReplayed ring lines done here closed slots taken → (t : ℕ) (it : Taken) → t < length taken → it ≡ get_or taken t it → it.delivered ≡ false → (c : ℕ) × Flight (take done lines) it.seat t c it.queries
+  pub its_flight : IsReplayed ring lines done here closed slots taken → (t : ℕ) (it : TakeRecord) → t < length taken → it ≡ get_or taken t it → it.delivered ≡ false → (c : ℕ) × Flight (take done lines) it.seat t c it.queries
   its_flight h t it low is e =
       let n : IsRecorded (take done lines) t it = subst (IsRecorded (take done lines) t) (sym is) (h.recorded.each t it low) in
       (n.chunk, flight ring (take done lines) it.seat t n.chunk it.queries h.kept.run n.there (sym n.delivered_is ∙ e))
@@ -64,12 +64,12 @@ module _ {ring : ℕ} {lines : Journal} {done here : ℕ} {closed : Bool} {slots
   lost_refused h s t c queries f d lost e m = both_ways _ e (losable_are h s t c queries f d lost ∙ m.losable)
 
   -- a Deliver
-  pub may_deliver_now : IsReplayed ring lines done here closed slots taken → (s t c : ℕ) (queries : List ℕ) → Flight (take done lines) s t c queries → (it : Taken) → t < length taken → it ≡ get_or taken t it → it.delivered ≡ false → (d : Slot) (lost : List ℕ) → list_all (runs_among slots queries d) lost ≡ true → MayDeliver (take done lines) s t lost
+  pub may_deliver_now : IsReplayed ring lines done here closed slots taken → (s t c : ℕ) (queries : List ℕ) → Flight (take done lines) s t c queries → (it : TakeRecord) → t < length taken → it ≡ get_or taken t it → it.delivered ≡ false → (d : Slot) (lost : List ℕ) → list_all (runs_among slots queries d) lost ≡ true → MayDeliver (take done lines) s t lost
   may_deliver_now h s t c queries f it low is e d lost all =
       let n : IsRecorded (take done lines) t it = subst (IsRecorded (take done lines) t) (sym is) (h.recorded.each t it low) in
       record { same_seat = f.seat; in_flight = sym n.delivered_is ∙ e; losable = sym (losable_are h s t c queries f d lost) ∙ all }
 
-  pub deliver_step : IsReplayed ring lines done here closed slots taken → (s t c : ℕ) (queries lost : List ℕ) → IsNext (Deliver s t lost) (shown ring lines done) → Flight (take done lines) s t c queries → MayDeliver (take done lines) s t lost → (d : Slot) → list_all (runs_among slots queries d) lost ≡ true → t < length taken → (after : List Slot) → PaidAll queries lost slots after (length queries) → (more : List Taken) → DeliveredAt taken more t → IsReplayed ring lines (done + 1) here closed after more
+  pub deliver_step : IsReplayed ring lines done here closed slots taken → (s t c : ℕ) (queries lost : List ℕ) → IsNext (Deliver s t lost) (shown ring lines done) → Flight (take done lines) s t c queries → MayDeliver (take done lines) s t lost → (d : Slot) → list_all (runs_among slots queries d) lost ≡ true → t < length taken → (after : List Slot) → PaidAll queries lost slots after (length queries) → (more : List TakeRecord) → DeliveredAt taken more t → IsReplayed ring lines (done + 1) here closed after more
   deliver_step h s t c queries lost next f m d all low after paid more given =
       let among : (q : ℕ) → has lost q ≡ true → has queries q ≡ true = λ q y. (and_parts _ _ (and_parts (nat_lt q 256) _ (all_has (runs_among slots queries d) lost q all y)).1).1 in
       let count : length more ≡ length taken = given.beside.len in

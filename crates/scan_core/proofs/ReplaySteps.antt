@@ -17,7 +17,7 @@ use Rattle.scan_rules.proofs.Lists.{any_there, any_weaker}
 use Rattle.scan_rules.proofs.Numbers.{all_has}
 use Rattle.scan_rules.proofs.OwnLines.{same_taker}
 use Rattle.scan_core.specs.declared.slot.Slot.{Slot}
-use Rattle.scan_core.specs.declared.taken.Taken.{Taken}
+use Rattle.scan_core.specs.declared.take_record.TakeRecord.{TakeRecord}
 use Rattle.scan_core.specs.Attaching.{ahead_in}
 use Rattle.scan_core.specs.Changes.{AttachedAt, EnteredAt, StoppedAt, CollectedAt}
 use Rattle.scan_core.specs.Kept.{IsAhead, Kept}
@@ -49,7 +49,7 @@ took_it past s t c queries there =
     let w = contains_cut past (Take s t c queries) there in
     subst (λ (p : Journal). list_any (took s t) p ≡ true) (sym w.2) (any_there (took s t) w.0 (Take s t c queries) w.1 (and_from (s == s) _ (eq-eqb s s refl) (eq-eqb t t refl)))
 
-module _ {ring : ℕ} {lines : Journal} {done here : ℕ} {closed : Bool} {slots : List Slot} {taken : List Taken} where
+module _ {ring : ℕ} {lines : Journal} {done here : ℕ} {closed : Bool} {slots : List Slot} {taken : List TakeRecord} where
   -- a Close
   pub close_step : IsReplayed ring lines done here closed slots taken → (s : ℕ) → IsNext (Close s) (shown ring lines done) → closed ≡ false → IsReplayed ring lines (done + 1) here true slots taken
   close_step h s next e =
@@ -161,7 +161,7 @@ module _ {ring : ℕ} {lines : Journal} {done here : ℕ} {closed : Bool} {slots
   take_right h step chunk xs least same n takers all t queries et eq = rw (et, sym eq) (take_is h step chunk xs least same n takers all)
 
   -- a Take
-  pub take_step : IsReplayed ring lines done here closed slots taken → (s t c : ℕ) (queries : List ℕ) → IsNext (Take s t c queries) (shown ring lines done) → MayTake ring (take done lines) t c queries → (step : ℕ) → Nearest ring slots (take done lines) step c → t ≡ length taken → (after : List Slot) → PoppedAll c slots after 256 → (it : Taken) (more : List Taken) → it.seat ≡ s → it.queries ≡ queries → it.delivered ≡ false → more ≡ taken ++ it ∷ [] → IsReplayed ring lines (done + 1) (chunk_at ring c 1) closed after more
+  pub take_step : IsReplayed ring lines done here closed slots taken → (s t c : ℕ) (queries : List ℕ) → IsNext (Take s t c queries) (shown ring lines done) → MayTake ring (take done lines) t c queries → (step : ℕ) → Nearest ring slots (take done lines) step c → t ≡ length taken → (after : List Slot) → PoppedAll c slots after 256 → (it : TakeRecord) (more : List TakeRecord) → it.seat ≡ s → it.queries ≡ queries → it.delivered ≡ false → more ≡ taken ++ it ∷ [] → IsReplayed ring lines (done + 1) (chunk_at ring c 1) closed after more
   take_step h s t c queries next m step n et after pop it more seat names delivered_is is =
       let count : length more ≡ length taken + 1 = ap length is ∙ length-append taken (it ∷ []) in
       replayed_more lines done (Take s t c queries) next
@@ -176,13 +176,13 @@ module _ {ring : ℕ} {lines : Journal} {done here : ℕ} {closed : Bool} {slots
       omega (arith, high, low, e)
 
   -- a Deliver of a ticket that was delivered
-  pub delivered_refused : IsReplayed ring lines done here closed slots taken → (s t : ℕ) (lost : List ℕ) (it : Taken) → t < length taken → it ≡ get_or taken t it → it.delivered ≡ true → MayDeliver (take done lines) s t lost → ⊥
+  pub delivered_refused : IsReplayed ring lines done here closed slots taken → (s t : ℕ) (lost : List ℕ) (it : TakeRecord) → t < length taken → it ≡ get_or taken t it → it.delivered ≡ true → MayDeliver (take done lines) s t lost → ⊥
   delivered_refused h s t lost it low is e m =
       let n : IsRecorded (take done lines) t it = subst (IsRecorded (take done lines) t) (sym is) (h.recorded.each t it low) in
       both_ways _ m.in_flight (sym n.delivered_is ∙ e)
 
   -- a Deliver of a ticket that another participant took
-  pub seat_refused : IsReplayed ring lines done here closed slots taken → (s t : ℕ) (lost : List ℕ) (it : Taken) → t < length taken → it ≡ get_or taken t it → (it.seat ≡ s → ⊥) → MayDeliver (take done lines) s t lost → ⊥
+  pub seat_refused : IsReplayed ring lines done here closed slots taken → (s t : ℕ) (lost : List ℕ) (it : TakeRecord) → t < length taken → it ≡ get_or taken t it → (it.seat ≡ s → ⊥) → MayDeliver (take done lines) s t lost → ⊥
   seat_refused h s t lost it low is ne m =
       let n : IsRecorded (take done lines) t it = subst (IsRecorded (take done lines) t) (sym is) (h.recorded.each t it low) in
       ne (same_taker (take done lines) it.seat s t h.kept.run (took_it (take done lines) it.seat t n.chunk it.queries n.there) m.same_seat)

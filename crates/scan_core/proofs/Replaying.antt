@@ -13,7 +13,7 @@ use Rattle.scan_rules.proofs.Going.{none_taken}
 use Rattle.scan_rules.proofs.Lengths.{ticket_low}
 use Rattle.scan_rules.proofs.Lists.{any_later, any_none, count_push}
 use Rattle.scan_core.specs.declared.slot.Slot.{Slot}
-use Rattle.scan_core.specs.declared.taken.Taken.{Taken}
+use Rattle.scan_core.specs.declared.take_record.TakeRecord.{TakeRecord}
 use Rattle.scan_core.specs.Kept.{Kept}
 use Rattle.scan_core.specs.Replays.{ReplayState, shown, IsNext, Decides, IsRecorded, AreRecorded, IsReplayed, DeliveredAt}
 
@@ -68,7 +68,7 @@ decided_wrong ring lines done line refused = record {
 }
 
 -- the fields agree with one line more
-pub replayed_more : {ring : ℕ} (lines : Journal) (done : ℕ) (line : JournalLine) → IsNext line (shown ring lines done) → {here : ℕ} {closed : Bool} {slots : List Slot} {taken : List Taken}
+pub replayed_more : {ring : ℕ} (lines : Journal) (done : ℕ) (line : JournalLine) → IsNext line (shown ring lines done) → {here : ℕ} {closed : Bool} {slots : List Slot} {taken : List TakeRecord}
     → Kept ring here (length taken) closed slots (take done lines ++ line ∷ []) → AreRecorded (take done lines ++ line ∷ []) taken → IsReplayed ring lines (done + 1) here closed slots taken
 replayed_more {ring = ring} lines done line next {here = here} {closed = closed} {slots = slots} {taken = taken} k recorded =
     let n = next_cut ring lines done line next in
@@ -88,7 +88,7 @@ delivers_none t (Cancel s q) n = refl
 delivers_none t (Collect s q) n = refl
 delivers_none t (Close s) n = refl
 
-record_on : (past : Journal) (line : JournalLine) (t : ℕ) (it : Taken) → delivers t line ≡ false → IsRecorded past t it → IsRecorded (past ++ line ∷ []) t it
+record_on : (past : Journal) (line : JournalLine) (t : ℕ) (it : TakeRecord) → delivers t line ≡ false → IsRecorded past t it → IsRecorded (past ++ line ∷ []) t it
 record_on past line t it n h = record {
   chunk = h.chunk;
   there = Contains-append_left past (line ∷ []) (Take it.seat t h.chunk it.queries) h.there;
@@ -96,7 +96,7 @@ record_on past line t it n h = record {
 }
 
 -- the records hold after a line that is no Take and no Deliver
-pub recorded_on : (past : Journal) (line : JournalLine) (taken : List Taken) → takes line ≡ false → is_deliver line ≡ false → AreRecorded past taken → AreRecorded (past ++ line ∷ []) taken
+pub recorded_on : (past : Journal) (line : JournalLine) (taken : List TakeRecord) → takes line ≡ false → is_deliver line ≡ false → AreRecorded past taken → AreRecorded (past ++ line ∷ []) taken
 recorded_on past line taken nt nd h = record {
   all = h.all ∙ sym (none_taken past line nt);
   each = λ t d l. record_on past line t (get_or taken t d) (delivers_none t line nd) (h.each t d l);
@@ -109,7 +109,7 @@ fresh_ticket past t run e = false_from_ne_true (is_delivered past t) (λ h.
     absurd (omega (arith, low, e)))
 
 -- they hold after a Take, with its record
-pub recorded_take : {ring : ℕ} (past : Journal) (s t c : ℕ) (queries : List ℕ) (taken more : List Taken) (it : Taken) → IsRun ring past → AreRecorded past taken → t ≡ length taken
+pub recorded_take : {ring : ℕ} (past : Journal) (s t c : ℕ) (queries : List ℕ) (taken more : List TakeRecord) (it : TakeRecord) → IsRun ring past → AreRecorded past taken → t ≡ length taken
     → it.seat ≡ s → it.queries ≡ queries → it.delivered ≡ false → more ≡ taken ++ it ∷ [] → AreRecorded (past ++ Take s t c queries ∷ []) more
 recorded_take past s t c queries taken more it run h e seat names delivered_is is = rw is (record {
   all =
@@ -128,13 +128,13 @@ recorded_take past s t c queries taken more it run h e seat names delivered_is i
         delivered_is = delivered_is ∙ sym (any_none (delivers t) past (Take s t c queries) refl ∙ fresh_ticket past t run (e ∙ h.all));
       } in
       subst (λ k. IsRecorded (past ++ Take s t c queries ∷ []) k (get_or (taken ++ it ∷ []) k d)) (sym same)
-      (subst (λ (x : Taken). IsRecorded (past ++ Take s t c queries ∷ []) (length taken) x) (sym (get_or_push taken it d (length taken) refl))
+      (subst (λ (x : TakeRecord). IsRecorded (past ++ Take s t c queries ∷ []) (length taken) x) (sym (get_or_push taken it d (length taken) refl))
       (subst (λ k. IsRecorded (past ++ Take s t c queries ∷ []) k it) e here)))
       (cases_lt u (length taken));
 })
 
 -- they hold after a Deliver, whose take is marked
-pub recorded_deliver : (past : Journal) (s t : ℕ) (lost : List ℕ) (taken after : List Taken) → AreRecorded past taken → t < length taken → DeliveredAt taken after t → AreRecorded (past ++ Deliver s t lost ∷ []) after
+pub recorded_deliver : (past : Journal) (s t : ℕ) (lost : List ℕ) (taken after : List TakeRecord) → AreRecorded past taken → t < length taken → DeliveredAt taken after t → AreRecorded (past ++ Deliver s t lost ∷ []) after
 recorded_deliver past s t lost taken after h low d = record {
   all = d.beside.len ∙ (h.all ∙ sym (none_taken past (Deliver s t lost) refl));
   each = λ u z l. ⊎_elim
@@ -143,7 +143,7 @@ recorded_deliver past s t lost taken after h low d = record {
       (record_on past (Deliver s t lost) u (get_or taken u z) (ne_eqb t u (λ e. n (sym e))) (h.each u z (let w : length after ≡ length taken = d.beside.len in omega (arith, l, w)))))
       (cases_eq u t);
 } where
-  here : (z : Taken) → IsRecorded (past ++ Deliver s t lost ∷ []) t (get_or after t z)
+  here : (z : TakeRecord) → IsRecorded (past ++ Deliver s t lost ∷ []) t (get_or after t z)
   here z =
       let was = h.each t z low in
       record {
@@ -153,7 +153,7 @@ recorded_deliver past s t lost taken after h low d = record {
       }
 
 -- before the first line
-pub replayed_none : (ring : ℕ) (lines : Journal) (slots : List Slot) (taken : List Taken) → Kept ring 0 0 false slots [] → taken ≡ [] → IsReplayed ring lines 0 0 false slots taken
+pub replayed_none : (ring : ℕ) (lines : Journal) (slots : List Slot) (taken : List TakeRecord) → Kept ring 0 0 false slots [] → taken ≡ [] → IsReplayed ring lines 0 0 false slots taken
 replayed_none ring lines slots taken k none = rw none (record {
   within = omega arith;
   kept = k;

@@ -8,7 +8,7 @@ use Rattle.scan_rules.specs.Queries.{Journal, is_delivered}
 use Rattle.scan_rules.specs.Runs.{MayFollow}
 use Rattle.scan_core.specs.declared.limits.TheConstants.{SLOTS}
 use Rattle.scan_core.specs.declared.slot.Slot.{Slot}
-use Rattle.scan_core.specs.declared.taken.Taken.{Taken}
+use Rattle.scan_core.specs.declared.take_record.TakeRecord.{TakeRecord}
 use Rattle.scan_core.specs.Changes.{Beside}
 use Rattle.scan_core.specs.Kept.{Kept}
 use Rattle.scan_core.specs.Slots.{runs}
@@ -42,18 +42,18 @@ pub record Decides (line : JournalLine) (old : ReplayState) (may : Bool) (new : 
   pub same : may ≡ false → new ≡ old
 
 -- a record of the take with this ticket: its participant, its queries, and whether it was delivered
-pub record IsRecorded (past : Journal) (ticket : ℕ) (it : Taken) : Type 0 where
+pub record IsRecorded (past : Journal) (ticket : ℕ) (it : TakeRecord) : Type 0 where
   pub chunk : ℕ
   pub there : Contains past (Take it.seat ticket chunk it.queries)
   pub delivered_is : it.delivered ≡ is_delivered past ticket
 
 -- there is such a record of each take, at the position of its ticket
-pub record AreRecorded (past : Journal) (taken : List Taken) : Type 0 where
+pub record AreRecorded (past : Journal) (taken : List TakeRecord) : Type 0 where
   pub all : length taken ≡ count_by takes past
-  pub each : (ticket : ℕ) (d : Taken) → ticket < length taken → IsRecorded past ticket (get_or taken ticket d)
+  pub each : (ticket : ℕ) (d : TakeRecord) → ticket < length taken → IsRecorded past ticket (get_or taken ticket d)
 
 -- the fields agree with the lines that were replayed, which are a run
-pub record IsReplayed (ring : ℕ) (lines : Journal) (done here : ℕ) (closed : Bool) (slots : List Slot) (taken : List Taken)
+pub record IsReplayed (ring : ℕ) (lines : Journal) (done here : ℕ) (closed : Bool) (slots : List Slot) (taken : List TakeRecord)
     : Type 0 where
   pub within : done ≤ length lines
   pub kept : Kept ring here (length taken) closed slots (take done lines)
@@ -64,8 +64,8 @@ abbrev pub runs_among : List Slot → List ℕ → Slot → ℕ → Bool
 runs_among slots queries d q = nat_lt q SLOTS && (runs (get_or slots q d) && has queries q)
 
 -- only the record with this ticket changed, whose take is now delivered
-pub record DeliveredAt (old new : List Taken) (ticket : ℕ) : Type 0 where
+pub record DeliveredAt (old new : List TakeRecord) (ticket : ℕ) : Type 0 where
   pub beside : Beside old new ticket
-  pub seat : (d : Taken) → (get_or new ticket d).seat ≡ (get_or old ticket d).seat
-  pub queries : (d : Taken) → (get_or new ticket d).queries ≡ (get_or old ticket d).queries
-  pub delivered : (d : Taken) → (get_or new ticket d).delivered ≡ true
+  pub seat : (d : TakeRecord) → (get_or new ticket d).seat ≡ (get_or old ticket d).seat
+  pub queries : (d : TakeRecord) → (get_or new ticket d).queries ≡ (get_or old ticket d).queries
+  pub delivered : (d : TakeRecord) → (get_or new ticket d).delivered ≡ true

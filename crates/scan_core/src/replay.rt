@@ -1,8 +1,8 @@
 //! The replay of a journal: a board without partial results that is given its lines.
 //!
 //! The slots decide whether a line may follow, through the functions that the board's own calls use. A Take may follow
-//! if it is the take that a board would hand out now, and so for each other line. A board learns from a task which take
-//! is delivered; a replay has a record of each take, at the position of its ticket.
+//! exactly if it is the take that a board would hand out now, and so for each other line. A board learns from a task
+//! which take is delivered. A replay has a record of each take, at the position of its ticket.
 ghost use Rattle.std.specs.Prelude.{◌≡◌, ◌<◌, ◌≤◌, [], length, nat_lt, IfOk, OnErr, true, false};
 ghost use Rattle.std.specs.List.{list_all};
 ghost use Rattle.scan_rules.specs.declared.journal_line.JournalLine.{JournalLine};
@@ -26,7 +26,7 @@ use crate::slot::Slot;
 use crate::slots::{
     attached_at, blank_slots, collect_at, enter_at, running_in, runs_at, stop_at, waits_at,
 };
-use crate::taken::Taken;
+use crate::take_record::TakeRecord;
 use scan_rules::limits::{QUERY_MOST, RUNNING_MOST};
 use scan_rules::{ChunkSet, JournalLine, QuerySet};
 use sky_io::Memory;
@@ -44,7 +44,7 @@ pub struct Replay<'a> {
     closed: bool,
     slots: Vec<Slot>,
     /// A record of each take, at the position of its ticket.
-    taken: Vec<Taken>,
+    taken: Vec<TakeRecord>,
 }
 
 impl<'a> Model for Replay<'a> {
@@ -58,14 +58,14 @@ impl<'a> Model for Replay<'a> {
     ghost invariant = { λ r. IsReplayed r.ring r.lines.now r.done r.place r.closed r.slots.items r.taken.items };
 }
 
-/// Whether each chunk is below the length of the ring.
+/// Returns whether each chunk is below the length of the ring.
 fn all_below(chunks: &[u32], ring: u32) -> bool
     ensures { result ≡ list_all (λ chunk. nat_lt chunk ring) chunks.now }
 {
     chunks.iter().all(|chunk| *chunk < ring)
 }
 
-/// Whether the query runs, and is one of those of a take.
+/// Returns whether the query runs and is one of those of a take.
 fn may_lose(slots: &Vec<Slot>, taken: &QuerySet, q: u32) -> bool
     requires full { length slots.now.items ≡ SLOTS }
     ensures { (d : Slot) → result ≡ runs_among slots.now.items taken.now d q }
@@ -78,7 +78,7 @@ fn may_lose(slots: &Vec<Slot>, taken: &QuerySet, q: u32) -> bool
     runs && named
 }
 
-/// Whether each of these queries runs, and is one of those of a take.
+/// Returns whether each of these queries runs and is one of those of a take.
 fn may_lose_all(slots: &Vec<Slot>, taken: &QuerySet, lost: &[u32]) -> bool
     requires full { length slots.now.items ≡ SLOTS }
     ensures { (d : Slot) → result ≡ list_all (runs_among slots.now.items taken.now d) lost.now }
@@ -92,7 +92,7 @@ fn may_lose_all(slots: &Vec<Slot>, taken: &QuerySet, lost: &[u32]) -> bool
 }
 
 /// Marks the take with this ticket as delivered.
-fn deliver_at(taken: &mut Vec<Taken>, ticket: usize)
+fn deliver_at(taken: &mut Vec<TakeRecord>, ticket: usize)
     requires { ticket < length taken.old.items }
     ensures { DeliveredAt taken.old.items taken.new.items ticket }
 {
@@ -120,8 +120,8 @@ impl<'a> Replay<'a> {
         })
     }
 
-    /// Replays the next line and returns true, if it may follow. Otherwise returns false, and nothing changes. Allocates
-    /// memory for an Attach and a Take; after `Err` nothing has changed.
+    /// Replays the next line, exactly if it may follow, and returns whether it did. After `false` and after `Err` nothing
+    /// has changed. Allocates memory for an Attach and a Take.
     pub fn step(&mut self) -> Result<bool, Memory>
         requires left { 0 < length self.old.rest }
         ensures decided { IfOk result (λ may.
@@ -144,7 +144,8 @@ impl<'a> Replay<'a> {
         }
     }
 
-    /// Replays an Attach, if the query is fresh, fewer than 64 run, and the chunks are on the ring. Allocates memory.
+    /// Replays an Attach, exactly if the board is open, the query is fresh, fewer than 64 run, and the chunks are on the
+    /// ring. Allocates memory.
     fn attach(&mut self, seat: u32, q: u32, chunks: &ChunkSet) -> Result<bool, Memory>
         requires { IsNext (AttachLine seat q chunks.now) self.old }
         ensures decided { IfOk result (λ may.
@@ -162,7 +163,7 @@ impl<'a> Replay<'a> {
         Ok(true)
     }
 
-    /// Whether the query may be attached with these chunks. Does not allocate.
+    /// Returns whether the query may be attached with these chunks. Does not allocate.
     fn may_attach(&self, q: u32, chunks: &[u32]) -> bool
         ensures right { result ≡ true → MayAttach self.now.ring self.now.past q chunks.now }
         ensures wrong { result ≡ false → MayAttach self.now.ring self.now.past q chunks.now → ⊥ }
@@ -182,7 +183,7 @@ impl<'a> Replay<'a> {
         all_below(chunks, self.ring)
     }
 
-    /// Replays a Take, if it is the take that a board would hand out. Allocates memory.
+    /// Replays a Take, exactly if it is the take that a board would hand out. Allocates memory.
     fn take(
         &mut self,
         seat: u32,
@@ -211,7 +212,7 @@ impl<'a> Replay<'a> {
         if takers.as_slice() != named.as_slice() {
             return Ok(false);
         }
-        self.taken.push(Taken {
+        self.taken.push(TakeRecord {
             seat,
             queries: *queries,
             delivered: false,
@@ -222,8 +223,8 @@ impl<'a> Replay<'a> {
         Ok(true)
     }
 
-    /// Replays a Deliver, if the participant has this ticket in flight, and each lost query runs and is of that take.
-    /// Does not allocate.
+    /// Replays a Deliver, exactly if the participant has this ticket in flight, and each lost query runs and is of that
+    /// take. Does not allocate.
     fn deliver(&mut self, seat: u32, ticket: u32, lost: &QuerySet) -> bool
         requires { IsNext (DeliverLine seat ticket lost.now) self.old }
         ensures { Decides (DeliverLine seat ticket lost.now) self.old result self.new }
@@ -250,7 +251,7 @@ impl<'a> Replay<'a> {
         true
     }
 
-    /// Replays a Cancel, if the query runs. Does not allocate.
+    /// Replays a Cancel, exactly if the query runs. Does not allocate.
     fn cancel(&mut self, seat: u32, q: u32) -> bool
         requires { IsNext (CancelLine seat q) self.old }
         ensures { Decides (CancelLine seat q) self.old result self.new }
@@ -263,7 +264,7 @@ impl<'a> Replay<'a> {
         true
     }
 
-    /// Replays a Collect, if the query has ended and was not collected. Does not allocate.
+    /// Replays a Collect, exactly if the query has ended and was not collected. Does not allocate.
     fn collect(&mut self, seat: u32, q: u32) -> bool
         requires { IsNext (CollectLine seat q) self.old }
         ensures { Decides (CollectLine seat q) self.old result self.new }
@@ -279,7 +280,7 @@ impl<'a> Replay<'a> {
         true
     }
 
-    /// Replays a Close, if it is the first. Does not allocate.
+    /// Replays a Close, exactly if it is the first. Does not allocate.
     fn close(&mut self, seat: u32) -> bool
         requires { IsNext (CloseLine seat) self.old }
         ensures { Decides (CloseLine seat) self.old result self.new }

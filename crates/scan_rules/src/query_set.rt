@@ -1,4 +1,4 @@
-//! A set of query numbers, as a bitmap of four 64-bit integers.
+//! A set of query numbers, as a bitmap of four 64-bit integers: query q is bit q % 64 of integer q / 64.
 ghost use Rattle.std.specs.Prelude.{◌≡◌, ℕ, ◌<◌, ◌≤◌, List, [], ◌∷◌, ◌++◌, Contains, IfSome, None, IsTrue, ◌↔◌, cond, length};
 ghost use Rattle.std.specs.List.{last_or};
 ghost use Rattle.scan_rules.specs.QuerySets.{is_set, set_queries};
@@ -34,14 +34,14 @@ impl Model for QuerySet {
 }
 
 impl QuerySet {
-    /// A set without queries. Does not allocate.
+    /// Creates a set without queries. Does not allocate.
     pub fn new() -> QuerySet
         ensures { result ≡ [] }
     {
         QuerySet { words: [0; 4] }
     }
 
-    /// Appends a query above the last one. Does not allocate.
+    /// Appends a query, which must be from 1 to 255 and above the last one. Does not allocate.
     pub fn add(&mut self, q: u32)
         requires from_1 { 1 ≤ q }
         requires to_255 { q ≤ QUERY_MOST }
@@ -51,14 +51,14 @@ impl QuerySet {
         self.words[(q / 64) as usize] |= 1 << (q % 64);
     }
 
-    /// Whether the query is in the set. Does not allocate.
+    /// Returns whether the query is in the set; false for a number above 255. Does not allocate.
     pub fn has(&self, q: u32) -> bool
         ensures { IsTrue result ↔ Contains self.now q }
     {
         q <= QUERY_MOST && (self.words[(q / 64) as usize] >> (q % 64)) & 1 == 1
     }
 
-    /// The queries, in ascending order. Does not allocate.
+    /// Returns the queries, in ascending order. Does not allocate.
     pub fn list(&self) -> ArrayVec<u32, QUERY_NUMBERS>
         ensures { result.items ≡ self.now }
     {
@@ -66,7 +66,7 @@ impl QuerySet {
     }
 }
 
-/// Whether the query's bit is 1.
+/// Returns whether the query's bit is 1.
 fn is_set(words: &[u64; 4], q: u32) -> bool
     requires { q ≤ QUERY_MOST }
     ensures { result ≡ is_set words.now q }
@@ -84,7 +84,7 @@ fn push_where(list: &mut ArrayVec<u32, QUERY_NUMBERS>, q: u32, wanted: bool)
     }
 }
 
-/// The queries whose bits are 1, in ascending order.
+/// Returns the queries whose bits are 1, in ascending order.
 fn list_of(words: &[u64; 4]) -> ArrayVec<u32, QUERY_NUMBERS>
     ensures { result.items ≡ set_queries words.now }
 {

@@ -1,4 +1,4 @@
--- Once all other seats have ended in seat 0: each entry that it has seen is its own, or is kept; and no entry is added.
+-- Once all other seats have ended in seat 0: each entry that it has seen is its own, or is kept; and no entry is added by others.
 use Rattle.std.proofs.Common.{◌≡◌, ℕ, ◌==◌, suc, zero, Bool, true, cond, List, [], ◌∷◌, ◌++◌, length}
 use Rattle.std.proofs.Common.{◌⊎◌, inl, inr, ⊎_elim, refl, sym, ap, ◌∙◌, subst, arith, eq-eqb, Contains, filter}
 use Rattle.std.proofs.Common.{append-nil, length-append}

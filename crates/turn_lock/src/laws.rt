@@ -9,8 +9,8 @@ pub fn every_entry_is_kept_once_all_seats_have_ended<T: Lineage>()
     ensures { EntriesAreKept T.Root T.seat_of }
 {}
 
-/// Let every other participant have ended in participant 0. Then no entry is added any more: the history at a further
-/// entering of the lock is what participant 0 had seen.
+/// Let every other participant have ended in participant 0. Then no entry is added by others any more: the history that
+/// participant 0 finds when it enters again is what it had seen.
 pub fn nothing_is_added_once_all_seats_have_ended<T: Lineage>()
     ensures { NothingIsAdded T.Root T.seat_of }
 {}

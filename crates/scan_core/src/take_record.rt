@@ -4,8 +4,8 @@ use scan_rules::QuerySet;
 
 /// A take: the participant that took, the queries, and whether the task was delivered.
 #[derive(Drop)]
-pub struct Taken {
-    pub seat: u32,
-    pub queries: QuerySet,
-    pub delivered: bool,
+pub(crate) struct TakeRecord {
+    pub(crate) seat: u32,
+    pub(crate) queries: QuerySet,
+    pub(crate) delivered: bool,
 }
