@@ -101,7 +101,7 @@ impl<P: Work> SharedBoard<P> {
         requires holds { HasTask seat task }
         requires stand { PiecesFit (P.stands seat.root.root) task.chunk task.queries pieces.items }
         ensures called { Called P.asks
-            (λ before after. DeliversTask seat.number task pieces.items before after)
+            (λ before after. DeliversTask P.refuses seat.number task pieces.items before after)
             seat result }
     {
         let number = seat.number();
@@ -195,7 +195,7 @@ impl<P: Work> SharedBoard<P> {
 fn deliver_owed<P: Work>(board: &mut Board<P>, seat: u32, task: Task, pieces: Vec<Option<P>>)
     requires owed { IsOwed board.old.past seat task }
     requires stand { PiecesFit (P.stands board.old.root) task.chunk task.queries pieces.items }
-    ensures delivered { DeliversTask seat task pieces.items board.old board.new }
+    ensures delivered { DeliversTask P.refuses seat task pieces.items board.old board.new }
     ensures lawful { IsLawful P.asks board.new }
 {
     // the contract of `ring` gives that the journal is a run: so no other participant can have delivered the task

@@ -60,7 +60,7 @@ pub trait Tasks<P: Work> {
         requires stand { PiecesFit (P.stands (at seat place).root.root) task.chunk task.queries
             pieces.items }
         ensures called { Called P.asks
-            (λ before after. DeliversTask (at seat place).number task pieces.items before after)
+            (λ before after. DeliversTask P.refuses (at seat place).number task pieces.items before after)
             (at seat place) (at result place) }
         ensures others { (p : Self.Place) → (p ≡ place) ⊎ (at result p ≡ at seat p) };
 }
@@ -99,7 +99,7 @@ impl<P: Work> Tasks<P> for SharedBoard<P> {
         requires holds { HasTask seat task }
         requires stand { PiecesFit (P.stands seat.root.root) task.chunk task.queries pieces.items }
         ensures called { Called P.asks
-            (λ before after. DeliversTask seat.number task pieces.items before after)
+            (λ before after. DeliversTask P.refuses seat.number task pieces.items before after)
             seat result }
         ensures others { (p : Unit {0}) → (p ≡ place) ⊎ (result ≡ seat) }
     {

@@ -18,7 +18,7 @@ use Rattle.scan_rules.specs.Runs.{IsAsked, MayDeliver, MayFollow}
 use Rattle.scan_rules.specs.Scan.{place, running_count}
 use Rattle.scan_core.specs.declared.slot.Slot.{Slot}
 use Rattle.scan_core.specs.Boards.{TaskState}
-use Rattle.scan_core.specs.Delivering.{Absorbed, AllOwed, DeliversTask, FitAll, Fitting, HandedIn, Paid, PaidAll, PiecesFit}
+use Rattle.scan_core.specs.Delivering.{Absorbed, AllOwed, DeliversTask, FitAll, Fitting, HandedIn, Paid, PaidAll, PiecesFit, RefusedAll, Refuses}
 use Rattle.scan_core.specs.Kept.{Fits, IsAhead, Kept, owed_in}
 use Rattle.scan_core.specs.Pieces.{Absorbs, HavePieces, IsOneMore, StandsFor}
 use Rattle.scan_core.specs.Room.{to_come}
@@ -287,8 +287,8 @@ module _ {R P : Type 0} (stands : R → ℕ → List ℕ → P → Type 0) (root
       }
 
   -- what a deliver promises
-  pub delivers_task : Stored asks (stands root) ring here tickets flights closed slots pieces capacity past → (s : ℕ) (task : TaskState) → Flight past s task.ticket task.chunk task.queries → is_delivered past task.ticket ≡ false → (entries new : List (Option P)) (lost : List ℕ) → HandedIn (Absorbs stands) slots task.queries entries pieces new lost (length task.queries) → (lines : Journal) → lines ≡ past ++ Deliver s task.ticket lost ∷ [] → DeliversTask {R = R} s task entries (record { root = root; ring = ring; past = past }) (record { root = root; ring = ring; past = lines })
-  delivers_task h s task f not_yet entries new lost handed lines line = rw line (record {
+  pub delivers_task : Stored asks (stands root) ring here tickets flights closed slots pieces capacity past → (s : ℕ) (task : TaskState) → Flight past s task.ticket task.chunk task.queries → is_delivered past task.ticket ≡ false → (entries new : List (Option P)) (lost : List ℕ) → HandedIn (Absorbs stands) slots task.queries entries pieces new lost (length task.queries) → (lines : Journal) → lines ≡ past ++ Deliver s task.ticket lost ∷ [] → (refuses : P → P → Type 0) → RefusedAll refuses task.queries entries pieces lost (length task.queries) → DeliversTask {R = R} refuses s task entries (record { root = root; ring = ring; past = past }) (record { root = root; ring = ring; past = lines })
+  delivers_task h s task f not_yet entries new lost handed lines line refuses refused = rw line (record {
     lost = lost;
     may = may_deliver h s task.ticket task.chunk task.queries f not_yet entries new lost handed;
     line = refl;
@@ -300,4 +300,17 @@ module _ {R P : Type 0} (stands : R → ℕ → List ℕ → P → Type 0) (root
           let came = a.came in
           absurd (cc));
     };
-  })
+    causes = record {
+      each = λ turn l there.
+          let q : ℕ = get_or task.queries turn 0 in
+          let going : is_running past q ≡ true = (lost_ran h s task.ticket task.chunk task.queries f entries new lost handed q there).1 in
+          let up : is_standing past q ≡ true = (and_parts (is_standing past q) _ going).0 in
+          let out : is_collected past q ≡ false = false_from_ne_true _ (λ y. both_ways _ (collected_rests past q h.kept.run y) going) in
+          let piece = h.held.each q None (f.tasked.to_255 turn l) up out in
+          caused piece.it (get_or entries turn None) (subst (λ (z : Option P). Refuses refuses z (get_or entries turn None)) piece.there (refused.each turn l there));
+    };
+  }) where
+    -- the piece of a running query is present
+    caused : (mine : P) (entry : Option P) → Refuses refuses (Some mine) entry → IfSome entry (λ other. (it : P) × refuses it other)
+    caused mine None r = tt
+    caused mine (Some other) r = (mine, r)

@@ -7,7 +7,7 @@ use Rattle.scan_rules.proofs.Numbers.{contains_has, has_contains}
 use Rattle.scan_rules.specs.Numbers.{has}
 use Rattle.scan_core.specs.declared.slot.Slot.{Slot}
 use Rattle.scan_core.specs.Changes.{Beside}
-use Rattle.scan_core.specs.Delivering.{Absorbed, AreTasked, HandedIn, Paid, PaidAll, PaidAt}
+use Rattle.scan_core.specs.Delivering.{Absorbed, AreTasked, HandedIn, Paid, PaidAll, PaidAt, RefusedAll, Refuses}
 use Rattle.scan_core.specs.Slots.{runs}
 use Rattle.scan_rules.proofs.Finding.{has_end, last_is}
 
@@ -82,3 +82,34 @@ module _ {P : Type 0} {absorbs : P → P → P → Type 0} where
         let f = last_is lost x e in
         let w = h.losable x (ap (λ (z : List ℕ). has z x) f.1 ∙ has_end f.0 x) in
         subst (λ z. z < get_or queries n 0) w.2 (lower queries t w.0 n w.1 low)
+
+  -- one entry more is handed in, and refused if its query is lost by it
+  pub refused_more : {refuses : P → P → Type 0} (slots : List Slot) (queries : List ℕ) (entries start old : List (Option P)) (lost more : List ℕ) (n : ℕ) (b : Bool) (entry : Option P) → AreTasked queries → n < length queries → HandedIn absorbs slots queries entries start old lost n → RefusedAll refuses queries entries start lost n → entry ≡ get_or entries n None → (b ≡ true → Refuses refuses (get_or old (get_or queries n 0) None) entry) → more ≡ lost ++ cond b (get_or queries n 0 ∷ []) [] → RefusedAll refuses queries entries start more (n + 1)
+  refused_more {refuses} slots queries entries start old lost more n b entry t low h r came refused grown = record {
+    each = λ turn l there. ⊎_elim
+        (λ q. subst (λ m. Refuses refuses (get_or start (get_or queries m 0) None) (get_or entries m None)) (sym q)
+        (subst (λ (z : Option P). Refuses refuses z (get_or entries n None)) (h.other (get_or queries n 0) None (λ k m f. differs queries t k n m low f))
+        (subst (λ (z : Option P). Refuses refuses (get_or old (get_or queries n 0) None) z) came
+        (refused (is_lost (subst (λ m. has more (get_or queries m 0) ≡ true) q there))))))
+        (λ ne. r.each turn (omega (arith, l, ne)) (before turn (omega (arith, l, ne)) there))
+        (cases_eq turn n);
+  } where
+    -- a query of an earlier turn was lost before
+    before : (turn : ℕ) → turn < n → has more (get_or queries turn 0) ≡ true → has lost (get_or queries turn 0) ≡ true
+    before turn l there = ⊎_elim
+        (λ u. u)
+        (λ u. absurd (other b u))
+        (any_cases (λ y. y == get_or queries turn 0) lost (cond b (get_or queries n 0 ∷ []) []) (subst (λ (z : List ℕ). has z (get_or queries turn 0) ≡ true) grown there)) where
+          other : (z : Bool) → has (cond z (get_or queries n 0 ∷ []) []) (get_or queries turn 0) ≡ true → ⊥
+          other false u = false≢true u
+          other true u = differs queries t turn n l low (sym (eqb-true (get_or queries n 0) (get_or queries turn 0) (⊎_elim (λ v. v) (λ v. absurd (false≢true v)) (or_cases (get_or queries n 0 == get_or queries turn 0) false u))))
+
+    -- the query of this turn was not lost before
+    is_lost : has more (get_or queries n 0) ≡ true → b ≡ true
+    is_lost there = ⊎_elim
+        (λ u. let w = h.losable (get_or queries n 0) u in absurd (differs queries t w.0 n w.1 low w.2))
+        (λ u. this b refl u)
+        (any_cases (λ y. y == get_or queries n 0) lost (cond b (get_or queries n 0 ∷ []) []) (subst (λ (z : List ℕ). has z (get_or queries n 0) ≡ true) grown there)) where
+          this : (z : Bool) → b ≡ z → has (cond z (get_or queries n 0 ∷ []) []) (get_or queries n 0) ≡ true → b ≡ true
+          this false e u = absurd (false≢true u)
+          this true e u = e

@@ -25,13 +25,20 @@ pub record PiecesFit {P : Type 0} (stands : ℕ → List ℕ → P → Type 0) (
   pub each : (turn : ℕ) → turn < length entries
       → IfSome (entry_of entries turn) (λ piece. stands (query_of queries turn) (chunk ∷ []) piece)
 
--- the line of a deliver, and the board after it: a running query without a piece is lost
-pub record DeliversTask {R P : Type 0} (seat : ℕ) (task : TaskState) (entries : List (Option P))
+-- a query is lost only if it has no entry, or if a piece could not absorb its entry for lack of memory
+pub record LosesForCause {P : Type 0} (refuses : P → P → Type 0) (queries : List ℕ) (entries : List (Option P))
+    (lost : List ℕ) : Type 0 where
+  pub each : (turn : ℕ) → turn < length queries → has lost (query_of queries turn) ≡ true
+      → IfSome (entry_of entries turn) (λ other. (mine : P) × refuses mine other)
+
+-- the line of a deliver, and the board after it: a running query is lost if it has no piece, and only for a cause
+pub record DeliversTask {R P : Type 0} (refuses : P → P → Type 0) (seat : ℕ) (task : TaskState) (entries : List (Option P))
     (old new : BoardState R) : Type 0 where
   pub lost : List ℕ
   pub may : MayDeliver old.past seat task.ticket lost
   pub line : new ≡ gains old (Deliver seat task.ticket lost)
   pub loses : LosesWithoutPiece old.past task.queries entries lost
+  pub causes : LosesForCause refuses task.queries entries lost
 
 -- a piece has absorbed an entry
 pub record Absorbed {P : Type 0} (absorbs : P → P → P → Type 0) (entry old new : Option P) : Type 0 where
@@ -42,6 +49,17 @@ pub record Absorbed {P : Type 0} (absorbs : P → P → P → Type 0) (entry old
   pub came : entry ≡ Some other
   pub now : new ≡ Some it
   pub joined : absorbs mine other it
+
+-- if a piece and its entry are both present, the one could not absorb the other
+abbrev pub Refuses : {P : Type 0} → (P → P → Type 0) → Option P → Option P → Type 0
+Refuses refuses (Some mine) (Some other) = refuses mine other
+Refuses refuses _ _ = Unit {0}
+
+-- the piece of each of the first n queries that is lost could not absorb its entry, if both are present
+pub record RefusedAll {P : Type 0} (refuses : P → P → Type 0) (queries : List ℕ) (entries old : List (Option P))
+    (lost : List ℕ) (n : ℕ) : Type 0 where
+  pub each : (turn : ℕ) → turn < n → has lost (query_of queries turn) ≡ true
+      → Refuses refuses (entry_of old (query_of queries turn)) (entry_of entries turn)
 
 -- each of the first n queries that runs has absorbed its entry, or is lost; the pieces of all others are unchanged
 pub record HandedIn {P : Type 0} (absorbs : P → P → P → Type 0) (slots : List Slot) (queries : List ℕ)

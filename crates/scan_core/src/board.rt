@@ -231,12 +231,12 @@ impl<P: Work> Board<P> {
     }
 
     /// Absorbs the pieces of a task; the piece at a position belongs to the query at the same position. A running query
-    /// is lost if it has no piece, or if its piece cannot be absorbed for lack of memory. The pieces of other queries
+    /// is lost exactly if it has no piece, or if its piece cannot be absorbed for lack of memory. The pieces of other queries
     /// are dropped. Only absorbing allocates memory.
     pub fn deliver(&mut self, seat: u32, task: Task, pieces: Vec<Option<P>>)
         requires in_flight { InFlight self.old.past seat task }
         requires stand { PiecesFit (P.stands self.old.root) task.chunk task.queries pieces.items }
-        ensures delivered { DeliversTask seat task pieces.items self.old self.new }
+        ensures delivered { DeliversTask P.refuses seat task pieces.items self.old self.new }
         ensures lawful { IsLawful P.asks self.new }
     {
         let lost = hand_all(&self.slots, &mut self.pieces, task.queries(), pieces);

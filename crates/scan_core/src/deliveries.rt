@@ -9,7 +9,7 @@ ghost use Rattle.scan_core.specs.Slots.{runs};
 ghost use Rattle.scan_core.specs.Changes.{Beside};
 ghost use Rattle.scan_core.specs.Pieces.{MayAbsorb, Absorbs};
 ghost use Rattle.scan_core.specs.Delivering.{Absorbed, AllOwed, AreTasked, FitAll, Fitting, HandedIn, Paid, PaidAt};
-ghost use Rattle.scan_core.specs.Delivering.{PaidAll};
+ghost use Rattle.scan_core.specs.Delivering.{PaidAll, RefusedAll, Refuses};
 ghost use Rattle.scan_rules.specs.Delivers.{entry_of};
 
 use crate::pieces::take_at;
@@ -33,7 +33,8 @@ fn entry_at<P: Work>(entries: &mut Vec<Option<P>>, turn: usize) -> Option<P>
 /// Absorbs an entry into a piece. Returns false if one of the two is missing, or if an allocation fails.
 fn absorb<P: Work>(piece: &mut Option<P>, entry: Option<P>) -> bool
     requires { Fitting P.stands piece.old entry }
-    ensures { result ≡ true → Absorbed (Absorbs P.stands) entry piece.old piece.new }
+    ensures absorbed { result ≡ true → Absorbed (Absorbs P.stands) entry piece.old piece.new }
+    ensures refused { result ≡ false → Refuses P.refuses piece.old entry }
 {
     match entry {
         None => false,
@@ -51,6 +52,7 @@ fn absorb_at<P: Work>(pieces: &mut Vec<Option<P>>, q: usize, entry: Option<P>) -
     ensures beside { Beside pieces.old.items pieces.new.items q }
     ensures absorbed { result ≡ true
         → Absorbed (Absorbs P.stands) entry (entry_of pieces.old.items q) (entry_of pieces.new.items q) }
+    ensures refused { result ≡ false → Refuses P.refuses (entry_of pieces.old.items q) entry }
 {
     let piece = &mut pieces[q];
     absorb(piece, entry)
@@ -73,6 +75,7 @@ fn hand_in<P: Work>(
     ensures ran { result ≡ true → (d : Slot) → runs (get_or slots.now.items q d) ≡ true }
     ensures joined { result ≡ false → (d : Slot) → runs (get_or slots.now.items q d) ≡ true
         → Absorbed (Absorbs P.stands) entry (entry_of pieces.old.items q) (entry_of pieces.new.items q) }
+    ensures refused { result ≡ true → Refuses P.refuses (entry_of pieces.old.items q) entry }
 {
     if !runs_at(slots, q) {
         return false;
@@ -107,8 +110,10 @@ pub fn hand_all<P: Work>(
     requires held { length pieces.old.items ≡ SLOTS }
     requires tasked { AreTasked queries.now }
     requires fit { FitAll P.stands slots.now.items queries.now entries.items pieces.old.items }
-    ensures { HandedIn (Absorbs P.stands) slots.now.items queries.now entries.items
+    ensures handed { HandedIn (Absorbs P.stands) slots.now.items queries.now entries.items
         pieces.old.items pieces.new.items result (length queries.now) }
+    ensures refused { RefusedAll P.refuses queries.now entries.items pieces.old.items
+        result (length queries.now) }
 {
     let mut lost = QuerySet::new();
     let mut left = entries;

@@ -2,6 +2,7 @@
 use Rattle.std.specs.Prelude.{◌≡◌, ℕ, ◌≤◌, List, [], ◌∷◌, ◌++◌, true, false, Option, Some, None}
 use Rattle.std.specs.List.{list_any}
 use Rattle.scan_rules.specs.Queries.{Journal, QueryState}
+use Rattle.scan_rules.specs.Runs.{MayAttach}
 use Rattle.session_script.specs.declared.step.Step.{Step}
 use Rattle.session_script.specs.declared.step.Step.TheVariants.{Query, Wait, Cancel as CancelStep}
 use Rattle.session_rules.specs.Ends.{asks}
@@ -29,6 +30,16 @@ GoesTried plan done step seen ends tried.Attached = Going plan (done ++ step ∷
 GoesTried plan done step seen ends (tried.Full planned) = Going plan done seen ends
 GoesTried plan done step seen ends tried.Memory = Unit {0}
 GoesTried plan done step seen ends tried.Odd = has_foreign seen ≡ true
+
+-- out of memory is answered only if the board had room for the query: a full board is none
+abbrev pub TriesWithRoom : {P : Type 0} → ℕ → Journal → ℕ → List ℕ → Tried P → Type 0
+TriesWithRoom ring seen q chunks tried.Memory = MayAttach ring seen q chunks
+TriesWithRoom ring seen q chunks _ = Unit {0}
+
+-- so it is at the end of the attempts
+abbrev pub StartsWithRoom : ℕ → Journal → ℕ → List ℕ → Outcome → Type 0
+StartsWithRoom ring seen q chunks Memory = MayAttach ring seen q chunks
+StartsWithRoom ring seen q chunks _ = Unit {0}
 
 -- asking for a query's end makes it known, or leaves all as before
 abbrev pub GoesTold : {P : Type 0}

@@ -16,7 +16,7 @@ ghost use Rattle.scan_session.specs.Plans.{Plans};
 ghost use Rattle.scan_session.specs.Driven.{Driving, Going};
 ghost use Rattle.scan_session.specs.Seats.{IsCzar, Stays};
 ghost use Rattle.scan_session.specs.KnownEnds.{IsCollected, MayStart, IfFull, IfTold};
-ghost use Rattle.scan_session.specs.Goes.{Goes, GoesEnded, GoesTold, GoesTried};
+ghost use Rattle.scan_session.specs.Goes.{Goes, GoesEnded, GoesTold, GoesTried, StartsWithRoom, TriesWithRoom};
 
 use crate::end::{End, Outcome, Planned, Told, Tried};
 use scan_board::SharedBoard;
@@ -72,6 +72,7 @@ pub fn try_start<R: Wait, P: Work, E: Engine<P>, G: Gate>(
         → Going plan done seat.seen ends
         → GoesTried plan done (Query q span) result.1.seen ends result.0 }
     ensures full { IfFull result.0 (λ back. back ≡ planned) }
+    ensures room { TriesWithRoom seat.root.ring result.1.seen q planned.chunks result.0 }
     ensures stays { Stays P.asks seat result.1 }
 {
     let Planned { chunks, empty } = planned;
@@ -109,6 +110,7 @@ pub fn start<R: Wait, P: Work, E: Engine<P>, G: Gate>(
         → list_any (asks q) done ≡ false → plan q ≡ Some planned.chunks
         → Going plan done seat.seen ends
         → Goes (Going plan (done ++ Query q span ∷ []) result.1.seen ends) result.1.seen result.0 }
+    ensures room { StartsWithRoom seat.root.ring result.1.seen q planned.chunks result.0 }
     ensures stays { Stays P.asks seat result.1 }
 {
     let mut seat = seat;

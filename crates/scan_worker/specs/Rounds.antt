@@ -1,9 +1,13 @@
 -- What a round shows of the boards at which a worker takes tasks.
-use Rattle.std.specs.Prelude.{◌≡◌, ℕ, ◌⊎◌}
+use Rattle.std.specs.Prelude.{◌≡◌, ℕ, List, Option, ◌⊎◌}
 use Rattle.scan_rules.specs.Lines.{seat_of}
-use Rattle.scan_core.specs.Boards.{IsLawful}
+use Rattle.scan_core.specs.Answers.{AnswersTake}
+use Rattle.scan_core.specs.Boards.{IsLawful, TaskState}
+use Rattle.scan_core.specs.declared.answers.Take.TheVariants as take
+use Rattle.scan_core.specs.Delivering.{DeliversTask}
 use Rattle.turn_lock.specs.Seats.{Knows}
-use Rattle.scan_board.specs.Calls.{BoardSeat, board_at}
+use Rattle.scan_board.specs.Calls.{BoardSeat, Called, board_at}
+use Rattle.scan_worker.specs.Missing.{MissesRefused}
 use Rattle.scan_worker.specs.declared.rounds.Round.{Round}
 use Rattle.scan_worker.specs.declared.rounds.Round.TheVariants.{Worked, Idle, Ended}
 use Rattle.scan_worker.specs.Working.{EndsRound, ServesOne}
@@ -31,3 +35,25 @@ abbrev pub EndsRounds : {R L : Type 0} → (R → ℕ → ℕ → Type 0) → Ro
 EndsRounds {R} {L} asks Worked old new = ServesOneAt asks old new
 EndsRounds {R} {L} asks Idle old new = FindsNone asks old new × ((p : L) × EndsRound Idle (old p) (new p))
 EndsRounds {R} {L} asks Ended old new = FindsNone asks old new × ((p : L) → EndsRound Ended (old p) (new p))
+
+-- The task is delivered with the pieces that were made of it: one is missing only if the engine refused it, or if their
+-- list could not be allocated.
+pub record HandsOn {R P : Type 0} (refuses : P → P → Type 0) (asks : R → ℕ → ℕ → Type 0) (refused : ℕ → ℕ → Type 0) (before now : ℕ)
+    (task : TaskState) (old new : BoardSeat R) : Type 0 where
+  pub entries : List (Option P)
+  pub missing : MissesRefused refused before now task entries
+  pub called : Called asks (DeliversTask refuses old.number task entries) old new
+
+-- at one of the boards a task was taken, and delivered with the pieces that were made of it
+pub record HandsOnOne {R L P : Type 0} (refuses : P → P → Type 0) (asks : R → ℕ → ℕ → Type 0) (refused : ℕ → ℕ → Type 0)
+    (before now : ℕ) (old new : L → BoardSeat R) : Type 0 where
+  pub place : L
+  pub task : TaskState
+  pub mid : BoardSeat R
+  pub taken : Called asks (λ was is. AnswersTake (old place).number was (take.Task task) is) (old place) mid
+  pub handed : HandsOn refuses asks refused before now task mid (new place)
+
+-- this holds if a chunk was taken
+abbrev pub IfWorked : Round → Type 0 → Type 0
+IfWorked Worked holds = holds
+IfWorked _ holds = Unit {0}

@@ -1,4 +1,6 @@
-use Rattle.std.proofs.Common.{ap, refl}
+use Rattle.std.proofs.Common.{ap, refl, subst, sym}
+use Rattle.scan_rules.specs.Queries.{Journal}
+use Rattle.scan_rules.specs.Runs.{MayAttach}
 use Rattle.scan_core.specs.declared.answers.Attach.TheVariants as attach
 use Rattle.scan_rules.specs.declared.journal_line.JournalLine.TheVariants.{Attach}
 use Rattle.scan_board.specs.Calls.{board_at}
@@ -79,3 +81,11 @@ returns-clause-stays g c =
     let new = c.attach-answer.result.1 in
     let answer = attach_is old.number (board_at old called.past) (board_at old new.seen) c.args.q c.args.planned.chunks c.args.planned.empty c.attach-answer.result.0 (attach.Again c.in-Again.chunks c.in-Again.empty) c.in-Again.is called.answer in
     stays_none g.P.Work.asks old new c.requires.czar called (ap (λ b. b.past) answer.2.same)
+
+pub returns-in-Memory-clause-room : goal.returns-in-Memory-clause-room
+returns-in-Memory-clause-room g c =
+    let called = c.attach-answer.ensures.called in
+    let old = c.args.seat in
+    let new = c.attach-answer.result.1 in
+    let answer = attach_is old.number (board_at old called.past) (board_at old new.seen) c.args.q c.args.planned.chunks c.args.planned.empty c.attach-answer.result.0 (attach.Memory c.in-Memory.chunks c.in-Memory.empty) c.in-Memory.is called.answer in
+    subst (λ (l : Journal). MayAttach old.root.ring l c.args.q c.args.planned.chunks) (sym (ap (λ b. b.past) answer.1.same)) answer.0

@@ -27,13 +27,11 @@ pub unreachable-requires : goal.unreachable-requires
 unreachable-requires c =
     never_none c.args.self.now.world.now.plan c.args.self.now.world.now.rows c.args.self.now.queries.now c.args.q c.args.chunk _ c.requires.asked c.in-None.is
 
-pub returns : goal.returns
-returns c =
+pub returns-clause-stands : goal.returns-clause-stands
+returns-clause-stands c =
     let g = c.args.self.now.world.now.plan in
     let rows = c.args.self.now.world.now.rows in
     let queries = c.args.self.now.queries.now in
-    record {
-      stands = stands g rows queries c.args.q c.args.chunk c.in-Some.query _ _ c.requires.asked
-          (query_is g rows queries c.args.q c.args.chunk _ c.in-Some.query c.requires.asked c.in-Some.is)
-          c.piece_of.ensures;
-    }
+    stands g rows queries c.args.q c.args.chunk c.in-Some.query _ _ c.requires.asked
+    (query_is g rows queries c.args.q c.args.chunk _ c.in-Some.query c.requires.asked c.in-Some.is)
+    c.piece_of.ensures
