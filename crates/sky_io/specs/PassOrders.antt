@@ -1,5 +1,5 @@
 -- The order in which a gate lets workers pass.
-use Rattle.std.specs.Prelude.{ℕ, ◌+◌, ◌==◌, nat_lt, nat_le, List, length, Bool, true, false, ◌||◌, ◌&&◌, unwrap_or, slice_get, if◌then◌else◌}
+use Rattle.std.specs.Prelude.{ℕ, ◌+◌, ◌==◌, nat_lt, nat_le, List, length, Bool, false, ◌||◌, unwrap_or, slice_get, if◌then◌else◌}
 
 -- The state of an order: the workers in the order in which they pass, for how many turns a pass is held at most, how
 -- many passes of the order were made, and whether a pass was held for as many turns.

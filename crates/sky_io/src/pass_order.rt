@@ -1,6 +1,6 @@
 //! The order in which a gate lets workers pass, and how long it holds one of them.
 ghost use Rattle.std.specs.Prelude.{◌≡◌};
-ghost use Rattle.sky_io.specs.PassOrders.{PassState, new_order, is_next, may_pass, after_ask, after_turn};
+ghost use Rattle.sky_io.specs.PassOrders.{new_order, is_next, may_pass, after_ask, after_turn};
 
 use std::marker::Model;
 
