@@ -39,6 +39,8 @@ import mutants
 # what a check of a large crate may take
 MEMORY = 3_000_000_000
 PARTS = ("src", "specs", "proofs")
+# what a check says of a proof file that names what a mutant took away: this refuses nothing
+LOST_NAME = "that can be named from here"
 
 
 class Unfit(Exception):
@@ -149,6 +151,8 @@ def said_of(function, crate, output):
     own = (f"./proofs{module}/{name}/", f"./proofs{module}/+")
     errors, lines = [], []
     for line in output.splitlines():
+        if LOST_NAME in line:
+            continue
         errors += [line] if line.startswith(own) else []
         lines.append(line)
         if line.startswith(f"fn {crate}::{function}: "):
