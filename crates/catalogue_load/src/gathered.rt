@@ -17,6 +17,7 @@ use sky_io::{Memory, Stop};
 use sky_row::{Columns, Row, Rows, Schema};
 use std::alloc::Global;
 use std::marker::Model;
+use std::thread::Threads;
 use table_rules::LoadFault;
 use table_rules::limits::ROWS_MOST;
 
@@ -103,15 +104,21 @@ impl Gathered {
         columns
     }
 
-    /// Returns the rows in ascending id, or the first fault of an id that an earlier row has.
-    pub(crate) fn into_rows(self, alloc: Global) -> Result<Rows, Stop<LoadFault>>
+    /// Returns the rows in ascending id, put in order by the given number of threads, or the first fault of an id that an
+    /// earlier row has.
+    pub(crate) fn into_rows<R: Threads + Sync>(
+        self,
+        rt: &R,
+        alloc: Global,
+        threads: u32,
+    ) -> Result<Rows, Stop<LoadFault>>
         ensures names { IfOk result (λ all. all.names ≡ self.names) }
         ensures table { IfOk result (λ all. IsTable self.objects all.objects) }
         ensures bad { IfErr result (λ stop. IfBad stop (λ fault.
             IsRepeat (ids_in self.objects) fault)) }
     {
         let Gathered { columns, cells: _ } = self;
-        in_order(alloc, columns)
+        in_order(rt, alloc, threads, columns)
     }
 
     /// Returns the first fault of the rows and of the record after them, which has the fault `behind`; or an allocation

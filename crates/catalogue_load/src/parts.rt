@@ -222,10 +222,10 @@ pub fn load<R: Threads + Sync>(
     ensures bad { IfErr result (λ stop. IfBad stop (λ fault. catalogue_of text.now ≡ Err fault)) }
 {
     if is_one_part(threads, text.len()) {
-        return load_alone(alloc, text);
+        return load_alone(rt, alloc, threads, text);
     }
     match read_lines(rt, alloc, threads, text) {
-        Some(columns) => in_order(alloc, columns),
-        None => load_alone(alloc, text),
+        Some(columns) => in_order(rt, alloc, threads, columns),
+        None => load_alone(rt, alloc, threads, text),
     }
 }

@@ -16,6 +16,7 @@ use csv::{ByteRecord, Reader};
 use sky_io::Stop;
 use sky_row::{Rows, Schema};
 use std::alloc::Global;
+use std::thread::Threads;
 use table_rules::LoadFault;
 
 /// Reads the records that the reader has left, up to the first with a fault other than a repeated id. Appends the rows
@@ -48,8 +49,10 @@ pub(crate) fn read_rest(
 }
 
 /// Returns the catalogue with these columns, whose rows are the records that the reader has left.
-fn rows_under(
+fn rows_under<R: Threads + Sync>(
+    rt: &R,
     alloc: Global,
+    threads: u32,
     schema: Schema,
     reader: Reader<&[u8]>,
     fields: ByteRecord,
@@ -66,14 +69,19 @@ fn rows_under(
         return Err(Stop::Memory);
     };
     match read_rest(reader, fields, &mut gathered) {
-        Ok(()) => gathered.into_rows(alloc),
+        Ok(()) => gathered.into_rows(rt, alloc, threads),
         Err(Stop::Bad(fault)) => Err(gathered.first_fault(alloc, fault)),
         Err(Stop::Memory) => Err(Stop::Memory),
     }
 }
 
-/// Reads a catalogue by this thread alone. Allocates as `load` does.
-pub(crate) fn load_alone(alloc: Global, text: &[u8]) -> Result<Rows, Stop<LoadFault>>
+/// Reads a catalogue by this thread alone; its rows are put in order by the given number. Allocates as `load` does.
+pub(crate) fn load_alone<R: Threads + Sync>(
+    rt: &R,
+    alloc: Global,
+    threads: u32,
+    text: &[u8],
+) -> Result<Rows, Stop<LoadFault>>
     requires { length text.now ≤ TEXT_MOST }
     ensures ok { IfOk result (λ rows. catalogue_of text.now ≡ Ok rows) }
     ensures bad { IfErr result (λ stop. IfBad stop (λ fault. catalogue_of text.now ≡ Err fault)) }
@@ -87,7 +95,7 @@ pub(crate) fn load_alone(alloc: Global, text: &[u8]) -> Result<Rows, Stop<LoadFa
         return Err(Stop::Bad(LoadFault::Header { field: 1 }));
     }
     match read_header(alloc, &fields) {
-        Ok(schema) => rows_under(alloc, schema, reader, fields),
+        Ok(schema) => rows_under(rt, alloc, threads, schema, reader, fields),
         Err(stop) => Err(stop),
     }
 }

@@ -18,6 +18,7 @@ use sky_io::Memory;
 use sky_vector::Pos;
 use std::alloc::Global;
 use std::marker::Model;
+use std::thread::Threads;
 use table_rules::limits::FIRST_COLUMNS;
 
 /// Rows in any order, each with a value for each extra column.
@@ -167,6 +168,26 @@ impl Columns {
     {
         let Columns { schema, lists } = self;
         let lists = lists.at(alloc, places)?;
+        Ok(Columns { schema, lists })
+    }
+
+    /// Returns the rows that `at` returns, gathered by the given number of threads. A thread that cannot be started costs
+    /// only time.
+    pub fn at_by<R: Threads + Sync>(
+        self,
+        rt: &R,
+        alloc: Global,
+        threads: u32,
+        places: &[u32],
+    ) -> Result<Columns, Memory>
+        requires few { length places.now ≤ ROWS_MOST }
+        requires there { All (λ place. place < length self.objects) places.now }
+        ensures names { IfOk result (λ columns. columns.names ≡ self.names) }
+        ensures objects { IfOk result (λ columns.
+            columns.objects ≡ objects_at self.objects places.now) }
+    {
+        let Columns { schema, lists } = self;
+        let lists = lists.at_by(rt, alloc, threads, places)?;
         Ok(Columns { schema, lists })
     }
 }

@@ -11,12 +11,14 @@ use crate::column::Column;
 use crate::further::{
     cells_at, columns_appended, columns_at, empty_columns, fill_columns, push_cells, truncate_cells,
 };
-use crate::places::{fill_list, gather};
+use crate::parallel::gather_all;
+use crate::places::{extended, fill_list, gather, part_at};
 use crate::row::Row;
 use sky_io::Memory;
 use sky_vector::Pos;
 use std::alloc::Global;
 use std::marker::Model;
+use std::thread::Threads;
 
 /// The ids of rows, the components of their positions, and their extra columns.
 #[derive(Drop)]
@@ -129,6 +131,42 @@ impl Lists {
         })
     }
 
+    /// Returns the rows that `at` returns, gathered by the given number of threads.
+    pub(crate) fn at_by<R: Threads + Sync>(
+        &self,
+        rt: &R,
+        alloc: Global,
+        threads: u32,
+        places: &[u32],
+    ) -> Result<Lists, Memory>
+        requires aligned { AreAligned self.now }
+        requires there { All (λ place. place < length self.now.ids) places.now }
+        ensures { IfOk result (λ lists. lists ≡ rows_at self.now places.now) }
+    {
+        if threads < 2 {
+            return self.at(alloc, places);
+        }
+        let found = gather_all(
+            rt,
+            alloc,
+            threads,
+            self.ids.as_slice(),
+            self.xs.as_slice(),
+            self.ys.as_slice(),
+            self.zs.as_slice(),
+            self.further.as_slice(),
+            places,
+        )?;
+        let ((ids, xs, ys, zs), further) = found;
+        Ok(Lists {
+            ids,
+            xs,
+            ys,
+            zs,
+            further,
+        })
+    }
+
     /// Appends the next rows of a list of row numbers to those of the first ones, from a table, up to `count` in all.
     /// So many lists can be gathered from one part of the table, one after the other, while that part is in the
     /// processor's cache. Allocates memory if the room is missing, or for a column's first NULL. If an allocation
@@ -217,25 +255,6 @@ impl Lists {
         self.zs.truncate(count);
         truncate_cells(&mut self.further, count);
     }
-}
-
-/// Returns a list with another appended. Allocates memory. If the allocation fails, the list is dropped.
-fn extended<T: Copy>(list: Vec<T>, other: &[T]) -> Result<Vec<T>, Memory>
-    ensures { IfOk result (λ found. found.items ≡ list.items ++ other.now) }
-{
-    let mut found = list;
-    found.extend_from_slice(other)?;
-    Ok(found)
-}
-
-/// Returns the component of a position with index `i`.
-fn part_at(parts: &[i32], i: usize) -> i32
-    requires within { All IsWithin parts.now }
-    requires there { i < length parts.now }
-    ensures value { result ≡ get_or parts.now i (pos 0) }
-    ensures within { IsWithin result }
-{
-    parts[i]
 }
 
 /// Creates the position with these components.
