@@ -1,7 +1,8 @@
 -- Raw calls that write, one after another, as laws on what an output shows.
-use Rattle.std.proofs.Common.{◌≡◌, ℕ, ◌+◌, ◌<◌, ◌-◌, ◌≤◌, List, length, take, drop, Ok, Err, refl, sym, subst, arith, ◌∙◌, length-drop}
+use Rattle.std.proofs.Common.{◌≡◌, ℕ, ◌+◌, ◌<◌, ◌-◌, ◌≤◌, List, ◌++◌, length, take, drop, Ok, Err, refl, sym, subst, ap, arith, ◌∙◌, length-drop}
 use Rattle.std.proofs.Math.Seq.{take-add}
-use Rattle.std.proofs.lemmas.List.{take_all}
+use Rattle.std.proofs.Math.Seq.{take-append_seam}
+use Rattle.std.proofs.lemmas.List.{take_all, take-append-drop, drop-drop, length-take-le}
 use Rattle.sky_io.specs.Sinks.{SinkState, Appended, Wrote}
 use Rattle.sky_io.specs.Counts.{counted}
 use Rattle.sky_io.specs.RawWrites.{WroteSome, WroteFirst, unseen_stream}
@@ -13,6 +14,15 @@ use Rattle.sky_io.proofs.Writes.{appended_two, appended_nothing}
 -- the bytes of a text from a place on, as the code's slice of it
 pub from_place : (place : ℕ) (text : List ℕ) → take (length text - place) (drop place text) ≡ drop place text
 from_place place text = take_all (length text - place) (drop place text) (omega (arith, length-drop place text))
+
+-- bytes of a text that are copied to the start of a room, and those after them, are the text from their place on
+pub copied_from : (place count : ℕ) (text copied room : List ℕ) → copied ≡ take count (drop place text) → count ≤ length (drop place text) → drop place text ≡ take count (copied ++ drop count room) ++ drop (place + count) text
+copied_from place count text copied room is few =
+    let long : length copied ≡ count = ap length is ∙ length-take-le count (drop place text) few in
+    let first : take count (copied ++ drop count room) ≡ copied = subst (λ n. take n (copied ++ drop count room) ≡ copied) long (take-append_seam copied (drop count room)) in
+    let rest : drop count (drop place text) ≡ drop (place + count) text = drop-drop count place text in
+    let all = take-append-drop count (drop place text) in
+    cc (first, is, rest, all)
 
 -- The first bytes of a text were written, and nothing has failed.
 pub record Sending (old now : SinkState) (text : List ℕ) (n : ℕ) : Type 0 where

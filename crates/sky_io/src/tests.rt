@@ -1,5 +1,5 @@
 //! What no clause says: that calls succeed, and how many raw calls they make.
-use crate::{Buffered, Fetch, FileShelf, MemFiles, MemOutput, Put, Shelf, Sink};
+use crate::{Buffered, Fetch, FileShelf, FolderShelf, MemFiles, MemOutput, Put, Shelf, Sink};
 use std::alloc::Global;
 use std::test::Fail;
 
@@ -79,7 +79,6 @@ fn texts_of(alloc: Global) -> Result<Vec<(String, Vec<u8>)>, Fail> {
 #[test]
 fn a_text_comes_whole_however_few_bytes_a_read_gives(rt: HostRuntime) -> Result<(), Fail> {
     let alloc = rt.alloc();
-    let texts = texts_of(alloc)?;
     for most in [1, 2, 5, 100] {
         for (limit, want) in [
             (0, "a"),
@@ -88,7 +87,7 @@ fn a_text_comes_whole_however_few_bytes_a_read_gives(rt: HostRuntime) -> Result<
             (5, "abcde"),
             (9000, "abcde"),
         ] {
-            let files = MemFiles::new(texts.as_slice(), most, Vec::new(alloc));
+            let files = MemFiles::new(alloc, texts_of(alloc)?, most, Vec::new(alloc));
             let mut shelf = FileShelf::over(files, alloc);
             let mut into = Vec::new(alloc);
             let fetch = shelf.fetch("five", limit, &mut into);
@@ -106,15 +105,24 @@ fn a_text_comes_whole_however_few_bytes_a_read_gives(rt: HostRuntime) -> Result<
 #[test]
 fn a_raw_call_that_fails_is_a_fetch_that_fails(rt: HostRuntime) -> Result<(), Fail> {
     let alloc = rt.alloc();
-    let texts = texts_of(alloc)?;
     // an open and reads of two, two, one and no bytes
     for (call, want) in [(1, ""), (2, ""), (3, ""), (4, ""), (5, ""), (6, "abcde")] {
-        let files = MemFiles::new(texts.as_slice(), 2, vec![in alloc; call]?);
+        let files = MemFiles::new(alloc, texts_of(alloc)?, 2, vec![in alloc; call]?);
         let mut shelf = FileShelf::over(files, alloc);
         let mut into = Vec::new(alloc);
         let fetch = shelf.fetch("five", 9, &mut into);
         assert_eq!(rt; fetch == Fetch::Failed, call < 6, "call {call} fails");
         assert_eq!(rt; into.as_slice(), want.as_bytes(), "call {call} fails");
     }
+    Ok(())
+}
+
+#[test]
+fn a_name_of_no_file_of_the_folder_cannot_be_fetched(rt: HostRuntime) -> Result<(), Fail> {
+    let alloc = rt.alloc();
+    let mut shelf = FolderShelf::new(&rt, alloc);
+    let mut into = Vec::new(alloc);
+    let fetch = shelf.fetch("no such name", 9, &mut into);
+    assert_eq!(rt; fetch, Fetch::Failed);
     Ok(())
 }
