@@ -1,16 +1,16 @@
 -- Raw calls that read, one after another, as laws on what files and the shelf over them show.
-use Rattle.std.proofs.Common.{◌≡◌, ℕ, ◌+◌, ◌<◌, ◌≤◌, List, [], ◌∷◌, ◌++◌, length, take, Option, None, Some, option_map, Ok, Err, refl, sym, subst, ap, arith, ◌∙◌, append_assoc, append-nil, length-append}
+use Rattle.std.proofs.Common.{◌≡◌, ℕ, ◌+◌, ◌<◌, ◌≤◌, List, [], ◌++◌, length, take, Option, None, Some, option_map, Ok, Err, refl, sym, subst, ap, arith, ◌∙◌, append_assoc, append-nil, length-append}
 use Rattle.std.specs.Prelude.{IfSome}
 use Rattle.std.proofs.lemmas.List.{take_all}
 use Rattle.std.proofs.Math.Seq.{take-append_seam}
-use Rattle.sky_io.specs.Shelves.{ShelfState, Fetched, GivesText, named_text}
+use Rattle.sky_io.specs.Shelves.{Fetched, GivesText, named_text}
 use Rattle.sky_io.specs.Counts.{counted}
 use Rattle.sky_io.specs.RawReads.{ReadState, Gave, Opened, ReadSome, unseen_files}
 use Rattle.sky_io.specs.FileReads.{text_of, ReadStart, ReadNext}
 use Rattle.sky_io.specs.declared.raw.RawFault.{RawFault}
 use Rattle.sky_io.specs.declared.shelf.Fetch.{Fetch}
 use Rattle.sky_io.specs.declared.shelf.Fetch.TheVariants.{Done, Failed, Memory}
-use Rattle.sky_io.proofs.Fetches.{fetch_done, fetch_memory, fetch_failed}
+use Rattle.sky_io.proofs.Fetches.{fetch_done, fetch_memory}
 
 -- Some bytes of a text were read, what is left follows them, and nothing has failed.
 pub record Reading (old now : ReadState) (text rest : Option (List ℕ)) (limit : ℕ) (into : List ℕ) : Type 0 where

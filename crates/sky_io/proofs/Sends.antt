@@ -7,7 +7,6 @@ use Rattle.sky_io.specs.Sinks.{SinkState, Appended, Wrote}
 use Rattle.sky_io.specs.Counts.{counted}
 use Rattle.sky_io.specs.RawWrites.{WroteSome, WroteFirst, unseen_stream}
 use Rattle.sky_io.specs.declared.raw.RawFault.{RawFault}
-use Rattle.sky_io.specs.declared.sink.Put.{Put}
 use Rattle.sky_io.specs.declared.sink.Put.TheVariants.{Done, Failed}
 use Rattle.sky_io.proofs.Writes.{appended_two, appended_nothing}
 

@@ -1,5 +1,5 @@
 -- A sink with a buffer over an output of raw calls.
-use Rattle.std.specs.Prelude.{◌≡◌, ℕ, ◌+◌, ◌<◌, ◌≤◌, List, [], ◌++◌, length, drop, option_map, true, if◌then◌else◌, nat_lt}
+use Rattle.std.specs.Prelude.{◌≡◌, ℕ, ◌≤◌, List, [], ◌++◌, length, drop, option_map, true, if◌then◌else◌, nat_lt}
 use Rattle.sky_io.specs.Sinks.{SinkState, Rose}
 use Rattle.sky_io.specs.declared.sink.Put.{Put}
 use Rattle.sky_io.specs.declared.sink.Put.TheVariants.{Done, Failed}

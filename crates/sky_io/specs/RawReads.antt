@@ -1,10 +1,8 @@
 -- What is observable of files that are read by raw calls, and the effect of these calls.
-use Rattle.std.specs.Prelude.{◌≡◌, ℕ, ◌+◌, ◌≤◌, List, [], ◌++◌, length, take}
+use Rattle.std.specs.Prelude.{◌≡◌, ℕ, ◌≤◌, List, [], ◌++◌, length, take}
 use Rattle.std.specs.Prelude.{Option, None, option_map, Result, Ok, IfOk, IfSome, OnOk, OnErr}
 use Rattle.sky_io.specs.Sinks.{Rose}
-use Rattle.sky_io.specs.Shelves.{GivesText, named_text}
-use Rattle.sky_io.specs.declared.shelf.Fetch.{Fetch}
-use Rattle.sky_io.specs.declared.shelf.Fetch.TheVariants.{Done, Failed}
+use Rattle.sky_io.specs.Shelves.{named_text}
 use Rattle.sky_io.specs.declared.raw.RawFault.{RawFault}
 
 -- The observable state of files by their names: their texts, if they are observable, and how often a call has failed.

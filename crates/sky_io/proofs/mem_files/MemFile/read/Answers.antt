@@ -1,4 +1,4 @@
-use Rattle.std.proofs.Common.{◌≡◌, ◌≤◌, length, take, drop, arith, rules}
+use Rattle.std.proofs.Common.{◌≡◌, ◌≤◌, length, take, drop, rules}
 use Rattle.sky_io.proofs.Sends.{from_place, copied_from}
 use Rattle.sky_io.proofs.mem_files.MemFile.read.Goals as goal
 
