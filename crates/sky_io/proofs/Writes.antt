@@ -9,7 +9,7 @@ use Rattle.sky_io.specs.declared.sink.Put.{Put}
 use Rattle.sky_io.specs.declared.sink.Put.TheVariants.{Done, Failed}
 
 -- one piece was appended, and then another
-appended_two : (old mid new : Option (List ℕ)) (p q : List ℕ) → Appended old p mid → Appended mid q new → Appended old (p ++ q) new
+pub appended_two : (old mid new : Option (List ℕ)) (p q : List ℕ) → Appended old p mid → Appended mid q new → Appended old (p ++ q) new
 appended_two None mid new p q a b = rw (b, a) refl
 appended_two (Some bytes) mid new p q a b = rw (b, a) (ap Some (append_assoc bytes p q))
 
@@ -29,7 +29,7 @@ part_one old new p q (n, le, b) =
     (n, long, (rw same b))
 
 -- nothing was appended
-appended_nothing : (old : Option (List ℕ)) → Appended old [] old
+pub appended_nothing : (old : Option (List ℕ)) → Appended old [] old
 appended_nothing None = refl
 appended_nothing (Some bytes) = ap Some (sym (append-nil bytes))
 

@@ -3,5 +3,11 @@ pub mod Shelves
 pub mod MemShelves
 pub mod Sinks
 pub mod MemSinks
+pub mod RawWrites
+pub mod RawReads
+pub mod Buffers
+pub mod FileReads
+pub mod MemOutputs
+pub mod MemFiles
 pub mod Stops
 pub mod PassOrders

@@ -4,6 +4,9 @@
 //! content, if that is observable, and what has failed. The content is observable in memory, and not in files and
 //! streams.
 //!
+//! Files and streams are reached by the raw calls of `raw`, each of which is one call of the system. The buffer and the
+//! loops above them, `Buffered` and `FileShelf`, are proved over any such calls.
+//!
 //! Below: std, and `arrayvec` for the records of a gate. There are no formats, no SQL and no sky here: a text is bytes,
 //! and a gate does not inspect the work that passes it.
 #![tactic(auto)]
@@ -11,31 +14,43 @@
 ghost use Rattle.std.specs.Prelude.{◌≡◌};
 ghost use Rattle.sky_io.specs.declared.Stop.TheVariants.{Memory as no_memory};
 
+pub mod buffered;
 mod calls;
+pub mod file_shelf;
 pub mod folder_shelf;
 pub mod gate;
 pub mod lineage;
 pub mod list_gate;
+pub mod mem_files;
+pub mod mem_output;
 pub mod mem_shelf;
 pub mod mem_sink;
 pub mod note_gate;
 pub mod pass_order;
 pub mod plain_shelf;
-pub mod print_sink;
+pub mod print_stream;
+pub mod raw;
 pub mod shelf;
 pub mod sink;
 pub mod step_gate;
+#[cfg(test)]
+mod tests;
 
-pub use folder_shelf::FolderShelf;
+pub use buffered::Buffered;
+pub use file_shelf::FileShelf;
+pub use folder_shelf::{Folder, FolderShelf};
 pub use gate::{Gate, OpenGate};
 pub use lineage::Lineage;
 pub use list_gate::ListGate;
+pub use mem_files::{MemFile, MemFiles};
+pub use mem_output::MemOutput;
 pub use mem_shelf::MemShelf;
 pub use mem_sink::MemSink;
 pub use note_gate::NoteGate;
 pub use pass_order::PassOrder;
 pub use plain_shelf::PlainShelf;
-pub use print_sink::{ErrSink, OutSink, PrintSink};
+pub use print_stream::{ErrSink, OutSink, PrintStream};
+pub use raw::{RawFault, RawRead, RawWrite};
 pub use shelf::{Fetch, Shelf};
 pub use sink::{Put, Sink};
 use std::alloc::{AllocError, AllocFailed};

@@ -1,0 +1,5 @@
+use Rattle.sky_io.proofs.FileTexts.{folder_unopened}
+use Rattle.sky_io.proofs.folder_shelf.FolderRawRead.open.Goals as goal
+
+pub returns-in-Err : goal.returns-in-Err
+returns-in-Err g c = rw (← c.self.view_is) (folder_unopened _ _ _ _ _ c.raw_fault.ensures.counted c.raw_fault.ensures.later)

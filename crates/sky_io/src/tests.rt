@@ -1,0 +1,128 @@
+//! What no clause says: that calls succeed, and how many raw calls they make.
+use crate::{Buffered, Fetch, FileShelf, FolderShelf, MemFiles, MemOutput, Put, Shelf, Sink};
+use std::alloc::Global;
+use std::test::Fail;
+
+// Pieces of 17,200 bytes in all. The first two fill the buffer, and the fifth is longer than it.
+const PIECES: [&[u8]; 6] = [&[1; 3], &[2; 8189], &[], &[3; 1], &[4; 9000], &[5; 7]];
+
+// Writes the pieces and flushes, up to the first failure.
+fn write_pieces(sink: &mut Buffered<MemOutput>) -> Put {
+    for piece in PIECES {
+        if sink.put(piece) == Put::Failed {
+            return Put::Failed;
+        }
+    }
+    sink.flush_out()
+}
+
+// The pieces one after another.
+fn whole_of(alloc: Global) -> Result<Vec<u8>, Fail> {
+    let mut whole = Vec::new(alloc);
+    for piece in PIECES {
+        whole.extend_from_slice(piece)?;
+    }
+    Ok(whole)
+}
+
+#[test]
+fn pieces_come_in_order_however_few_bytes_a_write_takes(rt: HostRuntime) -> Result<(), Fail> {
+    let alloc = rt.alloc();
+    let whole = whole_of(alloc)?;
+    for most in [1, 3, 5000, 8192, 20000] {
+        let output = MemOutput::new(alloc, 20000, most, Vec::new(alloc))?;
+        let mut sink = Buffered::over(output);
+        let put = write_pieces(&mut sink);
+        assert_eq!(rt; put, Put::Done, "at most {most} bytes a write");
+        assert!(rt;
+            sink.output().bytes() == whole.as_slice(),
+            "at most {most} bytes a write"
+        );
+    }
+    Ok(())
+}
+
+#[test]
+fn a_full_buffer_is_one_write(rt: HostRuntime) -> Result<(), Fail> {
+    let alloc = rt.alloc();
+    // the write that fails, and the bytes written before it: no fifth write is made
+    for (call, bytes) in [(1, 0), (2, 8192), (3, 8193), (4, 17193), (5, 17200)] {
+        let output = MemOutput::new(alloc, 20000, 20000, vec![in alloc; call]?)?;
+        let mut sink = Buffered::over(output);
+        let put = write_pieces(&mut sink);
+        let found = (put == Put::Done, sink.output().bytes().len());
+        assert_eq!(rt; found, (call == 5, bytes), "write {call} fails");
+    }
+    Ok(())
+}
+
+#[test]
+fn a_rest_that_could_not_be_written_is_written_later(rt: HostRuntime) -> Result<(), Fail> {
+    let alloc = rt.alloc();
+    let output = MemOutput::new(alloc, 20, 3, vec![in alloc; 2]?)?;
+    let mut sink = Buffered::over(output);
+    for (piece, bytes) in [("abcdefgh", "abc"), ("ij", "abcdefghij")] {
+        sink.put(piece.as_bytes());
+        sink.flush_out();
+        assert_eq!(rt; sink.output().bytes(), bytes.as_bytes());
+    }
+    Ok(())
+}
+
+// The files of one name, whose text is "abcde".
+fn texts_of(alloc: Global) -> Result<Vec<(String, Vec<u8>)>, Fail> {
+    let mut texts = Vec::new(alloc);
+    texts.push((String::from_str(alloc, "five")?, b"abcde".to_vec(alloc)?))?;
+    Ok(texts)
+}
+
+#[test]
+fn a_text_comes_whole_however_few_bytes_a_read_gives(rt: HostRuntime) -> Result<(), Fail> {
+    let alloc = rt.alloc();
+    for most in [1, 2, 5, 100] {
+        for (limit, want) in [
+            (0, "a"),
+            (3, "abcd"),
+            (4, "abcde"),
+            (5, "abcde"),
+            (9000, "abcde"),
+        ] {
+            let files = MemFiles::new(alloc, texts_of(alloc)?, most, Vec::new(alloc));
+            let mut shelf = FileShelf::over(files, alloc);
+            let mut into = Vec::new(alloc);
+            let fetch = shelf.fetch("five", limit, &mut into);
+            assert_eq!(rt; fetch, Fetch::Done, "{most} bytes a read, limit {limit}");
+            assert_eq!(rt;
+                into.as_slice(),
+                want.as_bytes(),
+                "{most} bytes a read, limit {limit}"
+            );
+        }
+    }
+    Ok(())
+}
+
+#[test]
+fn a_raw_call_that_fails_is_a_fetch_that_fails(rt: HostRuntime) -> Result<(), Fail> {
+    let alloc = rt.alloc();
+    // an open and reads of two, two, one and no bytes
+    for (call, want) in [(1, ""), (2, ""), (3, ""), (4, ""), (5, ""), (6, "abcde")] {
+        let files = MemFiles::new(alloc, texts_of(alloc)?, 2, vec![in alloc; call]?);
+        let mut shelf = FileShelf::over(files, alloc);
+        let mut into = Vec::new(alloc);
+        let fetch = shelf.fetch("five", 9, &mut into);
+        assert_eq!(rt; fetch == Fetch::Failed, call < 6, "call {call} fails");
+        assert_eq!(rt; into.as_slice(), want.as_bytes(), "call {call} fails");
+    }
+    Ok(())
+}
+
+#[test]
+fn a_name_of_no_file_of_the_folder_cannot_be_fetched(rt: HostRuntime) -> Result<(), Fail> {
+    let alloc = rt.alloc();
+    let mut shelf = FolderShelf::new(&rt, alloc);
+    let mut into = Vec::new(alloc);
+    let fetch = shelf.fetch("no such name", 9, &mut into);
+    assert_eq!(rt; fetch, Fetch::Failed);
+    Ok(())
+}
