@@ -1,4 +1,4 @@
--- Raw calls that read, one after another, as laws on what files and the shelf over them show.
+-- Raw calls that read, one after another, as lemmas on what files and the shelf over them show.
 use Rattle.std.proofs.Common.{◌≡◌, ℕ, ◌+◌, ◌<◌, ◌≤◌, List, [], ◌++◌, length, take, Option, None, Some, option_map, Ok, Err, refl, sym, subst, ap, arith, ◌∙◌, append_assoc, append-nil, length-append}
 use Rattle.std.specs.Prelude.{IfSome}
 use Rattle.std.proofs.lemmas.List.{take_all}
@@ -134,7 +134,7 @@ pub file_fetched : (old new : ReadState) (failed : List (List ℕ)) (name : List
 file_fetched old new failed name limit into read =
     rw read.texts (fetch_done (record { texts = old.texts; failed = failed }) name limit into (gives_text old.texts name limit into (read.done refl)) (read.short refl))
 
--- Memory was wanting for it.
+-- Memory ran out.
 pub file_unfetched : (old new : ReadState) (failed : List (List ℕ)) (name : List ℕ) (limit : ℕ) → new.texts ≡ old.texts → Fetched (record { texts = old.texts; failed = failed }) (record { texts = new.texts; failed = failed }) name limit [] Memory
 file_unfetched old new failed name limit texts =
     rw texts (fetch_memory (record { texts = old.texts; failed = failed }) name limit)

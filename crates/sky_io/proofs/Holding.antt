@@ -1,4 +1,4 @@
--- A buffer before an output, as laws on what the sink of both shows.
+-- A buffer before an output, as lemmas on what the sink of both shows.
 use Rattle.std.proofs.Common.{◌≡◌, ℕ, ◌+◌, ◌<◌, ◌≤◌, List, [], ◌++◌, length, take, drop, Option, None, Some, option_map, refl, sym, subst, ap, arith, ◌∙◌, append_assoc, append-nil}
 use Rattle.std.proofs.lemmas.List.{drop-append-le, drop-drop, take-append-drop, take_all}
 use Rattle.sky_io.specs.Sinks.{SinkState, Appended, AppendedPart, Wrote, Flushed}

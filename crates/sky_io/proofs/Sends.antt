@@ -1,4 +1,4 @@
--- Raw calls that write, one after another, as laws on what an output shows.
+-- Raw calls that write, one after another, as lemmas on what an output shows.
 use Rattle.std.proofs.Common.{◌≡◌, ℕ, ◌+◌, ◌<◌, ◌-◌, ◌≤◌, List, ◌++◌, length, take, drop, Ok, Err, refl, sym, subst, ap, arith, ◌∙◌, length-drop}
 use Rattle.std.proofs.Math.Seq.{take-add}
 use Rattle.std.proofs.Math.Seq.{take-append_seam}
