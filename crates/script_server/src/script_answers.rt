@@ -66,14 +66,7 @@ impl<'s, G: Gate + Sync> ScriptAnswers<'s, G> {
     ) -> Answered
         ensures { AnswersScript self.now script.now (K.state sink.old) (K.state sink.new) result }
     {
-        match run_session(
-            self.alloc,
-            rt,
-            self.store,
-            script,
-            self.workers,
-            self.gate,
-        ) {
+        match run_session(self.alloc, rt, self.store, script, self.workers, self.gate) {
             Ok(ends) => answered(put_answer(sink, self.store, script, ends.as_slice())),
             Err(_) => Answered::Memory,
         }

@@ -26,13 +26,7 @@ use top_call::fetch_survey;
 /// Allocates memory for the survey, and for one request at a time. Queries are answered by this thread and as many
 /// workers as the arguments ask for, and these read the catalogue too. A thread passes the gate before its work on a
 /// chunk. Waits for the other threads, and for the source.
-pub fn qserv_serve<
-    R: Threads + Wait + Sync,
-    S: Shelf,
-    F: Source,
-    K: Sink,
-    G: Gate + Sync,
->(
+pub fn qserv_serve<R: Threads + Wait + Sync, S: Shelf, F: Source, K: Sink, G: Gate + Sync>(
     rt: &R,
     alloc: Global,
     words: &[String],
@@ -54,13 +48,7 @@ pub fn qserv_serve<
 }
 
 // Loads the survey, and answers the requests.
-fn serve_survey<
-    R: Threads + Wait + Sync,
-    S: Shelf,
-    F: Source,
-    K: Sink,
-    G: Gate + Sync,
->(
+fn serve_survey<R: Threads + Wait + Sync, S: Shelf, F: Source, K: Sink, G: Gate + Sync>(
     rt: &R,
     alloc: Global,
     served: Served<'_>,
