@@ -31,11 +31,11 @@ lines_last b (c ∷ cs) flat =
     ∙ ap (with_byte b) (lines_last c cs both.1)
 
 -- a cut without requests
-with_rest : List ℕ → Cut
+abbrev with_rest : List ℕ → Cut
 with_rest rest = record { requests = []; rest = rest }
 
 -- a cut with a first request
-with_first : List (List ℕ) → List ℕ → List ℕ → Cut
+abbrev with_first : List (List ℕ) → List ℕ → List ℕ → Cut
 with_first texts rest first = record { requests = first ∷ texts; rest = rest }
 
 begun_with_two : (a b : List ℕ) (texts : List (List ℕ)) (rest : List ℕ) → begun_with (a ++ b) texts rest ≡ begun_by a (begun_with b texts rest)

@@ -1,5 +1,5 @@
 -- A draft of a request, byte by byte.
-use Rattle.std.proofs.Common.{◌≡◌, refl, sym, ap, ◌∙◌, subst, ℕ, zero, suc, ◌+◌, ◌-◌, ◌<◌, ◌≤◌, ◌==◌, arith, Bool, true, false, ◌&&◌, ◌||◌, if◌then◌else◌}
+use Rattle.std.proofs.Common.{◌≡◌, refl, sym, ap, ◌∙◌, subst, ℕ, ◌+◌, ◌-◌, ◌<◌, ◌≤◌, ◌==◌, arith, Bool, true, false, ◌&&◌, ◌||◌, if◌then◌else◌}
 use Rattle.std.proofs.Common.{List, [], ◌∷◌, ◌++◌, length, take, append_assoc, append-nil, length-append, length-take, eqb-true, ltb-true, ltb-false, nat_lt, take_all, Some, None, Option}
 use Rattle.std.proofs.lemmas.List.{take-append-le}
 use Rattle.std.proofs.Math.Seq.{take-append_seam}
@@ -102,7 +102,7 @@ draft_ended read draft is ends =
 
 -- a draft is no request
 pub draft_rest : (read : List ℕ) (draft : Draft) → IsDraft read draft → IsRest read
-draft_rest read draft is = subst IsRest (sym is.parts) (open_rest is.lines is.line is.begins is.flat)
+draft_rest read draft is = subst (λ bytes. IsRest bytes) (sym is.parts) (open_rest is.lines is.line is.begins is.flat)
 
 at_most_two : (start : LineStart) → bytes_in start ≤ 2
 at_most_two Empty = omega arith
@@ -217,8 +217,7 @@ over_open read draft is some unspent = omega (arith, some, ap length (is.kept un
 
 none_by : (most : ℕ) (read : List ℕ) → 0 < most → take most read ≡ [] → read ≡ []
 none_by most [] some none = refl
-none_by zero (b ∷ bs) some none = absurd (omega (arith, some))
-none_by (suc most) (b ∷ bs) some none = absurd (cc none)
+none_by most (b ∷ bs) some none = absurd (omega (arith, some, ap length none, length-take most (b ∷ bs)))
 
 -- no byte was read into a draft that is empty
 pub over_none : (read : List ℕ) (draft : Draft) → IsDraft read draft → draft.text.items ≡ [] → draft.is_spent ≡ false → read ≡ []

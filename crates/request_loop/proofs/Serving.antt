@@ -77,7 +77,7 @@ so_far_none A source sink sent = record {
 }
 
 -- a cut of these requests and this rest
-cut_from : List (List ℕ) → List ℕ → Cut
+abbrev cut_from : List (List ℕ) → List ℕ → Cut
 cut_from requests rest = record { requests = requests; rest = rest }
 
 -- the requests so far, and one more
@@ -88,10 +88,10 @@ requests_more input read requests text are is later =
     ap cut_of (append_assoc input read later) ∙ are (read ++ later) ∙ ap (after_requests requests) (is later)
     ∙ ap (λ r. cut_from r (cut_of later).rest) (sym (append_assoc requests (text ∷ []) (cut_of later).requests))
 
-requests_in : Cut → List (List ℕ)
+abbrev requests_in : Cut → List (List ℕ)
 requests_in cut = cut.requests
 
-rest_in : Cut → List ℕ
+abbrev rest_in : Cut → List ℕ
 rest_in cut = cut.rest
 
 no_later : (requests : List (List ℕ)) → after_requests requests (cut_of []) ≡ cut_from requests []

@@ -104,7 +104,7 @@ step_open A so sn k kn result next reads sent after =
 
 no_rest : (read : List ℕ) → read ≡ [] → IsRest read
 unfolding cut_of
-no_rest read none = subst IsRest (sym none) refl
+no_rest read none = subst (λ bytes. IsRest bytes) (sym none) refl
 
 -- the input ended
 pub step_nothing : (A : List ℕ → List ℕ → Type 0) (so sn : SourceState) (k : SinkState) → k.held ≡ false

@@ -32,6 +32,7 @@ pub(crate) struct Draft {
 
 impl Draft {
     /// A draft of which nothing was read. Does not allocate.
+    #[tactic(auto, using(crate::proofs::Drafting::draft_none))]
     pub(crate) fn new(alloc: Global) -> Draft
         ensures { IsDraft [] result }
     {
