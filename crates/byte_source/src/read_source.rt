@@ -1,5 +1,5 @@
 //! The standard input, as a source.
-ghost use Rattle.std.specs.Prelude.{◌≡◌, false};
+ghost use Rattle.std.specs.Prelude.{◌≡◌, None, false};
 ghost use Rattle.byte_source.specs.Sources.{Took, unread_stream};
 
 use crate::source::{Next, Source, fault};
@@ -60,7 +60,8 @@ impl<F: Read> ReadSource<F> {
 
     // Returns the next byte of the buffer, if it has one.
     fn buffered(&mut self) -> Option<u8>
-        ensures { self.new ≡ self.old }
+        ensures same { self.new ≡ self.old }
+        ensures unseen { self.old.left ≡ None }
     {
         if self.at == self.end {
             return None;

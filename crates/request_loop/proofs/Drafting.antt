@@ -8,7 +8,7 @@ use Rattle.request_loop.specs.Requests.{ends_request}
 use Rattle.request_loop.specs.Drafts.{IsDraft, IsOpen, IsRequest, IsRest, bytes_in, has_feed, may_end, start_after, start_from, start_in}
 use Rattle.byte_source.specs.Sources.{SourceState, Gave, IsAtEnd}
 use Rattle.sky_io.specs.Sinks.{Rose}
-use Rattle.request_loop.specs.Steps.{Adds, HasRead, HasReadAll, IsAny, IsLong, IsRequestOf, IsRestOf, Reads, ReadsFault, ReadsLines, TakesNext, TookByte}
+use Rattle.request_loop.specs.Readings.{Adds, HasRead, HasReadAll, IsAny, IsLong, IsRequestOf, IsRestOf, Reads, ReadsFault, ReadsLines, TakesNext, TookByte}
 use Rattle.request_loop.specs.declared.draft.Draft.{Draft}
 use Rattle.request_loop.specs.declared.draft.TheConstants.{DRAFT_MOST}
 use Rattle.request_loop.specs.declared.line_start.LineStart.{LineStart}
@@ -20,7 +20,7 @@ use Rattle.request_loop.specs.declared.request.Request.TheVariants as request
 use Rattle.request_loop.proofs.Giving.{gave_nothing, gave_two}
 use Rattle.request_loop.proofs.Cutting.{open_none, bytes_by_start, ends_by_start, open_ended, open_more, open_rest, or_false}
 
-flat_more : (line : List ℕ) (b : ℕ) → has_feed line ≡ false → (b == 10) ≡ false → has_feed (line ++ b ∷ []) ≡ false
+pub flat_more : (line : List ℕ) (b : ℕ) → has_feed line ≡ false → (b == 10) ≡ false → has_feed (line ++ b ∷ []) ≡ false
 flat_more [] b flat other = ap (λ t. t || false) other
 flat_more (c ∷ cs) b flat other =
     let both = or_false (c == 10) (has_feed cs) flat in
@@ -111,9 +111,9 @@ at_most_two PlusReturn = omega arith
 at_most_two Other = omega arith
 
 -- the text of a request above the limit
-pub long_by : (most : ℕ) (read : List ℕ) (draft : Draft) (size : ℕ) → IsDraft read draft → may_end draft.start ≡ true → draft.is_spent ≡ false
+pub long_by : (read : List ℕ) (draft : Draft) (size : ℕ) → IsDraft read draft → may_end draft.start ≡ true → draft.is_spent ≡ false
     → size ≡ length draft.text.items - bytes_in draft.start → SCRIPT_TEXT_MOST < size → IsLong (read ++ 10 ∷ [])
-long_by most read draft size is ends unspent sized above =
+long_by read draft size is ends unspent sized above =
     let it = draft_ended read draft is ends in
     let kept : length draft.text.items ≤ length read = omega (arith, ap length (is.kept unspent), length-take DRAFT_MOST read) in
     let parts : length read ≡ length it.lines + length it.line = ap length it.parts ∙ length-append it.lines it.line in
@@ -164,27 +164,27 @@ pub stopped : (so sm sn : SourceState) (old new : Draft) (stop : Stop) → HasRe
 stopped so sm sn old new Ended has still took = record {
   read = has.read;
   gave = gave_two so.left sm.left sn.left has.read (10 ∷ []) has.gave
-      (subst (λ b. Gave sm.left (b ∷ []) sn.left) took.takes.1.0 took.gave);
+      (subst (λ b. Gave sm.left (b ∷ []) sn.left) took.takes.1 took.gave);
   still = took.still ∙ still;
-  is = subst (λ d. IsDraft has.read d) (sym took.takes.1.1.1) has.is;
-  ends = ap (λ d. may_end d.start) took.takes.1.1.1 ∙ took.takes.1.1.0;
+  is = subst (λ d. IsDraft has.read d) (sym took.takes.3) has.is;
+  ends = ap (λ d. may_end d.start) took.takes.3 ∙ took.takes.2;
 }
 stopped so sm sn old new Over has still took = (
   record {
     read = has.read;
-    gave = subst (λ s. Gave so.left has.read s.left) (sym took.1.0) has.gave;
-    is = subst (λ d. IsDraft has.read d) (sym took.1.1) has.is;
+    gave = subst (λ s. Gave so.left has.read s.left) (sym took.1) has.gave;
+    is = subst (λ d. IsDraft has.read d) (sym took.2) has.is;
   },
-  ap (λ s. s.faults) took.1.0 ∙ still,
-  subst (λ s. IsAtEnd s.left) (sym took.1.0) took.0,
+  ap (λ s. s.faults) took.1 ∙ still,
+  subst (λ s. IsAtEnd s.left) (sym took.1) took.0,
 )
 stopped so sm sn old new Failed has still took = (
   record {
     read = has.read;
     gave = subst (λ l. Gave so.left has.read l) (sym took.0) has.gave;
-    is = subst (λ d. IsDraft has.read d) (sym took.1.1) has.is;
+    is = subst (λ d. IsDraft has.read d) (sym took.2) has.is;
   },
-  (subst (λ n. Rose n sn.faults) still took.1.0),
+  (subst (λ n. Rose n sn.faults) still took.1),
 )
 
 -- a request was read
@@ -203,8 +203,8 @@ pub reads_over : (so sn : SourceState) (draft : Draft) (it : Request) → HasRea
 reads_over so sn draft (request.Text text) has is = absurd (is has.0.read has.0.is)
 reads_over so sn draft request.Long has is = absurd (is has.0.read has.0.is)
 reads_over so sn draft request.Memory has is = absurd (is has.0.read has.0.is)
-reads_over so sn draft request.Open has is = record { read = has.0.read; gave = has.0.gave; still = has.1.0; ended = has.1.1; is = is has.0.read has.0.is }
-reads_over so sn draft request.Nothing has is = record { read = has.0.read; gave = has.0.gave; still = has.1.0; ended = has.1.1; is = is has.0.read has.0.is }
+reads_over so sn draft request.Open has is = record { read = has.0.read; gave = has.0.gave; still = has.1; ended = has.2; is = is has.0.read has.0.is }
+reads_over so sn draft request.Nothing has is = record { read = has.0.read; gave = has.0.gave; still = has.1; ended = has.2; is = is has.0.read has.0.is }
 reads_over so sn draft request.Failed has is = absurd (is has.0.read has.0.is)
 
 -- the source failed
@@ -215,10 +215,10 @@ reads_failed so sn draft has = record { read = has.0.read; gave = has.0.gave; ca
 pub over_open : (read : List ℕ) (draft : Draft) → IsDraft read draft → 0 < length draft.text.items → draft.is_spent ≡ false → 0 < length read
 over_open read draft is some unspent = omega (arith, some, ap length (is.kept unspent), length-take DRAFT_MOST read)
 
-none_by : (most : ℕ) (read : List ℕ) → 0 < most → take most read ≡ [] → read ≡ []
-none_by most [] some none = refl
-none_by most (b ∷ bs) some none = absurd (omega (arith, some, ap length none, length-take most (b ∷ bs)))
+empty_by : (read : List ℕ) → length read ≤ 0 → read ≡ []
+empty_by [] le = refl
+empty_by (b ∷ bs) le = absurd (omega (arith, le))
 
 -- no byte was read into a draft that is empty
-pub over_none : (read : List ℕ) (draft : Draft) → IsDraft read draft → draft.text.items ≡ [] → draft.is_spent ≡ false → read ≡ []
-over_none read draft is none unspent = none_by DRAFT_MOST read (omega arith) (sym (is.kept unspent) ∙ none)
+pub over_none : (read : List ℕ) (draft : Draft) → IsDraft read draft → length draft.text.items ≤ 0 → draft.is_spent ≡ false → read ≡ []
+over_none read draft is none unspent = empty_by read (omega (arith, none, ap length (is.kept unspent), length-take DRAFT_MOST read))

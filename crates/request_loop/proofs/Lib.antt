@@ -3,3 +3,4 @@ pub mod Cutting
 pub mod Drafting
 pub mod Serving
 pub mod Stepping
+pub mod Staying

@@ -1,5 +1,5 @@
 -- A session, request by request.
-use Rattle.std.proofs.Common.{◌≡◌, refl, sym, ap, ◌∙◌, subst, ℕ, ◌≤◌, arith, true, false, inl, inr}
+use Rattle.std.proofs.Common.{◌≡◌, refl, sym, ap, ◌∙◌, subst, ℕ, ◌≤◌, arith, false, inl, inr, ◌⊎◌}
 use Rattle.std.proofs.Common.{List, [], ◌∷◌, ◌++◌, length, take, append_assoc, append-nil, Option, None, Some, option_map}
 use Rattle.std.proofs.Math.Seq.{take-length}
 use Rattle.sky_io.specs.Sinks.{SinkState, Appended, AppendedPart, Flushed, Wrote}
@@ -11,7 +11,7 @@ use Rattle.request_loop.specs.Requests.{Cut, after_requests, begun_with, cut_of}
 use Rattle.request_loop.specs.Replies.{AreReplies, IsReply, IsReplyAnd, open_text}
 use Rattle.request_loop.specs.Drafts.{IsRequest, IsRest}
 use Rattle.request_loop.specs.Sessions.{Streams, streams, IsDone, IsSession, IsSinkFault, IsSourceFault}
-use Rattle.request_loop.specs.Steps.{Broken, Finished, IsSoFar, Replied, Sent}
+use Rattle.request_loop.specs.Steps.{Broken, Finished, IsSoFar, Replied, Sent, Serves}
 use Rattle.request_loop.proofs.Giving.{gave_nothing, gave_two}
 use Rattle.request_loop.specs.declared.session.Session.{Session}
 use Rattle.request_loop.specs.declared.session.Session.TheVariants as session
@@ -81,7 +81,7 @@ abbrev cut_from : List (List ℕ) → List ℕ → Cut
 cut_from requests rest = record { requests = requests; rest = rest }
 
 -- the requests so far, and one more
-requests_more : (input read : List ℕ) (requests : List (List ℕ)) (text : List ℕ)
+pub requests_more : (input read : List ℕ) (requests : List (List ℕ)) (text : List ℕ)
     → ((later : List ℕ) → cut_of (input ++ later) ≡ after_requests requests (cut_of later)) → IsRequest text read
     → (later : List ℕ) → cut_of ((input ++ read) ++ later) ≡ after_requests (requests ++ text ∷ []) (cut_of later)
 requests_more input read requests text are is later =
@@ -132,7 +132,7 @@ so_far_more A so old_so sn k old_k kn far next = record {
 }
 
 -- the whole input, after the rest of it
-cut_rest : (input read : List ℕ) (requests : List (List ℕ))
+pub cut_rest : (input read : List ℕ) (requests : List (List ℕ))
     → ((later : List ℕ) → cut_of (input ++ later) ≡ after_requests requests (cut_of later)) → IsRest read
     → cut_of (input ++ read) ≡ cut_from requests read
 cut_rest input read requests are is = are read ∙ ap (after_requests requests) is ∙ ap (λ r. cut_from r read) (append-nil requests)
@@ -211,6 +211,18 @@ reply_failed A so om sn k ok kn far next =
           (part_after k ok kn far.replies reply far.written far.calm next.reply.sent.wrote));
       cause = let rose = next.reply.sent.wrote.cause refl in omega (arith, rose, far.calm);
     }
+
+sink_failed : (A : List ℕ → List ℕ → Type 0) (so om sn : SourceState) (k ok kn : SinkState)
+    → IsSoFar A (streams so om k ok) → Replied A (streams om sn ok kn) put.Failed ⊎ Finished (streams om sn ok kn) put.Failed → IsSinkFault A (streams so sn k kn)
+sink_failed A so om sn k ok kn far (inl next) = reply_failed A so om sn k ok kn far next
+sink_failed A so om sn k ok kn far (inr last) = last_failed A so om sn k ok kn far last
+
+-- how a session ends
+pub session_ends : (A : List ℕ → List ℕ → Type 0) (so om sn : SourceState) (k ok kn : SinkState) (it : Session)
+    → IsSoFar A (streams so om k ok) → Serves A (streams om sn ok kn) (Some it) → IsSession A (streams so sn k kn) it
+session_ends A so om sn k ok kn session.Done far last = done A so om sn k ok kn far last
+session_ends A so om sn k ok kn session.SourceFault far last = source_failed A so om sn k ok kn far last
+session_ends A so om sn k ok kn session.SinkFault far last = sink_failed A so om sn k ok kn far last
 
 -- how a session ends that was flushed before it began
 flushed_done : (A : List ℕ → List ℕ → Type 0) (so sn : SourceState) (k ok kn : SinkState) → Flushed k ok put.Done

@@ -10,7 +10,8 @@ use Rattle.request_loop.specs.Requests.{cut_of}
 use Rattle.request_loop.specs.Replies.{IsReply, WroteAnswer, long_line, memory_line, open_line, open_text}
 use Rattle.request_loop.specs.Drafts.{IsRest}
 use Rattle.request_loop.specs.Sessions.{Streams, streams}
-use Rattle.request_loop.specs.Steps.{AfterLast, AfterReply, Finished, Reads, ReadsRequest, ReadsRest, Replied, Sent, SentReply, Serves}
+use Rattle.request_loop.specs.Readings.{Reads}
+use Rattle.request_loop.specs.Steps.{AfterLast, AfterReply, Finished, Replied, Sent, SentReply, Serves}
 use Rattle.request_loop.specs.declared.request.Request.{Request}
 use Rattle.request_loop.specs.declared.request.Request.TheVariants as request
 use Rattle.request_loop.specs.declared.session.Session.{Session}

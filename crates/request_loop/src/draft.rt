@@ -1,7 +1,7 @@
 //! A request while it is read.
-ghost use Rattle.std.specs.Prelude.{◌≡◌, ◌++◌, ◌∷◌, [], true};
+ghost use Rattle.std.specs.Prelude.{◌≡◌, ◌++◌, ◌∷◌, ℕ, List, [], true};
 ghost use Rattle.request_loop.specs.Drafts.{IsDraft, may_end};
-ghost use Rattle.request_loop.specs.Steps.{Adds, IsRequestOf, IsRestOf, Takes};
+ghost use Rattle.request_loop.specs.Readings.{Adds, IsRequestOf, IsRestOf, Takes};
 
 use crate::line_start::LineStart;
 use crate::request::Request;
@@ -91,12 +91,16 @@ impl Draft {
     pub(crate) fn over(self) -> Request
         ensures { (read : List ℕ) → IsDraft read self → IsRestOf read result }
     {
-        let is_empty = self.text.is_empty() && !self.is_spent;
-        drop(self);
-        if is_empty {
-            Request::Nothing
-        } else {
-            Request::Open
+        let Draft { text, is_spent, .. } = self;
+        if is_spent {
+            drop(text);
+            return Request::Open;
         }
+        let size = text.len();
+        drop(text);
+        if size > 0 {
+            return Request::Open;
+        }
+        Request::Nothing
     }
 }

@@ -7,6 +7,7 @@
 
 pub mod answerer;
 mod draft;
+pub mod laws;
 mod line_start;
 mod request;
 pub mod session;

@@ -1,7 +1,7 @@
 //! The next request of an input.
-ghost use Rattle.std.specs.Prelude.{◌≡◌, false};
+ghost use Rattle.std.specs.Prelude.{◌≡◌, [], false};
 ghost use Rattle.request_loop.specs.Drafts.{IsDraft};
-ghost use Rattle.request_loop.specs.Steps.{Reads, ReadsLines, TakesNext};
+ghost use Rattle.request_loop.specs.Readings.{Reads, ReadsLines, TakesNext};
 
 use crate::draft::{Draft, Stop};
 use byte_source::{Next, Source};
@@ -59,8 +59,9 @@ fn read_lines<R: Wait, S: Source, K: Sink>(
     ensures { ReadsLines (S.state source.old) (S.state source.new) draft.new result }
 {
     for _ in rt.forever() {
-        if let Some(stop) = take_next(source, sink, draft) {
-            return stop;
+        match take_next(source, sink, draft) {
+            None => {}
+            Some(stop) => return stop,
         }
     }
     unreachable!()

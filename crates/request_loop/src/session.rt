@@ -56,8 +56,9 @@ fn serve_all<R: Threads + Wait + Sync, S: Source, K: Sink, A: Answerer>(
         result }
 {
     for _ in rt.forever() {
-        if let Some(session) = serve_next(alloc, rt, source, sink, answerer) {
-            return session;
+        match serve_next(alloc, rt, source, sink, answerer) {
+            None => {}
+            Some(session) => return session,
         }
     }
     unreachable!()

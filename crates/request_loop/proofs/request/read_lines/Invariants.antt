@@ -1,5 +1,5 @@
 use Rattle.std.proofs.Common.{◌≡◌}
-use Rattle.request_loop.specs.Steps.{HasRead}
+use Rattle.request_loop.specs.Readings.{HasRead}
 use Rattle.request_loop.proofs.request.read_lines.Given as goal
 
 -- so far no line ended the request, and the source did not fail
