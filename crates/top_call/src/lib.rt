@@ -13,7 +13,7 @@ mod ends;
 mod fault_lines;
 mod inputs;
 mod journal_check;
-mod limits;
+pub mod limits;
 mod outcome;
 mod outcome_line;
 mod script_lines;
@@ -24,6 +24,8 @@ mod trace;
 mod words;
 mod work;
 
+pub use inputs::fetch_survey;
 pub use outcome::{Outcome, Which, status};
 pub use outcome_line::put_outcome;
+pub use script_lines::put_script_fault;
 pub use top::qserv;

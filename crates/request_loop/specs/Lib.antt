@@ -1,0 +1,7 @@
+pub mod Requests
+pub mod Laws
+pub mod Replies
+pub mod Sessions
+pub mod Drafts
+pub mod Readings
+pub mod Steps
