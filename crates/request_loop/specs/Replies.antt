@@ -4,8 +4,8 @@ use Rattle.std.specs.Prelude.{◌≡◌, ◌⊎◌, ℕ, ◌<◌, ◌≤◌, Lis
 use Rattle.text_rules.specs.declared.limits.TheConstants.{SCRIPT_TEXT_MOST}
 use Rattle.sky_io.specs.Sinks.{SinkState, Wrote}
 use Rattle.sky_io.specs.declared.sink.Put.TheVariants as put
-use Rattle.request_loop.specs.declared.answerer.Answered.{Answered}
-use Rattle.request_loop.specs.declared.answerer.Answered.TheVariants.{Done, Failed, Memory}
+use Rattle.request_loop.specs.declared.answered.Answered.{Answered}
+use Rattle.request_loop.specs.declared.answered.Answered.TheVariants.{Done, Failed, Memory}
 
 -- the reply to a request for which an allocation failed
 abbrev pub memory_line : List ℕ

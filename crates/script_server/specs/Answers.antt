@@ -13,6 +13,10 @@ pub record Basis : Type 0 where
   pub survey : Survey
   pub workers : ℕ
 
+-- a survey and a number of workers
+abbrev pub basis_of : Survey → ℕ → Basis
+basis_of survey workers = record { survey = survey; workers = workers }
+
 -- the line that ends the answer of a script that is accepted
 abbrev pub ok_line : List ℕ
 ok_line = codes "+ ok\n"
