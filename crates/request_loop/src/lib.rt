@@ -1,4 +1,4 @@
-//! The requests of a session: each is read from a source up to its line `+`, and its reply is written to a sink and sent.
+//! The requests of a session: each is read from a source up to its line `+`, and its reply is written and sent.
 //!
 //! An input is defined as its requests and a rest (`specs/Requests.antt`), and a session by what it reads and writes
 //! (`specs/Sessions.antt`), for any relation between a request and its answers. The loop of a session is the caller's,

@@ -1,4 +1,4 @@
--- What a script is answered, by how its answer was written.
+-- The answer of a script, by how it was written.
 use Rattle.std.proofs.Common.{◌≡◌, refl, inl, inr, ℕ, List, Ok, Err}
 use Rattle.sky_io.specs.Shelves.{ShelfState}
 use Rattle.sky_io.specs.Sinks.{SinkState, Wrote}

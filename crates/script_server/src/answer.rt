@@ -63,7 +63,7 @@ fn run_script<R: Threads + Wait + Sync, K: Sink, G: Gate + Sync>(
 }
 
 // Writes the transcript of a script whose queries have these ends, and the line that ends it.
-#[tactic(auto, using(sky_io::proofs::Writes::wrote_one, sky_io::proofs::Writes::wrote_two))]
+#[tactic(auto, using(sky_io::proofs::Writes::wrote_one))]
 fn put_answer<K: Sink>(sink: &mut K, store: &Store, script: &Script<'_>, ends: &[End]) -> Put
     requires { EndsShow store.now.plan store.now.rows (query_lines script.now) ends.now }
     ensures { Wrote (K.state sink.old) (K.state sink.new)
@@ -76,7 +76,7 @@ fn put_answer<K: Sink>(sink: &mut K, store: &Store, script: &Script<'_>, ends: &
 }
 
 // Writes the line of a script's fault.
-#[tactic(auto, using(sky_io::proofs::Writes::wrote_one, sky_io::proofs::Writes::wrote_two))]
+#[tactic(auto, using(sky_io::proofs::Writes::wrote_one))]
 fn put_fault<K: Sink>(sink: &mut K, fault: &ScriptFault) -> Put
     ensures { Wrote (K.state sink.old) (K.state sink.new) (faulty_line fault.now) result }
 {

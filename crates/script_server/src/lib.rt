@@ -1,8 +1,9 @@
 //! A server of scripts: a sky plan and a catalogue are loaded once, and scripts are answered as they come.
 //!
 //! `qserv_serve` is generic over the outside. Its contract (`specs/Meanings.antt`) defines what each outcome means, and
-//! `specs/Answers.antt` what a script is answered. Below: `request_loop` reads requests and sends replies, `top_call`
-//! loads, `czar` runs the queries of a script and writes their results. Nothing of a script is kept after its reply.
+//! `specs/Answers.antt` which answers a script may have. Below: `request_loop` reads requests and sends lines,
+//! `top_call` loads, `czar` runs the queries of a script and writes their results. Nothing of a script is kept after
+//! its reply.
 #![tactic(auto)]
 
 mod answer;

@@ -1,4 +1,4 @@
-use Rattle.request_loop.proofs.ServeWords.{after_flush, not_flushed}
+use Rattle.request_loop.proofs.Serving.{after_flush, not_flushed}
 use Rattle.script_server.specs.Answers.{IsAnswer, basis_of}
 use Rattle.script_server.proofs.session.serve.Goals as goal
 

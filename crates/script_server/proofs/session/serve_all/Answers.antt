@@ -1,4 +1,4 @@
-use Rattle.request_loop.proofs.ServeWords.{session_ends, so_far_more, so_far_none}
+use Rattle.request_loop.proofs.Serving.{session_ends, so_far_more, so_far_none}
 use Rattle.script_server.specs.Answers.{IsAnswer, basis_of}
 use Rattle.script_server.proofs.session.serve_all.Goals as goal
 
