@@ -1,5 +1,5 @@
 -- The meaning of each outcome of `serve`.
-use Rattle.std.specs.Prelude.{◌≡◌, ℕ, List, Option, None, Some}
+use Rattle.std.specs.Prelude.{◌≡◌, Option, None, Some}
 use Rattle.sky_io.specs.Shelves.{ShelfState}
 use Rattle.chunk_store.specs.Survey.{Survey}
 use Rattle.request_loop.specs.Sessions.{Streams, IsSession}

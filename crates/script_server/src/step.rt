@@ -9,9 +9,7 @@ ghost use Rattle.script_server.specs.Answers.{IsAnswer, basis_of};
 use crate::answer::answer_script;
 use byte_source::Source;
 use chunk_store::Store;
-use request_loop::{
-    Answered, Request, Session, after_last, after_reply, read_request, send_line,
-};
+use request_loop::{Answered, Request, Session, after_last, after_reply, read_request, send_line};
 use sky_io::{Gate, Put, Sink};
 use std::alloc::Global;
 use std::sync::Wait;
