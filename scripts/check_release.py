@@ -95,15 +95,15 @@ def change_byte(path, at=-2):
 # ---- the sources, by other means than scripts/sources
 
 
-def program_crates(root):
-    """The crates that the program depends on, by crates.txt, itself among them."""
+def program_crates(root, program="qserv_cli"):
+    """The crates that a program depends on, by crates.txt, itself among them."""
     needs = {}
     with open(f"{root}/crates.txt", encoding="utf-8") as file:
         for line in file:
             head, is_row, below = line.partition("#")[0].partition(":")
             if is_row:
                 needs[head.split()[0]] = below.split()
-    found, left = set(), ["qserv_cli"]
+    found, left = set(), [program]
     while left:
         name = left.pop()
         if name in needs and name not in found:
@@ -112,9 +112,9 @@ def program_crates(root):
     return found
 
 
-def source_files(root):
+def source_files(root, program="qserv_cli"):
     found = ["crates.txt", "HANDLES"]
-    for crate in program_crates(root):
+    for crate in program_crates(root, program):
         for at, folders, files in os.walk(f"{root}/crates/{crate}"):
             if at == f"{root}/crates/{crate}" and "out" in folders:
                 folders.remove("out")
@@ -126,8 +126,8 @@ def blake(data):
     return hashlib.blake2b(data, digest_size=32).hexdigest()
 
 
-def source_hash(root):
-    lines = [f"{blake(read(f'{root}/{name}'))}  {name}\n" for name in source_files(root)]
+def source_hash(root, program="qserv_cli"):
+    lines = [f"{blake(read(f'{root}/{name}'))}  {name}\n" for name in source_files(root, program)]
     return blake("".join(lines).encode())
 
 
@@ -143,7 +143,7 @@ class Copy:
             to = f"{self.root}/{name}"
             os.makedirs(os.path.dirname(to), exist_ok=True)
             (shutil.copytree if os.path.isdir(f"{ROOT}/{name}") else shutil.copy2)(f"{ROOT}/{name}", to)
-        for crate in program_crates(ROOT):
+        for crate in program_crates(ROOT) | program_crates(ROOT, "qserv_serve"):
             here = f"{ROOT}/crates/{crate}"
             skip = lambda at, names, here=here: ["out"] * (at == here)
             shutil.copytree(here, f"{self.root}/crates/{crate}", ignore=skip)
@@ -159,12 +159,15 @@ class Copy:
 
     def write_release(self, text):
         shutil.rmtree(f"{self.root}/release", ignore_errors=True)
-        write(f"{self.root}/release/{PROGRAM_NAME}", text, 0o755)
-        sum_of = hashlib.sha256(read(f"{self.root}/release/{PROGRAM_NAME}")).hexdigest()
-        self.write_source(f"sources {self.hash}\ntoolchain {LINE}\n{PROGRAM_NAME} {sum_of}\n")
+        self.write_program("release", text, self.hash)
 
-    def write_source(self, text):
-        write(f"{self.root}/release/SOURCE", text)
+    def write_program(self, folder, text, sources):
+        write(f"{self.root}/{folder}/{PROGRAM_NAME}", text, 0o755)
+        sum_of = hashlib.sha256(read(f"{self.root}/{folder}/{PROGRAM_NAME}")).hexdigest()
+        self.write_source(f"sources {sources}\ntoolchain {LINE}\n{PROGRAM_NAME} {sum_of}\n", folder)
+
+    def write_source(self, text, folder="release"):
+        write(f"{self.root}/{folder}/SOURCE", text)
 
     def run(self, *words, has_kit=False, **more):
         """The status, the output and standard error of a command in the copy."""
@@ -272,7 +275,7 @@ def facts_of_the_check(copy):
     gate, source = f"{copy.root}/crates/qserv_cli/out/qserv_cli", read(f"{copy.root}/release/SOURCE").decode()
     yield "--compare fails where nothing was built", compared(copy, 1, "is not the program that rt ci has built")
     write(gate, PROGRAM.format("release"), 0o755)
-    yield "--compare accepts what was built", compared(copy, 0, "release: ok")
+    yield "--compare accepts what was built", compared(copy, 0, "release: ok\n")
     change_byte(gate)
     yield "--compare fails where another program was built", compared(copy, 1, "is not the program that rt ci has built")
     copy.write_source(source.replace(LINE, "another kit"))
@@ -363,6 +366,37 @@ def facts_of_installing(copy):
     change_byte(f"{copy.root}/release/{PROGRAM_NAME}")
 
 
+def facts_of_serve(copy):
+    """The second program: its folder, its sources, and how it is installed."""
+    words, prefix = ["./qserv", "serve", "a", "b", "0"], f"{os.path.dirname(copy.root)}/prefix_of_serve"
+    status, out, err = copy.run(*words)
+    yield "with no program of serve it says so", (status, out) == (1, "") and "no program of serve is of these sources" in err
+    yield "and the first program still runs", copy.runs_release()
+    yield "whatever QSERV_CRATE is", copy.run("./qserv", "a", QSERV_CRATE="qserv_serve")[1] == "release: a\n"
+    yield "--version says that there is none", "no program of serve is of these sources\n" in copy.run("./qserv", "--version")[1]
+    status, _, err = copy.run("./qserv", "install", prefix)
+    yield "it is installed without serve, with a line", status == 0 and "install: without serve: " in err
+    copy.write_program("release/serve", PROGRAM.format("serve"), copy.hash)
+    yield "a program of other sources does not run", copy.run(*words)[0] == 1
+    copy.run("./qserv", "install", prefix)
+    yield "nor is it installed", not os.path.exists(f"{prefix}/lib/qserv/serve")
+    copy.write_program("release/serve", PROGRAM.format("serve"), source_hash(copy.root, "qserv_serve"))
+    yield "one of these sources runs, without the word serve", copy.run(*words) == (0, "serve: a b 0\n", "")
+    yield "it keeps a stamp of its own", read(f"{copy.root}/.qserv/serve/stamp") == b"release/serve\n"
+    yield "it runs it again", copy.run(*words)[1] == "serve: a b 0\n"
+    yield "and the first program too", copy.runs_release()
+    yield "--version names it", f"program of serve: {copy.root}/release/serve/{PROGRAM_NAME}\n" in copy.run("./qserv", "--version")[1]
+    yield "it is installed", copy.run("./qserv", "install", prefix)[0] == 0
+    yield "and runs", copy.run(f"{prefix}/bin/qserv", *words[1:]) == (0, "serve: a b 0\n", "")
+    change_byte(f"{copy.root}/release/serve/{PROGRAM_NAME}")
+    yield "changed, it does not run", copy.run(*words)[0] == 1
+    yield "nor is it installed then", copy.run("scripts/install", "release", prefix)[0] == 1
+    shutil.rmtree(f"{copy.root}/release/serve")
+    copy.run("./qserv", "install", prefix)
+    yield "a later install without it takes the earlier one away", not os.path.exists(f"{prefix}/lib/qserv/serve")
+    copy.forget()
+
+
 def facts_of_the_man_page(copy):
     page, formats = read(f"{copy.root}/docs/qserv.1").decode(), read(f"{copy.root}/docs/FORMATS.md").decode()
     commands = set(re.findall(r"^\.It Cm (\w+) Ar (.*)$", page, re.M))
@@ -410,6 +444,7 @@ FACTS = [
     facts_of_building,
     facts_of_building_over_kept_work,
     facts_of_installing,
+    facts_of_serve,
     facts_of_the_man_page,
     facts_of_the_release,
 ]

@@ -6,8 +6,8 @@
 It takes the examples first: an input cut at every byte, requests without end, without lines, with carriage returns, above the limit
 of bytes, a reader that closes, and a client that sends a request only after it has the reply to the one before. Then N random scripts
 (10,000), each a request, 50 over each random sky and catalogue, with waits and cancels among the queries: with no workers both
-programs write one text for each script, and the replies are compared by their bytes. The requests of an input are found here by
-themselves, from docs/FORMATS.md.
+programs write one text for each script, and the replies are compared by their bytes. No line of these transcripts may begin with `+`.
+The requests of an input are found here by themselves, from docs/FORMATS.md.
 
 FILE is the program of `query`, by default .qserv/qserv, and that of `serve`, by default .qserv/serve/qserv, where ./qserv leaves them.
 It writes a line for each fact that does not hold, and how many it has tried. The status is 0 if all hold.
@@ -49,6 +49,8 @@ class World:
             words = [self.words.program, "query", *self.texts, "script", str(workers)]
             ended = subprocess.run(words, cwd=self.folder, capture_output=True, timeout=SECONDS)
             wanted = {0: ended.stdout + OK, 5: b"+ " + ended.stderr}
+            if re.search(rb"^\+", ended.stdout, re.MULTILINE):
+                wanted = {0: b"a line of the transcript begins with +\n"}
             self.known[request] = wanted.get(ended.returncode, b"query failed: " + ended.stderr)
         return self.known[request]
 

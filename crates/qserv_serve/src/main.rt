@@ -20,6 +20,9 @@ fn main(rt: HostRuntime) -> ExitCode {
         Ok(words) => words,
         Err(error) => return tell(&rt, &without_words(error), &[]),
     };
+    let Ok(load) = load_words(&rt, words.as_slice()) else {
+        return tell(&rt, &no_memory(), &[]);
+    };
     let alloc = rt.alloc();
     let mut shelf = FolderShelf::new(&rt, alloc);
     let mut source = InSource::new(&rt);
@@ -33,10 +36,7 @@ fn main(rt: HostRuntime) -> ExitCode {
         &mut sink,
         &OpenGate,
     );
-    match load_words(&rt, words.as_slice()) {
-        Ok(load) => tell(&rt, &outcome, load.as_slice()),
-        Err(_) => tell(&rt, &outcome, &[]),
-    }
+    tell(&rt, &outcome, load.as_slice())
 }
 
 // Returns the words after the program's own name. Words that are not UTF-8 are an error.
@@ -61,10 +61,15 @@ fn load_words<R: AllocGlobal>(rt: &R, words: &[String]) -> Result<Vec<String>, A
 // Returns the outcome if the words could not be read.
 fn without_words(error: io::Error) -> ServeOutcome {
     match error.kind() {
-        ErrorKind::OutOfMemory => ServeOutcome::Stopped {
-            outcome: Outcome::Memory,
-        },
+        ErrorKind::OutOfMemory => no_memory(),
         _ => ServeOutcome::Usage,
+    }
+}
+
+// Returns the outcome if there is no memory for the words.
+fn no_memory() -> ServeOutcome {
+    ServeOutcome::Stopped {
+        outcome: Outcome::Memory,
     }
 }
 

@@ -1,10 +1,9 @@
 -- An input that is cut line by line.
-use Rattle.std.proofs.Common.{◌≡◌, refl, sym, ap, ◌∙◌, ℕ, ◌==◌, nat_eq, Bool, true, false, ◌&&◌, ◌||◌, if◌then◌else◌}
+use Rattle.std.proofs.Common.{◌≡◌, refl, sym, ap, ◌∙◌, ℕ, ◌==◌, Bool, true, false, ◌&&◌, ◌||◌, if◌then◌else◌}
 use Rattle.std.proofs.Common.{List, [], ◌∷◌, ◌++◌, length, codes, append_assoc, append-nil, bytes_eq}
 use Rattle.std.proofs.lemmas.Slice.Eq.{bytes_eq-Decides}
 use Rattle.request_loop.specs.Requests.{Cut, after_requests, begun_by, begun_with, cut_lines, cut_of, ends_request, lines_in, with_byte}
 use Rattle.request_loop.specs.Drafts.{IsOpen, IsRequest, IsRest, bytes_in, has_feed, may_end, start_from, start_in}
-use Rattle.request_loop.specs.declared.line_start.LineStart.{LineStart}
 use Rattle.request_loop.specs.declared.line_start.LineStart.TheVariants.{Empty, Plus, PlusReturn, Other}
 
 -- neither of two is true

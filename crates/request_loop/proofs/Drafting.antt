@@ -1,14 +1,14 @@
 -- A draft of a request, byte by byte.
 use Rattle.std.proofs.Common.{◌≡◌, refl, sym, ap, ◌∙◌, subst, ℕ, ◌+◌, ◌-◌, ◌<◌, ◌≤◌, ◌==◌, arith, Bool, true, false, ◌&&◌, ◌||◌, if◌then◌else◌}
-use Rattle.std.proofs.Common.{List, [], ◌∷◌, ◌++◌, length, take, append_assoc, append-nil, length-append, length-take, eqb-true, ltb-true, ltb-false, nat_lt, take_all, Some, None, Option}
+use Rattle.std.proofs.Common.{List, [], ◌∷◌, ◌++◌, length, take, append_assoc, append-nil, length-append, length-take, eqb-true, ltb-true, ltb-false, nat_lt, take_all, Some, None}
 use Rattle.std.proofs.lemmas.List.{take-append-le}
 use Rattle.std.proofs.Math.Seq.{take-append_seam}
 use Rattle.text_rules.specs.declared.limits.TheConstants.{SCRIPT_TEXT_MOST}
 use Rattle.request_loop.specs.Requests.{ends_request}
-use Rattle.request_loop.specs.Drafts.{IsDraft, IsOpen, IsRequest, IsRest, bytes_in, has_feed, may_end, start_after, start_from, start_in}
+use Rattle.request_loop.specs.Drafts.{IsDraft, IsOpen, IsRequest, IsRest, bytes_in, has_feed, may_end, start_from, start_in}
 use Rattle.byte_source.specs.Sources.{SourceState, Gave, IsAtEnd}
 use Rattle.sky_io.specs.Sinks.{Rose}
-use Rattle.request_loop.specs.Readings.{Adds, HasRead, HasReadAll, IsAny, IsLong, IsRequestOf, IsRestOf, Reads, ReadsFault, ReadsLines, TakesNext, TookByte}
+use Rattle.request_loop.specs.Readings.{Adds, HasRead, HasReadAll, IsLong, IsRequestOf, IsRestOf, Reads, ReadsFault, ReadsLines, TakesNext, TookByte}
 use Rattle.request_loop.specs.declared.draft.Draft.{Draft}
 use Rattle.request_loop.specs.declared.draft.TheConstants.{DRAFT_MOST}
 use Rattle.request_loop.specs.declared.line_start.LineStart.{LineStart}

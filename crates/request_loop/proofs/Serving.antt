@@ -1,16 +1,16 @@
 -- A session, request by request.
-use Rattle.std.proofs.Common.{◌≡◌, refl, sym, ap, ◌∙◌, subst, ℕ, ◌≤◌, arith, false, inl, inr, ◌⊎◌}
-use Rattle.std.proofs.Common.{List, [], ◌∷◌, ◌++◌, length, take, append_assoc, append-nil, Option, None, Some, option_map}
+use Rattle.std.proofs.Common.{◌≡◌, refl, sym, ap, ◌∙◌, subst, ℕ, arith, false, inl, inr, ◌⊎◌}
+use Rattle.std.proofs.Common.{List, [], ◌∷◌, ◌++◌, length, take, append_assoc, append-nil, Option, None, Some}
 use Rattle.std.proofs.Math.Seq.{take-length}
 use Rattle.sky_io.specs.Sinks.{SinkState, Appended, AppendedPart, Flushed, Wrote}
 use Rattle.sky_io.specs.declared.sink.Put.{Put}
 use Rattle.sky_io.specs.declared.sink.Put.TheVariants as put
-use Rattle.sky_io.proofs.Writes.{wrote_nothing, wrote_one, wrote_two}
-use Rattle.byte_source.specs.Sources.{SourceState, Gave, IsAtEnd}
-use Rattle.request_loop.specs.Requests.{Cut, after_requests, begun_with, cut_of}
-use Rattle.request_loop.specs.Replies.{AreReplies, IsReply, IsReplyAnd, open_text}
+use Rattle.sky_io.proofs.Writes.{wrote_nothing}
+use Rattle.byte_source.specs.Sources.{SourceState}
+use Rattle.request_loop.specs.Requests.{Cut, after_requests, cut_of}
+use Rattle.request_loop.specs.Replies.{AreReplies, IsReply, open_text}
 use Rattle.request_loop.specs.Drafts.{IsRequest, IsRest}
-use Rattle.request_loop.specs.Sessions.{Streams, streams, IsDone, IsSession, IsSinkFault, IsSourceFault}
+use Rattle.request_loop.specs.Sessions.{streams, IsDone, IsSession, IsSinkFault, IsSourceFault}
 use Rattle.request_loop.specs.Steps.{Broken, Finished, IsSoFar, Replied, Sent, Serves}
 use Rattle.request_loop.proofs.Giving.{gave_nothing, gave_two}
 use Rattle.request_loop.specs.declared.session.Session.{Session}
@@ -98,22 +98,9 @@ no_later : (requests : List (List ℕ)) → after_requests requests (cut_of []) 
 unfolding cut_of
 no_later requests = ap (λ r. cut_from r []) (append-nil requests)
 
--- the whole input, after a request
-cut_whole : (input read : List ℕ) (requests : List (List ℕ)) (text : List ℕ)
-    → ((later : List ℕ) → cut_of (input ++ later) ≡ after_requests requests (cut_of later)) → IsRequest text read
-    → cut_of (input ++ read) ≡ cut_from (requests ++ text ∷ []) []
-cut_whole input read requests text are is =
-    sym (ap cut_of (append-nil (input ++ read))) ∙ requests_more input read requests text are is [] ∙ no_later (requests ++ text ∷ [])
-
--- a text was written, and nothing has failed
-wrote_by : (old new : SinkState) (text : List ℕ) → Appended old.written text new.written → new.faults ≡ old.faults → Wrote old new text put.Done
-wrote_by old new text first calm = record {
-  done = λ e. first;
-  calm = λ e. calm;
-  part = λ e. absurd (cc e);
-  cause = λ e. absurd (cc e);
-  later = omega (arith, calm);
-}
+-- bytes that are one request and nothing else
+request_alone : (read text : List ℕ) → IsRequest text read → cut_of read ≡ cut_from (text ∷ []) []
+request_alone read text is = sym (ap cut_of (append-nil read)) ∙ is [] ∙ no_later (text ∷ [])
 
 -- one more request was answered
 pub so_far_more : (A : List ℕ → List ℕ → Type 0) (so old_so : SourceState) (sn : SourceState) (k old_k kn : SinkState)
@@ -171,46 +158,47 @@ source_failed A so om sn k ok kn far last =
       sent = ap (λ s. s.held) last.same ∙ far.sent;
     }
 
--- a part of a text after another
-part_after : (old mid new : SinkState) (p q : List ℕ) → Appended old.written p mid.written → mid.faults ≡ old.faults
-    → Wrote mid new q put.Failed → AppendedPart old.written (p ++ q) new.written
-part_after old mid new p q first calm wrote =
-    (wrote_two old mid new p q put.Failed (wrote_by old mid p first calm) wrote).part refl
-
 -- the sink failed at the last line
 pub last_failed : (A : List ℕ → List ℕ → Type 0) (so om sn : SourceState) (k ok kn : SinkState)
     → IsSoFar A (streams so om k ok) → Finished (streams om sn ok kn) put.Failed → IsSinkFault A (streams so sn k kn)
-last_failed A so om sn k ok kn far last =
-    let cut = cut_rest far.input last.read far.requests far.are last.is in
-    record {
-      input = far.input ++ last.read;
-      read = gave_two so.left om.left sn.left far.input last.read far.gave last.gave;
-      still = last.still ∙ far.still;
-      replies = far.replies;
-      each = subst (λ c. AreReplies A (requests_in c) far.replies) (sym cut) far.each;
-      written = subst (λ c. AppendedPart k.written (far.replies ++ open_text (rest_in c)) kn.written) (sym cut)
-          (part_after k ok kn far.replies (open_text last.read) far.written far.calm last.line.wrote);
-      cause = let rose = last.line.wrote.cause refl in omega (arith, rose, far.calm);
-    }
+last_failed A so om sn k ok kn far last = record {
+  input = far.input ++ last.read;
+  read = gave_two so.left om.left sn.left far.input last.read far.gave last.gave;
+  still = last.still ∙ far.still;
+  answered = far.requests;
+  last = cut_from [] last.read;
+  cut = far.are last.read ∙ ap (after_requests far.requests) last.is;
+  one = inr (refl, inl last.ended);
+  replies = far.replies;
+  each = far.each;
+  between = ok.written;
+  whole = far.written;
+  reply = [];
+  is = refl;
+  part = last.line.wrote.part refl;
+  cause = let rose = last.line.wrote.cause refl in omega (arith, rose, far.calm);
+}
 
 -- the sink failed at a reply
 pub reply_failed : (A : List ℕ → List ℕ → Type 0) (so om sn : SourceState) (k ok kn : SinkState)
     → IsSoFar A (streams so om k ok) → Replied A (streams om sn ok kn) put.Failed → IsSinkFault A (streams so sn k kn)
-reply_failed A so om sn k ok kn far next =
-    let cut = cut_whole far.input next.read far.requests next.text far.are next.is in
-    let reply = next.reply.reply in
-    record {
-      input = far.input ++ next.read;
-      read = gave_two so.left om.left sn.left far.input next.read far.gave next.gave;
-      still = next.still ∙ far.still;
-      replies = far.replies ++ reply;
-      each = subst (λ c. AreReplies A (requests_in c) (far.replies ++ reply)) (sym cut)
-          (one_more A far.requests far.replies next.text reply far.each next.reply.is);
-      written = subst (λ c. AppendedPart k.written ((far.replies ++ reply) ++ open_text (rest_in c)) kn.written) (sym cut)
-          (subst (λ t. AppendedPart k.written t kn.written) (sym (append-nil (far.replies ++ reply)))
-          (part_after k ok kn far.replies reply far.written far.calm next.reply.sent.wrote));
-      cause = let rose = next.reply.sent.wrote.cause refl in omega (arith, rose, far.calm);
-    }
+reply_failed A so om sn k ok kn far next = record {
+  input = far.input ++ next.read;
+  read = gave_two so.left om.left sn.left far.input next.read far.gave next.gave;
+  still = next.still ∙ far.still;
+  answered = far.requests;
+  last = cut_from (next.text ∷ []) [];
+  cut = far.are next.read ∙ ap (after_requests far.requests) (request_alone next.read next.text next.is);
+  one = inl (refl, refl);
+  replies = far.replies;
+  each = far.each;
+  between = ok.written;
+  whole = far.written;
+  reply = next.reply.reply;
+  is = one_more A [] [] next.text next.reply.reply refl next.reply.is;
+  part = subst (λ t. AppendedPart ok.written t kn.written) (sym (append-nil next.reply.reply)) (next.reply.sent.wrote.part refl);
+  cause = let rose = next.reply.sent.wrote.cause refl in omega (arith, rose, far.calm);
+}
 
 sink_failed : (A : List ℕ → List ℕ → Type 0) (so om sn : SourceState) (k ok kn : SinkState)
     → IsSoFar A (streams so om k ok) → Replied A (streams om sn ok kn) put.Failed ⊎ Finished (streams om sn ok kn) put.Failed → IsSinkFault A (streams so sn k kn)
@@ -258,9 +246,17 @@ flushed_sink A so sn k ok kn flushed is = record {
   input = is.input;
   read = is.read;
   still = is.still;
+  answered = is.answered;
+  last = is.last;
+  cut = is.cut;
+  one = is.one;
   replies = is.replies;
   each = is.each;
-  written = subst (λ w. AppendedPart w (is.replies ++ open_text (cut_of is.input).rest) kn.written) flushed.same is.written;
+  between = is.between;
+  whole = subst (λ w. Appended w is.replies is.between) flushed.same is.whole;
+  reply = is.reply;
+  is = is.is;
+  part = is.part;
   cause = let rose = is.cause in omega (arith, rose, flushed.calm refl);
 }
 
@@ -282,8 +278,16 @@ not_flushed A source k kn flushed = record {
   input = [];
   read = gave_nothing source.left;
   still = refl;
+  answered = [];
+  last = cut_from [] [];
+  cut = no_text;
+  one = inr (refl, inr refl);
   replies = [];
-  each = subst (λ c. AreReplies A (requests_in c) []) (sym no_text) refl;
-  written = (0, omega arith, appended_none k kn flushed.same);
+  each = refl;
+  between = k.written;
+  whole = appended_none k k refl;
+  reply = [];
+  is = refl;
+  part = (0, omega arith, appended_none k kn flushed.same);
   cause = flushed.cause refl;
 }

@@ -1,7 +1,7 @@
 -- The requests of an input, whatever follows it.
 use Rattle.std.proofs.Common.{◌≡◌, refl, sym, ap, ◌∙◌, subst, ℕ, ◌==◌, Bool, true, false, List, [], ◌∷◌, ◌++◌, append_assoc, append-nil, eqb-true}
 use Rattle.request_loop.specs.Requests.{Cut, after_requests, cut_of, ends_request}
-use Rattle.request_loop.specs.Drafts.{IsOpen, IsRequest, has_feed}
+use Rattle.request_loop.specs.Drafts.{IsOpen, has_feed}
 use Rattle.request_loop.specs.Laws.{RequestsStay}
 use Rattle.request_loop.proofs.Cutting.{open_ended, open_more, open_none, open_rest}
 use Rattle.request_loop.proofs.Drafting.{flat_more}

@@ -1,5 +1,5 @@
 -- A step of a session: a request that was read, and its reply.
-use Rattle.std.proofs.Common.{◌≡◌, refl, sym, ap, ◌∙◌, subst, ℕ, ◌<◌, ◌≤◌, arith, false, inl, inr, List, [], ◌∷◌, length, Option, None, Some, Vec, Global}
+use Rattle.std.proofs.Common.{◌≡◌, refl, sym, subst, ℕ, ◌<◌, ◌≤◌, arith, false, inl, inr, List, [], ◌∷◌, length, Option, Some, Vec, Global}
 use Rattle.text_rules.specs.declared.limits.TheConstants.{SCRIPT_TEXT_MOST}
 use Rattle.sky_io.specs.Sinks.{SinkState, Flushed, Wrote}
 use Rattle.sky_io.specs.declared.sink.Put.{Put}
@@ -7,12 +7,11 @@ use Rattle.sky_io.specs.declared.sink.Put.TheVariants as put
 use Rattle.sky_io.proofs.Writes.{wrote_nothing}
 use Rattle.byte_source.specs.Sources.{SourceState}
 use Rattle.request_loop.specs.Requests.{cut_of}
-use Rattle.request_loop.specs.Replies.{IsReply, WroteAnswer, long_line, memory_line, open_line, open_text}
+use Rattle.request_loop.specs.Replies.{WroteAnswer, long_line, memory_line, open_line, open_text}
 use Rattle.request_loop.specs.Drafts.{IsRest}
 use Rattle.request_loop.specs.Sessions.{Streams, streams}
 use Rattle.request_loop.specs.Readings.{Reads}
 use Rattle.request_loop.specs.Steps.{AfterLast, AfterReply, Finished, Replied, Sent, SentReply, Serves}
-use Rattle.request_loop.specs.declared.request.Request.{Request}
 use Rattle.request_loop.specs.declared.request.Request.TheVariants as request
 use Rattle.request_loop.specs.declared.session.Session.{Session}
 use Rattle.request_loop.specs.declared.session.Session.TheVariants as session

@@ -1,6 +1,6 @@
 -- A request while it is read.
 use Rattle.std.specs.Prelude.{◌≡◌, ℕ, ◌==◌, ◌<◌, ◌||◌, Bool, true, false, List, [], ◌∷◌, ◌++◌, length, take, if◌then◌else◌}
-use Rattle.request_loop.specs.Requests.{Cut, after_requests, begun_by, cut_of}
+use Rattle.request_loop.specs.Requests.{after_requests, begun_by, cut_of}
 use Rattle.request_loop.specs.declared.draft.Draft.{Draft}
 use Rattle.request_loop.specs.declared.draft.TheConstants.{DRAFT_MOST}
 use Rattle.request_loop.specs.declared.line_start.LineStart.{LineStart}

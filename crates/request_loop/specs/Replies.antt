@@ -1,11 +1,11 @@
--- The replies to requests. What an accepted request may be answered is a parameter: a relation between the text of a
+-- The replies to requests. Which answers an accepted request may have is a parameter: a relation between the text of a
 -- request and an answer.
 use Rattle.std.specs.Prelude.{◌≡◌, ◌⊎◌, ℕ, ◌<◌, ◌≤◌, List, [], ◌∷◌, ◌++◌, length, codes}
 use Rattle.text_rules.specs.declared.limits.TheConstants.{SCRIPT_TEXT_MOST}
 use Rattle.sky_io.specs.Sinks.{SinkState, Wrote}
 use Rattle.sky_io.specs.declared.sink.Put.TheVariants as put
-use Rattle.request_loop.specs.declared.answerer.Answered.{Answered}
-use Rattle.request_loop.specs.declared.answerer.Answered.TheVariants.{Done, Failed, Memory}
+use Rattle.request_loop.specs.declared.answered.Answered.{Answered}
+use Rattle.request_loop.specs.declared.answered.Answered.TheVariants.{Done, Failed, Memory}
 
 -- the reply to a request for which an allocation failed
 abbrev pub memory_line : List ℕ
@@ -15,7 +15,7 @@ memory_line = codes "+ out of memory\n"
 abbrev pub long_line : List ℕ
 long_line = codes "+ script: too long\n"
 
--- the last line if the input ends in a request
+-- the last line, if the last request has no end
 abbrev pub open_line : List ℕ
 open_line = codes "+ request without end\n"
 

@@ -11,7 +11,7 @@ use std::sync::Wait;
 
 /// The next request of an input, or why there is none.
 #[derive(Drop)]
-pub(crate) enum Request {
+pub enum Request {
     /// Its text, which is within the limit.
     Text(Vec<u8>),
     /// Its text is above the limit.
@@ -27,7 +27,7 @@ pub(crate) enum Request {
 }
 
 /// Reads the next request. A text above the limit is read to its end, and not kept. Allocates memory.
-pub(crate) fn read_request<R: Wait, S: Source, K: Sink>(
+pub fn read_request<R: Wait, S: Source, K: Sink>(
     alloc: Global,
     rt: &R,
     source: &mut S,

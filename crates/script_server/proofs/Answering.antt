@@ -1,4 +1,4 @@
--- What a script is answered, by how its answer was written.
+-- The answer of a script, by how it was written.
 use Rattle.std.proofs.Common.{◌≡◌, refl, inl, inr, ℕ, List, Ok, Err}
 use Rattle.sky_io.specs.Shelves.{ShelfState}
 use Rattle.sky_io.specs.Sinks.{SinkState, Wrote}
@@ -11,12 +11,12 @@ use Rattle.session_rules.specs.declared.end.EndKind.{EndKind}
 use Rattle.transcript_rules.specs.Transcripts.{FitEnds}
 use Rattle.request_loop.specs.Replies.{Answering}
 use Rattle.request_loop.specs.Sessions.{Streams}
-use Rattle.request_loop.specs.declared.answerer.Answered.{Answered}
-use Rattle.request_loop.specs.declared.answerer.Answered.TheVariants.{Done, Failed, Memory}
+use Rattle.request_loop.specs.declared.answered.Answered.{Answered}
+use Rattle.request_loop.specs.declared.answered.Answered.TheVariants.{Done, Failed, Memory}
 use Rattle.script_server.specs.Answers.{Basis, IsAnswer, IsTranscript, answered_text, faulty_line}
-use Rattle.script_server.specs.Served.{ServedOf}
+use Rattle.script_server.specs.Meanings.{OutcomeOf}
 use Rattle.script_server.specs.Steps.{AnswersScript, WroteScript, answered_by}
-use Rattle.script_server.specs.Words.{Serving}
+use Rattle.script_server.specs.Words.{ServeWords}
 use Rattle.script_server.specs.declared.outcome.ServeOutcome.{ServeOutcome}
 use Rattle.script_server.specs.declared.outcome.ServeOutcome.TheVariants.{Usage, Stopped, Ended}
 
@@ -51,8 +51,8 @@ answering_fault basis text fault old new put.Failed found wrote =
     record { answer = faulty_line fault; is = inr (record { fault = fault; found = found; is = refl }); wrote = wrote }
 
 -- a survey that is to be served is not wrong usage
-pub not_usage : (serving : Serving) (old new : ShelfState) (s : Streams) (outcome : ServeOutcome) → ServedOf serving old new s outcome
+pub not_usage : (words : ServeWords) (old new : ShelfState) (s : Streams) (outcome : ServeOutcome) → OutcomeOf words old new s outcome
     → outcome ≡ Usage → ⊥
-not_usage serving old new s Usage is e = is
-not_usage serving old new s (Stopped outcome) is e = absurd (cc e)
-not_usage serving old new s (Ended session) is e = absurd (cc e)
+not_usage words old new s Usage is e = is
+not_usage words old new s (Stopped outcome) is e = absurd (cc e)
+not_usage words old new s (Ended session) is e = absurd (cc e)

@@ -1,4 +1,4 @@
--- What a script is answered, over a survey that was loaded.
+-- Which answers a script may have, over a survey that was loaded.
 use Rattle.std.specs.Prelude.{◌≡◌, ◌⊎◌, ℕ, List, ◌++◌, Ok, Err, codes}
 use Rattle.chunk_store.specs.Survey.{Survey}
 use Rattle.session_script.specs.Scripts.{script_of}
@@ -12,6 +12,10 @@ use Rattle.top_call.specs.FaultLines.{script_line}
 pub record Basis : Type 0 where
   pub survey : Survey
   pub workers : ℕ
+
+-- a survey and a number of workers
+abbrev pub basis_of : Survey → ℕ → Basis
+basis_of survey workers = record { survey = survey; workers = workers }
 
 -- the line that ends the answer of a script that is accepted
 abbrev pub ok_line : List ℕ
@@ -40,6 +44,6 @@ pub record IsFaulty (text answer : List ℕ) : Type 0 where
   pub found : script_of text ≡ Err fault
   pub is : answer ≡ faulty_line fault
 
--- what a script with this text is answered
+-- the answers that a script with this text may have
 abbrev pub IsAnswer : Basis → (text answer : List ℕ) → Type 0
 IsAnswer basis text answer = IsTranscript basis text answer ⊎ IsFaulty text answer

@@ -2,5 +2,5 @@ pub mod Answers
 pub mod Steps
 pub mod Words
 pub mod WordForms
-pub mod Served
+pub mod Meanings
 pub mod Outcomes

@@ -6,8 +6,8 @@ use Rattle.transcript_rules.specs.Transcripts.{FitEnds}
 use Rattle.sky_io.specs.Sinks.{SinkState, Wrote}
 use Rattle.sky_io.specs.declared.sink.Put.{Put}
 use Rattle.sky_io.specs.declared.sink.Put.TheVariants as put
-use Rattle.request_loop.specs.declared.answerer.Answered.{Answered}
-use Rattle.request_loop.specs.declared.answerer.Answered.TheVariants.{Done, Failed, Memory}
+use Rattle.request_loop.specs.declared.answered.Answered.{Answered}
+use Rattle.request_loop.specs.declared.answered.Answered.TheVariants.{Done, Failed, Memory}
 use Rattle.script_server.specs.Answers.{Basis, answered_text}
 
 -- the result of an answer that was written, or not

@@ -1,15 +1,17 @@
-//! The serving of scripts: a sky plan and a catalogue are loaded once, and scripts are answered as they come.
+//! A server of scripts: a sky plan and a catalogue are loaded once, and scripts are answered as they come.
 //!
-//! `qserv_serve` is generic over the outside. Its contract (`specs/Served.antt`) defines what each outcome means, and
-//! `specs/Answers.antt` what a script is answered. Below: `request_loop` reads requests and sends replies, `top_call`
-//! loads, `czar` runs the queries of a script and writes their results. Nothing of a script is kept after its reply.
+//! `qserv_serve` is generic over the outside. Its contract (`specs/Meanings.antt`) defines what each outcome means, and
+//! `specs/Answers.antt` which answers a script may have. Below: `request_loop` reads requests and sends lines,
+//! `top_call` loads, `czar` runs the queries of a script and writes their results. Nothing of a script is kept after
+//! its reply.
 #![tactic(auto)]
 
+mod answer;
 mod outcome;
-mod script_answers;
+mod session;
+mod step;
 mod top;
 mod words;
 
 pub use outcome::{ServeOutcome, put_serve_outcome, serve_status};
-pub use script_answers::ScriptAnswers;
 pub use top::qserv_serve;

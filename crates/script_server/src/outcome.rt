@@ -1,4 +1,4 @@
-//! The outcomes of the serving, and how they are reported.
+//! The outcomes of `serve`, and how they are reported.
 ghost use Rattle.std.specs.Prelude.{◌≡◌};
 ghost use Rattle.sky_io.specs.Sinks.{Wrote};
 ghost use Rattle.script_server.specs.Outcomes.{serve_line, serve_status, session_line, session_status};
@@ -8,7 +8,7 @@ use request_loop::Session;
 use sky_io::{Put, Sink};
 use top_call::{Outcome, put_outcome, status};
 
-/// The outcome of the serving.
+/// The outcome of `serve`.
 #[derive(Drop)]
 pub enum ServeOutcome {
     /// The arguments are no `SKY CSV WORKERS`.

@@ -1,19 +1,16 @@
-//! The top call of the serving: arguments, then the survey, then the requests.
+//! The top call of `serve`: arguments, then the survey, then the requests.
 ghost use Rattle.std.specs.Prelude.{◌≡◌, ◌↔◌, ◌≤◌, None};
 ghost use Rattle.session_rules.specs.declared.limits.TheConstants.{WORKERS_MOST};
-ghost use Rattle.request_loop.specs.Sessions.{IsSession, streams};
+ghost use Rattle.request_loop.specs.Sessions.{streams};
 ghost use Rattle.top_call.specs.Words.{bytes_of};
-ghost use Rattle.script_server.specs.Answers.{IsAnswer};
-ghost use Rattle.script_server.specs.Served.{IsServing, ServedOf};
+ghost use Rattle.script_server.specs.Meanings.{IsServeOutcome, OutcomeOf};
 ghost use Rattle.script_server.specs.WordForms.{asked_by};
-ghost use Rattle.script_server.specs.Words.{serving_of};
+ghost use Rattle.script_server.specs.Words.{words_of};
 
 use crate::outcome::ServeOutcome;
-use crate::script_answers::ScriptAnswers;
-use crate::words::{Served, read_words};
+use crate::session::serve;
+use crate::words::{ReadWords, read_words};
 use byte_source::Source;
-use chunk_store::Store;
-use request_loop::{Session, serve};
 use sky_io::{Gate, Shelf, Sink};
 use std::alloc::Global;
 use std::sync::Wait;
@@ -35,15 +32,15 @@ pub fn qserv_serve<R: Threads + Wait + Sync, S: Shelf, F: Source, K: Sink, G: Ga
     sink: &mut K,
     gate: &G,
 ) -> ServeOutcome
-    ensures usage { (result ≡ ServeOutcome.Usage) ↔ (serving_of (bytes_of words.now) ≡ None) }
-    ensures explained { IsServing (serving_of (bytes_of words.now))
+    ensures usage { (result ≡ ServeOutcome.Usage) ↔ (words_of (bytes_of words.now) ≡ None) }
+    ensures explained { IsServeOutcome (words_of (bytes_of words.now))
         (S.state shelf.old) (S.state shelf.new)
         (streams (F.state source.old) (F.state source.new) (K.state sink.old) (K.state sink.new))
         result }
 {
     match read_words(words) {
         None => ServeOutcome::Usage,
-        Some(served) => serve_survey(rt, alloc, served, shelf, source, sink, gate),
+        Some(words) => serve_survey(rt, alloc, &words, shelf, source, sink, gate),
     }
 }
 
@@ -51,47 +48,24 @@ pub fn qserv_serve<R: Threads + Wait + Sync, S: Shelf, F: Source, K: Sink, G: Ga
 fn serve_survey<R: Threads + Wait + Sync, S: Shelf, F: Source, K: Sink, G: Gate + Sync>(
     rt: &R,
     alloc: Global,
-    served: Served<'_>,
+    words: &ReadWords<'_>,
     shelf: &mut S,
     source: &mut F,
     sink: &mut K,
     gate: &G,
 ) -> ServeOutcome
-    requires { served.workers ≤ WORKERS_MOST }
-    ensures { ServedOf (asked_by served) (S.state shelf.old) (S.state shelf.new)
+    requires { words.now.workers ≤ WORKERS_MOST }
+    ensures { OutcomeOf (asked_by words.now) (S.state shelf.old) (S.state shelf.new)
         (streams (F.state source.old) (F.state source.new) (K.state sink.old) (K.state sink.new))
         result }
 {
-    let Served {
-        sky,
-        catalogue,
-        workers,
-    } = served;
-    match fetch_survey(alloc, rt, workers + 1, shelf, sky, catalogue) {
+    let workers = words.workers;
+    match fetch_survey(alloc, rt, workers + 1, shelf, words.sky, words.catalogue) {
         Err(outcome) => ServeOutcome::Stopped { outcome },
         Ok(store) => {
-            let session = serve_store(rt, alloc, &store, workers, source, sink, gate);
+            let session = serve(alloc, rt, &store, workers, source, sink, gate);
             drop(store);
             ServeOutcome::Ended { session }
         }
     }
-}
-
-// Answers the requests over a store.
-fn serve_store<R: Threads + Wait + Sync, F: Source, K: Sink, G: Gate + Sync>(
-    rt: &R,
-    alloc: Global,
-    store: &Store,
-    workers: u32,
-    source: &mut F,
-    sink: &mut K,
-    gate: &G,
-) -> Session
-    requires { workers ≤ WORKERS_MOST }
-    ensures { IsSession (IsAnswer (record { survey = store.now; workers = workers }))
-        (streams (F.state source.old) (F.state source.new) (K.state sink.old) (K.state sink.new))
-        result }
-{
-    let answers = ScriptAnswers::new(alloc, store, workers, gate);
-    serve(alloc, rt, source, sink, &answers)
 }

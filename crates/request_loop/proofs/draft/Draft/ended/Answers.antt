@@ -1,4 +1,4 @@
-use Rattle.std.proofs.Common.{rules, ◌≡◌, ◌++◌, ◌∷◌, ℕ, List, [], ◌-◌, ◌<◌, ◌≤◌, length, length-take, arith, ap, sym, subst}
+use Rattle.std.proofs.Common.{rules, ◌≡◌, ◌++◌, ◌∷◌, [], ◌-◌, ◌<◌, ◌≤◌, length, length-take, arith, ap, sym, subst}
 use Rattle.text_rules.specs.declared.limits.TheConstants.{SCRIPT_TEXT_MOST}
 use Rattle.request_loop.specs.Drafts.{IsRequest, bytes_in}
 use Rattle.request_loop.proofs.Drafting.{draft_ended, long_by, text_by}

@@ -1,6 +1,6 @@
 use Rattle.request_loop.proofs.Serving.{sent_by}
 use Rattle.request_loop.proofs.Stepping.{sent_failed}
-use Rattle.request_loop.proofs.step.put_line.Goals as goal
+use Rattle.request_loop.proofs.step.send_line.Goals as goal
 
 pub returns-in-Failed : goal.returns-in-Failed
 returns-in-Failed g c = sent_failed _ _ _ c.in-Failed.ensures
