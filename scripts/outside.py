@@ -55,8 +55,8 @@ EMPTY = [
 ]
 REPORT = b"1 rows, 1 of 8 chunks\nchunk 4: 1 rows, 0 overlap\n"
 USAGE, FAILED = (worked_runs.USAGE + "\n").encode(), b"output failed\n"
-# the bytes that a file may have at most where it may have no more
-LENGTH = 100000
+# the bytes that a file may have at most where it may have no more: the limit is within a write that others follow, or the last one
+LENGTHS = [100000, len(HEADINGS) - 1]
 # a row of the catalogues that change, and how often one is tried; far more seconds than a run takes
 ROW, TIMES, SECONDS = "%d,268435456,0,0\n", 5, 120
 
@@ -96,7 +96,8 @@ def outputs(runs):
         runs.compare(f"{words[0]}, a pipe without a reader", to_nobody(runs, words), 8, err=FAILED)
     runs.compare("a reader that goes", to_a_reader_that_goes(runs), 8, HEADINGS[:1], FAILED)
     runs.compare("a full pipe", to_a_full_pipe(runs), 8, err=FAILED)
-    runs.compare("a file at its greatest length", to_a_short_file(runs), 8, HEADINGS[:LENGTH], FAILED)
+    for most in LENGTHS:
+        runs.compare(f"a file of at most {most} bytes", to_a_short_file(runs, most), 8, HEADINGS[:most], FAILED)
     with open("/dev/full", "wb") as full:
         runs.compare("a full device, nothing written", runs.ended(["explain", "sky", "csv", os.devnull], full), 0)
     runs.compare("no standard error", runs.ended(LOAD, closed=2), 0, REPORT)
@@ -141,11 +142,11 @@ def to_a_full_pipe(runs):
     return status, b"" if told and HEADINGS.startswith(told) else told, err
 
 
-def to_a_short_file(runs):
+def to_a_short_file(runs, most):
     """A run that writes more than a file may have; the signal of that limit is ignored, as this process has it."""
 
     def limit():
-        resource.setrlimit(resource.RLIMIT_FSIZE, (LENGTH, LENGTH))
+        resource.setrlimit(resource.RLIMIT_FSIZE, (most, most))
 
     with open(runs.path("short"), "wb") as file:
         status, _, err = runs.ended(ASK_LONG, file, preexec_fn=limit, restore_signals=False)
