@@ -51,8 +51,8 @@ def position(height, lean_x, lean_y):
 
 
 def rows(count, seed, after=0):
-    """The demo's rows, or as many after the first few: objectId, x, y, z, flux and kind."""
-    # five draws a row are passed over at once
+    """The demo's rows: objectId, x, y, z, flux and kind. The given number of rows before them is skipped."""
+    # a row takes five draws; those of all skipped rows are one power of the factor
     drawn = draws(seed * pow(FACTOR, 5 * after, MODULUS) % MODULUS)
     for number in range(after + 1, after + count + 1):
         at = position(next(drawn), next(drawn), next(drawn))
