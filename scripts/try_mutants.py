@@ -1,13 +1,13 @@
 #!/usr/bin/env python3
-"""Tries the mutants of most crates after `rt ci`: all those of a crate in one check.
+"""Tries the mutants of the dearest crates after `rt ci`: all those of a crate in one check.
 
     scripts/try_mutants.py [--processes N] [--times] [CRATE ..]
     scripts/try_mutants.py --list
 
 A mutant is code or a definition with one thing changed, which the prover must refuse. `rt ci` tries the mutants in the folders
-must-fail/. For the first it checks the crate from nothing, for each other it reads the whole crate once more, so that in all but
-small crates they cost more than its proof. Such a crate has its mutants in the folder mutants/ instead, and this script tries
-them. Their form is that of must-fail/ with one line more:
+must-fail/. For the first it checks the crate from nothing, for each other it reads the whole crate once more, so that in a large
+crate they cost more than its proof. Such a crate has its mutants in the folder mutants/ instead, and this script tries them.
+Their form is that of must-fail/ with one line more:
 
     refused: FUNCTION CLAUSE
 
