@@ -1,2 +1,1 @@
-pub mod Granules
 pub mod Indexes
