@@ -1,19 +1,21 @@
 -- What each answer of the shared board leaves of what the czar knows.
 use Rattle.std.proofs.Common.{◌≡◌, ℕ, ◌<◌, ◌≤◌, List, [], ◌∷◌, ◌++◌, true, false, Option, Some, None, is_some, ◌⊎◌, inl, inr, ⊎_elim, refl, sym, ◌∙◌, ap, subst, append_assoc, append-nil, ◌==◌, arith}
 use Rattle.std.specs.List.{list_any}
-use Rattle.std.proofs.lemmas.Bool.{cases_Bool}
+use Rattle.std.proofs.lemmas.Bool.{and_parts, cases_Bool}
 use Rattle.std.proofs.lemmas.List.Elements.{filter-append}
 use Rattle.turn_lock.specs.Pasts.{fresh}
 use Rattle.turn_lock.specs.Seats.{Knows}
 use Rattle.turn_lock.proofs.PastLemmas.{fresh-append}
 use Rattle.scan_rules.specs.declared.journal_line.JournalLine.{JournalLine}
 use Rattle.scan_rules.specs.declared.journal_line.JournalLine.TheVariants.{Attach, Cancel, Collect}
-use Rattle.scan_rules.specs.Lines.{seat_of, has_ticket, delivers}
+use Rattle.scan_rules.specs.Lines.{seat_of, attaches, has_ticket, delivers}
 use Rattle.scan_rules.specs.Queries.{Journal, QueryState, state_of, is_attached, is_collected, is_closed, is_running}
 use Rattle.scan_rules.specs.Runs.{IsRun}
-use Rattle.scan_rules.proofs.Runs.{front_runs}
+use Rattle.scan_rules.proofs.Runs.{follows_here, front_runs, wanted_stays}
 use Rattle.scan_rules.proofs.Lists.{any_none, any_stays}
-use Rattle.scan_core.specs.Boards.{IsLawful}
+use Rattle.scan_core.specs.Answers.{AnswersCollect}
+use Rattle.scan_core.specs.declared.answers.Collect.TheVariants.{Piece}
+use Rattle.scan_core.specs.Boards.{BoardState, IsLawful}
 use Rattle.session_script.specs.declared.step.Step.{Step}
 use Rattle.session_script.specs.declared.step.Step.TheVariants.{Query, Cancel as CancelStep}
 use Rattle.session_rules.specs.Ends.{asks as is_query_of}
@@ -23,7 +25,7 @@ use Rattle.scan_worker.specs.Working.{AllDelivered, Worked}
 use Rattle.scan_session.specs.Plans.{Plans}
 use Rattle.scan_session.specs.Driven.{has_foreign, Driving, Going}
 use Rattle.scan_session.specs.Seats.{of_seat, IsCzar, Stays}
-use Rattle.scan_session.specs.KnownEnds.{with_end}
+use Rattle.scan_session.specs.KnownEnds.{StandsWhole, with_end}
 use Rattle.scan_session.proofs.Others.{own_and_others}
 use Rattle.scan_session.proofs.Keeping.{clean_front, carry, driving_on, going_on, going_started, going_stopped, stopped_late, collected_now, again_is_foreign, closed_is_foreign, gone_is_foreign}
 
@@ -194,3 +196,17 @@ module _ {R : Type 0} (asks : R → ℕ → ℕ → Type 0) where
 
   pub stays_line : {answers : _} (old new : BoardSeat R) (line : JournalLine) → ((t : ℕ) → has_ticket t line ≡ false) → IsCzar asks old → (c : Called asks answers old new) → new.seen ≡ c.past ++ line ∷ [] → Stays asks old new
   stays_line old new line free z c e = stays_called old new z c (inr (line, free, e))
+
+  -- a piece that was collected represents all chunks of its query
+  pub piece_whole : {P : Type 0} (stands : R → ℕ → List ℕ → P → Type 0) (q : ℕ) (piece : P) (old new : BoardSeat R) (c : Called asks (λ before after. AnswersCollect stands old.number before q (Piece piece) after) old new) → Stays asks old new → StandsWhole (stands new.root.root) new.seen q piece
+  piece_whole stands q piece old new c s =
+      let line : JournalLine = Collect old.number q in
+      let e : new.seen ≡ c.past ++ line ∷ [] = ap (λ (b : BoardState R). b.past) c.answer.0.line in
+      let run : IsRun old.root.ring (c.past ++ line ∷ []) = subst (IsRun old.root.ring) e c.lawful.run.run in
+      let m = follows_here c.past line [] run in
+      let there : is_attached c.past q ≡ true = (and_parts (is_attached c.past q) _ m.ended).0 in
+      subst (λ r. StandsWhole (stands r.root) new.seen q piece) (sym s.root)
+      (subst (λ (l : Journal). StandsWhole (stands old.root.root) l q piece) (sym e) (record {
+        attached = any_stays (attaches q) c.past (line ∷ []) there;
+        whole = subst (λ (l : List ℕ). stands old.root.root q l piece) (sym (wanted_stays c.past (line ∷ []) q run there)) c.answer.1;
+      }))

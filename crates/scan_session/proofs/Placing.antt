@@ -54,7 +54,7 @@ here_is here f q t = cond-true (here q) (f q) None t
 pub else_is : {X : Type 0} (here : ℕ → Bool) (f : ℕ → Option X) (q : ℕ) → here q ≡ false → only here f q ≡ None
 else_is here f q t = cond-false (here q) (f q) None t
 
-some_of : {X : Type 0} (b : Bool) (o : Option X) → is_some (cond b o None) ≡ true → is_some o ≡ true
+pub some_of : {X : Type 0} (b : Bool) (o : Option X) → is_some (cond b o None) ≡ true → is_some o ≡ true
 some_of true o h = h
 some_of false o h = absurd (false≢true h)
 
