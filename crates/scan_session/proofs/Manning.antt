@@ -17,9 +17,10 @@ use Rattle.session_script.specs.declared.step.Step.{Step}
 use Rattle.scan_session.specs.Plans.{AllRunAtOnce, Plans}
 use Rattle.scan_session.specs.Driven.{Going}
 use Rattle.scan_session.specs.Seats.{of_seat, IsCzar, Stays}
-use Rattle.scan_session.specs.KnownEnds.{PlansFit}
-use Rattle.scan_session.specs.Places.{only, AreCzars, GoingAll, HasRoom, PlansFitAll}
+use Rattle.scan_session.specs.KnownEnds.{PlansFit, StandsWhole}
+use Rattle.scan_session.specs.Places.{only, AreCzars, GoingAll, HasRoom, PiecesStandAll, PlansFitAll}
 use Rattle.scan_session.specs.Crews.{Closed, Leaves, KeepsWork, Manned}
+use Rattle.scan_session.specs.declared.end.End.{End}
 use Rattle.scan_session.specs.declared.end.Planned.{Planned}
 use Rattle.scan_session.specs.declared.end.Outcome.{Outcome}
 use Rattle.scan_session.specs.declared.end.Outcome.TheVariants.{Went, Memory, Odd}
@@ -173,3 +174,10 @@ going_split {R} has plan done ends old new e g p =
     let later : (o : _) → IsPrefix (old o).seen (new o).seen = λ o. ([], append-nil (old o).seen ∙ sym (ap (λ (s : BoardSeat R). s.seen) (e o))) in
     going_weaken (only (has p) plan) done (new p).seen (only (has p) ends) (room_before plan old new later)
     (subst (λ (j : Journal). Going (HasRoom plan old) (only (has p) plan) done j (only (has p) ends)) (sym (ap (λ (s : BoardSeat R). s.seen) (e p))) (g p))
+
+-- what the pieces represent, when one more seat was split off
+pub pieces_split : {R L P : Type 0} (stands : R → ℕ → List ℕ → P → Type 0) (home : ℕ → L) (old new : L → BoardSeat R) (ends : List (Option (End P)))
+    → ((p : L) → new p ≡ one_more_made (old p)) → PiecesStandAll stands home old ends → PiecesStandAll stands home new ends
+pieces_split {R} stands home old new ends e w = record {
+  each = λ q piece at. subst (λ (s : BoardSeat R). StandsWhole (stands s.root.root) s.seen q piece) (sym (e (home q))) (w.each q piece at);
+}
