@@ -58,7 +58,7 @@ pub some_of : {X : Type 0} (b : Bool) (o : Option X) → is_some (cond b o None)
 some_of true o h = h
 some_of false o h = absurd (false≢true h)
 
-only_none : {X : Type 0} (b : Bool) (o : Option X) → o ≡ None → cond b o None ≡ None
+pub only_none : {X : Type 0} (b : Bool) (o : Option X) → o ≡ None → cond b o None ≡ None
 only_none true o n = n
 only_none false o n = refl
 

@@ -45,8 +45,8 @@ pub record Settled (S : Journal) (q : ℕ) (later : List Step) : Type 0 where
   pub stopped : is_running S q ≡ false
   pub before : RestsBefore S q later
 
--- What holds of the lines seen once these steps of the script are done, and these ends are known. There may be room for all
--- queries at once.
+-- What holds of the lines seen once these steps of the script are done, and these ends are known. The last field holds if
+-- all planned queries have room at once.
 pub record Driven (Room : Type 0) (plan : Plans) (done : List Step) (S : Journal) (ends : ℕ → Option QueryState) : Type 0 where
   pub attached : attached_in S ≡ planned plan done
   pub open_still : is_closed S ≡ false

@@ -40,7 +40,8 @@ fn alone<R: Wait, P: Work, B: Boards<P>, E: Engine<P>, G: Gate>(
     ends: Vec<Option<End<P>>>,
     steps: &[Step],
 ) -> (Outcome, Vec<Option<End<P>>>, B::Seat)
-    requires seats { AreCzars P.asks (B.turn scan.now.boards.now) (E.root scan.now.engine.now) (B.at seat) }
+    requires seats { AreCzars P.asks (B.turn scan.now.boards.now) (E.root scan.now.engine.now)
+        (B.at seat) }
     requires script { IsScript (vec_len ends) steps.now }
     requires len { vec_len plans ≡ vec_len ends }
     requires few { vec_len ends ≤ QUERY_MOST }
@@ -89,7 +90,8 @@ where
     P::Root: Send,
     B::Seat: Send,
     E::Scratch: Send,
-    requires seats { AreCzars P.asks (B.turn scan.now.boards.now) (E.root scan.now.engine.now) (B.at seat) }
+    requires seats { AreCzars P.asks (B.turn scan.now.boards.now) (E.root scan.now.engine.now)
+        (B.at seat) }
     requires script { IsScript (vec_len ends) steps.now }
     requires len { vec_len plans ≡ vec_len ends }
     requires few { vec_len ends ≤ QUERY_MOST }
@@ -135,7 +137,8 @@ where
         },
         move || -> (Outcome, Vec<Option<End<P>>>, B::Seat)
             requires shared { IsSync R.row }
-            requires seats { AreCzars P.asks (B.turn scan.now.boards.now) (E.root scan.now.engine.now) (B.at seat) }
+            requires seats { AreCzars P.asks (B.turn scan.now.boards.now) (E.root scan.now.engine.now)
+                (B.at seat) }
             requires script { IsScript (vec_len ends) steps.now }
             requires len { vec_len plans ≡ vec_len ends }
             requires few { vec_len ends ≤ QUERY_MOST }
@@ -181,7 +184,8 @@ where
     P::Root: Send,
     B::Seat: Send,
     E::Scratch: Send,
-    requires seats { AreCzars P.asks (B.turn scan.now.boards.now) (E.root scan.now.engine.now) (B.at seat) }
+    requires seats { AreCzars P.asks (B.turn scan.now.boards.now) (E.root scan.now.engine.now)
+        (B.at seat) }
     requires kept { ArePromised P.asks P.stands (E.root scan.now.engine.now) W.asks W.stands }
     requires script { IsScript (vec_len ends) steps.now }
     requires len { vec_len plans ≡ vec_len ends }

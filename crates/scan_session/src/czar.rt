@@ -32,7 +32,8 @@ fn whole<R: Wait, P: Work, B: Boards<P>, E: Engine<P>, G: Gate>(
     ends: &mut [Option<End<P>>],
     steps: &[Step],
 ) -> (Outcome, B::Seat)
-    requires seats { AreCzars P.asks (B.turn scan.now.boards.now) (E.root scan.now.engine.now) (B.at seat) }
+    requires seats { AreCzars P.asks (B.turn scan.now.boards.now) (E.root scan.now.engine.now)
+        (B.at seat) }
     requires script { IsScript (length ends.old) steps.now }
     requires len { length plans.old ≡ length ends.old }
     requires few { length ends.old ≤ QUERY_MOST }
@@ -60,7 +61,8 @@ pub fn close<R: Wait, P: Work, B: Boards<P>, E: Engine<P>, G: Gate>(
     scan: &Scan<'_, R, B, E, G>,
     seat: B::Seat,
 ) -> B::Seat
-    requires { AreCzars P.asks (B.turn scan.now.boards.now) (E.root scan.now.engine.now) (B.at seat) }
+    requires { AreCzars P.asks (B.turn scan.now.boards.now) (E.root scan.now.engine.now)
+        (B.at seat) }
     ensures leaves { (plan : Plans) (steps : List Step) (ends : ℕ → Option QueryState)
         (outcome : Outcome)
         → Goes (DrivingAll (B.has scan.now.boards.now) plan steps (B.at seat) ends) (B.at seat) outcome
@@ -82,7 +84,8 @@ pub fn czar<R: Wait, P: Work, B: Boards<P>, E: Engine<P>, G: Gate>(
     ends: &mut [Option<End<P>>],
     steps: &[Step],
 ) -> (Outcome, B::Seat)
-    requires seats { AreCzars P.asks (B.turn scan.now.boards.now) (E.root scan.now.engine.now) (B.at seat) }
+    requires seats { AreCzars P.asks (B.turn scan.now.boards.now) (E.root scan.now.engine.now)
+        (B.at seat) }
     requires script { IsScript (length ends.old) steps.now }
     requires len { length plans.old ≡ length ends.old }
     requires few { length ends.old ≤ QUERY_MOST }

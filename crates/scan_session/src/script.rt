@@ -31,7 +31,8 @@ pub fn await_end<R: Wait, P: Work, B: Boards<P>, E: Engine<P>, G: Gate>(
     ends: &mut [Option<End<P>>],
     q: u32,
 ) -> (Outcome, B::Seat)
-    requires seats { AreCzars P.asks (B.turn scan.now.boards.now) (E.root scan.now.engine.now) (B.at seat) }
+    requires seats { AreCzars P.asks (B.turn scan.now.boards.now) (E.root scan.now.engine.now)
+        (B.at seat) }
     requires from_1 { 1 ≤ q }
     requires low { q ≤ length ends.old }
     ensures goes { (plan : Plans) (done : List Step) → Marks plan ends.old
@@ -66,7 +67,8 @@ fn cancel_line<R: Wait, P: Work, B: Boards<P>, E: Engine<P>, G: Gate>(
     ends: &[Option<End<P>>],
     q: u32,
 ) -> B::Seat
-    requires seats { AreCzars P.asks (B.turn scan.now.boards.now) (E.root scan.now.engine.now) (B.at seat) }
+    requires seats { AreCzars P.asks (B.turn scan.now.boards.now) (E.root scan.now.engine.now)
+        (B.at seat) }
     requires from_1 { 1 ≤ q }
     requires low { q ≤ length ends.now }
     ensures goes { (plan : Plans) (done : List Step) → Marks plan ends.now
@@ -91,7 +93,8 @@ fn query_line<R: Wait, P: Work, B: Boards<P>, E: Engine<P>, G: Gate>(
     plans: &mut [Option<Planned<P>>],
     q: u32,
 ) -> (Outcome, B::Seat)
-    requires seats { AreCzars P.asks (B.turn scan.now.boards.now) (E.root scan.now.engine.now) (B.at seat) }
+    requires seats { AreCzars P.asks (B.turn scan.now.boards.now) (E.root scan.now.engine.now)
+        (B.at seat) }
     requires from_1 { 1 ≤ q }
     requires low { q ≤ length plans.old }
     requires few { length plans.old ≤ QUERY_MOST }
@@ -123,7 +126,8 @@ fn line<R: Wait, P: Work, B: Boards<P>, E: Engine<P>, G: Gate>(
     ends: &mut [Option<End<P>>],
     step: Step,
 ) -> (Outcome, B::Seat)
-    requires seats { AreCzars P.asks (B.turn scan.now.boards.now) (E.root scan.now.engine.now) (B.at seat) }
+    requires seats { AreCzars P.asks (B.turn scan.now.boards.now) (E.root scan.now.engine.now)
+        (B.at seat) }
     requires from_1 { 1 ≤ number_of step }
     requires low { number_of step ≤ length ends.old }
     requires len { length plans.old ≡ length ends.old }
@@ -159,7 +163,8 @@ pub fn all_lines<R: Wait, P: Work, B: Boards<P>, E: Engine<P>, G: Gate>(
     ends: &mut [Option<End<P>>],
     steps: &[Step],
 ) -> (Outcome, B::Seat)
-    requires seats { AreCzars P.asks (B.turn scan.now.boards.now) (E.root scan.now.engine.now) (B.at seat) }
+    requires seats { AreCzars P.asks (B.turn scan.now.boards.now) (E.root scan.now.engine.now)
+        (B.at seat) }
     requires script { IsScript (length ends.old) steps.now }
     requires len { length plans.old ≡ length ends.old }
     requires few { length ends.old ≤ QUERY_MOST }
@@ -193,7 +198,8 @@ pub fn all_ends<R: Wait, P: Work, B: Boards<P>, E: Engine<P>, G: Gate>(
     seat: B::Seat,
     ends: &mut [Option<End<P>>],
 ) -> (Outcome, B::Seat)
-    requires seats { AreCzars P.asks (B.turn scan.now.boards.now) (E.root scan.now.engine.now) (B.at seat) }
+    requires seats { AreCzars P.asks (B.turn scan.now.boards.now) (E.root scan.now.engine.now)
+        (B.at seat) }
     requires few { length ends.old ≤ QUERY_MOST }
     ensures goes { (plan : Plans) (done : List Step) → Marks plan ends.old
         → ((q : ℕ) → 1 ≤ q → q ≤ length ends.old → list_any (asks q) done ≡ true)

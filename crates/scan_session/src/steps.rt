@@ -30,7 +30,8 @@ fn work<R: Wait, P: Work, B: Boards<P>, E: Engine<P>, G: Gate>(
     desk: &mut Desk<E::Scratch>,
     seat: B::Seat,
 ) -> B::Seat
-    requires { AreCzars P.asks (B.turn scan.now.boards.now) (E.root scan.now.engine.now) (B.at seat) }
+    requires { AreCzars P.asks (B.turn scan.now.boards.now) (E.root scan.now.engine.now)
+        (B.at seat) }
     ensures worked { (p : B.Place) → Worked (B.at seat p) (B.at result p) }
     ensures observed { (p : B.Place) →
         (B.at result p ≡ B.at seat p) ⊎ Observed P.asks (B.at seat p) (B.at result p) }
@@ -50,7 +51,8 @@ pub fn try_start<R: Wait, P: Work, B: Boards<P>, E: Engine<P>, G: Gate>(
     q: u32,
     planned: Planned<P>,
 ) -> (Tried<P>, B::Seat)
-    requires seats { AreCzars P.asks (B.turn scan.now.boards.now) (E.root scan.now.engine.now) (B.at seat) }
+    requires seats { AreCzars P.asks (B.turn scan.now.boards.now) (E.root scan.now.engine.now)
+        (B.at seat) }
     requires from_1 { 1 ≤ q }
     requires to_255 { q ≤ QUERY_MOST }
     requires suits { B.suits scan.now.boards.now q planned.chunks }
@@ -87,7 +89,8 @@ pub fn start<R: Wait, P: Work, B: Boards<P>, E: Engine<P>, G: Gate>(
     q: u32,
     planned: Planned<P>,
 ) -> (Outcome, B::Seat)
-    requires seats { AreCzars P.asks (B.turn scan.now.boards.now) (E.root scan.now.engine.now) (B.at seat) }
+    requires seats { AreCzars P.asks (B.turn scan.now.boards.now) (E.root scan.now.engine.now)
+        (B.at seat) }
     requires from_1 { 1 ≤ q }
     requires to_255 { q ≤ QUERY_MOST }
     requires suits { B.suits scan.now.boards.now q planned.chunks }
@@ -123,7 +126,8 @@ pub fn cancel<R: Wait, P: Work, B: Boards<P>, E: Engine<P>, G: Gate>(
     seat: B::Seat,
     q: u32,
 ) -> B::Seat
-    requires { AreCzars P.asks (B.turn scan.now.boards.now) (E.root scan.now.engine.now) (B.at seat) }
+    requires { AreCzars P.asks (B.turn scan.now.boards.now) (E.root scan.now.engine.now)
+        (B.at seat) }
     ensures goes { (plan : Plans) (done : List Step) (ends : ℕ → Option QueryState)
         → list_any (asks q) done ≡ true → is_some (plan q) ≡ true
         → GoingAll (B.has scan.now.boards.now) plan done (B.at seat) ends
@@ -140,7 +144,8 @@ pub fn ask_end<R: Wait, P: Work, B: Boards<P>, E: Engine<P>, G: Gate>(
     seat: B::Seat,
     q: u32,
 ) -> (Told<P>, B::Seat)
-    requires { AreCzars P.asks (B.turn scan.now.boards.now) (E.root scan.now.engine.now) (B.at seat) }
+    requires { AreCzars P.asks (B.turn scan.now.boards.now) (E.root scan.now.engine.now)
+        (B.at seat) }
     ensures goes { (plan : Plans) (done : List Step) (ends : ℕ → Option QueryState)
         → list_any (asks q) done ≡ true → is_some (plan q) ≡ true → ends q ≡ None
         → DrivingAll (B.has scan.now.boards.now) plan done (B.at seat) ends
@@ -168,7 +173,8 @@ pub fn end_of<R: Wait, P: Work, B: Boards<P>, E: Engine<P>, G: Gate>(
     seat: B::Seat,
     q: u32,
 ) -> (Option<End<P>>, B::Seat)
-    requires { AreCzars P.asks (B.turn scan.now.boards.now) (E.root scan.now.engine.now) (B.at seat) }
+    requires { AreCzars P.asks (B.turn scan.now.boards.now) (E.root scan.now.engine.now)
+        (B.at seat) }
     ensures goes { (plan : Plans) (done : List Step) (ends : ℕ → Option QueryState)
         → list_any (asks q) done ≡ true → is_some (plan q) ≡ true → ends q ≡ None
         → DrivingAll (B.has scan.now.boards.now) plan done (B.at seat) ends

@@ -109,9 +109,11 @@ returns-in-Gone-clause-goes g c plan done ends started planned none d =
     let mid = g.B.Tasks.at c.collect-answer.result.1 in
     let called = collected_as asks has g.P.Work.stands q old mid c.collect-answer.result.0 collect.Gone c.in-Gone.is c.collect-answer.ensures.called in
     let home = g.B.Boards.home boards q in
-    let here = g.met.B.Boards.housed boards q in
-    (home, odd_gone asks (only (has home) plan) done (only (has home) ends) (old home) (mid home) q (c.requires.czar home) (called home here) (ap (λ b. b.past) (called home here).answer.1) (called home here).answer.0
-    started (ap is_some (here_is (has home) plan q here) ∙ planned) (here_is (has home) ends q here ∙ none) (d home))
+    let here = g.met.B.Boards.housed boards q in (
+      home,
+      odd_gone asks (only (has home) plan) done (only (has home) ends) (old home) (mid home) q (c.requires.czar home) (called home here) (ap (λ b. b.past) (called home here).answer.1) (called home here).answer.0
+          started (ap is_some (here_is (has home) plan q here) ∙ planned) (here_is (has home) ends q here ∙ none) (d home),
+    )
 
 pub returns-in-Gone-clause-stays : goal.returns-in-Gone-clause-stays
 returns-in-Gone-clause-stays g c =

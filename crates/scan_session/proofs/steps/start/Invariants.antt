@@ -12,7 +12,7 @@ abbrev pub invariant-loop : goal.invariant-loop
 invariant-loop g l = record {
   can : (goal.iterator-loop g).can_next l.iterator';
   finite : (goal.iterator-loop g).is_finite l.iterator';
-  stays : (p : g.B.Tasks.Place) → Stays g.P.Work.asks (g.B.Tasks.at l.fn.seat p) (g.B.Tasks.at l.seat p);
+  stays : (p : _) → Stays g.P.Work.asks (g.B.Tasks.at l.fn.seat p) (g.B.Tasks.at l.seat p);
   same : l.planned ≡ l.fn.planned;
   drives : (plan : Plans) (done : List Step) (ends : ℕ → Option QueryState) → list_any (asks l.fn.q) done ≡ false → plan l.fn.q ≡ Some l.fn.planned.chunks
       → GoingAll (g.B.Boards.has l.fn.scan.now.boards.now) plan done (g.B.Tasks.at l.fn.seat) ends → GoingAll (g.B.Boards.has l.fn.scan.now.boards.now) plan done (g.B.Tasks.at l.seat) ends;
