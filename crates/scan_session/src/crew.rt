@@ -88,6 +88,7 @@ fn manned<
 ) -> (Outcome, Vec<Option<End<P>>>, B::Seat)
 where
     P::Root: Send,
+    B::Place: Send,
     B::Seat: Send,
     E::Scratch: Send,
     requires seats { AreCzars P.asks (B.turn scan.now.boards.now) (E.root scan.now.engine.now)
@@ -182,6 +183,7 @@ pub fn teamed<
 ) -> (Outcome, Vec<Option<End<P>>>, B::Seat)
 where
     P::Root: Send,
+    B::Place: Send,
     B::Seat: Send,
     E::Scratch: Send,
     requires seats { AreCzars P.asks (B.turn scan.now.boards.now) (E.root scan.now.engine.now)

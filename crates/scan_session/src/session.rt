@@ -106,6 +106,7 @@ pub fn drive<
 ) -> (Result<Vec<End<P>>, Memory>, B::Seat)
 where
     P::Root: Send,
+    B::Place: Send,
     B::Seat: Send,
     E::Scratch: Send,
     requires own { (p : B.Place) → (B.at seat p).turn ≡ B.turn scan.now.boards.now p }
