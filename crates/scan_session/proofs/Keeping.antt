@@ -111,6 +111,10 @@ cancel_is_not_wait p q e = cc
 waited_pinned : (plan : Plans) (done : List Step) (H : Journal) (q : ℕ) → Pinned plan done H → Pinned plan (done ++ Wait q ∷ []) H
 waited_pinned plan done H q = pinned_step plan done (Wait q) H (λ k w. cancel_is_not_wait k q w)
 
+-- a cancel that may take effect comes in time
+in_time : (steps : List Step) (q : ℕ) → NumberedFrom 0 steps → MayCancel steps q → has_cancel steps q ≡ true
+in_time steps q n m = subst (λ (s : List Step). has_cancel s q ≡ true) (sym m.cut) (cancel_stands m.before m.between m.behind q m.span (subst (NumberedFrom 0) m.cut n) m.unwaited)
+
 module _ {Room : Type 0} (plan : Plans) where
   -- what others took and delivered, or the czar himself, changes nothing
   pub carry : {ring : ℕ} → (done : List Step) (S more : Journal) (ends : ℕ → Option QueryState) → IsRun ring (S ++ more) → list_all is_work more ≡ true → Driven Room plan done S ends → Driven Room plan done (S ++ more) ends
@@ -364,10 +368,6 @@ module _ {Room : Type 0} (plan : Plans) where
 
   pub nothing_going : (ends : ℕ → Option QueryState) → ((q : ℕ) → ends q ≡ None) → Going Room plan [] [] ends
   nothing_going ends none = record { drives = nothing_driven ends none; calm = λ alone room. nothing_untouched plan }
-
-  -- a cancel that may take effect comes in time
-  in_time : (steps : List Step) (q : ℕ) → NumberedFrom 0 steps → MayCancel steps q → has_cancel steps q ≡ true
-  in_time steps q n m = subst (λ (s : List Step). has_cancel s q ≡ true) (sym m.cut) (cancel_stands m.before m.between m.behind q m.span (subst (NumberedFrom 0) m.cut n) m.unwaited)
 
   -- in the end: closed, joined, and all own lines and those of others known
   pub drove : {ring : ℕ} → (workers : ℕ) (steps : List Step) (H more : Journal) (ends : ℕ → Option QueryState) → NumberedFrom 0 steps → IsRun ring ((H ++ Close 0 ∷ []) ++ more) → of_seat 0 ((H ++ Close 0 ∷ []) ++ more) ≡ of_seat 0 (H ++ Close 0 ∷ []) → has_foreign ((H ++ Close 0 ∷ []) ++ more) ≡ false → AllDelivered ((H ++ Close 0 ∷ []) ++ more)

@@ -1,4 +1,6 @@
 use Rattle.std.proofs.Common.{◌≤◌, ◌+◌, arith, length, rules}
+use Rattle.scan_session.specs.KnownEnds.{known_in}
+use Rattle.scan_session.specs.Places.{DrivingAll}
 use Rattle.scan_session.specs.declared.end.Outcome.TheVariants.{Went, Odd}
 use Rattle.scan_session.proofs.Placing.{all_stay, czars_on}
 use Rattle.scan_session.proofs.Listing.{more_on, marks_on}
@@ -15,7 +17,7 @@ pub returns-in-Odd-clause-goes : goal.returns-in-Odd-clause-goes
 returns-in-Odd-clause-goes g c plan done marks started d =
     let i = c.loop-place.invariant in
     let low : c.loop-place.place + 1 ≤ length c.args.ends.now = search rules in
-    goes_is _ (g.B.Tasks.at c.await_end-outcome.result.1) c.await_end-outcome.result.0 Odd c.in-Odd.is
+    goes_is (DrivingAll (g.B.Boards.has c.args.scan.now.boards.now) plan done (g.B.Tasks.at c.await_end-outcome.result.1) (known_in c.await_end-outcome.new.ends)) (g.B.Tasks.at c.await_end-outcome.result.1) c.await_end-outcome.result.0 Odd c.in-Odd.is
     (c.await_end-outcome.ensures.goes plan done (marks_on plan c.args.ends.now c.loop-place.ends i.more marks) (started (c.loop-place.place + 1) (omega arith) low) (i.drives plan done marks started d))
 
 pub loop-place-preserved : goal.loop-place-preserved
@@ -27,7 +29,7 @@ loop-place-preserved g c =
       more = more_on c.args.ends.now c.loop-place.ends c.await_end-outcome.new.ends i.more c.await_end-outcome.ensures.more;
       known = known_next c.loop-place.ends c.await_end-outcome.new.ends c.loop-place.place c.await_end-outcome.ensures.more i.known (c.await_end-outcome.ensures.known c.in-Went.is);
       whole = λ w. c.await_end-outcome.ensures.whole (i.whole w);
-      drives = λ plan done marks started d. goes_is _ (g.B.Tasks.at c.await_end-outcome.result.1) c.await_end-outcome.result.0 Went c.in-Went.is
+      drives = λ plan done marks started d. goes_is (DrivingAll (g.B.Boards.has c.args.scan.now.boards.now) plan done (g.B.Tasks.at c.await_end-outcome.result.1) (known_in c.await_end-outcome.new.ends)) (g.B.Tasks.at c.await_end-outcome.result.1) c.await_end-outcome.result.0 Went c.in-Went.is
           (c.await_end-outcome.ensures.goes plan done (marks_on plan c.args.ends.now c.loop-place.ends i.more marks) (started (c.loop-place.place + 1) (omega arith) low) (i.drives plan done marks started d));
     }
 

@@ -27,6 +27,11 @@ returns-in-Wait-clause-goes g c plan done next marks ready d =
     (goes_wait (g.B.Boards.has c.args.scan.now.boards.now) plan done new c.await_end.new.ends c.in-Wait.number c.await_end.result.0 started c.await_end.ensures.known
     (marks_on plan c.args.ends.now c.await_end.new.ends c.await_end.ensures.more marks) (c.await_end.ensures.goes plan done marks started (λ p. (d p).drives)))
 
+pub returns-in-Cancel-clause-goes : goal.returns-in-Cancel-clause-goes
+returns-in-Cancel-clause-goes g c plan done next marks ready d =
+    subst (λ (s : Step). GoingAll (g.B.Boards.has c.args.scan.now.boards.now) plan (done ++ s ∷ []) (g.B.Tasks.at c.cancel_line.result) (known_in c.args.ends.now)) (sym c.in-Cancel.is)
+    (c.cancel_line.ensures.goes plan done marks (subst (IsNext done) c.in-Cancel.is next) d)
+
 pub returns-in-Cancel-clause-whole : goal.returns-in-Cancel-clause-whole
 returns-in-Cancel-clause-whole g c w = whole_on g.P.Work.asks g.P.Work.stands (g.B.Boards.home c.args.scan.now.boards.now) (g.B.Tasks.at c.args.seat) (g.B.Tasks.at c.cancel_line.result) c.args.ends.now c.cancel_line.ensures.stays w
 

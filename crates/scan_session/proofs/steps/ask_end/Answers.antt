@@ -150,4 +150,5 @@ returns-in-Piece-clause-whole g c =
     let here = g.met.B.Boards.housed boards q in
     let called = collected_as asks has g.P.Work.stands q old mid c.collect-answer.result.0 (collect.Piece c.in-Piece.piece) c.in-Piece.is c.collect-answer.ensures.called in
     let stays = told_stays asks has q Done old mid c.requires.czar c.collect-answer.ensures.others (λ p before after. AnswersCollect g.P.Work.stands (old p).number before q (collect.Piece c.in-Piece.piece) after) called (λ p t. ap (λ b. b.past) (called p t).answer.0.line) in
-    piece_whole asks g.P.Work.stands q c.in-Piece.piece (old home) (mid home) (called home here) (stays home)
+    let whole = piece_whole asks g.P.Work.stands q c.in-Piece.piece (old home) (mid home) (called home here) (stays home) in
+    record { attached = whole.attached; whole = whole.whole }

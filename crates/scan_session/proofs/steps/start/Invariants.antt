@@ -15,5 +15,5 @@ invariant-loop g l = record {
   stays : (p : _) → Stays g.P.Work.asks (g.B.Tasks.at l.fn.seat p) (g.B.Tasks.at l.seat p);
   same : l.planned ≡ l.fn.planned;
   drives : (plan : Plans) (done : List Step) (ends : ℕ → Option QueryState) → list_any (asks l.fn.q) done ≡ false → plan l.fn.q ≡ Some l.fn.planned.chunks
-      → GoingAll (g.B.Boards.has l.fn.scan.now.boards.now) plan done (g.B.Tasks.at l.fn.seat) ends → GoingAll (g.B.Boards.has l.fn.scan.now.boards.now) plan done (g.B.Tasks.at l.seat) ends;
+      → GoingAll (g.B.Boards.has l.fn.scan.boards.now) plan done (g.B.Tasks.at l.fn.seat) ends → GoingAll (g.B.Boards.has l.fn.scan.boards.now) plan done (g.B.Tasks.at l.seat) ends;
 }
