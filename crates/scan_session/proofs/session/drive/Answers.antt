@@ -59,7 +59,7 @@ returns-in-Went-clause-ends g c =
     let p = session_promises g.P.Work.asks c.args.workers has (g.B.Tasks.at c.args.seat) new plans first m.result.1.items c.args.steps.now c.requires.numbered each len marks m.ensures.more m.result.0
     (λ p. (c.requires.first p).3) (λ p. (c.requires.first p).1) m.ensures.manned m.ensures.made m.ensures.known m.ensures.leaves in
     session_ends g.P.Work.asks c.args.workers has (g.B.Tasks.at c.args.seat) new plans first m.result.1.items c.args.steps.now c.requires.numbered each len marks m.ensures.more
-    g.P.Work.stands (g.B.Boards.home boards) c.known_ends.result.items (g.B.Boards.housed boards) m.ensures.manned
+    g.P.Work.stands (g.B.Boards.home boards) c.known_ends.result.items ((g.met.B.Boards g.world.𝓛 g.world.𝓜 g.world.𝓡 ((λ s x. x), (λ x. x), (λ x. x), λ x. x)).housed boards) m.ensures.manned
     (subst (λ (r : Outcome). Promises c.args.workers has (plan_in plans) c.args.steps.now new (known_in m.result.1.items) r) c.in-Went.is p) m.ensures.whole c.known_ends.ensures
 
 pub unreachable-requires : goal.unreachable-requires
