@@ -8,7 +8,7 @@ use Rattle.atomic_table.specs.Seated.{TableId}
 use Rattle.turn_lock.specs.Pasts.{longer}
 use Rattle.turn_lock.specs.Seats.{Knows, joined_with, next_seat, one_more_made}
 use Rattle.scan_rules.specs.Lines.{seat_of, closes}
-use Rattle.scan_rules.specs.Queries.{Journal, QueryState, is_closed}
+use Rattle.scan_rules.specs.Queries.{Journal, QueryState, is_attached, is_closed, wanted}
 use Rattle.scan_rules.proofs.Lists.{any_stays}
 use Rattle.scan_core.specs.Boards.{IsLawful}
 use Rattle.scan_board.specs.Calls.{BoardSeat, board_at}
@@ -17,7 +17,7 @@ use Rattle.session_script.specs.declared.step.Step.{Step}
 use Rattle.scan_session.specs.Plans.{AllRunAtOnce, Plans}
 use Rattle.scan_session.specs.Driven.{Going}
 use Rattle.scan_session.specs.Seats.{of_seat, IsCzar, Stays}
-use Rattle.scan_session.specs.KnownEnds.{PlansFit, StandsWhole}
+use Rattle.scan_session.specs.KnownEnds.{PlansFit}
 use Rattle.scan_session.specs.Places.{only, AreCzars, GoingAll, HasRoom, PiecesStandAll, PlansFitAll}
 use Rattle.scan_session.specs.Crews.{Closed, Leaves, KeepsWork, Manned}
 use Rattle.scan_session.specs.declared.end.End.{End}
@@ -179,5 +179,8 @@ going_split {R} has plan done ends old new e g p =
 pub pieces_split : {R L P : Type 0} (stands : R → ℕ → List ℕ → P → Type 0) (home : ℕ → L) (old new : L → BoardSeat R) (ends : List (Option (End P)))
     → ((p : L) → new p ≡ one_more_made (old p)) → PiecesStandAll stands home old ends → PiecesStandAll stands home new ends
 pieces_split {R} stands home old new ends e w = record {
-  each = λ q piece at. subst (λ (s : BoardSeat R). StandsWhole (stands s.root.root) s.seen q piece) (sym (e (home q))) (w.each q piece at);
+  each = λ q piece at. let s = w.each q piece at in record {
+    attached = subst (λ (x : BoardSeat R). is_attached x.seen q ≡ true) (sym (e (home q))) s.attached;
+    whole = subst (λ (x : BoardSeat R). stands x.root.root q (wanted x.seen q) piece) (sym (e (home q))) s.whole;
+  };
 }

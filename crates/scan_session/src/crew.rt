@@ -148,13 +148,13 @@ where
             requires some { 1 ≤ workers }
             requires room { (p : B.Place) → (B.at seat p).made + (workers - 1) < 2 ^ 32 - 1 }
             ensures leaves { (plan : Plans) → Marks plan ends.items → Ready plan [] plans.items
-                → GoingAll (B.has scan.now.boards.now) plan [] (B.at seat) (known_in ends.items)
-                → Leaves (B.has scan.now.boards.now) plan steps.entry.now (B.at result.2) (known_in result.1.items)
+                → GoingAll (B.has scan.entry.now.boards.now) plan [] (B.at seat) (known_in ends.items)
+                → Leaves (B.has scan.entry.now.boards.now) plan steps.entry.now (B.at result.2) (known_in result.1.items)
                 result.0 }
             ensures known { result.0 ≡ Outcome.Went → AllKnown result.1.items }
             ensures more { MoreKnown ends.items result.1.items }
-            ensures whole { PiecesStandAll P.stands (B.home scan.now.boards.now) (B.at seat) ends.items
-                → PiecesStandAll P.stands (B.home scan.now.boards.now) (B.at result.2) result.1.items }
+            ensures whole { PiecesStandAll P.stands (B.home scan.entry.now.boards.now) (B.at seat) ends.items
+                → PiecesStandAll P.stands (B.home scan.entry.now.boards.now) (B.at result.2) result.1.items }
             ensures made { (p : B.Place) → (B.at result.2 p).made ≡ (B.at seat p).made + (workers - 1) }
             ensures manned { (p : B.Place) → Manned P.asks (B.at seat p) (B.at result.2 p) }
         { manned(scan, seat, plans, ends, steps, workers - 1) },

@@ -27,7 +27,11 @@ join-other-requires-after_bounds g t c κs bounds =
     let from_1 : (p : _) → 1 ≤ (seat p).made = λ p. omega (arith, made p) in
     let some : 1 ≤ c.args.workers = search rules in
     let room : (p : _) → (seat p).made + (c.args.workers - 1) < 4294967295 = λ p. omega (arith, made p, some, c.requires.room p) in
-    ?
+    let shared : (x : g.row.R.Denot) → (b : ℕ) → (o : ℕ) → (κ : Lft) → Keyless (g.row.R.shr_at x b o κ) = c.requires-raw.1.1.1.1.1.1.1.1.1.1.1.1.1.1.1.0.shared in
+    let boards_shared : (x : g.row.B.Denot) → (b : ℕ) → (o : ℕ) → (κ : Lft) → Keyless (g.row.B.shr_at x b o κ) = c.requires-raw.1.1.1.1.1.1.1.1.1.1.1.1.1.1.1.1.0.shared in
+    let engines : (x : g.row.E.Denot) → (b : ℕ) → (o : ℕ) → (κ : Lft) → Keyless (g.row.E.shr_at x b o κ) = c.requires-raw.1.1.1.1.1.1.1.1.1.1.1.1.1.1.1.1.1.0.shared in
+    let gates : (x : g.row.G.Denot) → (b : ℕ) → (o : ℕ) → (κ : Lft) → Keyless (g.row.G.shr_at x b o κ) = c.requires-raw.1.1.1.1.1.1.1.1.1.1.1.1.1.1.1.1.1.1.0.shared in
+    ((record { shared = shared }, (own_other, (engine_other, delivered))), (search rules, ((λ a m. m), ((λ a m. m), ((λ a m. m), ((λ a m. m), ((λ a m. m), ((λ a m. m), ((λ a m. m), ((λ a m. m), ((λ a m. m), (record { shared = shared }, (seats, (c.requires.script, (c.requires.len, (c.requires.few, (fit, (from_1, (some, (room, (search rules, search rules, search rules, search rules, search rules, record { shared = shared }, record { shared = boards_shared }, record { shared = engines }, record { shared = gates })))))))))))))))))))))
 
 pub returns-clause-leaves : goal.returns-clause-leaves
 returns-clause-leaves g t c plan marks ready d =
@@ -80,3 +84,9 @@ returns-clause-known g t c = c.join-other.ensures.second.1.0
 
 pub returns-clause-more : goal.returns-clause-more
 returns-clause-more g t c = c.join-other.ensures.second.1.1.0
+
+pub fn::manned::join+arg3+FnOnce::call_once-join+arg3-requires : goal.fn::manned::join+arg3+FnOnce::call_once-join+arg3-requires
+fn::manned::join+arg3+FnOnce::call_once-join+arg3-requires g t c κs within =
+    let e = c.requires.1.1.1.1.1.1.1.1.1 in
+    let s = e.1.1.1.1.1.1.1.1.1 in
+    (search rules, (within.0, (within.1.0, (within.1.1.0, (within.1.1.1.0, (within.1.1.1.1.0, (within.1.1.1.1.1.0, (within.1.1.1.1.1.1.0, (within.1.1.1.1.1.1.1.0, (within.1.1.1.1.1.1.1.1, (s.0, (s.1, (s.2, (s.3, (s.4, (s.5, (s.6, (s.7, (s.8, (e.0, (e.1.0, (e.1.1.0, (e.1.1.1.0, (e.1.1.1.1.0, (e.1.1.1.1.1.0, (e.1.1.1.1.1.1.0, (e.1.1.1.1.1.1.1.0, e.1.1.1.1.1.1.1.1.0)))))))))))))))))))))))))))
