@@ -7,7 +7,7 @@ use Rattle.session_script.specs.Scripts.{query_count}
 use Rattle.scan_board.specs.Calls.{BoardSeat}
 use Rattle.scan_session.specs.Plans.{Plans}
 use Rattle.scan_session.specs.Drove.{AreEnds}
-use Rattle.scan_session.specs.Places.{only, over_root, seen_of, GoingAll, PiecesStandAll}
+use Rattle.scan_session.specs.Places.{only, over_root, seen_of, GoingAll, AllStand}
 use Rattle.scan_session.specs.Goes.{IsScript}
 use Rattle.scan_session.specs.KnownEnds.{plan_in, known_in, AllKnown, AreKnown, Marks, MarksPlans, MoreKnown, Ready}
 use Rattle.scan_session.specs.Crews.{Leaves, Manned, Promises}
@@ -41,10 +41,10 @@ module _ {R L P : Type 0} (asks : R → ℕ → ℕ → Type 0) (workers : ℕ) 
       (leaves (plan_in plans) begin (ready_first plans) (going_first has plans first old marks none))
 
   pub session_ends : (stands : R → ℕ → List ℕ → P → Type 0) (home : ℕ → L) (ends : List (End P)) → ((q : ℕ) → has (home q) q ≡ true) → ((p : L) → Manned asks (old p) (new p)) → Promises workers has (plan_in plans) steps new (known_in known) Went
-      → (PiecesStandAll stands home old first → PiecesStandAll stands home new known) → AreKnown known ends → AreEnds (over_root stands home old) (plan_in plans) (seen_of home new) ends
+      → (AllStand stands home old first → AllStand stands home new known) → AreKnown known ends → AreEnds (over_root stands home old) (plan_in plans) (seen_of home new) ends
   session_ends stands home ends housed manned p whole are =
       let same = more.len in
-      let w : PiecesStandAll stands home new known = whole (pieces_first (over_root stands home old) plans first (seen_of home old) marks) in
+      let w : AllStand stands home new known = whole (pieces_first (over_root stands home old) plans first (seen_of home old) marks) in
       ends_are (over_root stands home old) workers (plan_in plans) steps (λ q. only (has (home q)) (plan_in plans)) (seen_of home new) known ends (script_of (length known) steps numbered count)
       (λ q. here_is (has (home q)) (plan_in plans) q (housed q)) (λ q. (p (home q)).0) (λ q a. sym (here_is (has (home q)) (known_in known) q (housed q)) ∙ (p (home q)).1 q a)
       (λ q from low none. more.stay q Refused (refused_first plans first marks q from (omega (arith, low, same)) none))

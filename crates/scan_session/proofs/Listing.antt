@@ -17,7 +17,7 @@ use Rattle.scan_session.specs.Driven.{Driving, Going}
 use Rattle.scan_board.specs.Calls.{BoardSeat}
 use Rattle.scan_session.specs.Seats.{Stays}
 use Rattle.scan_session.specs.Goes.{Goes}
-use Rattle.scan_session.specs.Places.{only, over_root, seen_of, DrivingAll, GoingAll, PiecesStandAll, PlansFitAll}
+use Rattle.scan_session.specs.Places.{only, over_root, seen_of, DrivingAll, GoingAll, AllStand, AllFit}
 use Rattle.scan_session.specs.KnownEnds.{at_query, state_by, known_in, with_end, StandsWhole, IsCollected, PiecesStand, PlansFit, Ready, Marks, MoreKnown}
 use Rattle.scan_session.specs.declared.end.Planned.{Planned}
 use Rattle.scan_session.specs.declared.end.End.{End}
@@ -143,7 +143,7 @@ module _ {P : Type 0} where
 
   -- the pieces still represent their queries' chunks, whichever lines are added
   pub pieces_on : {R L : Type 0} (stands : R → ℕ → List ℕ → P → Type 0) (home : ℕ → L) (old new : L → BoardSeat R) (ends : List (Option (End P)))
-      → ((p : L) → IsPrefix (old p).seen (new p).seen) → ((p : L) → (new p).root ≡ (old p).root) → ((p : L) → IsRun (new p).root.ring (new p).seen) → PiecesStandAll stands home old ends → PiecesStandAll stands home new ends
+      → ((p : L) → IsPrefix (old p).seen (new p).seen) → ((p : L) → (new p).root ≡ (old p).root) → ((p : L) → IsRun (new p).root.ring (new p).seen) → AllStand stands home old ends → AllStand stands home new ends
   pieces_on {R} stands home old new ends later root run w = record { each = on } where
     on : (q : ℕ) (piece : P) → at_query ends q ≡ Some (Answered piece) → StandsWhole (over_root stands home new) (seen_of home new q) q piece
     on q piece at =
@@ -158,7 +158,7 @@ module _ {P : Type 0} where
         }
 
   pub whole_on : {R L : Type 0} (asks : R → ℕ → ℕ → Type 0) (stands : R → ℕ → List ℕ → P → Type 0) (home : ℕ → L) (old new : L → BoardSeat R) (ends : List (Option (End P)))
-      → ((p : L) → Stays asks (old p) (new p)) → PiecesStandAll stands home old ends → PiecesStandAll stands home new ends
+      → ((p : L) → Stays asks (old p) (new p)) → AllStand stands home old ends → AllStand stands home new ends
   whole_on asks stands home old new ends s = pieces_on stands home old new ends (λ p. (s p).later) (λ p. (s p).root) (λ p. (s p).czar.lawful.run.run)
 
   pub whole_set : (stands : ℕ → List ℕ → P → Type 0) (S : ℕ → Journal) (ends : List (Option (End P))) (q : ℕ) (end : End P) → 1 ≤ q → q ≤ length ends → IsCollected stands (S q) q end → PiecesStand stands S ends → PiecesStand stands S (slice_set ends (q - 1) (Some end))
@@ -220,14 +220,14 @@ module _ {P : Type 0} where
       (cases_eq p q)
 
   pub fit_set : {R L : Type 0} (stands : R → ℕ → List ℕ → P → Type 0) (asks : R → ℕ → ℕ → Type 0) (suits : ℕ → List ℕ → Type 0) (seats : L → BoardSeat R) (plans : List (Option (Planned P))) (q : ℕ) → 1 ≤ q → q ≤ length plans
-      → PlansFitAll stands asks suits seats plans → PlansFitAll stands asks suits seats (slice_set plans (q - 1) None)
+      → AllFit stands asks suits seats plans → AllFit stands asks suits seats (slice_set plans (q - 1) None)
   fit_set stands asks suits seats plans q h low f = record {
     fit = λ l. record { each = λ p x at. (f.fit l).each p x (set_none plans q p x h low at) };
     suit = λ p x at. f.suit p x (set_none plans q p x h low at);
   }
 
   pub fit_on : {R L : Type 0} (stands : R → ℕ → List ℕ → P → Type 0) (asks : R → ℕ → ℕ → Type 0) (suits : ℕ → List ℕ → Type 0) (old new : L → BoardSeat R) (plans : List (Option (Planned P)))
-      → ((p : L) → Stays asks (old p) (new p)) → PlansFitAll stands asks suits old plans → PlansFitAll stands asks suits new plans
+      → ((p : L) → Stays asks (old p) (new p)) → AllFit stands asks suits old plans → AllFit stands asks suits new plans
   fit_on stands asks suits old new plans s f = record {
     fit = λ p. subst (λ r. PlansFit stands asks r.ring r.root plans) (sym (s p).root) (f.fit p);
     suit = f.suit;

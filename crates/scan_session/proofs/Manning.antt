@@ -18,7 +18,7 @@ use Rattle.scan_session.specs.Plans.{AllRunAtOnce, Plans}
 use Rattle.scan_session.specs.Driven.{Going}
 use Rattle.scan_session.specs.Seats.{of_seat, IsCzar, Stays}
 use Rattle.scan_session.specs.KnownEnds.{PlansFit}
-use Rattle.scan_session.specs.Places.{only, AreCzars, GoingAll, HasRoom, PiecesStandAll, PlansFitAll}
+use Rattle.scan_session.specs.Places.{only, AreCzars, GoingAll, HasRoom, AllStand, AllFit}
 use Rattle.scan_session.specs.Crews.{Closed, Leaves, KeepsWork, Manned}
 use Rattle.scan_session.specs.declared.end.End.{End}
 use Rattle.scan_session.specs.declared.end.Planned.{Planned}
@@ -161,7 +161,7 @@ module _ {R L : Type 0} (asks : R → ℕ → ℕ → Type 0) (has : L → ℕ �
 
 -- what fits and suits the boards, when one more seat was split off
 pub fit_split : {R L P : Type 0} (stands : R → ℕ → List ℕ → P → Type 0) (asks : R → ℕ → ℕ → Type 0) (suits : ℕ → List ℕ → Type 0) (old new : L → BoardSeat R) (plans : List (Option (Planned P)))
-    → ((p : L) → new p ≡ one_more_made (old p)) → PlansFitAll stands asks suits old plans → PlansFitAll stands asks suits new plans
+    → ((p : L) → new p ≡ one_more_made (old p)) → AllFit stands asks suits old plans → AllFit stands asks suits new plans
 fit_split {R} {L} {P} stands asks suits old new plans e f = record {
   fit = λ p. subst (λ (s : BoardSeat R). PlansFit stands asks s.root.ring s.root.root plans) (sym (e p)) (f.fit p);
   suit = f.suit;
@@ -177,7 +177,7 @@ going_split {R} has plan done ends old new e g p =
 
 -- what the pieces represent, when one more seat was split off
 pub pieces_split : {R L P : Type 0} (stands : R → ℕ → List ℕ → P → Type 0) (home : ℕ → L) (old new : L → BoardSeat R) (ends : List (Option (End P)))
-    → ((p : L) → new p ≡ one_more_made (old p)) → PiecesStandAll stands home old ends → PiecesStandAll stands home new ends
+    → ((p : L) → new p ≡ one_more_made (old p)) → AllStand stands home old ends → AllStand stands home new ends
 pieces_split {R} stands home old new ends e w = record {
   each = λ q piece at. let s = w.each q piece at in record {
     attached = subst (λ (x : BoardSeat R). is_attached x.seen q ≡ true) (sym (e (home q))) s.attached;

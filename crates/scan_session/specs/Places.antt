@@ -49,7 +49,7 @@ abbrev pub AllSuit : {P : Type 0} → (ℕ → List ℕ → Type 0) → List (Op
 AllSuit {P} suits plans = (q : ℕ) (planned : Planned P) → at_query plans q ≡ Some planned → suits q planned.chunks
 
 -- each query that is planned may be attached, and its chunks suit its board
-pub record PlansFitAll {R L P : Type 0} (stands : R → ℕ → List ℕ → P → Type 0) (asks : R → ℕ → ℕ → Type 0)
+pub record AllFit {R L P : Type 0} (stands : R → ℕ → List ℕ → P → Type 0) (asks : R → ℕ → ℕ → Type 0)
     (suits : ℕ → List ℕ → Type 0) (seats : L → BoardSeat R) (plans : List (Option (Planned P))) : Type 0 where
   pub fit : (p : L) → PlansFit stands asks (seats p).root.ring (seats p).root.root plans
   pub suit : AllSuit suits plans
@@ -63,5 +63,5 @@ abbrev pub over_root : {R L P : Type 0} → (R → ℕ → List ℕ → P → Ty
 over_root stands home seats q = stands (seats (home q)).root.root q
 
 -- each answer represents all the chunks of its query, at the query's board
-abbrev pub PiecesStandAll : {R L P : Type 0} → (R → ℕ → List ℕ → P → Type 0) → (ℕ → L) → (L → BoardSeat R) → List (Option (End P)) → Type 0
-PiecesStandAll stands home seats ends = PiecesStand (over_root stands home seats) (seen_of home seats) ends
+abbrev pub AllStand : {R L P : Type 0} → (R → ℕ → List ℕ → P → Type 0) → (ℕ → L) → (L → BoardSeat R) → List (Option (End P)) → Type 0
+AllStand stands home seats ends = PiecesStand (over_root stands home seats) (seen_of home seats) ends

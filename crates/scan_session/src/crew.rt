@@ -8,7 +8,7 @@ ghost use Rattle.std.specs.Prelude.{◌≡◌, ℕ, ◌+◌, ◌-◌, ◌<◌, �
 ghost use Rattle.std.specs.Thread.{IsSync};
 ghost use Rattle.session_script.specs.declared.step.Step.{Step};
 ghost use Rattle.scan_session.specs.Plans.{Plans};
-ghost use Rattle.scan_session.specs.Places.{AreCzars, GoingAll, PiecesStandAll, PlansFitAll};
+ghost use Rattle.scan_session.specs.Places.{AreCzars, GoingAll, AllStand, AllFit};
 ghost use Rattle.scan_session.specs.KnownEnds.{known_in, AllKnown, Marks, MoreKnown, Ready};
 ghost use Rattle.scan_session.specs.Goes.{IsScript};
 ghost use Rattle.scan_session.specs.Crews.{Leaves, Manned};
@@ -45,15 +45,15 @@ fn alone<R: Wait, P: Work, B: Boards<P>, E: Engine<P>, G: Gate>(
     requires script { IsScript (vec_len ends) steps.now }
     requires len { vec_len plans ≡ vec_len ends }
     requires few { vec_len ends ≤ QUERY_MOST }
-    requires fit { PlansFitAll P.stands P.asks (B.suits scan.now.boards.now) (B.at seat) plans.items }
+    requires fit { AllFit P.stands P.asks (B.suits scan.now.boards.now) (B.at seat) plans.items }
     ensures leaves { (plan : Plans) → Marks plan ends.items → Ready plan [] plans.items
         → GoingAll (B.has scan.now.boards.now) plan [] (B.at seat) (known_in ends.items)
         → Leaves (B.has scan.now.boards.now) plan steps.now (B.at result.2) (known_in result.1.items)
         result.0 }
     ensures known { result.0 ≡ Outcome.Went → AllKnown result.1.items }
     ensures more { MoreKnown ends.items result.1.items }
-    ensures whole { PiecesStandAll P.stands (B.home scan.now.boards.now) (B.at seat) ends.items
-        → PiecesStandAll P.stands (B.home scan.now.boards.now) (B.at result.2) result.1.items }
+    ensures whole { AllStand P.stands (B.home scan.now.boards.now) (B.at seat) ends.items
+        → AllStand P.stands (B.home scan.now.boards.now) (B.at result.2) result.1.items }
     ensures made { (p : B.Place) → (B.at result.2 p).made ≡ (B.at seat p).made }
     ensures manned { (p : B.Place) → Manned P.asks (B.at seat p) (B.at result.2 p) }
 {
@@ -96,7 +96,7 @@ where
     requires script { IsScript (vec_len ends) steps.now }
     requires len { vec_len plans ≡ vec_len ends }
     requires few { vec_len ends ≤ QUERY_MOST }
-    requires fit { PlansFitAll P.stands P.asks (B.suits scan.now.boards.now) (B.at seat) plans.items }
+    requires fit { AllFit P.stands P.asks (B.suits scan.now.boards.now) (B.at seat) plans.items }
     requires from_1 { (p : B.Place) → 1 ≤ (B.at seat p).made }
     requires room { (p : B.Place) → (B.at seat p).made + workers < 2 ^ 32 - 1 }
     ensures leaves { (plan : Plans) → Marks plan ends.items → Ready plan [] plans.items
@@ -105,8 +105,8 @@ where
         result.0 }
     ensures known { result.0 ≡ Outcome.Went → AllKnown result.1.items }
     ensures more { MoreKnown ends.items result.1.items }
-    ensures whole { PiecesStandAll P.stands (B.home scan.now.boards.now) (B.at seat) ends.items
-        → PiecesStandAll P.stands (B.home scan.now.boards.now) (B.at result.2) result.1.items }
+    ensures whole { AllStand P.stands (B.home scan.now.boards.now) (B.at seat) ends.items
+        → AllStand P.stands (B.home scan.now.boards.now) (B.at result.2) result.1.items }
     ensures made { (p : B.Place) → (B.at result.2 p).made ≡ (B.at seat p).made + workers }
     ensures manned { (p : B.Place) → Manned P.asks (B.at seat p) (B.at result.2 p) }
 {
@@ -138,24 +138,26 @@ where
         },
         move || -> (Outcome, Vec<Option<End<P>>>, B::Seat)
             requires shared { IsSync R.row }
-            requires seats { AreCzars P.asks (B.turn scan.now.boards.now) (E.root scan.now.engine.now)
-                (B.at seat) }
+            requires seats { AreCzars P.asks (B.turn scan.now.boards.now)
+                (E.root scan.now.engine.now) (B.at seat) }
             requires script { IsScript (vec_len ends) steps.now }
             requires len { vec_len plans ≡ vec_len ends }
             requires few { vec_len ends ≤ QUERY_MOST }
-            requires fit { PlansFitAll P.stands P.asks (B.suits scan.now.boards.now) (B.at seat) plans.items }
+            requires fit { AllFit P.stands P.asks (B.suits scan.now.boards.now) (B.at seat)
+                plans.items }
             requires from_1 { (p : B.Place) → 1 ≤ (B.at seat p).made }
             requires some { 1 ≤ workers }
             requires room { (p : B.Place) → (B.at seat p).made + (workers - 1) < 2 ^ 32 - 1 }
             ensures leaves { (plan : Plans) → Marks plan ends.items → Ready plan [] plans.items
                 → GoingAll (B.has scan.entry.now.boards.now) plan [] (B.at seat) (known_in ends.items)
-                → Leaves (B.has scan.entry.now.boards.now) plan steps.entry.now (B.at result.2) (known_in result.1.items)
-                result.0 }
+                → Leaves (B.has scan.entry.now.boards.now) plan steps.entry.now (B.at result.2)
+                (known_in result.1.items) result.0 }
             ensures known { result.0 ≡ Outcome.Went → AllKnown result.1.items }
             ensures more { MoreKnown ends.items result.1.items }
-            ensures whole { PiecesStandAll P.stands (B.home scan.entry.now.boards.now) (B.at seat) ends.items
-                → PiecesStandAll P.stands (B.home scan.entry.now.boards.now) (B.at result.2) result.1.items }
-            ensures made { (p : B.Place) → (B.at result.2 p).made ≡ (B.at seat p).made + (workers - 1) }
+            ensures whole { AllStand P.stands (B.home scan.entry.now.boards.now) (B.at seat) ends.items
+                → AllStand P.stands (B.home scan.entry.now.boards.now) (B.at result.2) result.1.items }
+            ensures made { (p : B.Place) →
+                (B.at result.2 p).made ≡ (B.at seat p).made + (workers - 1) }
             ensures manned { (p : B.Place) → Manned P.asks (B.at seat p) (B.at result.2 p) }
         { manned(scan, seat, plans, ends, steps, workers - 1) },
     );
@@ -192,7 +194,7 @@ where
     requires script { IsScript (vec_len ends) steps.now }
     requires len { vec_len plans ≡ vec_len ends }
     requires few { vec_len ends ≤ QUERY_MOST }
-    requires fit { PlansFitAll P.stands P.asks (B.suits scan.now.boards.now) (B.at seat) plans.items }
+    requires fit { AllFit P.stands P.asks (B.suits scan.now.boards.now) (B.at seat) plans.items }
     requires from_1 { (p : B.Place) → 1 ≤ (B.at seat p).made }
     requires room { (p : B.Place) → (B.at seat p).made + workers < 2 ^ 32 - 1 }
     ensures leaves { (plan : Plans) → Marks plan ends.items → Ready plan [] plans.items
@@ -201,8 +203,8 @@ where
         result.0 }
     ensures known { result.0 ≡ Outcome.Went → AllKnown result.1.items }
     ensures more { MoreKnown ends.items result.1.items }
-    ensures whole { PiecesStandAll P.stands (B.home scan.now.boards.now) (B.at seat) ends.items
-        → PiecesStandAll P.stands (B.home scan.now.boards.now) (B.at result.2) result.1.items }
+    ensures whole { AllStand P.stands (B.home scan.now.boards.now) (B.at seat) ends.items
+        → AllStand P.stands (B.home scan.now.boards.now) (B.at result.2) result.1.items }
     ensures made { (p : B.Place) → (B.at result.2 p).made ≡ (B.at seat p).made + workers }
     ensures manned { (p : B.Place) → Manned P.asks (B.at seat p) (B.at result.2 p) }
 {

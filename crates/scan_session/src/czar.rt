@@ -7,7 +7,7 @@ ghost use Rattle.scan_rules.specs.Queries.{is_closed, QueryState};
 ghost use Rattle.turn_lock.specs.Seats.{Knows};
 ghost use Rattle.scan_session.specs.Plans.{Plans};
 ghost use Rattle.scan_session.specs.Seats.{Stays};
-ghost use Rattle.scan_session.specs.Places.{AreCzars, DrivingAll, GoingAll, PiecesStandAll, PlansFitAll};
+ghost use Rattle.scan_session.specs.Places.{AreCzars, DrivingAll, GoingAll, AllStand, AllFit};
 ghost use Rattle.scan_session.specs.KnownEnds.{known_in, AllKnown, Marks, MoreKnown, Ready};
 ghost use Rattle.scan_session.specs.Goes.{Goes, IsScript};
 ghost use Rattle.scan_session.specs.Crews.{Leaves};
@@ -37,15 +37,15 @@ fn whole<R: Wait, P: Work, B: Boards<P>, E: Engine<P>, G: Gate>(
     requires script { IsScript (length ends.old) steps.now }
     requires len { length plans.old ≡ length ends.old }
     requires few { length ends.old ≤ QUERY_MOST }
-    requires fit { PlansFitAll P.stands P.asks (B.suits scan.now.boards.now) (B.at seat) plans.old }
+    requires fit { AllFit P.stands P.asks (B.suits scan.now.boards.now) (B.at seat) plans.old }
     ensures goes { (plan : Plans) → Marks plan ends.old → Ready plan [] plans.old
         → GoingAll (B.has scan.now.boards.now) plan [] (B.at seat) (known_in ends.old)
         → Goes (DrivingAll (B.has scan.now.boards.now) plan steps.now (B.at result.1)
         (known_in ends.new)) (B.at result.1) result.0 }
     ensures known { result.0 ≡ Outcome.Went → AllKnown ends.new }
     ensures more { MoreKnown ends.old ends.new }
-    ensures whole { PiecesStandAll P.stands (B.home scan.now.boards.now) (B.at seat) ends.old
-        → PiecesStandAll P.stands (B.home scan.now.boards.now) (B.at result.1) ends.new }
+    ensures whole { AllStand P.stands (B.home scan.now.boards.now) (B.at seat) ends.old
+        → AllStand P.stands (B.home scan.now.boards.now) (B.at result.1) ends.new }
     ensures stays { (p : B.Place) → Stays P.asks (B.at seat p) (B.at result.1 p) }
 {
     let (outcome, seat) = all_lines(scan, desk, seat, plans, ends, steps);
@@ -89,14 +89,14 @@ pub fn czar<R: Wait, P: Work, B: Boards<P>, E: Engine<P>, G: Gate>(
     requires script { IsScript (length ends.old) steps.now }
     requires len { length plans.old ≡ length ends.old }
     requires few { length ends.old ≤ QUERY_MOST }
-    requires fit { PlansFitAll P.stands P.asks (B.suits scan.now.boards.now) (B.at seat) plans.old }
+    requires fit { AllFit P.stands P.asks (B.suits scan.now.boards.now) (B.at seat) plans.old }
     ensures leaves { (plan : Plans) → Marks plan ends.old → Ready plan [] plans.old
         → GoingAll (B.has scan.now.boards.now) plan [] (B.at seat) (known_in ends.old)
         → Leaves (B.has scan.now.boards.now) plan steps.now (B.at result.1) (known_in ends.new) result.0 }
     ensures known { result.0 ≡ Outcome.Went → AllKnown ends.new }
     ensures more { MoreKnown ends.old ends.new }
-    ensures whole { PiecesStandAll P.stands (B.home scan.now.boards.now) (B.at seat) ends.old
-        → PiecesStandAll P.stands (B.home scan.now.boards.now) (B.at result.1) ends.new }
+    ensures whole { AllStand P.stands (B.home scan.now.boards.now) (B.at seat) ends.old
+        → AllStand P.stands (B.home scan.now.boards.now) (B.at result.1) ends.new }
     ensures closed { (p : B.Place) → is_closed (B.at result.1 p).seen ≡ true }
     ensures knows { (p : B.Place) → Knows seat_of (B.at result.1 p) }
     ensures stays { (p : B.Place) → Stays P.asks (B.at seat p) (B.at result.1 p) }

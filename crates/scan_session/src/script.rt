@@ -9,7 +9,7 @@ ghost use Rattle.scan_rules.specs.declared.limits.TheConstants.{QUERY_MOST};
 ghost use Rattle.scan_rules.specs.Queries.{QueryState};
 ghost use Rattle.scan_session.specs.Plans.{Plans};
 ghost use Rattle.scan_session.specs.Seats.{Stays};
-ghost use Rattle.scan_session.specs.Places.{AreCzars, DrivingAll, GoingAll, PiecesStandAll, PlansFitAll};
+ghost use Rattle.scan_session.specs.Places.{AreCzars, DrivingAll, GoingAll, AllStand, AllFit};
 ghost use Rattle.scan_session.specs.KnownEnds.{at_query, known_in, AllKnown, Marks, MoreKnown, Ready};
 ghost use Rattle.scan_session.specs.Goes.{Goes, IsNext, IsScript, number_of};
 
@@ -42,8 +42,8 @@ pub fn await_end<R: Wait, P: Work, B: Boards<P>, E: Engine<P>, G: Gate>(
         (B.at result.1) result.0 }
     ensures known { result.0 ≡ Outcome.Went → is_some (at_query ends.new q) ≡ true }
     ensures more { MoreKnown ends.old ends.new }
-    ensures whole { PiecesStandAll P.stands (B.home scan.now.boards.now) (B.at seat) ends.old
-        → PiecesStandAll P.stands (B.home scan.now.boards.now) (B.at result.1) ends.new }
+    ensures whole { AllStand P.stands (B.home scan.now.boards.now) (B.at seat) ends.old
+        → AllStand P.stands (B.home scan.now.boards.now) (B.at result.1) ends.new }
     ensures stays { (p : B.Place) → Stays P.asks (B.at seat p) (B.at result.1 p) }
 {
     let place = (q - 1) as usize;
@@ -98,7 +98,7 @@ fn query_line<R: Wait, P: Work, B: Boards<P>, E: Engine<P>, G: Gate>(
     requires from_1 { 1 ≤ q }
     requires low { q ≤ length plans.old }
     requires few { length plans.old ≤ QUERY_MOST }
-    requires fit { PlansFitAll P.stands P.asks (B.suits scan.now.boards.now) (B.at seat) plans.old }
+    requires fit { AllFit P.stands P.asks (B.suits scan.now.boards.now) (B.at seat) plans.old }
     ensures goes { (plan : Plans) (done : List Step) (ends : ℕ → Option QueryState) (span : Span)
         → Ready plan done plans.old → list_any (asks q) done ≡ false
         → GoingAll (B.has scan.now.boards.now) plan done (B.at seat) ends
@@ -106,7 +106,7 @@ fn query_line<R: Wait, P: Work, B: Boards<P>, E: Engine<P>, G: Gate>(
         (B.at result.1) result.0 }
     ensures ready { (plan : Plans) (done : List Step) (span : Span)
         → Ready plan done plans.old → Ready plan (done ++ Query q span ∷ []) plans.new }
-    ensures fit { PlansFitAll P.stands P.asks (B.suits scan.now.boards.now) (B.at result.1) plans.new }
+    ensures fit { AllFit P.stands P.asks (B.suits scan.now.boards.now) (B.at result.1) plans.new }
     ensures len { length plans.new ≡ length plans.old }
     ensures stays { (p : B.Place) → Stays P.asks (B.at seat p) (B.at result.1 p) }
 {
@@ -132,7 +132,7 @@ fn line<R: Wait, P: Work, B: Boards<P>, E: Engine<P>, G: Gate>(
     requires low { number_of step ≤ length ends.old }
     requires len { length plans.old ≡ length ends.old }
     requires few { length ends.old ≤ QUERY_MOST }
-    requires fit { PlansFitAll P.stands P.asks (B.suits scan.now.boards.now) (B.at seat) plans.old }
+    requires fit { AllFit P.stands P.asks (B.suits scan.now.boards.now) (B.at seat) plans.old }
     ensures goes { (plan : Plans) (done : List Step) → IsNext done step → Marks plan ends.old
         → Ready plan done plans.old
         → GoingAll (B.has scan.now.boards.now) plan done (B.at seat) (known_in ends.old)
@@ -140,11 +140,11 @@ fn line<R: Wait, P: Work, B: Boards<P>, E: Engine<P>, G: Gate>(
         (known_in ends.new)) (B.at result.1) result.0 }
     ensures ready { (plan : Plans) (done : List Step)
         → Ready plan done plans.old → Ready plan (done ++ step ∷ []) plans.new }
-    ensures fit { PlansFitAll P.stands P.asks (B.suits scan.now.boards.now) (B.at result.1) plans.new }
+    ensures fit { AllFit P.stands P.asks (B.suits scan.now.boards.now) (B.at result.1) plans.new }
     ensures len { length plans.new ≡ length plans.old }
     ensures more { MoreKnown ends.old ends.new }
-    ensures whole { PiecesStandAll P.stands (B.home scan.now.boards.now) (B.at seat) ends.old
-        → PiecesStandAll P.stands (B.home scan.now.boards.now) (B.at result.1) ends.new }
+    ensures whole { AllStand P.stands (B.home scan.now.boards.now) (B.at seat) ends.old
+        → AllStand P.stands (B.home scan.now.boards.now) (B.at result.1) ends.new }
     ensures stays { (p : B.Place) → Stays P.asks (B.at seat p) (B.at result.1 p) }
 {
     match step {
@@ -168,14 +168,14 @@ pub fn all_lines<R: Wait, P: Work, B: Boards<P>, E: Engine<P>, G: Gate>(
     requires script { IsScript (length ends.old) steps.now }
     requires len { length plans.old ≡ length ends.old }
     requires few { length ends.old ≤ QUERY_MOST }
-    requires fit { PlansFitAll P.stands P.asks (B.suits scan.now.boards.now) (B.at seat) plans.old }
+    requires fit { AllFit P.stands P.asks (B.suits scan.now.boards.now) (B.at seat) plans.old }
     ensures goes { (plan : Plans) → Marks plan ends.old → Ready plan [] plans.old
         → GoingAll (B.has scan.now.boards.now) plan [] (B.at seat) (known_in ends.old)
         → Goes (DrivingAll (B.has scan.now.boards.now) plan steps.now (B.at result.1)
         (known_in ends.new)) (B.at result.1) result.0 }
     ensures more { MoreKnown ends.old ends.new }
-    ensures whole { PiecesStandAll P.stands (B.home scan.now.boards.now) (B.at seat) ends.old
-        → PiecesStandAll P.stands (B.home scan.now.boards.now) (B.at result.1) ends.new }
+    ensures whole { AllStand P.stands (B.home scan.now.boards.now) (B.at seat) ends.old
+        → AllStand P.stands (B.home scan.now.boards.now) (B.at result.1) ends.new }
     ensures stays { (p : B.Place) → Stays P.asks (B.at seat p) (B.at result.1 p) }
 {
     let mut seat = seat;
@@ -208,8 +208,8 @@ pub fn all_ends<R: Wait, P: Work, B: Boards<P>, E: Engine<P>, G: Gate>(
         (B.at result.1) result.0 }
     ensures known { result.0 ≡ Outcome.Went → AllKnown ends.new }
     ensures more { MoreKnown ends.old ends.new }
-    ensures whole { PiecesStandAll P.stands (B.home scan.now.boards.now) (B.at seat) ends.old
-        → PiecesStandAll P.stands (B.home scan.now.boards.now) (B.at result.1) ends.new }
+    ensures whole { AllStand P.stands (B.home scan.now.boards.now) (B.at seat) ends.old
+        → AllStand P.stands (B.home scan.now.boards.now) (B.at result.1) ends.new }
     ensures stays { (p : B.Place) → Stays P.asks (B.at seat p) (B.at result.1 p) }
 {
     let mut seat = seat;

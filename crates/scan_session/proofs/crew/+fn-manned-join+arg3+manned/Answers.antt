@@ -3,7 +3,7 @@ use base.Fml.{Lft}
 use base.Shift.{Keyless}
 use Rattle.scan_worker.specs.Working.{AllDelivered}
 use Rattle.scan_session.specs.KnownEnds.{known_in}
-use Rattle.scan_session.specs.Places.{AreCzars, PlansFitAll}
+use Rattle.scan_session.specs.Places.{AreCzars, AllFit}
 use Rattle.scan_session.specs.Crews.{Manned}
 use Rattle.scan_session.proofs.Manning.{czars_split, fit_split, going_split, leaves_joined, made_more, manned_more, pieces_split, split_delivered}
 use Rattle.scan_session.proofs.Listing.{pieces_on}
@@ -22,7 +22,7 @@ join-other-requires-after_bounds g t c κs bounds =
     let engine_other : (p : _) → g.E.Engine.root c.args.scan.now.engine.now ≡ (other p).root.root = λ p. c.requires.seats.engine p ∙ sym (ap (λ s. s.root.root) (next p)) in
     let delivered : (p : _) → AllDelivered (other p).mine = λ p. split_delivered asks (old p) (other p) (next p) in
     let seats : AreCzars asks (g.B.Tasks.turn boards) (g.E.Engine.root c.args.scan.now.engine.now) seat = czars_split asks (g.B.Tasks.turn boards) (g.E.Engine.root c.args.scan.now.engine.now) old seat kept c.requires.seats in
-    let fit : PlansFitAll g.P.Work.stands asks (g.B.Boards.suits boards) seat c.args.plans.items = fit_split g.P.Work.stands asks (g.B.Boards.suits boards) old seat c.args.plans.items kept c.requires.fit in
+    let fit : AllFit g.P.Work.stands asks (g.B.Boards.suits boards) seat c.args.plans.items = fit_split g.P.Work.stands asks (g.B.Boards.suits boards) old seat c.args.plans.items kept c.requires.fit in
     let made : (p : _) → (seat p).made ≡ (old p).made + 1 = λ p. ap (λ s. s.made) (kept p) in
     let from_1 : (p : _) → 1 ≤ (seat p).made = λ p. omega (arith, made p) in
     let some : 1 ≤ c.args.workers = search rules in

@@ -1,6 +1,6 @@
 use Rattle.std.proofs.Common.{◌≡◌, [], drop, length, sym, subst, rules, List, Option}
 use Rattle.scan_session.specs.KnownEnds.{known_in, AllKnown, Marks, MoreKnown, Ready}
-use Rattle.scan_session.specs.Places.{GoingAll, PiecesStandAll}
+use Rattle.scan_session.specs.Places.{GoingAll, AllStand}
 use Rattle.scan_session.specs.Crews.{Leaves}
 use Rattle.scan_session.specs.declared.end.End.{End}
 use Rattle.scan_session.specs.declared.end.Planned.{Planned}
@@ -41,8 +41,8 @@ returns-clause-whole g c w =
     let new = c.czar-outcome.new.ends in
     let len : length new ≡ c.args.ends.len = search rules in
     let e : c.as_mut_slice-2.result.now ≡ c.args.ends.items = search rules in
-    subst (λ (l : List (Option (End g.row.P.Denot))). PiecesStandAll g.P.Work.stands (g.B.Boards.home c.args.scan.now.boards.now) (g.B.Tasks.at c.czar-outcome.result.1) l) (sym (take_seam new (drop (length new) c.args.ends.items) c.args.ends.len len))
-    (c.czar-outcome.ensures.whole (subst (λ (l : List (Option (End g.row.P.Denot))). PiecesStandAll g.P.Work.stands (g.B.Boards.home c.args.scan.now.boards.now) (g.B.Tasks.at c.args.seat) l) (sym e) w))
+    subst (λ (l : List (Option (End g.row.P.Denot))). AllStand g.P.Work.stands (g.B.Boards.home c.args.scan.now.boards.now) (g.B.Tasks.at c.czar-outcome.result.1) l) (sym (take_seam new (drop (length new) c.args.ends.items) c.args.ends.len len))
+    (c.czar-outcome.ensures.whole (subst (λ (l : List (Option (End g.row.P.Denot))). AllStand g.P.Work.stands (g.B.Boards.home c.args.scan.now.boards.now) (g.B.Tasks.at c.args.seat) l) (sym e) w))
 
 pub returns-clause-made : goal.returns-clause-made
 returns-clause-made g c p = (c.czar-outcome.ensures.stays p).made

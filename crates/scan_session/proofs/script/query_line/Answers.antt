@@ -1,6 +1,6 @@
 use Rattle.std.proofs.Common.{◌≡◌, ◌-◌, Some, None, rules, ◌∙◌, sym, subst, slice_set, Option}
 use Rattle.scan_session.specs.KnownEnds.{at_query}
-use Rattle.scan_session.specs.Places.{PlansFitAll}
+use Rattle.scan_session.specs.Places.{AllFit}
 use Rattle.scan_session.specs.declared.end.Planned.{Planned}
 use Rattle.scan_session.proofs.Listing.{at_read, ready_none, ready_some, ready_set, fit_on, fit_set}
 use Rattle.scan_session.proofs.Calling.{stays_here}
@@ -38,7 +38,7 @@ returns-in-Some-clause-fit g c =
     let gone : c.take.new.self ≡ None = search rules in
     let suits = g.B.Boards.suits c.args.scan.now.boards.now in
     let new = g.B.Tasks.at c.start.result.1 in
-    subst (λ (o : Option (Planned g.row.P.Denot)). PlansFitAll g.P.Work.stands g.P.Work.asks suits new (slice_set c.args.plans.now (c.args.q - 1) o)) (sym gone)
+    subst (λ (o : Option (Planned g.row.P.Denot)). AllFit g.P.Work.stands g.P.Work.asks suits new (slice_set c.args.plans.now (c.args.q - 1) o)) (sym gone)
     (fit_set g.P.Work.stands g.P.Work.asks suits new c.args.plans.now c.args.q c.requires.from_1 c.requires.low
     (fit_on g.P.Work.stands g.P.Work.asks suits (g.B.Tasks.at c.args.seat) new c.args.plans.now c.start.ensures.stays c.requires.fit))
 
