@@ -25,7 +25,7 @@ pub record IsDrivenBy (workers : ℕ) (g : Partition) (c : Catalogue) (steps : L
   pub run : IsRun (chunk_count g) seen
   pub drove : Drove workers (plan_in planned) steps seen
   pub each : length ends ≡ length planned
-  pub are : AreEnds (StandsFor (base_of g c queries)) (plan_in planned) seen ends
+  pub are : AreEnds (StandsFor (base_of g c queries)) (plan_in planned) (λ q. seen) ends
 
 -- some journal of the board justifies these ends
 pub record IsDriven (workers : ℕ) (g : Partition) (c : Catalogue) (steps : List Step) (queries : List (Option ChunkQuery))
