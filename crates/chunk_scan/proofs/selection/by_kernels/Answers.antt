@@ -3,7 +3,7 @@ use Rattle.std.specs.Prelude.{All}
 use Rattle.lane_filter.specs.Tests.{places_of}
 use Rattle.chunk_scan.specs.Selection.{AreDone, meets_at}
 use Rattle.chunk_scan.proofs.Places.{done_at_places, places_below, selection_places, there_places, written_whole}
-use Rattle.chunk_scan.proofs.selection.selection.Goals as goal
+use Rattle.chunk_scan.proofs.selection.by_kernels.Goals as goal
 
 pub keep_all-requires-clause-there : goal.keep_all-requires-clause-there
 keep_all-requires-clause-there c =
