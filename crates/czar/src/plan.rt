@@ -13,7 +13,7 @@ ghost use Rattle.czar.specs.Plans.{ArePlans, IsCutOf, IsPlanBy, IsPlanOf, PlanFo
 
 use crate::understanding::{Understanding, understand};
 use answer_rules::Rewritten;
-use area_analyser::{plan, radius_ok};
+use area_analyser::{plan, plan_by_areas, radius_ok};
 use chunk_rewriter::rewrite;
 use chunk_store::Store;
 use object_index::Index;
@@ -116,14 +116,18 @@ fn plan_known(alloc: Global, world: &Store, tree: Query, bound: &Bound) -> Resul
     }
 }
 
-/// Returns the chunks that the query needs.
+/// Returns the chunks that the query needs. If it has id tests, allocates memory for an index of the ids.
 fn chunks_of(alloc: Global, world: &Store, bound: &Bound) -> Result<ChunkSet, Memory>
     ensures plan { IfOk result (λ chunks.
         chunks ≡ plan_of world.now.plan world.now.rows.objects bound.now) }
     ensures there { IfOk result (λ chunks. All (λ c. c < chunk_count world.now.plan) chunks) }
 {
-    let index = Index::build(world.plan(), world.rows());
-    plan(alloc, bound, world.plan(), &index, world.filled())
+    if bound.ids.as_slice().is_empty() {
+        plan_by_areas(alloc, bound, world.plan(), world.filled())
+    } else {
+        let index = Index::build(alloc, world.plan(), world.rows())?;
+        plan(alloc, bound, world.plan(), &index, world.filled())
+    }
 }
 
 /// Returns the plan of the queries that need these chunks: they are refused if the chunks' overlap does not allow them.

@@ -10,12 +10,13 @@ use Rattle.std.proofs.lemmas.List.Folds.{list_any_none}
 use Rattle.std.proofs.lemmas.Option.{get_or_from_slice_get, slice_get-get_or, slice_get_within}
 use Rattle.table_rules.specs.Objects.{Obj, IdsAscend}
 use Rattle.sky_row.specs.Columns.{no_row}
-use Rattle.object_index.specs.Indexes.{IsRowOf, IsRowWith}
+use Rattle.object_index.specs.Granules.{IsRowWith}
+use Rattle.object_index.specs.Indexes.{IsRowOf}
 
 abbrev pub Ascend : List ℤ → Type 0
 Ascend ids = AllPairs (λ a b. a <ℤ b) ids
 
-equal : (x y : ℤ) → int_cmp x y ≡ Equal → x ≡ y
+pub equal : (x y : ℤ) → int_cmp x y ≡ Equal → x ≡ y
 equal x y h = grind (arith, ints)
 
 lower : (x y : ℤ) → int_cmp x y ≡ Less → x <ℤ y
@@ -40,11 +41,11 @@ rises ids id up i j d le within = by (first i j le)
     by (inr is) = subst (λ k. ordering_index (int_cmp (get_or ids i d) id) ≤ ordering_index (int_cmp (get_or ids k d) id)) is (omega arith)
 
 -- where an id is not found, those before the place are lower
-before : (ids : List ℤ) (id : ℤ) (i : ℕ) → Ascend ids → IsBinarySearchResult (λ z. int_cmp z id) ids (Err i) → (k : ℕ) (d : ℤ) → k < i → get_or ids k d <ℤ id
+pub before : (ids : List ℤ) (id : ℤ) (i : ℕ) → Ascend ids → IsBinarySearchResult (λ z. int_cmp z id) ids (Err i) → (k : ℕ) (d : ℤ) → k < i → get_or ids k d <ℤ id
 before ids id i up h k d less = lower _ id ((h (rises ids id up)).0 k d (omega arith) less)
 
 -- and those behind it are higher
-behind : (ids : List ℤ) (id : ℤ) (i : ℕ) → Ascend ids → IsBinarySearchResult (λ z. int_cmp z id) ids (Err i) → (k : ℕ) (d : ℤ) → i ≤ k → k < length ids → id <ℤ get_or ids k d
+pub behind : (ids : List ℤ) (id : ℤ) (i : ℕ) → Ascend ids → IsBinarySearchResult (λ z. int_cmp z id) ids (Err i) → (k : ℕ) (d : ℤ) → i ≤ k → k < length ids → id <ℤ get_or ids k d
 behind ids id i up h k d le within = higher _ id ((h (rises ids id up)).1 k d le within)
 
 other : (x id : ℤ) → (x <ℤ id) ⊎ (id <ℤ x) → int_eq id x ≡ false
@@ -52,19 +53,8 @@ other x id (inl less) = grind (arith, ints)
 other x id (inr more) = grind (arith, ints)
 
 -- where each id is lower or higher than this one, none is it
-none_is : (ids : List ℤ) (id : ℤ) → ((k : ℕ) (d : ℤ) → k < length ids → (get_or ids k d <ℤ id) ⊎ (id <ℤ get_or ids k d)) → list_any (int_eq id) ids ≡ false
+pub none_is : (ids : List ℤ) (id : ℤ) → ((k : ℕ) (d : ℤ) → k < length ids → (get_or ids k d <ℤ id) ⊎ (id <ℤ get_or ids k d)) → list_any (int_eq id) ids ≡ false
 none_is ids id apart = list_any_none (int_eq id) ids (λ k d within. other _ id (apart k d within))
-
--- an id that is not found is none of them
-pub not_found : (ids : List ℤ) (id : ℤ) (at : ℕ) → Ascend ids → IsBinarySearchResult (λ z. int_cmp z id) ids (Err at) → list_any (int_eq id) ids ≡ false
-not_found ids id at up searched = none_is ids id (λ k d within. by k d within (order k))
-  where
-    order : (k : ℕ) → (k < at) ⊎ (at ≤ k)
-    order k = grind arith
-
-    by : (k : ℕ) (d : ℤ) → k < length ids → (k < at) ⊎ (at ≤ k) → (get_or ids k d <ℤ id) ⊎ (id <ℤ get_or ids k d)
-    by k d within (inl less) = inl (before ids id at up searched k d less)
-    by k d within (inr le) = inr (behind ids id at up searched k d le within)
 
 -- the ids of rows that ascend
 pub ids_ascend : (rows : List Obj) → IdsAscend rows → Ascend (map (λ o. o.id) rows)

@@ -1,5 +1,5 @@
 -- The meaning of an index of ids. The idea is Qserv's (SC 2011).
-use Rattle.std.specs.Prelude.{◌≡◌, ℕ, ◌<◌, ℤ, pos, List, Some, length, get_or, slice_get, IsTrue}
+use Rattle.std.specs.Prelude.{◌≡◌, ℕ, ◌<◌, ℤ, List, Some, slice_get, IsTrue}
 use Rattle.sky_rules.specs.Partition.{Partition, chunk_count}
 use Rattle.sky_rules.specs.Bounds.{in_chunk}
 use Rattle.table_rules.specs.Objects.{Obj}
@@ -23,8 +23,3 @@ pub record IsPlaceOf (g : Partition) (rows : List Obj) (id : ℤ) (chunk row : �
   pub there : chunk < chunk_count g
   pub holds : IsTrue (in_chunk g chunk object.at)
   pub only : IsOnlyChunk g chunk object.at
-
--- There is a row with this number, and its id is this one.
-pub record IsRowWith (ids : List ℤ) (id : ℤ) (row : ℕ) : Type 0 where
-  pub there : row < length ids
-  pub has : get_or ids row (pos 0) ≡ id

@@ -1,1 +1,2 @@
+pub mod Granules
 pub mod Indexes

@@ -1,6 +1,5 @@
-//! An index of the rows of a catalogue by their ids. The ids ascend in the table, so the table's own column of ids is
-//! what is searched, and there is nothing else to build or to keep.
-ghost use Rattle.std.specs.Prelude.{◌≡◌, ◌<◌, false, get_or, length, IfNone, IfSome, IsTrue};
+//! An index of the rows of a catalogue by their ids, which finds a row by the first ids of granules of rows.
+ghost use Rattle.std.specs.Prelude.{◌≡◌, ◌<◌, false, get_or, length, IfNone, IfOk, IfSome, IsTrue};
 ghost use Rattle.sky_rules.specs.Partition.{chunk_count};
 ghost use Rattle.sky_rules.specs.Bounds.{in_chunk};
 ghost use Rattle.sky_row.specs.Columns.{no_row};
@@ -8,10 +7,13 @@ ghost use Rattle.sky_plan.specs.Places.{IsOnlyChunk};
 ghost use Rattle.table_rules.specs.Ordered.{has_id};
 ghost use Rattle.object_index.specs.Indexes.{IsPlaceOf, IsRowOf};
 
+use crate::granules::{first_rows, row_with};
 use crate::place::Place;
-use crate::search::row_with;
+use indexmap::IndexMap;
+use sky_io::Memory;
 use sky_plan::SkyPlan;
 use sky_row::Rows;
+use std::alloc::Global;
 use std::marker::Model;
 
 /// A plan of the sky and the rows of a catalogue, for lookups of the chunks and rows of ids.
@@ -19,22 +21,33 @@ use std::marker::Model;
 pub struct Index<'w> {
     plan: &'w SkyPlan,
     rows: &'w Rows,
+    /// The id and the number of the first row of each granule of the rows, in their order.
+    firsts: IndexMap<i64, u32>,
 }
 
 impl<'w> Model for Index<'w> {
+    ghost use Rattle.std.specs.Prelude.{map};
     ghost use Rattle.object_index.specs.Indexes.{Indexed};
+    ghost use Rattle.object_index.specs.Granules.{IsSparse};
 
     ghost Value = { Indexed };
 
     ghost view = { λ x. record { plan = x.plan.now; rows = x.rows.now.objects } };
+
+    ghost invariant = { λ x. IsSparse (map (λ o. o.id) x.rows.now.objects) x.firsts.entries };
 }
 
 impl<'w> Index<'w> {
-    /// Creates the index of the rows over the plan. Reads no row, and does not allocate.
-    pub fn build(plan: &'w SkyPlan, rows: &'w Rows) -> Index<'w>
-        ensures { result ≡ record { plan = plan.now; rows = rows.now.objects } }
+    /// Creates the index of the rows over the plan. Allocates memory for an entry a granule of rows, and reads no other
+    /// row.
+    pub fn build(alloc: Global, plan: &'w SkyPlan, rows: &'w Rows) -> Result<Index<'w>, Memory>
+        ensures { IfOk result (λ index.
+            index ≡ record { plan = plan.now; rows = rows.now.objects }) }
     {
-        Index { plan, rows }
+        // the contract of `len` gives that the ids ascend
+        let _count = rows.len();
+        let firsts = first_rows(alloc, rows.ids())?;
+        Ok(Index { plan, rows, firsts })
     }
 
     /// Returns the plan of the sky. Does not allocate.
@@ -82,6 +95,6 @@ impl<'w> Index<'w> {
     {
         // the contract of `len` gives that the ids ascend
         let _count = self.rows.len();
-        row_with(self.rows.ids(), id)
+        row_with(self.rows.ids(), &self.firsts, id)
     }
 }
