@@ -2,11 +2,13 @@
 //! text.
 //!
 //! Callers see what a call writes as its text, appended to the sink. `specs/Report.antt` defines the text of the
-//! report, and `transcript_rules` the others. Below: `transcript_rules` for the texts, `sql_print` for parts of
+//! report, and `transcript_rules` the others. A text with one block for each query is written by `put_blocks`, whatever
+//! its blocks are. Below: `transcript_rules` for the texts, `sql_print` for parts of
 //! queries, `partial_merge` for the table of an answer, `chunk_store` for the rows of each chunk, `sky_text` for
 //! numbers, `sky_io` for the sink. This crate computes nothing but lengths and positions, and allocates nothing.
 #![tactic(auto)]
 
+pub mod blocks;
 mod chunk_items;
 mod chunk_order;
 mod chunk_query;
@@ -26,6 +28,7 @@ mod report;
 pub mod shown;
 mod values;
 
+pub use blocks::{Blocks, put_blocks};
 pub use ended::{put_cancelled, put_spent};
 pub use explained::{Explained, put_explain};
 pub use refused::put_refusal;

@@ -1,4 +1,4 @@
--- Which parts of the root of the pieces may cross to the thread of a worker, as a set for `search`.
+-- Which parts of the root of the pieces and of the engine may cross to the thread of a worker, as a set for `search`.
 use denote.Param.Send.{sendable}
 use Rattle.std.proofs.Crossing.{crosses}
 use Rattle.chunk_store.below.column_block.proofs.block.Block.TheSendSync as block
@@ -28,6 +28,24 @@ use Rattle.std.proofs.boxed.Box.TheSendSync as std_box
 use Rattle.std.proofs.option.Option.TheSendSync as std_option
 use Rattle.std.proofs.rt.Memory.TheSendSync as std_memory
 use Rattle.std.proofs.vec.Vec.TheSendSync as std_vec
+use Rattle.answer_rules.proofs.refusal.Radius.TheSendSync as radius
+use Rattle.answer_rules.proofs.refusal.TotalOut.TheSendSync as total_out
+use Rattle.answer_rules.proofs.rewritten.MergeKey.TheSendSync as merge_key
+use Rattle.answer_rules.proofs.rewritten.MergeOrder.TheSendSync as merge_order
+use Rattle.bind_rules.proofs.fault.BindFault.TheSendSync as bind_fault
+use Rattle.scan_rules.proofs.chunk_set.ChunkSet.TheSendSync as chunk_set
+use Rattle.sql_rules.proofs.fault.SqlFault.TheSendSync as sql_fault
+use Rattle.sql_token.proofs.token.Span.TheSendSync as span
+use Rattle.sql_tree.proofs.cond.AreaKind.TheSendSync as area_kind
+use Rattle.sql_tree.proofs.cond.IntList.TheSendSync as int_list
+use Rattle.sql_tree.proofs.cond.Pred.TheLaws.TheKnot as written_conds
+use Rattle.sql_tree.proofs.cond.SignedInt.TheSendSync as signed_int
+use Rattle.sql_tree.proofs.expr.Atom.TheLaws.TheKnot as written_exprs
+use Rattle.sql_tree.proofs.name.Col.TheSendSync as col
+use Rattle.sql_tree.proofs.name.Name.TheSendSync as name
+use Rattle.sql_tree.proofs.query.OrderBy.TheSendSync as order_by
+use Rattle.sql_tree.proofs.query.TableRef.TheSendSync as table_ref
+use Rattle.transcript_rules.proofs.refusal.Refusal.TheSendSync as refusal
 
 pub ruleset crossing = (
   lists.the_send,
@@ -98,8 +116,41 @@ pub ruleset crossing = (
   std_global.the_send,
   std_global.the_field_sync,
   std_global.the_sync,
+  radius.the_field_sync,
+  radius.the_sync,
+  total_out.the_field_sync,
+  total_out.the_sync,
+  merge_key.the_field_sync,
+  merge_key.the_sync,
+  merge_order.the_field_sync,
+  merge_order.the_sync,
+  bind_fault.the_field_sync,
+  bind_fault.the_sync,
+  sql_fault.the_field_sync,
+  sql_fault.the_sync,
+  span.the_field_sync,
+  span.the_sync,
+  area_kind.the_field_sync,
+  area_kind.the_sync,
+  int_list.the_field_sync,
+  int_list.the_sync,
+  signed_int.the_field_sync,
+  signed_int.the_sync,
+  col.the_field_sync,
+  col.the_sync,
+  name.the_field_sync,
+  name.the_sync,
+  order_by.the_field_sync,
+  order_by.the_sync,
+  table_ref.the_field_sync,
+  table_ref.the_sync,
+  refusal.the_field_sync,
+  refusal.the_sync,
+  chunk_set.the_sync,
   crosses,
   conds.crosses,
   exprs.crosses,
+  written_conds.crosses,
+  written_exprs.crosses,
   sendable,
 )

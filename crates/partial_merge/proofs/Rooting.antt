@@ -1,5 +1,6 @@
 -- A base with one chunk query more is a base.
-use Rattle.std.proofs.Common.{◌≡◌, ℕ, ◌<◌, ◌≤◌, List, [], ◌∷◌, ◌++◌, subst, sym}
+use Rattle.std.proofs.Common.{◌≡◌, ◌∙◌, ℕ, ◌<◌, ◌≤◌, List, [], ◌∷◌, ◌++◌, ap, length, subst, sym}
+use Rattle.std.proofs.lemmas.List.{length-map, map-append}
 use Rattle.std.specs.List.{All}
 use Rattle.std.specs.Prelude.{Err, Ok, OnErr, OnOk, Result}
 use Rattle.std.proofs.lemmas.List.Elements.{All-from_recursion, recursion_from_All}
@@ -9,7 +10,19 @@ use Rattle.answer_rules.specs.declared.rewritten.ChunkQuery.{ChunkQuery}
 use Rattle.answer_rules.specs.Bases.{Base, IsBase, columns_in}
 use Rattle.answer_rules.specs.SoundChunks.{IsSoundChunk}
 use Rattle.answer_rules.proofs.Apart.{each-append}
-use Rattle.partial_merge.specs.Roots.{with_query}
+use Rattle.partial_merge.specs.Roots.{shown, with_query}
+
+-- what is shown of entries with one more
+pub shown_more : {S X : Type 0} (old new : List (ℕ × S)) (value : S → X) (q : ℕ) (s : S) (x : X) → new ≡ old ++ (q, s) ∷ []
+    → value s ≡ x → shown new value ≡ shown old value ++ (q, x) ∷ []
+shown_more {S} {X} old new value q s x more is =
+    ap (λ es. shown es value) more ∙ map-append {B = ℕ × X} (λ (e : ℕ × S). (e.0, value e.1)) old ((q, s) ∷ [])
+    ∙ ap (λ z. shown old value ++ (q, z) ∷ []) is
+
+-- as many entries are shown
+pub shown_long : {S X : Type 0} (entries : List (ℕ × S)) (value : S → X) (n : ℕ) → n ≡ length entries
+    → n ≡ length (shown entries value)
+shown_long {S} {X} entries value n is = is ∙ sym (length-map {B = ℕ × X} entries (λ (e : ℕ × S). (e.0, value e.1)))
 
 one_more : {X : Type 0} (P : X → Type 0) (xs : List X) (x : X) → All P xs → P x → All P (xs ++ x ∷ [])
 one_more P xs x h k = All-from_recursion P (xs ++ x ∷ []) (each-append P xs (x ∷ []) (recursion_from_All P xs h) (k, tt))

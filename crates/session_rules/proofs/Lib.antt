@@ -1,2 +1,3 @@
 pub mod Fitting
 pub mod Cancels
+pub mod Numbers

@@ -1,7 +1,8 @@
 -- The blocks of a transcript, each at its place, and what ends that fit say of it.
 use Rattle.std.proofs.Common.{◌≡◌, refl, sym, ap, ◌∙◌, ℕ, zero, suc, ◌+◌, arith, Bool, true, false, ◌&&◌}
-use Rattle.std.proofs.Common.{List, [], ◌∷◌, length, map, Option, Some, option_map, slice_get}
+use Rattle.std.proofs.Common.{List, [], ◌∷◌, length, map, zip, min, Option, Some, option_map, slice_get}
 use Rattle.std.proofs.lemmas.List.{length-map}
+use Rattle.std.proofs.lemmas.Slice.Zip.{length-zip}
 use Rattle.std.proofs.lemmas.Option.{slice_get-map}
 use Rattle.table_rules.specs.Objects.{Catalogue}
 use Rattle.sky_rules.specs.Partition.{Partition}
@@ -11,8 +12,8 @@ use Rattle.session_script.specs.Views.{ScriptView, query_lines}
 use Rattle.session_script.specs.declared.step.Step.{Step}
 use Rattle.session_rules.specs.Ends.{Judged, may_end, may_end_from}
 use Rattle.session_rules.specs.declared.end.EndKind.{EndKind}
-use Rattle.transcript_rules.specs.Blocks.{block, end_lines}
-use Rattle.transcript_rules.specs.Explained.{explain_block, explain_blocks_from}
+use Rattle.transcript_rules.specs.Blocks.{block, blocks_by, end_lines}
+use Rattle.transcript_rules.specs.Explained.{explain_block}
 use Rattle.transcript_rules.specs.Laws.{BlocksAreNumbered, BlocksInOrder, ExplainedInOrder, OneBlockEach}
 use Rattle.transcript_rules.specs.Laws.{OneExplainedEach}
 use Rattle.transcript_rules.specs.RefusalLines.{quoted}
@@ -34,30 +35,29 @@ first_of k = omega (arith)
 some_same : {A : Type 0} (x y : A) → ◌≡◌ {A = Option A} (Some x) (Some y) → x ≡ y
 some_same x y h = cc h
 
--- the block of the query at a place
-block_at : (g : Partition) (c : Catalogue) (k i : ℕ) (texts : List Bytes) (ends : List EndKind) (text : Bytes)
-    (end : EndKind)
-    → slice_get texts i ≡ Some text → slice_get ends i ≡ Some end
-    → slice_get (blocks_from g c k texts ends) i ≡ Some (block g c (k + i) text end)
-block_at g c k i [] ends text end there ended = absurd (cc there)
-block_at g c k i (t ∷ texts) [] text end there ended = absurd (cc ended)
-block_at g c k zero (t ∷ texts) (e ∷ ends) text end there ended =
-    ap (λ x. Some (block g c k x e)) (some_same t text there)
-    ∙ ap (λ x. Some (block g c k text x)) (some_same e end ended)
-    ∙ ap (λ n. Some (block g c n text end)) (sym (first_of k))
-block_at g c k (suc i) (t ∷ texts) (e ∷ ends) text end there ended =
-    block_at g c (k + 1) i texts ends text end there ended ∙ ap (λ n. Some (block g c n text end)) (next k i)
+-- the block at an index is that of the query there
+pub by_at : {X : Type 0} (block_of : ℕ → X → Bytes) (k i : ℕ) (xs : List X) (x : X) → slice_get xs i ≡ Some x
+    → slice_get (blocks_by block_of k xs) i ≡ Some (block_of (k + i) x)
+by_at block_of k i [] x there = absurd (cc there)
+by_at block_of k zero (y ∷ xs) x there =
+    ap (λ z. Some (block_of k z)) (some_same y x there) ∙ ap (λ n. Some (block_of n x)) (sym (first_of k))
+by_at block_of k (suc i) (y ∷ xs) x there =
+    by_at block_of (k + 1) i xs x there ∙ ap (λ n. Some (block_of n x)) (next k i)
 
--- the explaining block of the query at a place
-explain_at : (g : Partition) (c : Catalogue) (k i : ℕ) (texts : List Bytes) (text : Bytes)
-    → slice_get texts i ≡ Some text → slice_get (explain_blocks_from g c k texts) i
-    ≡ Some (explain_block g c (k + i) text)
-explain_at g c k i [] text there = absurd (cc there)
-explain_at g c k zero (t ∷ texts) text there =
-    ap (λ x. Some (explain_block g c k x)) (some_same t text there)
-    ∙ ap (λ n. Some (explain_block g c n text)) (sym (first_of k))
-explain_at g c k (suc i) (t ∷ texts) text there =
-    explain_at g c (k + 1) i texts text there ∙ ap (λ n. Some (explain_block g c n text)) (next k i)
+-- there are as many blocks as queries
+pub as_many_by : {X : Type 0} (block_of : ℕ → X → Bytes) (k : ℕ) (xs : List X)
+    → length (blocks_by block_of k xs) ≡ length xs
+as_many_by block_of k [] = refl
+as_many_by block_of k (x ∷ xs) = ap suc (as_many_by block_of (k + 1) xs)
+
+-- what two lists have at an index
+pub zip_at : {X Y : Type 0} (i : ℕ) (xs : List X) (ys : List Y) (x : X) (y : Y) → slice_get xs i ≡ Some x
+    → slice_get ys i ≡ Some y → slice_get (zip xs ys) i ≡ Some (x, y)
+zip_at i [] ys x y there ended = absurd (cc there)
+zip_at i (a ∷ xs) [] x y there ended = absurd (cc ended)
+zip_at zero (a ∷ xs) (b ∷ ys) x y there ended =
+    ap (λ z. Some (z, b)) (some_same a x there) ∙ ap (λ z. Some (x, z)) (some_same b y ended)
+zip_at (suc i) (a ∷ xs) (b ∷ ys) x y there ended = zip_at i xs ys x y there ended
 
 -- counted from 1
 pub from_one : (i : ℕ) → 1 + i ≡ i + 1
@@ -66,7 +66,9 @@ from_one i = omega (arith)
 -- the blocks stand in the order of the script
 pub blocks_in_order : BlocksInOrder
 blocks_in_order g c s ends i text end there ended =
-    block_at g c 1 i (query_lines s) ends text end there ended ∙ ap (λ n. Some (block g c n text end)) (from_one i)
+    by_at (λ n query. block g c n query.0 query.1) 1 i (zip (query_lines s) ends) (text, end)
+    (zip_at i (query_lines s) ends text end there ended)
+    ∙ ap (λ n. Some (block g c n text end)) (from_one i)
 
 -- each begins with its number
 pub blocks_are_numbered : BlocksAreNumbered
@@ -76,18 +78,12 @@ blocks_are_numbered g c k text end = record { rest = end_lines g c text end; beg
 -- the explaining blocks stand in the order of the script
 pub explained_in_order : ExplainedInOrder
 explained_in_order g c s i text there =
-    explain_at g c 1 i (query_lines s) text there ∙ ap (λ n. Some (explain_block g c n text)) (from_one i)
-
--- as many explaining blocks as queries
-as_many_explained : (g : Partition) (c : Catalogue) (k : ℕ) (texts : List Bytes)
-    → length (explain_blocks_from g c k texts) ≡ length texts
-as_many_explained g c k [] = refl
-as_many_explained g c k (t ∷ texts) = ap suc (as_many_explained g c (k + 1) texts)
+    by_at (explain_block g c) 1 i (query_lines s) text there ∙ ap (λ n. Some (explain_block g c n text)) (from_one i)
 
 -- one explaining block for each query
 pub one_explained_each : OneExplainedEach
 one_explained_each g c s =
-    as_many_explained g c 1 (query_lines s) ∙ length-map (query_spans s.steps) (quoted s.text)
+    as_many_by (explain_block g c) 1 (query_lines s) ∙ length-map (query_spans s.steps) (quoted s.text)
 
 -- ends that may be are as many as the queries
 as_many : (w : ℕ) (steps : List Step) (k : ℕ) (js : List Judged) (es : List EndKind)
@@ -112,16 +108,12 @@ may_at w steps k (suc i) (x ∷ js) (y ∷ es) j e h judged ended =
     sym (ap (λ n. may_end w steps n j e) (next k i))
     ∙ may_at w steps (k + 1) i js es j e (split_and _ _ h).1 judged ended
 
--- as many blocks as queries, where there are as many ends
-as_many_blocks : (g : Partition) (c : Catalogue) (k : ℕ) (texts : List Bytes) (ends : List EndKind)
+-- as many blocks as queries, if there are as many ends
+pub as_many_blocks : (g : Partition) (c : Catalogue) (k : ℕ) (texts : List Bytes) (ends : List EndKind)
     → length texts ≡ length ends → length (blocks_from g c k texts ends) ≡ length texts
-as_many_blocks g c k [] ends h = refl
-as_many_blocks g c k (t ∷ texts) [] h = absurd (cc h)
-as_many_blocks g c k (t ∷ texts) (e ∷ ends) h =
-    ap suc (as_many_blocks g c (k + 1) texts ends (suc_same _ _ h))
-  where
-    suc_same : (m n : ℕ) → suc m ≡ suc n → m ≡ n
-    suc_same m n h = omega (arith, h)
+as_many_blocks g c k texts ends h =
+    as_many_by (λ n query. block g c n query.0 query.1) k (zip texts ends)
+    ∙ omega (arith, h, length-zip texts ends)
 
 -- the ends that fit, each at its place
 pub fits_from : (w : ℕ) (g : Partition) (c : Catalogue) (s : ScriptView) (ends : List EndKind) → FitEnds w g c s ends

@@ -1,5 +1,5 @@
 -- The block of a query in a transcript. Here g is a sky plan, c a catalogue and k the query's number.
-use Rattle.std.specs.Prelude.{ℕ, List, [], ◌++◌, length, Option, None, Some, Result, Ok, Err, codes}
+use Rattle.std.specs.Prelude.{ℕ, ◌+◌, List, [], ◌∷◌, ◌++◌, length, Option, None, Some, Result, Ok, Err, codes}
 use Rattle.std.specs.Fmt.{decimal}
 use Rattle.table_rules.specs.Objects.{Catalogue}
 use Rattle.sky_rules.specs.Partition.{Partition}
@@ -43,3 +43,8 @@ end_lines g c text Spent = line (codes "out of memory")
 -- the block of query k, which has this line and this end
 unfoldable pub block : Partition → Catalogue → ℕ → Bytes → EndKind → Bytes
 block g c k text end = number_line k ++ end_lines g c text end
+
+-- the blocks of queries, each written by its number and what is known of the query; the first query has number k
+abbrev pub blocks_by : {X : Type 0} → (ℕ → X → Bytes) → ℕ → List X → List Bytes
+blocks_by block_of k [] = []
+blocks_by block_of k (x ∷ xs) = block_of k x ∷ blocks_by block_of (k + 1) xs

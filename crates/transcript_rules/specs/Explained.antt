@@ -1,5 +1,5 @@
 -- The explain text of a script: for each query the chunk query, the merge and the chunks, with nothing run.
-use Rattle.std.specs.Prelude.{ℕ, ◌+◌, List, [], ◌∷◌, ◌++◌, Option, None, Some, Result, Ok, Err, codes}
+use Rattle.std.specs.Prelude.{ℕ, List, [], ◌++◌, Option, None, Some, Result, Ok, Err, codes}
 use Rattle.std.specs.Fmt.{decimal}
 use Rattle.std.specs.List.{flat_map}
 use Rattle.table_rules.specs.Objects.{Catalogue}
@@ -11,7 +11,7 @@ use Rattle.session_script.specs.Views.{ScriptView, query_lines}
 use Rattle.transcript_rules.specs.declared.refusal.Refusal.{Refusal}
 use Rattle.transcript_rules.specs.Refusals.{Understood, understood, early_refusal}
 use Rattle.transcript_rules.specs.RefusalLines.{line, refusal_line}
-use Rattle.transcript_rules.specs.Blocks.{number_line}
+use Rattle.transcript_rules.specs.Blocks.{blocks_by, number_line}
 use Rattle.text_rules.specs.Readings.{joined}
 use Rattle.transcript_rules.specs.ChunkLines.{chunk_line}
 use Rattle.transcript_rules.specs.MergeLines.{merge_line}
@@ -38,8 +38,7 @@ explain_block g c k text = number_line k ++ explain_lines g c text (early_refusa
 
 -- the explain blocks of these queries, the first of which has this number
 abbrev pub explain_blocks_from : Partition → Catalogue → ℕ → List Bytes → List Bytes
-explain_blocks_from g c k [] = []
-explain_blocks_from g c k (text ∷ texts) = explain_block g c k text ∷ explain_blocks_from g c (k + 1) texts
+explain_blocks_from g c k texts = blocks_by (explain_block g c) k texts
 
 -- the explain blocks of the queries of a script, numbered from 1
 abbrev pub explain_blocks_of : Partition → Catalogue → ScriptView → List Bytes

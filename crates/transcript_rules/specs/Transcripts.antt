@@ -1,5 +1,5 @@
 -- The transcript of a script, and which ends fit it. Here g is a sky plan, c a catalogue and s a script.
-use Rattle.std.specs.Prelude.{◌≡◌, ℕ, ◌+◌, Bool, true, false, List, [], ◌∷◌, map, Result, Ok, Err}
+use Rattle.std.specs.Prelude.{◌≡◌, ℕ, Bool, true, false, List, [], ◌∷◌, map, zip, Result, Ok, Err}
 use Rattle.std.specs.Option.{is_some}
 use Rattle.text_rules.specs.Readings.{joined}
 use Rattle.table_rules.specs.Objects.{Obj, Catalogue}
@@ -11,13 +11,11 @@ use Rattle.session_rules.specs.Ends.{Judged, fit}
 use Rattle.session_rules.specs.declared.end.EndKind.{EndKind}
 use Rattle.transcript_rules.specs.declared.refusal.Refusal.{Refusal}
 use Rattle.transcript_rules.specs.Refusals.{Understood, understood, early_refusal, total_refusal}
-use Rattle.transcript_rules.specs.Blocks.{block}
+use Rattle.transcript_rules.specs.Blocks.{block, blocks_by}
 
 -- the blocks of queries with these ends, the first of which has this number
 abbrev pub blocks_from : Partition → Catalogue → ℕ → List Bytes → List EndKind → List Bytes
-blocks_from g c k [] ends = []
-blocks_from g c k (text ∷ texts) [] = []
-blocks_from g c k (text ∷ texts) (end ∷ ends) = block g c k text end ∷ blocks_from g c (k + 1) texts ends
+blocks_from g c k texts ends = blocks_by (λ n query. block g c n query.0 query.1) k (zip texts ends)
 
 -- the blocks of a script whose queries have these ends, numbered from 1
 abbrev pub blocks_of : Partition → Catalogue → ScriptView → List EndKind → List Bytes
