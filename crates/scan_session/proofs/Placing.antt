@@ -1,5 +1,5 @@
 -- What the czar knows at each place, after each result of a query's board.
-use Rattle.std.proofs.Common.{◌≡◌, ℕ, ◌<◌, ◌≤◌, List, [], ◌∷◌, ◌++◌, Bool, true, false, cond, Option, Some, None, is_some, ◌==◌, eqb-true, ◌⊎◌, inl, inr, ⊎_elim, refl, sym, ◌∙◌, ap, subst, arith}
+use Rattle.std.proofs.Common.{◌≡◌, ℕ, ◌<◌, ◌≤◌, List, [], ◌∷◌, ◌++◌, Bool, true, false, cond, Option, Some, None, is_some, ◌==◌, eqb-true, ◌⊎◌, inl, ⊎_elim, refl, sym, ◌∙◌, ap, subst, arith}
 use Rattle.std.specs.List.{list_any}
 use Rattle.std.proofs.lemmas.Bool.{cases_Bool, cond-true, cond-false, false≢true}
 use mathlib.Core.List.{IsPrefix}
@@ -7,13 +7,12 @@ use Rattle.atomic_table.specs.Seated.{TableId}
 use Rattle.scan_rules.specs.declared.journal_line.JournalLine.TheVariants.{Attach as AttachLine, Cancel as CancelLine, Collect as CollectLine}
 use Rattle.scan_rules.specs.Queries.{Journal, QueryState, state_of}
 use Rattle.scan_rules.specs.Scan.{running_count}
-use Rattle.scan_rules.specs.Runs.{IsRun}
 use Rattle.scan_core.specs.Answers.{AnswersAttach, AnswersCollect}
 use Rattle.scan_core.specs.declared.answers.Collect.{Collect}
 use Rattle.scan_core.specs.Boards.{BoardState}
 use Rattle.scan_core.specs.declared.answers.Attach.{Attach}
 use Rattle.scan_core.specs.declared.answers.Attach.TheVariants.{Attached}
-use Rattle.scan_board.specs.Calls.{AnswersCancel, BoardSeat, Called, board_at}
+use Rattle.scan_board.specs.Calls.{AnswersCancel, BoardSeat, Called}
 use Rattle.session_script.specs.declared.step.Step.{Step}
 use Rattle.session_script.specs.declared.step.Step.TheVariants.{Query, Cancel as CancelStep}
 use Rattle.session_rules.specs.Ends.{asks as is_query_of}

@@ -154,8 +154,10 @@ where
                 (known_in result.1.items) result.0 }
             ensures known { result.0 ≡ Outcome.Went → AllKnown result.1.items }
             ensures more { MoreKnown ends.items result.1.items }
-            ensures whole { AllStand P.stands (B.home scan.entry.now.boards.now) (B.at seat) ends.items
-                → AllStand P.stands (B.home scan.entry.now.boards.now) (B.at result.2) result.1.items }
+            ensures whole { AllStand P.stands (B.home scan.entry.now.boards.now) (B.at seat)
+                ends.items
+                → AllStand P.stands (B.home scan.entry.now.boards.now) (B.at result.2)
+                result.1.items }
             ensures made { (p : B.Place) →
                 (B.at result.2 p).made ≡ (B.at seat p).made + (workers - 1) }
             ensures manned { (p : B.Place) → Manned P.asks (B.at seat p) (B.at result.2 p) }

@@ -1,7 +1,6 @@
-use Rattle.std.proofs.Common.{ap, refl, sym, subst, is_some, ◌∙◌, ◌≤◌, ℕ, ◌≡◌}
+use Rattle.std.proofs.Common.{ap, sym, subst, is_some, ◌≤◌}
 use Rattle.scan_core.specs.declared.answers.Attach.TheVariants as attach
 use Rattle.scan_core.specs.Answers.{AnswersAttach}
-use Rattle.scan_core.specs.Boards.{BoardState}
 use Rattle.scan_rules.specs.Queries.{Journal}
 use Rattle.scan_rules.specs.Runs.{MayAttach}
 use Rattle.scan_rules.specs.Scan.{running_count}
