@@ -1,5 +1,5 @@
 -- The piece that the engine makes of a query on a chunk, from the plan at its index.
-use Rattle.std.proofs.Common.{◌≡◌, ◌∙◌, sym, ap, subst, ℕ, zero, suc, ◌-◌, ◌<◌, ◌≤◌, arith, List, [], ◌∷◌, length, map, get_or, slice_get, Ok, Err, Result, IfOk, Option, Some, None}
+use Rattle.std.proofs.Common.{◌≡◌, ◌∙◌, sym, ap, subst, ℕ, zero, suc, ◌+◌, ◌-◌, ◌<◌, ◌≤◌, arith, List, [], ◌∷◌, length, map, get_or, slice_get, Ok, Err, Result, IfOk, Option, Some, None}
 use Rattle.std.proofs.lemmas.List.{length-map}
 use Rattle.table_rules.specs.Objects.{Catalogue}
 use Rattle.sky_io.specs.declared.Memory.{Memory}
