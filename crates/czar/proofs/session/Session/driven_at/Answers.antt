@@ -6,7 +6,7 @@ use Rattle.session_script.specs.Views.{query_lines}
 use Rattle.answer_rules.specs.Bases.{Asks, StandsFor}
 use Rattle.scan_session.specs.KnownEnds.{PlansFit}
 use Rattle.czar.specs.Attached.{attached}
-use Rattle.czar.proofs.Crossing.{crossing}
+use Rattle.czar.proofs.Crossing.{crossing, engine_crossing}
 use Rattle.czar.proofs.Driving.{of_value, over}
 use Rattle.czar.proofs.Fitting.{all_fit}
 use Rattle.czar.proofs.PlanBlocks.{a_plan_each}
@@ -16,7 +16,7 @@ pub drive-ends-requires-send-P-Root : goal.drive-ends-requires-send-P-Root
 drive-ends-requires-send-P-Root g c = λ κs lives. search crossing depth 60 fits 20000
 
 pub drive-ends-requires-sync-E : goal.drive-ends-requires-sync-E
-drive-ends-requires-sync-E g c = λ κs lives. search crossing depth 60 fits 100000
+drive-ends-requires-sync-E g c = λ κs lives. search engine_crossing depth 60 fits 20000
 
 pub drive-ends-requires-clause-ring : goal.drive-ends-requires-clause-ring
 drive-ends-requires-clause-ring g c = λ κs lives p.
