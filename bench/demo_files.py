@@ -50,10 +50,11 @@ def position(height, lean_x, lean_y):
     return RADIUS, 0, 0
 
 
-def rows(count, seed):
-    """The demo's rows: objectId, x, y, z, flux and kind."""
-    drawn = draws(seed)
-    for number in range(1, count + 1):
+def rows(count, seed, after=0):
+    """The demo's rows: objectId, x, y, z, flux and kind. The given number of rows before them is skipped."""
+    # a row takes five draws; those of all skipped rows are one power of the factor
+    drawn = draws(seed * pow(FACTOR, 5 * after, MODULUS) % MODULUS)
+    for number in range(after + 1, after + count + 1):
         at = position(next(drawn), next(drawn), next(drawn))
         yield (number, *at, next(drawn) % 100000, next(drawn) % 8)
 

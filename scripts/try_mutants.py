@@ -1,25 +1,28 @@
 #!/usr/bin/env python3
-"""Tries the mutants of large crates after `rt ci`: all those of a crate in one check.
+"""Tries the mutants of the dearest crates after `rt ci`: all those of a crate in one check.
 
     scripts/try_mutants.py [--processes N] [--times] [CRATE ..]
     scripts/try_mutants.py --list
 
-A mutant is code with one thing changed, which the prover must refuse. `rt ci` tries the mutants in the folders must-fail/. For
-the first it checks the crate from nothing, for each other it reads the whole crate once more, so that in a large crate they cost
-more than its proof. A large crate has its mutants in the folder mutants/ instead, and this script tries them. Their form is that
-of must-fail/ with one line more:
+A mutant is code or a definition with one thing changed, which the prover must refuse. `rt ci` tries the mutants in the folders
+must-fail/. For the first it checks the crate from nothing, for each other it reads the whole crate once more, so that in a large
+crate they cost more than its proof. Such a crate has its mutants in the folder mutants/ instead, and this script tries them.
+Their form is that of must-fail/ with one line more:
 
     refused: FUNCTION CLAUSE
 
-FUNCTION is the function whose proof must fail, as a check prints it below the crate, and CLAUSE what must not be proved of it.
+FUNCTION is the function whose proof must fail, as a check prints it below the crate, and CLAUSE what must not be proved of it, or
+the lemma of its proof that must not.
 
-A function is proved by the contracts of those that it calls, not by their code. So each mutant is refused by itself, though all
-those of a crate are made in one copy; two of one function take a check each. A check is of these functions and of those that they
-call, over the libraries that `rt ci` proved and left in crates/*/out/rlib. That the crate is proved without its mutants is what
-`rt ci` has shown.
+A function is proved by the contracts of those that it calls, not by their code. So each mutant of code is refused by itself,
+though all those of a crate are made in one copy; two of one function take a check each. A mutant of a definition or of a ghost
+member changes what other proofs read, so it is made alone. So is one that is not refused beside the others: what a function owes
+may wait for the proof of one that it calls, which another mutant has broken. A check is of these functions and of those that
+they call, over the libraries that `rt ci` proved and left in crates/*/out/rlib. That the crate is proved without its mutants is
+what `rt ci` has shown.
 
 It prints a line for each mutant, and those that were not refused last; then the status is 1. With --times it prints the processor
-seconds of each check. Without the libraries it ends with 1, without `rt` with 0, each with a line that says so. It writes into a
+seconds of all checks. Without the libraries it ends with 1, without `rt` with 0, each with a line that says so. It writes into a
 temporary folder alone.
 """
 import argparse
@@ -56,7 +59,7 @@ def refusal_of(path):
     return found[0]
 
 
-def large_crates():
+def crates_with_mutants():
     return sorted({path.split("/")[1] for path in glob.glob("crates/*/mutants/*.edit")})
 
 
@@ -66,16 +69,24 @@ def mutants_of(crate):
     return [(mutants.edit_of(path), *refusal_of(path)) for path in paths]
 
 
+def is_definition(mutant):
+    """Whether the mutant changes what other proofs read: a file of specs/ or proofs/, or a ghost member."""
+    return not mutant.file.startswith("src/") or any(old.lstrip().startswith("ghost ") for old, _ in mutant.pairs)
+
+
 def rounds(tried):
-    """The mutants by checks: in one check no two are of one function."""
+    """The mutants by checks: in one check no two are of one function, and that of a definition is alone."""
+    alone = [[it] for it in tried if is_definition(it[0])]
     found = []
     for mutant in tried:
+        if is_definition(mutant[0]):
+            continue
         free = next((it for it in found if all(mutant[1] != other[1] for other in it)), None)
         if free is None:
             found.append([mutant])
         else:
             free.append(mutant)
-    return found
+    return alone + found
 
 
 @functools.cache
@@ -104,14 +115,14 @@ def library(crate):
 
 
 def check_words(crate, kit):
-    """The words of a check of a crate over the libraries below it, as `rt` gives them."""
+    """The words of a check of a crate over the libraries below it, as `rt` gives them, but for what looks for empty contracts."""
     words = [f"{kit}/bin/rattle", "check", "--crate-name", crate, "src/lib.rt", "--extern", f"std={kit}/rlibs/std.rlib"]
     for name in edges()[crate]:
         words += ["--extern", f"{name}={library(name) if name in edges() else f'{kit}/rlibs'}/{name}.rlib"]
     for folder in [f"{kit}/rlibs", *map(library, sorted(below(crate)))]:
         words += ["-L", f"dependency={folder}"]
     words += ["--antt-project", f"{kit}/rattle/logic/antt-project.json", "--logic-built", f"{kit}/logic_built"]
-    return [*words, "--jobs", "1", "--empty-contracts"]
+    return [*words, "--jobs", "1"]
 
 
 def make(mutant, room):
@@ -181,6 +192,9 @@ def verdicts(crate, tried, kit):
         label = f"{crate}/{mutant.name}"
         if is_refused(function, clause, crate, output):
             found.append((True, f"{label}: refused at `{function}`: `{clause}`"))
+        elif len(tried) > 1:
+            # the goals of a function wait for the proofs of those that it calls, which another mutant may have broken
+            found += verdicts(crate, [(mutant, function, clause)], kit)
         else:
             told = "\n    ".join(it[:300] for it in said_of(function, crate, output)) or "nothing was said of the function"
             found.append((False, f"{label}: NOT REFUSED at `{function}`: `{clause}`; the check says:\n    {told}"))
@@ -228,7 +242,7 @@ def words():
 def main():
     given = words()
     os.chdir(os.path.join(os.path.dirname(os.path.abspath(__file__)), ".."))
-    crates = given.crates or large_crates()
+    crates = given.crates or crates_with_mutants()
     if given.list:
         for crate in crates:
             for mutant, function, clause in mutants_of(crate):

@@ -1,10 +1,11 @@
 """Runs of the program over texts at each limit, and one beyond it, and what they write, found by hand: scripts/worked_rows.py
-makes them. Those of the language are rows of scripts/worked/.
+makes them. Those of the language are rows of scripts/worked/. What the largest demo writes is computed.
 """
 import itertools
 
+import worked_demo
 import worked_laps
-from worked_runs import CHECK, EXPLAIN, FOUR, LOAD_CSV, LOAD_SKY, MOST_ID, OF_NO_OBJECT, done, fault, in_chunk_4
+from worked_runs import CHECK, EXPLAIN, FOUR, LOAD_CSV, LOAD_SKY, MOST_ID, OF_NO_OBJECT, USAGE, done, fault, in_chunk_4
 
 # ---- sky plans
 
@@ -110,6 +111,7 @@ SCRIPTS = [
     fault(EXPLAIN, 5, "script line 256: unknown query 256", script="q\n" * 255 + "wait 256\n"),
 ]
 DEMOS = [done(["demo", "0", seed, "16"], OF_NO_OBJECT) for seed in ["1", "2147483646"]]
+DEMOS += [fault(["demo", "4194305", str(worked_demo.SEED), "4"], 2, USAGE)]
 # the lines after `ring 16384`, and how many entries and queries they are, or none if the line is no entry
 ENTRIES = [
     ("4294967295 attach 255 0 16383\n", (1, 1)),
@@ -129,4 +131,10 @@ JOURNALS += [
     fault(CHECK, 12, "journal line 2: not a step", journal=f"ring 16384\n0 attach 1 {chunk}\n") for chunk in [16384, 4294967295]
 ]
 
-RUNS = SKIES + CATALOGUES + SCRIPTS + DEMOS + JOURNALS
+
+
+def runs():
+    """All runs. What the largest demo writes is computed when this is called."""
+    told = worked_demo.largest()
+    largest = [done(["demo", str(worked_demo.LARGEST), str(worked_demo.SEED), workers], told) for workers in ["0", "4"]]
+    return SKIES + CATALOGUES + SCRIPTS + DEMOS + largest + JOURNALS

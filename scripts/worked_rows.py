@@ -14,7 +14,7 @@ that wait and cancel, the demo, words of no form, and an outcome of each status 
 limit, and one beyond it, are in scripts/worked_limits.py. A larger sky, whose
 rows are drawn, is in scripts/worked_world.py, catalogues of certain lengths in scripts/worked_lanes.py, as many queries and
 chunks as there may be in scripts/worked_laps.py, runs over pipes in scripts/worked_streams.py, and what the demo of 20,000 objects
-has to write in scripts/worked_demo.py.
+and that of as many as there may be have to write in scripts/worked_demo.py.
 
 It prints a line for each run that ended otherwise, with the row and with what is wanted, and then how many rows it has
 compared. The status is 0 where none differs, and 1 else, also where there is no program.
@@ -244,7 +244,7 @@ def compare(program, folder):
     for name, text in texts.items():
         write(folder, name, text)
     found = [is_full_told(program, folder), are_streams_told(program, folder), are_traces_checked(program, folder)]
-    runs = worked_runs.RUNS + worked_limits.RUNS
+    runs = worked_runs.RUNS + worked_limits.runs()
     rows = len(runs) + 3 + len(worked_runs.TRACED)
     for run in runs:
         found.append(is_told(program, folder, run))

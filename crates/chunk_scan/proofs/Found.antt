@@ -1,12 +1,13 @@
 -- What a query finds in a chunk, by the places of the chunk's block.
-use Rattle.std.proofs.Common.{◌≡◌, ◌∙◌, refl, sym, ap, ℕ, ◌<◌, ◌≤◌, arith, Bool, true, false, ◌&&◌, cond, List, [], ◌∷◌, ◌++◌, length, get_or, filter, map, option_to_list, slice_get}
+use Rattle.std.proofs.Common.{◌≡◌, ◌∙◌, refl, sym, ap, subst, ◌<ℤ◌, ℕ, ◌<◌, ◌≤◌, arith, Bool, true, false, ◌&&◌, cond, List, [], ◌∷◌, ◌++◌, length, get_or, filter, map, option_to_list, slice_get}
 use Rattle.std.specs.Prelude.{All}
 use Rattle.std.specs.List.{range_with_len}
 use Rattle.std.proofs.lemmas.List.Elements.{All-tail, filter_agree}
 use Rattle.std.proofs.lemmas.List.{length-map}
+use Rattle.std.proofs.lemmas.List.Kept.{AllPairs-filter}
 use Rattle.std.proofs.lemmas.List.FromFn.{length-range_with_len}
 use Rattle.std.proofs.lemmas.Option.{slice_get-get_or}
-use Rattle.table_rules.specs.Objects.{Catalogue, Obj}
+use Rattle.table_rules.specs.Objects.{Catalogue, IdsAscend, Obj}
 use Rattle.table_rules.specs.declared.limits.TheConstants.{ROWS_MOST}
 use Rattle.sky_rules.specs.Bounds.{in_chunk}
 use Rattle.sky_rules.specs.Partition.{Partition}
@@ -78,6 +79,10 @@ filter_short p (x ∷ xs) = short_step x (filter p xs) xs (p x) (filter_short p 
 pub block_few : (g : Partition) (table : List Obj) (c : ℕ) (block : List Obj) → block ≡ filter (λ o. in_chunk g c o.at) table → length table ≤ ROWS_MOST
     → length block ≤ 4194304
 block_few g table c block is few = omega (arith, ap length is, filter_short (λ o. in_chunk g c o.at) table, few)
+
+-- and its ids ascend as those of the table do
+pub block_ascends : (g : Partition) (table : List Obj) (c : ℕ) (block : List Obj) → block ≡ filter (λ o. in_chunk g c o.at) table → IdsAscend table → IdsAscend block
+block_ascends g table c block is up = subst IdsAscend (sym is) (AllPairs-filter (λ (a b : Obj). a.id <ℤ b.id) (λ o. in_chunk g c o.at) table up)
 
 -- and no more places are left than it has rows
 pub places_few : (conds : List BoundCond) (block : List Obj) (places : List ℕ) → places ≡ selection conds block → length places ≤ length block

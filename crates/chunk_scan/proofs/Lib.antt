@@ -19,3 +19,5 @@ pub mod Apart
 pub mod Stretches
 pub mod Dealing
 pub mod Prefetching
+pub mod IdRows
+pub mod IdTests

@@ -1,5 +1,5 @@
 -- What kernels evaluate on a row, and for which conditions.
-use Rattle.std.specs.Prelude.{◌≡◌, ℕ, ◌<◌, ◌≤◌, ℤ, Bool, true, false, IsTrue, Option, is_none, is_some}
+use Rattle.std.specs.Prelude.{◌≡◌, ℕ, ◌<◌, ◌≤◌, ℤ, Bool, true, false, IsTrue, List, Option, is_none, is_some}
 use Rattle.table_rules.specs.Objects.{Obj, cell}
 use Rattle.sql_tree.specs.declared.cond.Cmp.{Cmp}
 use Rattle.sql_bound.specs.declared.area.AreaTest.TheVariants.{Cap}
@@ -7,7 +7,7 @@ use Rattle.value_rules.specs.Areas.{area_holds}
 use Rattle.value_rules.specs.ColumnTests.{is_within, passes}
 use Rattle.value_rules.specs.Formulas.{Formula}
 use Rattle.value_rules.specs.Sound.{has_col, is_sound_formula}
-use Rattle.value_rules.specs.Truth.{is_true, truth_at}
+use Rattle.value_rules.specs.Truth.{is_one_of, is_true, truth_at}
 use Rattle.value_rules.specs.Values.{cell_of, row}
 use Rattle.chunk_scan.specs.declared.predicate.Vectorized.{Vectorized}
 use Rattle.chunk_scan.specs.declared.predicate.Predicate.{Predicate}
@@ -40,6 +40,10 @@ IsThere columns (Near centre n) = Unit {0}
 -- the formula holds on a row
 abbrev pub holds_on : Formula → Obj → Bool
 holds_on f o = is_true (truth_at (cell_of (row o)) o.at f)
+
+-- the formula holds on the rows that have one of these ids, and on no others
+abbrev pub AsksForIds : Formula → List ℤ → Type 0
+AsksForIds f ids = (o : Obj) → holds_on f o ≡ is_one_of ids o.id
 
 -- A predicate that holds on each row on which the formula holds and, if it is the whole formula, on no other. Its
 -- column is in the table if the formula can be computed.

@@ -8,3 +8,4 @@ pub mod Computed
 pub mod Words
 pub mod Dealt
 pub mod Prefetched
+pub mod Ids

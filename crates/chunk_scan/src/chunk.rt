@@ -1,6 +1,7 @@
 //! The piece of a chunk.
 
 ghost use Rattle.std.specs.Prelude.{◌≡◌, ◌∷◌, [], ◌+◌, ◌<◌, ◌≤◌, All, IfOk, length, true, false};
+ghost use Rattle.table_rules.specs.Objects.{IdsAscend};
 ghost use Rattle.table_rules.specs.declared.limits.TheConstants.{FIRST_COLUMNS, ROWS_MOST};
 ghost use Rattle.sky_rules.specs.Limits.{IsSky};
 ghost use Rattle.sky_rules.specs.Partition.{chunk_count};
@@ -51,12 +52,13 @@ pub fn scan<'w>(
     Ok(piece)
 }
 
-/// Makes invariants of a store visible to contracts: its plan is within the limits, and its rows are in the sky and at
-/// most `ROWS_MOST`. Does not allocate.
+/// Makes invariants of a store visible to contracts: its plan is within the limits, and its rows are in the sky, at
+/// most `ROWS_MOST`, and in ascending id. Does not allocate.
 fn know(store: &Store)
     ensures plan { IsSky store.now.plan }
     ensures rows { AreInTheSky store.now.rows.objects }
     ensures few { length store.now.rows.objects ≤ ROWS_MOST }
+    ensures ascend { IdsAscend store.now.rows.objects }
 {
     let _ = store.plan().chunks();
     let _ = store.rows().len();

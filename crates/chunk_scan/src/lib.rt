@@ -1,9 +1,10 @@
 //! The scan of a chunk: which of its rows meet the conditions of a chunk query, and the partial result of these rows.
 //!
 //! Callers see `mask` as a flag for each row, and `scan` as a piece that represents the chunk alone (`PieceFor`). The
-//! program calls `scan`; nothing in it calls `mask`. Conditions that are vectorizable predicates are evaluated first by
-//! the kernels of `lane_filter`, each of which clears a mask. Then the numbers of the remaining rows are listed, and
-//! `column_eval` evaluates the other conditions on these alone.
+//! program calls `scan`; nothing in it calls `mask`. If a condition asks for ids, its rows are found by bisection
+//! (`id_test`, `id_rows`). Otherwise conditions that are vectorizable predicates are evaluated first by the kernels of
+//! `lane_filter`, each of which clears a mask, and the numbers of the remaining rows are listed. In both cases
+//! `column_eval` evaluates the other conditions on these rows alone.
 //!
 //! For a grouped query the selected rows are brought into an order in which rows with the same key are adjacent
 //! (`key_order`). The values of the first key column are copied in that order (`prefetched_key`), and the values of the
@@ -27,6 +28,8 @@ mod columns;
 mod deal;
 mod first_rows;
 mod group_piece;
+mod id_rows;
+mod id_test;
 mod kernel;
 mod key_order;
 mod line;

@@ -8,6 +8,7 @@ ghost use Rattle.chunk_store.specs.Places.{chunk_rows};
 ghost use Rattle.answer_rules.specs.SoundChunks.{IsSoundChunk};
 ghost use Rattle.value_rules.specs.Sound.{has_col, is_paired, is_sound_cond};
 ghost use Rattle.chunk_scan.specs.Selection.{mask_of};
+ghost use Rattle.table_rules.specs.Objects.{IdsAscend};
 ghost use Rattle.table_rules.specs.declared.limits.TheConstants.{FIRST_COLUMNS};
 
 use crate::scratch::Scratch;
@@ -21,7 +22,7 @@ use std::alloc::Global;
 
 /// Returns a flag for each row of the chunk, in the order of its rows in the table: that the row meets all conditions
 /// of the query. Allocates memory for a flag and a row number for each row, and for what the evaluator needs.
-#[tactic(auto, using(crate::proofs::Found::block_few))]
+#[tactic(auto, using(crate::proofs::Found::block_few, crate::proofs::Found::block_ascends))]
 pub fn mask(
     alloc: Global,
     store: &Store,
@@ -43,6 +44,7 @@ pub fn mask(
 #[tactic(auto, using(crate::proofs::Masks::mask_is))]
 fn mask_over(alloc: Global, block: &Block, conds: &[BoundCond]) -> Result<Vec<bool>, Memory>
     requires few { length block.now.objects < 2 ^ 32 }
+    requires ascend { IdsAscend block.now.objects }
     requires sound { IsTrue (list_all
         (is_sound_cond (has_col (FIRST_COLUMNS + block.now.width) false))
         conds.now) }

@@ -1,15 +1,19 @@
 //! The numbers of the rows that meet all conditions of a query.
 //!
-//! First a kernel clears a mask of all rows by each condition that is a vectorizable predicate. Then the numbers of the
-//! remaining rows are listed in a selection vector. Each other condition is evaluated on these rows alone, and removes
-//! those that do not meet it.
-ghost use Rattle.std.specs.Prelude.{◌≡◌, ◌+◌, ◌<◌, ◌≤◌, ◌^◌, ℕ, Bool, All, IfOk, IsTrue, OnOk, length, map, replicate, take, true, false};
+//! If a condition is an id test, its rows are found by their ids. Otherwise a kernel clears a mask of all rows by each
+//! condition that is a vectorizable predicate, and the numbers of the remaining rows are listed in a selection vector.
+//! Each other condition is evaluated on these rows alone, and removes those that do not meet it.
+ghost use Rattle.std.specs.Prelude.{◌≡◌, ◌+◌, ◌<◌, ◌≤◌, ◌^◌, ℕ, Bool, All, IfOk, IsTrue, OnOk, Some, length, map, replicate, slice_get, take, true, false};
 ghost use Rattle.std.specs.List.{filter, list_all};
 ghost use Rattle.lane_filter.specs.Tests.{places_of};
+ghost use Rattle.table_rules.specs.Objects.{IdsAscend};
+ghost use Rattle.value_rules.specs.Formulas.{formula_of};
 ghost use Rattle.value_rules.specs.Sound.{has_col, is_sound_cond};
+ghost use Rattle.chunk_scan.specs.Asking.{holds_on};
 ghost use Rattle.chunk_scan.specs.Selection.{IsNarrowed, IsNarrowedBy, AreDone, holds_at, meets_at, selection};
 ghost use Rattle.table_rules.specs.declared.limits.TheConstants.{FIRST_COLUMNS};
 
+use crate::id_test::rows_by_id;
 use crate::kernel::keep_asked;
 use crate::scratch::Scratch;
 use crate::vectorized::vectorized;
@@ -19,14 +23,66 @@ use lane_filter::picked;
 use sky_io::Memory;
 use sql_bound::BoundCond;
 
-/// Returns the numbers of the rows of the block that meet all conditions, ascending, in a vector of the scratch. Uses a
-/// flag and a row number for each row, and what the evaluator needs.
-#[tactic(auto, using(crate::proofs::Places::done_at_places, crate::proofs::Places::selection_places, crate::proofs::Places::there_places))]
+/// Returns the numbers of the rows of the block that meet all conditions, ascending, in a vector of the scratch. If a
+/// condition is an id test, the other conditions are evaluated only on the rows that it finds, and what is used is a
+/// number for each of them. Otherwise a flag and a number for each row are used. In both cases a flag for each
+/// condition is, and what the evaluator needs.
 pub(crate) fn selection(
     block: &Block,
     conds: &[BoundCond],
     scratch: &mut Scratch,
 ) -> Result<Vec<u32>, Memory>
+    requires few { length block.now.objects < 2 ^ 32 }
+    requires ascend { IdsAscend block.now.objects }
+    requires sound { IsTrue (list_all
+        (is_sound_cond (has_col (FIRST_COLUMNS + block.now.width) false))
+        conds.now) }
+    ensures value { IfOk result (λ places. places.items ≡ selection conds.now block.now.objects) }
+    ensures there { IfOk result (λ places.
+        All (λ place. place < length block.now.objects) places.items) }
+{
+    for i in 0..conds.len() {
+        let cond = &conds[i];
+        if let Some(found) = rows_by_id(block, cond, scratch)? {
+            return among_found(block, conds, i, cond, found, scratch);
+        }
+    }
+    by_kernels(block, conds, scratch)
+}
+
+/// Returns those of the found rows that meet all conditions. They are the rows on which the condition `c` holds, which
+/// has the index i.
+fn among_found(
+    block: &Block,
+    conds: &[BoundCond],
+    i: usize,
+    c: &BoundCond,
+    found: Vec<u32>,
+    scratch: &mut Scratch,
+) -> Result<Vec<u32>, Memory>
+    requires sound { IsTrue (list_all
+        (is_sound_cond (has_col (FIRST_COLUMNS + block.now.width) false))
+        conds.now) }
+    requires there { i < length conds.now }
+    requires at { slice_get conds.now i ≡ Some c.now }
+    requires found { found.items
+        ≡ places_of (map (holds_on (formula_of c.now)) block.now.objects) }
+    ensures value { IfOk result (λ places. places.items ≡ selection conds.now block.now.objects) }
+    ensures there { IfOk result (λ places.
+        All (λ place. place < length block.now.objects) places.items) }
+{
+    let mut places = found;
+    let mut done = scratch.flags.filled(false, conds.len())?;
+    done[i] = true;
+    keep_all(block, conds, done.as_slice(), &mut places, scratch)?;
+    scratch.flags.give(done);
+    Ok(places)
+}
+
+/// Returns the numbers of the rows that meet all conditions, of which those that are vectorizable predicates are
+/// evaluated first.
+#[tactic(auto, using(crate::proofs::Places::done_at_places, crate::proofs::Places::selection_places, crate::proofs::Places::there_places))]
+fn by_kernels(block: &Block, conds: &[BoundCond], scratch: &mut Scratch) -> Result<Vec<u32>, Memory>
     requires few { length block.now.objects < 2 ^ 32 }
     requires sound { IsTrue (list_all
         (is_sound_cond (has_col (FIRST_COLUMNS + block.now.width) false))

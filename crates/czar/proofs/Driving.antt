@@ -35,19 +35,19 @@ pub over : {Y Z : Type 0} (workers : ℕ) (g : Partition) (c : Catalogue) (steps
     (planned : Vec (Option (Attachable PieceView)) Y) (old new : BoardSeat Base) (r : Result (Vec (BoardEnd PieceView) Z) Memory)
     → ran ≡ steps → planned.items ≡ map attached plans → old.made ≡ 1
     → old.root ≡ record { root = base_of g c plans; ring = chunk_count g } → Manned Asks old new
-    → IfOk r (λ v. Drove workers (plan_in planned.items) ran new.seen)
+    → IfOk r (λ v. Unit {0} → Drove workers (plan_in planned.items) ran new.seen)
     → IfOk r (λ v. vec_len v ≡ vec_len planned)
-    → IfOk r (λ v. AreEnds (StandsFor old.root.root) (plan_in planned.items) new.seen v.items)
+    → IfOk r (λ v. AreEnds (StandsFor old.root.root) (plan_in planned.items) (λ q. new.seen) v.items)
     → IfOk r (λ v. IsOver workers g c steps plans new v.items)
 over workers g c steps ran plans planned old new (Ok v) same made one root manned drove each ends = record {
   joined = joined g (base_of g c plans) old new one root manned;
   by = record {
     run = subst (λ n. IsRun n new.seen) (ap (λ b. b.ring) manned.root ∙ ap (λ b. b.ring) root) manned.lawful.run.run;
     drove = subst (λ (l : List (Option (Attachable PieceView))). Drove workers (plan_in l) steps new.seen) made
-        (subst (λ (ss : List Step). Drove workers (plan_in planned.items) ss new.seen) same drove);
+        (subst (λ (ss : List Step). Drove workers (plan_in planned.items) ss new.seen) same (drove tt));
     each = sym v.ok.0 ∙ each ∙ planned.ok.0 ∙ ap length made ∙ length-map plans attached;
-    are = subst (λ (l : List (Option (Attachable PieceView))). AreEnds (StandsFor (base_of g c plans)) (plan_in l) new.seen v.items) made
-        (subst (λ (b : Base). AreEnds (StandsFor b) (plan_in planned.items) new.seen v.items) (ap (λ b. b.root) root) ends);
+    are = subst (λ (l : List (Option (Attachable PieceView))). AreEnds (StandsFor (base_of g c plans)) (plan_in l) (λ q. new.seen) v.items) made
+        (subst (λ (b : Base). AreEnds (StandsFor b) (plan_in planned.items) (λ q. new.seen) v.items) (ap (λ b. b.root) root) ends);
   };
 }
 over workers g c steps ran plans planned old new (Err m) same made one root manned drove each ends = tt

@@ -83,7 +83,7 @@ by_places g c S k (p ∷ plans) (e ∷ ends) each at = (
 )
 
 pub ends_for : (g : Partition) (c : Catalogue) (S : Journal) (plans : List Plan) (ends : List (BoardEnd PieceView)) → length ends ≡ length plans
-    → AreEnds (StandsFor (base_of g c plans)) (plan_in (map attached plans)) S ends → AreEndsFor g c S 1 plans ends
+    → AreEnds (StandsFor (base_of g c plans)) (plan_in (map attached plans)) (λ q. S) ends → AreEndsFor g c S 1 plans ends
 ends_for g c S plans ends each are = by_places g c S 1 plans ends each (λ i p e here there.
     let on : i + 1 ≡ suc i = omega arith in
     let number : suc i ≡ 1 + i = omega arith in

@@ -244,8 +244,8 @@ session_fits workers g c s plans ends sky rows numbered are d =
     let spans : length lines ≡ query_count s.steps = length-map (query_spans s.steps) (λ span. part_of s.text (Some span)) in
     let judged : length (map (judged_of g c) lines) ≡ length lines = length-map lines (judged_of g c) in
     let kinds : length (map kind_of (all_ended plans ends)) ≡ length lines = length-map (all_ended plans ends) kind_of ∙ as_many g c d.seen 1 lines plans ends are is in
-    drove_fits workers (plan_in (map attached plans)) s.steps (chunk_count g) d.seen (map (judged_of g c) lines) (map kind_of (all_ended plans ends))
-    numbered d.by.run d.by.drove (judged ∙ spans) (kinds ∙ sym judged)
+    drove_fits workers (plan_in (map attached plans)) s.steps (chunk_count g) (λ q. plan_in (map attached plans)) (λ q. d.seen) (map (judged_of g c) lines) (map kind_of (all_ended plans ends))
+    numbered (record { run = λ q. d.by.run; drove = λ q. d.by.drove; here = λ q. refl }) (judged ∙ spans) (kinds ∙ sym judged)
     (λ i j there. let on : suc (0 + i) ≡ i + 1 = omega arith in
     subst (λ n. IsJudgedBy (plan_in (map attached plans) n) j) on
     (judged_at g c plans 0 lines plans i j (from_first plans) are there))

@@ -24,7 +24,7 @@ pub record IsDrivenBy (workers : ℕ) (g : Partition) (c : Catalogue) (steps : L
   pub run : IsRun (chunk_count g) seen
   pub drove : Drove workers (plan_in (map attached plans)) steps seen
   pub each : length ends ≡ length plans
-  pub are : AreEnds (StandsFor (base_of g c plans)) (plan_in (map attached plans)) seen ends
+  pub are : AreEnds (StandsFor (base_of g c plans)) (plan_in (map attached plans)) (λ q. seen) ends
 
 -- some journal of the board justifies these ends
 pub record IsDriven (workers : ℕ) (g : Partition) (c : Catalogue) (steps : List Step) (plans : List Plan)

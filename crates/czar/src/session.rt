@@ -25,7 +25,7 @@ use chunk_store::Store;
 use partial_merge::Piece;
 use scan_board::{Board, Seat, SharedBoard};
 use scan_rules::Journal;
-use scan_session::{End as BoardEnd, Planned, drive};
+use scan_session::{End as BoardEnd, Planned, Scan, drive};
 use session_script::Script;
 use sky_io::{Gate, Memory};
 use std::alloc::Global;
@@ -232,17 +232,14 @@ impl<'s, 't, R: Threads + Wait + Sync, G: Gate + Sync> Session<'s, 't, R, G> {
             world: self.world,
             plans,
         };
-        let (ends, seat) = drive(
-            self.alloc,
-            self.rt,
-            &board,
-            seat,
-            &engine,
-            self.gate,
-            planned,
-            self.script.steps(),
-            self.workers,
-        );
+        let scan = Scan {
+            alloc: self.alloc,
+            rt: self.rt,
+            boards: &board,
+            engine: &engine,
+            gate: self.gate,
+        };
+        let (ends, seat) = drive(&scan, seat, planned, self.script.steps(), self.workers);
         match ends {
             Ok(ends) => Ok(Driven { board, seat, ends }),
             Err(Memory) => {

@@ -1,13 +1,16 @@
 -- The ends that are known before the session.
-use Rattle.std.proofs.Common.{◌≡◌, ℕ, ◌+◌, ◌<◌, ◌≤◌, zero, suc, List, [], ◌∷◌, ◌++◌, length, length-append, get_or, true, false, Option, Some, None, is_some, option_map, ◌⊎◌, ⊎_elim, refl, sym, ◌∙◌, ap, subst, arith}
-use Rattle.scan_rules.specs.Queries.{Journal}
-use Rattle.scan_session.specs.Plans.{AllRunAtOnce}
+use Rattle.std.proofs.Common.{◌≡◌, ℕ, ◌+◌, ◌<◌, ◌≤◌, zero, suc, List, [], ◌∷◌, ◌++◌, length, length-append, get_or, Bool, true, false, Option, Some, None, is_some, option_map, ◌⊎◌, ⊎_elim, refl, sym, ◌∙◌, ap, subst, arith}
+use Rattle.scan_rules.specs.Queries.{Journal, QueryState}
+use Rattle.scan_board.specs.Calls.{BoardSeat}
+use Rattle.scan_session.specs.Plans.{AllRunAtOnce, Plans}
 use Rattle.scan_session.specs.Driven.{Going}
+use Rattle.scan_session.specs.Places.{only, GoingAll, HasRoom}
 use Rattle.scan_session.specs.KnownEnds.{at_query, plan_in, known_in, state_by, IsFirstEnd, MarksPlans, Marks, Ready, PiecesStand, StandsWhole}
 use Rattle.scan_session.specs.declared.end.Planned.{Planned}
 use Rattle.scan_session.specs.declared.end.End.{End}
 use Rattle.scan_session.specs.declared.end.End.TheVariants.{Answered, Refused}
 use Rattle.scan_session.proofs.Keeping.{nothing_going}
+use Rattle.scan_session.proofs.Placing.{only_none}
 use Rattle.std.proofs.lemmas.Bool.{both_ways}
 
 get_low : {X : Type 0} (xs ys : List X) (i : ℕ) (d : X) → i < length xs → get_or (xs ++ ys) i d ≡ get_or xs i d
@@ -83,8 +86,11 @@ module _ {P : Type 0} where
       (λ ge. ap state_by (get_beyond ends k ge))
       (below_or k (length ends))
 
-  pub going_first : (plans : List (Option (Planned P))) (ends : List (Option (End P))) (seen : Journal) → MarksPlans plans ends → seen ≡ [] → Going (plan_in plans) [] seen (known_in ends)
-  going_first plans ends seen m e = subst (λ (l : Journal). Going (plan_in plans) [] l (known_in ends)) (sym e) (nothing_going (plan_in plans) (known_in ends) (unknown_first plans ends m))
+  pub going_first : {R L : Type 0} (has : L → ℕ → Bool) (plans : List (Option (Planned P))) (ends : List (Option (End P))) (seats : L → BoardSeat R) → MarksPlans plans ends → ((p : L) → (seats p).seen ≡ []) → GoingAll has (plan_in plans) [] seats (known_in ends)
+  going_first has plans ends seats m e p =
+      let here : Plans = only (has p) (plan_in plans) in
+      let known : ℕ → Option QueryState = only (has p) (known_in ends) in
+      subst (λ (l : Journal). Going (HasRoom (plan_in plans) seats) here [] l known) (sym (e p)) (nothing_going here known (λ q. only_none (has p q) (known_in ends q) (unknown_first plans ends m q)))
 
   -- a query that is not planned is refused from the first
   pub refused_first : (plans : List (Option (Planned P))) (ends : List (Option (End P))) → MarksPlans plans ends → (q : ℕ) → 1 ≤ q → q ≤ length ends → plan_in plans q ≡ None → at_query ends q ≡ Some Refused
@@ -105,9 +111,9 @@ module _ {P : Type 0} where
   pub room_first : (plans : List (Option (Planned P))) → length plans ≤ 64 → AllRunAtOnce (plan_in plans)
   room_first plans few = record { low = λ q h. let l = beyond plans q h in omega (arith, l, few) }
 
-  pub pieces_first : (stands : ℕ → List ℕ → P → Type 0) (plans : List (Option (Planned P))) (ends : List (Option (End P))) (seen : Journal) → MarksPlans plans ends → PiecesStand stands seen ends
+  pub pieces_first : (stands : ℕ → List ℕ → P → Type 0) (plans : List (Option (Planned P))) (ends : List (Option (End P))) (seen : ℕ → Journal) → MarksPlans plans ends → PiecesStand stands seen ends
   pieces_first stands plans ends seen m = record { each = each } where
-    each : (q : ℕ) (piece : P) → at_query ends q ≡ Some (Answered piece) → StandsWhole stands seen q piece
+    each : (q : ℕ) (piece : P) → at_query ends q ≡ Some (Answered piece) → StandsWhole stands (seen q) q piece
     each zero piece h = let n : ◌≡◌ {A = Option (End P)} None (Some (Answered piece)) = h in absurd (cc)
     each (suc k) piece h = ⊎_elim
         (λ lt. absurd (no_piece (get_or plans k None) (get_or ends k None) piece (m.each k None None lt) h))

@@ -1,5 +1,5 @@
 -- Once all seats are joined: nothing is foreign, all is delivered, and what the czar knew are promises.
-use Rattle.std.proofs.Common.{◌≡◌, ℕ, ◌+◌, ◌<◌, ◌≤◌, ◌==◌, nat_lt, List, [], ◌∷◌, ◌++◌, length, true, false, Option, Some, None, is_some, ◌⊎◌, ⊎_elim, refl, sym, ◌∙◌, ap, subst, arith, eq-eqb, lt-ltb, All}
+use Rattle.std.proofs.Common.{◌≡◌, ℕ, ◌+◌, ◌<◌, ◌≤◌, ◌==◌, nat_lt, List, [], ◌∷◌, ◌++◌, length, Bool, true, false, cond, Option, Some, None, is_some, ◌⊎◌, ⊎_elim, refl, sym, ◌∙◌, ap, subst, arith, eq-eqb, lt-ltb, All}
 use Rattle.std.specs.List.{list_any, list_all}
 use Rattle.std.proofs.lemmas.Bool.{cases_Bool, and_from, cond-true, cond-false, false≢true, both_ways}
 use Rattle.scan_rules.specs.declared.journal_line.JournalLine.{JournalLine}
@@ -9,7 +9,7 @@ use Rattle.scan_rules.specs.Queries.{Journal, QueryState}
 use Rattle.scan_rules.specs.Runs.{IsRun, IsAsked}
 use Rattle.scan_rules.proofs.Runs.{no_lines_run}
 use Rattle.scan_rules.proofs.Lists.{any_finds}
-use Rattle.turn_lock.specs.Seats.{Knows}
+use Rattle.atomic_table.specs.Seated.{TableId}
 use Rattle.scan_board.specs.Calls.{BoardSeat}
 use Rattle.scan_worker.specs.Working.{is_work, AllDelivered}
 use Rattle.session_script.specs.declared.step.Step.{Step}
@@ -22,8 +22,9 @@ use Rattle.scan_session.specs.Driven.{has_foreign}
 use Rattle.scan_session.specs.Drove.{Drove}
 use Rattle.scan_session.specs.Seats.{of_seat, IsCzar}
 use Rattle.scan_session.specs.Goes.{IsScript, number_of}
+use Rattle.scan_session.specs.Places.{only, AreClean, AreCzars}
 use Rattle.scan_session.specs.KnownEnds.{at_query, known_in, state_by, Marks, AllKnown}
-use Rattle.scan_session.specs.Crews.{Leaves, KeepsWork, Manned, Promises, TellsStates}
+use Rattle.scan_session.specs.Crews.{Closed, Leaves, KeepsWork, Manned, Promises, TellsStates}
 use Rattle.scan_session.specs.declared.end.End.{End}
 use Rattle.scan_session.specs.declared.end.End.TheVariants.{Answered, Refused, Cancelled, Spent}
 use Rattle.scan_session.specs.declared.end.Outcome.{Outcome}
@@ -56,7 +57,7 @@ module _ {R : Type 0} (asks : R → ℕ → ℕ → Type 0) (workers : ℕ) (old
   of_worker : (n : ℕ) → 1 ≤ n → n < new.made → KeepsWork new.ended n
   of_worker n h low = m.crew n (omega (arith, one, h)) low
 
-  clean : has_foreign new.seen ≡ false
+  pub clean : has_foreign new.seen ≡ false
   clean = no_foreign new.made new.seen low_all (λ n h low.
       let k = of_worker n h low in
       subst (λ (l : Journal). list_all is_work l ≡ true) (sym (m.known.ended n k.lines k.kept).1) k.work)
@@ -77,18 +78,31 @@ module _ {R : Type 0} (asks : R → ℕ → ℕ → Type 0) (workers : ℕ) (old
       let few : new.made ≡ 1 = omega (arith, none, one, made) in
       one_seat_alone new.seen (subst (λ n. list_all (λ l. nat_lt (seat_of l) n) new.seen ≡ true) few low_all)
 
-  pub promises : (plan : Plans) (steps : List Step) (ends : ℕ → Option QueryState) (r : Outcome) → NumberedFrom 0 steps → (query_count steps ≤ 64 → AllRunAtOnce plan)
-      → (r ≡ Went → (q : ℕ) → is_some (plan q) ≡ true → list_any (is_query_of q) steps ≡ true → is_some (ends q) ≡ true) → Leaves plan steps new.seen ends r → Promises workers plan steps new.seen ends r
-  promises plan steps ends Memory numbered room all l = l
-  promises plan steps ends Odd numbered room all l = both_ways _ clean l
-  promises plan steps ends Went numbered room all l = ⊎_elim
-      (λ c. subst (λ (j : Journal). Drove workers plan steps j × TellsStates j ends) (sym c.is)
+  -- at this board
+  pub drove_at : {Room : Type 0} (plan : Plans) (steps : List Step) (ends : ℕ → Option QueryState) → NumberedFrom 0 steps → (query_count steps ≤ 64 → Room)
+      → ((q : ℕ) → is_some (plan q) ≡ true → list_any (is_query_of q) steps ≡ true → is_some (ends q) ≡ true) → Closed Room plan steps new.seen ends → Drove workers plan steps new.seen × TellsStates new.seen ends
+  drove_at plan steps ends numbered room all c =
+      subst (λ (j : Journal). Drove workers plan steps j × TellsStates j ends) (sym c.is)
       (drove plan workers steps c.before c.rest ends numbered (subst (IsRun new.root.ring) c.is m.lawful.run.run)
       (subst (λ (j : Journal). of_seat 0 j ≡ of_seat 0 (c.before ++ Close 0 ∷ [])) c.is c.own)
       (subst (λ (j : Journal). has_foreign j ≡ false) c.is clean) (subst AllDelivered c.is delivered)
-      (λ none. subst (λ (j : Journal). is_alone j ≡ true) c.is (alone none)) room (all refl) c.drives))
-      (λ f. absurd (both_ways _ clean f))
-      l
+      (λ none. subst (λ (j : Journal). is_alone j ≡ true) c.is (alone none)) room all c.drives)
+
+-- the queries of a board: what is known of all is known of these
+some_here : {X Y : Type 0} (b : Bool) (o : Option X) (e : Option Y) → (is_some o ≡ true → is_some e ≡ true) → is_some (cond b o None) ≡ true → is_some (cond b e None) ≡ true
+some_here true o e all h = all h
+some_here false o e all h = absurd (false≢true h)
+
+module _ {R L : Type 0} (asks : R → ℕ → ℕ → Type 0) (workers : ℕ) (has : L → ℕ → Bool) (old new : L → BoardSeat R) (one : (p : L) → (old p).made ≡ 1) (m : (p : L) → Manned asks (old p) (new p)) (made : (p : L) → (new p).made ≡ (old p).made + workers) where
+  all_clean : AreClean new
+  all_clean = record { each = λ p. clean asks workers (old p) (new p) (one p) (m p) (made p) }
+
+  pub promises : (plan : Plans) (steps : List Step) (ends : ℕ → Option QueryState) (r : Outcome) → NumberedFrom 0 steps → (query_count steps ≤ 64 → AllRunAtOnce plan)
+      → (r ≡ Went → (q : ℕ) → is_some (plan q) ≡ true → list_any (is_query_of q) steps ≡ true → is_some (ends q) ≡ true) → Leaves has plan steps new ends r → Promises workers has plan steps new ends r
+  promises plan steps ends Memory numbered room all l = l
+  promises plan steps ends Odd numbered room all l = both_ways _ (all_clean.each l.0) l.1
+  promises plan steps ends Went numbered room all l = λ p. drove_at asks workers (old p) (new p) (one p) (m p) (made p) (only (has p) plan) steps (only (has p) ends) numbered room
+      (λ q planned asked. some_here (has p q) (plan q) (ends q) (λ k. all refl q k asked) planned) (l all_clean p)
 
 -- each planned query that a line asks has an end, where all ends are known
 pub all_planned : {P : Type 0} (plan : Plans) (steps : List Step) (ends : List (Option (End P))) → IsScript (length ends) steps → Marks plan ends → AllKnown ends → (q : ℕ) → is_some (plan q) ≡ true → list_any (is_query_of q) steps ≡ true → is_some (known_in ends q) ≡ true
@@ -106,10 +120,10 @@ all_planned {P} plan steps ends s m k q planned asked =
       by (Some Spent) e h = ap (λ (o : Option (End P)). is_some (state_by o)) e
 
 -- the seat from which a session starts
-pub first_czar : {R : Type 0} (asks : R → ℕ → ℕ → Type 0) (seat : BoardSeat R) → seat.number ≡ 0 → seat.seen ≡ [] → seat.mine ≡ [] → seat.root.ring ≤ 16384 → Knows seat_of seat → IsCzar asks seat
-first_czar {R} asks seat number seen mine small k = record {
+first_czar : {R : Type 0} (asks : R → ℕ → ℕ → Type 0) (seat : BoardSeat R) → seat.number ≡ 0 → seat.seen ≡ [] → seat.mine ≡ [] → seat.root.ring ≤ 16384 → IsCzar asks seat
+first_czar {R} asks seat number seen mine small = record {
   first = number;
-  known = k;
+  own = ap (of_seat 0) seen ∙ sym mine;
   lawful = record {
     small = small;
     run = record {
@@ -118,4 +132,13 @@ first_czar {R} asks seat number seen mine small k = record {
     };
   };
   delivered = subst AllDelivered (sym mine) nothing_delivered;
+}
+
+pub first_czars : {R L : Type 0} (asks : R → ℕ → ℕ → Type 0) (locks : L → TableId) (root : R) (seats : L → BoardSeat R) → ((p : L) → (seats p).turn ≡ locks p)
+    → ((p : L) → ((seats p).number ≡ 0) × ((seats p).seen ≡ []) × ((seats p).mine ≡ []) × ((seats p).made ≡ 1)) → ((p : L) → (seats p).root.ring ≤ 16384) → ((p : L) → root ≡ (seats p).root.root)
+    → AreCzars asks locks root seats
+first_czars asks locks root seats own first small engine = record {
+  own = own;
+  czar = λ p. let f = first p in first_czar asks (seats p) f.0 f.1 f.2 (small p);
+  engine = engine;
 }

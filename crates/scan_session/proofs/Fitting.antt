@@ -141,11 +141,11 @@ module _ (workers : ℕ) (plan : Plans) (steps : List Step) (ring : ℕ) (S : Jo
       and_from _ _ (lost_has q chunks j asked p judges lost) (not_from_false _ (need_not q chunks j SpentState asked p judges shows (λ e. cc e)))
 
 pub drove_fits : DroveFits
-drove_fits workers plan steps ring S judged kinds numbered run d count same judges shows =
+drove_fits workers plan steps ring plans S judged kinds numbered d count same judges shows =
     fits_by_each workers steps judged kinds count same (λ i j kind at_j at_kind.
     let low : i < length judged = place_low judged i j at_j in
     let asked : list_any (asks (i + 1)) steps ≡ true = (numbered_is_script steps numbered).all (i + 1) (omega arith) (omega (arith, low, count)) in
-    may workers plan steps ring S numbered run d (i + 1) j kind asked (plan (i + 1)) refl (judges i j at_j) (shows i j kind at_j at_kind))
+    may workers (plans (i + 1)) steps ring (S (i + 1)) numbered (d.run (i + 1)) (d.drove (i + 1)) (i + 1) j kind asked (plan (i + 1)) (d.here (i + 1)) (judges i j at_j) (shows i j kind at_j at_kind))
 
 pub empty_is_done : EmptyIsDone
 empty_is_done workers plan steps ring S q numbered run d asked p = empty_done workers plan steps ring S numbered run d q asked p

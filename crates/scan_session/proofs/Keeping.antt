@@ -20,7 +20,7 @@ use Rattle.session_script.specs.Scripts.{query_count}
 use Rattle.session_rules.specs.Ends.{asks, waits_for, has_cancel}
 use Rattle.session_rules.proofs.Cancels.{cancel_stands, prompt_is_a_split}
 use Rattle.sql_token.specs.declared.token.Span.{Span}
-use Rattle.scan_session.specs.Plans.{Plans, AllRunAtOnce, settles, with_chunks, planned_at, planned, MayCancel}
+use Rattle.scan_session.specs.Plans.{Plans, settles, with_chunks, planned_at, planned, MayCancel}
 use Rattle.scan_session.specs.Quiet.{is_alone, Pinned, Untouched}
 use Rattle.scan_session.specs.Driven.{is_foreign, has_foreign, attached_by, Settled, Driven, Driving, Going}
 use Rattle.scan_session.specs.Drove.{Drove}
@@ -108,9 +108,16 @@ cancel_is_not_query p q span e = cc
 cancel_is_not_wait : (p q : ℕ) → CancelStep p ≡ Wait q → ⊥
 cancel_is_not_wait p q e = cc
 
-module _ (plan : Plans) where
+waited_pinned : (plan : Plans) (done : List Step) (H : Journal) (q : ℕ) → Pinned plan done H → Pinned plan (done ++ Wait q ∷ []) H
+waited_pinned plan done H q = pinned_step plan done (Wait q) H (λ k w. cancel_is_not_wait k q w)
+
+-- a cancel that may take effect comes in time
+in_time : (steps : List Step) (q : ℕ) → NumberedFrom 0 steps → MayCancel steps q → has_cancel steps q ≡ true
+in_time steps q n m = subst (λ (s : List Step). has_cancel s q ≡ true) (sym m.cut) (cancel_stands m.before m.between m.behind q m.span (subst (NumberedFrom 0) m.cut n) m.unwaited)
+
+module _ {Room : Type 0} (plan : Plans) where
   -- what others took and delivered, or the czar himself, changes nothing
-  pub carry : {ring : ℕ} → (done : List Step) (S more : Journal) (ends : ℕ → Option QueryState) → IsRun ring (S ++ more) → list_all is_work more ≡ true → Driven plan done S ends → Driven plan done (S ++ more) ends
+  pub carry : {ring : ℕ} → (done : List Step) (S more : Journal) (ends : ℕ → Option QueryState) → IsRun ring (S ++ more) → list_all is_work more ≡ true → Driven Room plan done S ends → Driven Room plan done (S ++ more) ends
   carry {ring} done S more ends r w d =
       let same = work_same S more w in
       record {
@@ -124,11 +131,11 @@ module _ (plan : Plans) where
       }
 
   -- the past on which a call answers: what was seen, and what others did since
-  pub driving_on : {ring : ℕ} → (done : List Step) (S more : Journal) (ends : ℕ → Option QueryState) → IsRun ring (S ++ more) → of_seat 0 (S ++ more) ≡ of_seat 0 S → Driving plan done S ends → Driving plan done (S ++ more) ends
+  pub driving_on : {ring : ℕ} → (done : List Step) (S more : Journal) (ends : ℕ → Option QueryState) → IsRun ring (S ++ more) → of_seat 0 (S ++ more) ≡ of_seat 0 S → Driving Room plan done S ends → Driving Room plan done (S ++ more) ends
   driving_on {ring} done S more ends r own d f = carry done S more ends r (others_work S more own f) (d (clean_front S more f))
 
   -- a query line: attached
-  pub start_planned : {ring : ℕ} → (done : List Step) (H : Journal) (ends : ℕ → Option QueryState) (q : ℕ) (span : Span) (cs : List ℕ) → IsRun ring (H ++ Attach 0 q cs ∷ []) → plan q ≡ Some cs → Driving plan done H ends → Driving plan (done ++ Query q span ∷ []) (H ++ Attach 0 q cs ∷ []) ends
+  pub start_planned : {ring : ℕ} → (done : List Step) (H : Journal) (ends : ℕ → Option QueryState) (q : ℕ) (span : Span) (cs : List ℕ) → IsRun ring (H ++ Attach 0 q cs ∷ []) → plan q ≡ Some cs → Driving Room plan done H ends → Driving Room plan (done ++ Query q span ∷ []) (H ++ Attach 0 q cs ∷ []) ends
   start_planned {ring} done H ends q span cs r p dr f =
       let line : JournalLine = Attach 0 q cs in
       let d = dr (clean_front H (line ∷ []) f) in
@@ -146,7 +153,7 @@ module _ (plan : Plans) where
       }
 
   -- a query line: refused
-  pub start_refused : (done : List Step) (H : Journal) (ends : ℕ → Option QueryState) (q : ℕ) (span : Span) → plan q ≡ None → Driving plan done H ends → Driving plan (done ++ Query q span ∷ []) H ends
+  pub start_refused : (done : List Step) (H : Journal) (ends : ℕ → Option QueryState) (q : ℕ) (span : Span) → plan q ≡ None → Driving Room plan done H ends → Driving Room plan (done ++ Query q span ∷ []) H ends
   start_refused done H ends q span p dr f =
       let d = dr f in
       record {
@@ -163,7 +170,7 @@ module _ (plan : Plans) where
       }
 
   -- a line that settles q, once q does not run
-  settle : (done : List Step) (step : Step) (H : Journal) (ends : ℕ → Option QueryState) (q : ℕ) → ((k : ℕ) → asks k step ≡ false) → ((k : ℕ) → settles k step ≡ true → k ≡ q) → planned_at plan step ≡ [] → list_any (asks q) done ≡ true → is_running H q ≡ false → (is_alone H ≡ true → AllRunAtOnce plan → Pinned plan (done ++ step ∷ []) H) → Driven plan done H ends → Driven plan (done ++ step ∷ []) H ends
+  settle : (done : List Step) (step : Step) (H : Journal) (ends : ℕ → Option QueryState) (q : ℕ) → ((k : ℕ) → asks k step ≡ false) → ((k : ℕ) → settles k step ≡ true → k ≡ q) → planned_at plan step ≡ [] → list_any (asks q) done ≡ true → is_running H q ≡ false → (is_alone H ≡ true → Room → Pinned plan (done ++ step ∷ []) H) → Driven Room plan done H ends → Driven Room plan (done ++ step ∷ []) H ends
   settle done step H ends q free only none started n pinned d =
       record {
         attached = d.attached ∙ sym (flat_none (planned_at plan) done step none);
@@ -184,7 +191,7 @@ module _ (plan : Plans) where
       }
 
   -- a line about a query that is refused
-  pub pass : (done : List Step) (step : Step) (H : Journal) (ends : ℕ → Option QueryState) (q : ℕ) → ((k : ℕ) → asks k step ≡ false) → ((k : ℕ) → settles k step ≡ true → k ≡ q) → planned_at plan step ≡ [] → is_some (plan q) ≡ false → (is_alone H ≡ true → AllRunAtOnce plan → Pinned plan (done ++ step ∷ []) H) → Driven plan done H ends → Driven plan (done ++ step ∷ []) H ends
+  pub pass : (done : List Step) (step : Step) (H : Journal) (ends : ℕ → Option QueryState) (q : ℕ) → ((k : ℕ) → asks k step ≡ false) → ((k : ℕ) → settles k step ≡ true → k ≡ q) → planned_at plan step ≡ [] → is_some (plan q) ≡ false → (is_alone H ≡ true → Room → Pinned plan (done ++ step ∷ []) H) → Driven Room plan done H ends → Driven Room plan (done ++ step ∷ []) H ends
   pass done step H ends q free only none refused pinned d =
       record {
         attached = d.attached ∙ sym (flat_none (planned_at plan) done step none);
@@ -199,17 +206,14 @@ module _ (plan : Plans) where
         pinned = pinned;
       }
 
-  waited_pinned : (done : List Step) (H : Journal) (q : ℕ) → Pinned plan done H → Pinned plan (done ++ Wait q ∷ []) H
-  waited_pinned done H q = pinned_step plan done (Wait q) H (λ k w. cancel_is_not_wait k q w)
-
   -- a wait line, once the query does not run
-  pub waited : (done : List Step) (H : Journal) (ends : ℕ → Option QueryState) (q : ℕ) → list_any (asks q) done ≡ true → is_running H q ≡ false → Driving plan done H ends → Driving plan (done ++ Wait q ∷ []) H ends
+  pub waited : (done : List Step) (H : Journal) (ends : ℕ → Option QueryState) (q : ℕ) → list_any (asks q) done ≡ true → is_running H q ≡ false → Driving Room plan done H ends → Driving Room plan (done ++ Wait q ∷ []) H ends
   waited done H ends q started n dr f =
       let d = dr f in
-      settle done (Wait q) H ends q (λ k. refl) (λ k h. sym (eqb-true q k h)) refl started n (λ alone room. waited_pinned done H q (d.pinned alone room)) d
+      settle done (Wait q) H ends q (λ k. refl) (λ k h. sym (eqb-true q k h)) refl started n (λ alone room. waited_pinned plan done H q (d.pinned alone room)) d
 
   -- a cancel line that came too late
-  pub stopped_late : {ring : ℕ} → (done : List Step) (H : Journal) (ends : ℕ → Option QueryState) (q : ℕ) → IsRun ring H → list_any (asks q) done ≡ true → is_running H q ≡ false → Going plan done H ends → Going plan (done ++ CancelStep q ∷ []) H ends
+  pub stopped_late : {ring : ℕ} → (done : List Step) (H : Journal) (ends : ℕ → Option QueryState) (q : ℕ) → IsRun ring H → list_any (asks q) done ≡ true → is_running H q ≡ false → Going Room plan done H ends → Going Room plan (done ++ CancelStep q ∷ []) H ends
   stopped_late {ring} done H ends q r started n g = record {
     drives = λ f.
         let d = g.drives f in
@@ -218,7 +222,7 @@ module _ (plan : Plans) where
   }
 
   -- a cancel line of a query that is refused
-  pub stopped_refused : (done : List Step) (H : Journal) (ends : ℕ → Option QueryState) (q : ℕ) → is_some (plan q) ≡ false → Going plan done H ends → Going plan (done ++ CancelStep q ∷ []) H ends
+  pub stopped_refused : (done : List Step) (H : Journal) (ends : ℕ → Option QueryState) (q : ℕ) → is_some (plan q) ≡ false → Going Room plan done H ends → Going Room plan (done ++ CancelStep q ∷ []) H ends
   stopped_refused done H ends q none g = record {
     drives = λ f.
         let d = g.drives f in
@@ -227,13 +231,13 @@ module _ (plan : Plans) where
   }
 
   -- a wait line of a query that is refused
-  pub waited_refused : (done : List Step) (H : Journal) (ends : ℕ → Option QueryState) (q : ℕ) → is_some (plan q) ≡ false → Driving plan done H ends → Driving plan (done ++ Wait q ∷ []) H ends
+  pub waited_refused : (done : List Step) (H : Journal) (ends : ℕ → Option QueryState) (q : ℕ) → is_some (plan q) ≡ false → Driving Room plan done H ends → Driving Room plan (done ++ Wait q ∷ []) H ends
   waited_refused done H ends q none dr f =
       let d = dr f in
-      pass done (Wait q) H ends q (λ k. refl) (λ k h. sym (eqb-true q k h)) refl none (λ alone room. waited_pinned done H q (d.pinned alone room)) d
+      pass done (Wait q) H ends q (λ k. refl) (λ k h. sym (eqb-true q k h)) refl none (λ alone room. waited_pinned plan done H q (d.pinned alone room)) d
 
   -- a query that runs has no wait line behind it, so a cancel may take effect
-  pub runs_unwaited : (done : List Step) (H : Journal) (ends : ℕ → Option QueryState) (q : ℕ) → Driven plan done H ends → list_any (asks q) done ≡ true → is_some (plan q) ≡ true → is_running H q ≡ true → MayCancel (done ++ CancelStep q ∷ []) q
+  pub runs_unwaited : (done : List Step) (H : Journal) (ends : ℕ → Option QueryState) (q : ℕ) → Driven Room plan done H ends → list_any (asks q) done ≡ true → is_some (plan q) ≡ true → is_running H q ≡ true → MayCancel (done ++ CancelStep q ∷ []) q
   runs_unwaited done H ends q d started k n =
       let f = any_finds (asks q) done started in
       let a : List Step = f.0 in
@@ -253,14 +257,14 @@ module _ (plan : Plans) where
       }
 
   -- a cancel line that takes effect
-  pub stopped_now : {ring : ℕ} → (done : List Step) (H : Journal) (ends : ℕ → Option QueryState) (q : ℕ) → IsRun ring (H ++ Cancel 0 q ∷ []) → list_any (asks q) done ≡ true → is_some (plan q) ≡ true → Driving plan done H ends → Driving plan (done ++ CancelStep q ∷ []) (H ++ Cancel 0 q ∷ []) ends
+  pub stopped_now : {ring : ℕ} → (done : List Step) (H : Journal) (ends : ℕ → Option QueryState) (q : ℕ) → IsRun ring (H ++ Cancel 0 q ∷ []) → list_any (asks q) done ≡ true → is_some (plan q) ≡ true → Driving Room plan done H ends → Driving Room plan (done ++ CancelStep q ∷ []) (H ++ Cancel 0 q ∷ []) ends
   stopped_now {ring} done H ends q r started k dr f =
       let line : JournalLine = Cancel 0 q in
       let d = dr (clean_front H (line ∷ []) f) in
       let n : is_running H q ≡ true = follows_here H line [] r in
       let c : is_cancelled (H ++ line ∷ []) q ≡ true = any_there (cancels q) H line [] (eq-eqb q q refl) in
       let after : is_running (H ++ line ∷ []) q ≡ false = and_left _ _ (and_right _ _ (and_left _ _ (not_from_true _ c))) in
-      let moved : Driven plan (done ++ CancelStep q ∷ []) (H ++ line ∷ []) ends = record {
+      let moved : Driven Room plan (done ++ CancelStep q ∷ []) (H ++ line ∷ []) ends = record {
         attached = flat_none attached_by H line refl ∙ (d.attached ∙ sym (flat_none (planned_at plan) done (CancelStep q) refl));
         open_still = any_none closes H line refl ∙ d.open_still;
         collected = λ p. any_none (collects p) H line refl ∙ d.collected p;
@@ -281,7 +285,7 @@ module _ (plan : Plans) where
         pinned = λ alone room. pinned_now plan done H q (d.pinned (alone_front H (line ∷ []) alone) room);
       } in moved
 
-  pub collected_now : {ring : ℕ} → (done : List Step) (H : Journal) (ends : ℕ → Option QueryState) (q : ℕ) → IsRun ring (H ++ Collect 0 q ∷ []) → Driving plan done H ends → Driving plan done (H ++ Collect 0 q ∷ []) (with_end ends q (Some (state_of H q)))
+  pub collected_now : {ring : ℕ} → (done : List Step) (H : Journal) (ends : ℕ → Option QueryState) (q : ℕ) → IsRun ring (H ++ Collect 0 q ∷ []) → Driving Room plan done H ends → Driving Room plan done (H ++ Collect 0 q ∷ []) (with_end ends q (Some (state_of H q)))
   collected_now {ring} done H ends q r dr f =
       let line : JournalLine = Collect 0 q in
       let d = dr (clean_front H (line ∷ []) f) in
@@ -307,48 +311,48 @@ module _ (plan : Plans) where
       }
 
   -- the same between two steps: attached, refused, cancelled
-  pub going_started : {ring : ℕ} → (done : List Step) (H : Journal) (ends : ℕ → Option QueryState) (q : ℕ) (span : Span) (cs : List ℕ) → IsRun ring (H ++ Attach 0 q cs ∷ []) → plan q ≡ Some cs → Going plan done H ends → Going plan (done ++ Query q span ∷ []) (H ++ Attach 0 q cs ∷ []) ends
+  pub going_started : {ring : ℕ} → (done : List Step) (H : Journal) (ends : ℕ → Option QueryState) (q : ℕ) (span : Span) (cs : List ℕ) → IsRun ring (H ++ Attach 0 q cs ∷ []) → plan q ≡ Some cs → Going Room plan done H ends → Going Room plan (done ++ Query q span ∷ []) (H ++ Attach 0 q cs ∷ []) ends
   going_started {ring} done H ends q span cs r p g = record {
     drives = start_planned done H ends q span cs r p g.drives;
     calm = λ alone room. untouched_started plan done H q span cs r (g.calm (alone_front H (Attach 0 q cs ∷ []) alone) room);
   }
 
-  pub going_refused : (done : List Step) (H : Journal) (ends : ℕ → Option QueryState) (q : ℕ) (span : Span) → plan q ≡ None → Going plan done H ends → Going plan (done ++ Query q span ∷ []) H ends
+  pub going_refused : (done : List Step) (H : Journal) (ends : ℕ → Option QueryState) (q : ℕ) (span : Span) → plan q ≡ None → Going Room plan done H ends → Going Room plan (done ++ Query q span ∷ []) H ends
   going_refused done H ends q span p g = record {
     drives = start_refused done H ends q span p g.drives;
     calm = λ alone room. untouched_refused plan done H q span p (g.calm alone room);
   }
 
-  pub going_stopped : {ring : ℕ} → (done : List Step) (H : Journal) (ends : ℕ → Option QueryState) (q : ℕ) → IsRun ring (H ++ Cancel 0 q ∷ []) → list_any (asks q) done ≡ true → is_some (plan q) ≡ true → Going plan done H ends → Going plan (done ++ CancelStep q ∷ []) (H ++ Cancel 0 q ∷ []) ends
+  pub going_stopped : {ring : ℕ} → (done : List Step) (H : Journal) (ends : ℕ → Option QueryState) (q : ℕ) → IsRun ring (H ++ Cancel 0 q ∷ []) → list_any (asks q) done ≡ true → is_some (plan q) ≡ true → Going Room plan done H ends → Going Room plan (done ++ CancelStep q ∷ []) (H ++ Cancel 0 q ∷ []) ends
   going_stopped {ring} done H ends q r started k g = record {
     drives = stopped_now done H ends q r started k g.drives;
     calm = λ alone room. untouched_cancel plan done (H ++ Cancel 0 q ∷ []) q (untouched_on plan done H (Cancel 0 q) (λ p. refl) (g.calm (alone_front H (Cancel 0 q ∷ []) alone) room));
   }
 
-  pub going_waited : (done : List Step) (H : Journal) (ends : ℕ → Option QueryState) (q : ℕ) → Driving plan (done ++ Wait q ∷ []) H ends → Going plan (done ++ Wait q ∷ []) H ends
+  pub going_waited : (done : List Step) (H : Journal) (ends : ℕ → Option QueryState) (q : ℕ) → Driving Room plan (done ++ Wait q ∷ []) H ends → Going Room plan (done ++ Wait q ∷ []) H ends
   going_waited done H ends q d = record { drives = d; calm = λ alone room. untouched_waited plan done H q }
 
   -- the past on which a call answers: where the czar is alone, it is what he has seen
-  pub going_on : {ring : ℕ} → (done : List Step) (S more : Journal) (ends : ℕ → Option QueryState) → IsRun ring (S ++ more) → of_seat 0 (S ++ more) ≡ of_seat 0 S → Going plan done S ends → Going plan done (S ++ more) ends
+  pub going_on : {ring : ℕ} → (done : List Step) (S more : Journal) (ends : ℕ → Option QueryState) → IsRun ring (S ++ more) → of_seat 0 (S ++ more) ≡ of_seat 0 S → Going Room plan done S ends → Going Room plan done (S ++ more) ends
   going_on {ring} done S more ends r own g = record {
     drives = driving_on done S more ends r own g.drives;
     calm = λ alone room. subst (Untouched plan done) (sym (ap (λ (l : Journal). S ++ l) (alone_same S more own alone) ∙ append-nil S)) (g.calm (alone_front S more alone) room);
   }
 
   -- answers that cannot come, unless somebody else did what only the czar does
-  pub again_is_foreign : (done : List Step) (H : Journal) (ends : ℕ → Option QueryState) (q : ℕ) → Driving plan done H ends → list_any (asks q) done ≡ false → is_attached H q ≡ true → has_foreign H ≡ true
+  pub again_is_foreign : (done : List Step) (H : Journal) (ends : ℕ → Option QueryState) (q : ℕ) → Driving Room plan done H ends → list_any (asks q) done ≡ false → is_attached H q ≡ true → has_foreign H ≡ true
   again_is_foreign done H ends q dr new a = true_from_ne_false _ (λ f. both_ways _ new (attached_planned plan done H q (dr f).attached a).0)
 
-  pub closed_is_foreign : (done : List Step) (H : Journal) (ends : ℕ → Option QueryState) → Driving plan done H ends → is_closed H ≡ true → has_foreign H ≡ true
+  pub closed_is_foreign : (done : List Step) (H : Journal) (ends : ℕ → Option QueryState) → Driving Room plan done H ends → is_closed H ≡ true → has_foreign H ≡ true
   closed_is_foreign done H ends dr c = true_from_ne_false _ (λ f. both_ways _ (dr f).open_still c)
 
-  pub gone_is_foreign : (done : List Step) (H : Journal) (ends : ℕ → Option QueryState) (q : ℕ) → Driving plan done H ends → list_any (asks q) done ≡ true → is_some (plan q) ≡ true → ends q ≡ None → (is_collected H q ≡ true) ⊎ (is_attached H q ≡ false) → has_foreign H ≡ true
+  pub gone_is_foreign : (done : List Step) (H : Journal) (ends : ℕ → Option QueryState) (q : ℕ) → Driving Room plan done H ends → list_any (asks q) done ≡ true → is_some (plan q) ≡ true → ends q ≡ None → (is_collected H q ≡ true) ⊎ (is_attached H q ≡ false) → has_foreign H ≡ true
   gone_is_foreign done H ends q dr started k none g = true_from_ne_false _ (λ f. ⊎_elim
       (λ c. both_ways _ ((dr f).collected q ∙ ap is_some none) c)
       (λ n. both_ways _ n (planned_attached plan done H q (dr f).attached started k))
       g)
 
-  pub nothing_driven : (ends : ℕ → Option QueryState) → ((q : ℕ) → ends q ≡ None) → Driving plan [] [] ends
+  pub nothing_driven : (ends : ℕ → Option QueryState) → ((q : ℕ) → ends q ≡ None) → Driving Room plan [] [] ends
   nothing_driven ends none f = record {
     attached = refl;
     open_still = refl;
@@ -362,17 +366,13 @@ module _ (plan : Plans) where
     no_cut [] s b e = cc
     no_cut (x ∷ a) s b e = cc
 
-  pub nothing_going : (ends : ℕ → Option QueryState) → ((q : ℕ) → ends q ≡ None) → Going plan [] [] ends
+  pub nothing_going : (ends : ℕ → Option QueryState) → ((q : ℕ) → ends q ≡ None) → Going Room plan [] [] ends
   nothing_going ends none = record { drives = nothing_driven ends none; calm = λ alone room. nothing_untouched plan }
-
-  -- a cancel that may take effect comes in time
-  in_time : (steps : List Step) (q : ℕ) → NumberedFrom 0 steps → MayCancel steps q → has_cancel steps q ≡ true
-  in_time steps q n m = subst (λ (s : List Step). has_cancel s q ≡ true) (sym m.cut) (cancel_stands m.before m.between m.behind q m.span (subst (NumberedFrom 0) m.cut n) m.unwaited)
 
   -- in the end: closed, joined, and all own lines and those of others known
   pub drove : {ring : ℕ} → (workers : ℕ) (steps : List Step) (H more : Journal) (ends : ℕ → Option QueryState) → NumberedFrom 0 steps → IsRun ring ((H ++ Close 0 ∷ []) ++ more) → of_seat 0 ((H ++ Close 0 ∷ []) ++ more) ≡ of_seat 0 (H ++ Close 0 ∷ []) → has_foreign ((H ++ Close 0 ∷ []) ++ more) ≡ false → AllDelivered ((H ++ Close 0 ∷ []) ++ more)
-      → (workers ≡ 0 → is_alone ((H ++ Close 0 ∷ []) ++ more) ≡ true) → (query_count steps ≤ 64 → AllRunAtOnce plan)
-      → ((q : ℕ) → is_some (plan q) ≡ true → list_any (asks q) steps ≡ true → is_some (ends q) ≡ true) → Driving plan steps H ends → Drove workers plan steps ((H ++ Close 0 ∷ []) ++ more) × TellsStates ((H ++ Close 0 ∷ []) ++ more) ends
+      → (workers ≡ 0 → is_alone ((H ++ Close 0 ∷ []) ++ more) ≡ true) → (query_count steps ≤ 64 → Room)
+      → ((q : ℕ) → is_some (plan q) ≡ true → list_any (asks q) steps ≡ true → is_some (ends q) ≡ true) → Driving Room plan steps H ends → Drove workers plan steps ((H ++ Close 0 ∷ []) ++ more) × TellsStates ((H ++ Close 0 ∷ []) ++ more) ends
   drove {ring} workers steps H more ends numbered r own f del alone room all dr =
       let line : JournalLine = Close 0 in
       let C : Journal = H ++ line ∷ [] in

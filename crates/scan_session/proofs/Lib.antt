@@ -3,6 +3,7 @@ pub mod Quiet
 pub mod Keeping
 pub mod Calling
 pub mod Answering
+pub mod Placing
 pub mod Listing
 pub mod Looping
 pub mod Closing

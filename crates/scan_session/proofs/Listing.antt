@@ -1,9 +1,9 @@
 -- Lists by the numbers of queries, from 1: what a change of one place leaves.
-use Rattle.std.proofs.Common.{◌≡◌, ℕ, ◌-◌, ◌≤◌, ◌<◌, ◌==◌, zero, suc, List, [], ◌∷◌, ◌++◌, length, get_or, slice_set, true, false, Option, Some, None, option_map, is_some, ◌⊎◌, inl, inr, ⊎_elim, refl, sym, ◌∙◌, ap, subst, arith, get_or-set_same, get_or-set_other, eqb-true, eq-eqb}
+use Rattle.std.proofs.Common.{◌≡◌, ℕ, ◌-◌, ◌≤◌, ◌<◌, ◌==◌, zero, suc, List, [], ◌∷◌, ◌++◌, length, get_or, slice_set, Bool, true, false, cond, Option, Some, None, option_map, is_some, ◌⊎◌, inl, inr, ⊎_elim, refl, sym, ◌∙◌, ap, subst, arith, get_or-set_same, get_or-set_other, eqb-true, eq-eqb}
 use Rattle.std.proofs.lemmas.Bool.{cases_Bool, cases_eq, both_ways, cond-true, cond-false, true≢false, false≢true, or_parts}
 use Rattle.std.specs.List.{list_any}
 use mathlib.Core.List.{IsPrefix}
-use Rattle.scan_rules.specs.Queries.{Journal, QueryState}
+use Rattle.scan_rules.specs.Queries.{Journal, QueryState, wanted}
 use Rattle.scan_rules.specs.Runs.{IsRun}
 use Rattle.scan_rules.specs.Lines.{attaches}
 use Rattle.scan_rules.proofs.Runs.{wanted_stays}
@@ -17,6 +17,7 @@ use Rattle.scan_session.specs.Driven.{Driving, Going}
 use Rattle.scan_board.specs.Calls.{BoardSeat}
 use Rattle.scan_session.specs.Seats.{Stays}
 use Rattle.scan_session.specs.Goes.{Goes}
+use Rattle.scan_session.specs.Places.{only, over_root, seen_of, DrivingAll, GoingAll, AllStand, AllFit}
 use Rattle.scan_session.specs.KnownEnds.{at_query, state_by, known_in, with_end, StandsWhole, IsCollected, PiecesStand, PlansFit, Ready, Marks, MoreKnown}
 use Rattle.scan_session.specs.declared.end.Planned.{Planned}
 use Rattle.scan_session.specs.declared.end.End.{End}
@@ -24,6 +25,7 @@ use Rattle.scan_session.specs.declared.end.End.TheVariants.{Answered, Refused, C
 use Rattle.scan_session.specs.declared.end.Outcome.{Outcome}
 use Rattle.scan_session.specs.declared.end.Outcome.TheVariants.{Went, Memory, Odd}
 use Rattle.scan_session.proofs.Others.{alone_clean}
+use Rattle.scan_session.proofs.Placing.{driven_ends, else_is, here_is}
 use Rattle.scan_session.proofs.Keeping.{stopped_late, stopped_refused, waited, waited_refused, going_waited}
 
 module _ {X : Type 0} where
@@ -62,19 +64,24 @@ module _ {X : Type 0} where
   pub set_there : (list : List (Option X)) (q : ℕ) → 1 ≤ q → is_some (get_or list (q - 1) None) ≡ true → is_some (at_query list q) ≡ true
   set_there list q h n = ap is_some (at_place list q h) ∙ n
 
--- two ways to say the same ends
-pub driven_ends : (plan : Plans) (done : List Step) (S : Journal) (e f : ℕ → Option QueryState) → ((q : ℕ) → f q ≡ e q) → Driving plan done S e → Driving plan done S f
-driven_ends plan done S e f same dr clean =
-    let d = dr clean in
-    record {
-      attached = d.attached;
-      open_still = d.open_still;
-      cancelled = d.cancelled;
-      settled = d.settled;
-      pinned = d.pinned;
-      collected = λ q. d.collected q ∙ sym (ap is_some (same q));
-      ended = λ q s h. d.ended q s (sym (same q) ∙ h);
-    }
+-- a cancel line of a query that was refused, or has ended
+pub cancel_known : {Room : Type 0} {ring : ℕ} → (plan : Plans) (done : List Step) (S : Journal) (ends : ℕ → Option QueryState) (q : ℕ) → IsRun ring S → (is_some (plan q) ≡ false) ⊎ ((s : QueryState) × (ends q ≡ Some s)) → list_any (is_query_of q) done ≡ true
+    → Going Room plan done S ends → Going Room plan (done ++ CancelStep q ∷ []) S ends
+cancel_known plan done S ends q r k started g = ⊎_elim
+    (λ n. stopped_refused plan done S ends q n g)
+    (λ s. record {
+      drives = λ f. (stopped_late plan done S ends q r started ((g.drives f).ended q s.0 s.1).stopped g).drives f;
+      calm = λ alone room. (stopped_late plan done S ends q r started ((g.drives (alone_clean S alone)).ended q s.0 s.1).stopped g).calm alone room;
+    })
+    k
+
+-- a wait line of such a query
+wait_known : {Room : Type 0} (plan : Plans) (done : List Step) (S : Journal) (ends : ℕ → Option QueryState) (q : ℕ) → (is_some (plan q) ≡ false) ⊎ ((s : QueryState) × (ends q ≡ Some s)) → list_any (is_query_of q) done ≡ true
+    → Driving Room plan done S ends → Driving Room plan (done ++ Wait q ∷ []) S ends
+wait_known plan done S ends q k started dr f = ⊎_elim
+    (λ n. waited_refused plan done S ends q n dr f)
+    (λ s. waited plan done S ends q started ((dr f).ended q s.0 s.1).stopped dr f)
+    k
 
 module _ {P : Type 0} where
   pub set_end : (ends : List (Option (End P))) (q : ℕ) (end : End P) → 1 ≤ q → q ≤ length ends → (p : ℕ) → known_in (slice_set ends (q - 1) (Some end)) p ≡ with_end (known_in ends) q (state_by (Some end)) p
@@ -84,8 +91,11 @@ module _ {P : Type 0} where
       (λ n. ap state_by (set_other ends q p (Some end) h (λ x. both_ways _ n (eq-eqb q p (sym x)))) ∙ sym (cond-false (q == p) _ _ n))
       (cases_Bool (q == p))
 
-  pub drives_set : (plan : Plans) (done : List Step) (S : Journal) (ends : List (Option (End P))) (q : ℕ) (end : End P) → 1 ≤ q → q ≤ length ends → Driving plan done S (with_end (known_in ends) q (state_by (Some end))) → Driving plan done S (known_in (slice_set ends (q - 1) (Some end)))
-  drives_set plan done S ends q end h low d = driven_ends plan done S (with_end (known_in ends) q (state_by (Some end))) (known_in (slice_set ends (q - 1) (Some end))) (set_end ends q end h low) d
+  pub drives_set : {R L : Type 0} → (has : L → ℕ → Bool) (plan : Plans) (done : List Step) (seats : L → BoardSeat R) (ends : List (Option (End P))) (q : ℕ) (end : End P) → 1 ≤ q → q ≤ length ends
+      → DrivingAll has plan done seats (with_end (known_in ends) q (state_by (Some end))) → DrivingAll has plan done seats (known_in (slice_set ends (q - 1) (Some end)))
+  drives_set has plan done seats ends q end h low d p f =
+      driven_ends (only (has p) plan) done (seats p).seen (only (has p) (with_end (known_in ends) q (state_by (Some end)))) (only (has p) (known_in (slice_set ends (q - 1) (Some end))))
+      (λ r. ap (λ (o : Option QueryState). cond (has p r) o None) (sym (set_end ends q end h low r))) (d p f)
 
   not_refused : (stands : ℕ → List ℕ → P → Type 0) (S : Journal) (q : ℕ) (end : End P) → IsCollected stands S q end → ◌≡◌ {A = Option (End P)} (Some end) (Some Refused) → ⊥
   not_refused stands S q Refused c e = c
@@ -131,22 +141,31 @@ module _ {P : Type 0} where
     whole = subst (λ (l : List ℕ). stands q l piece) (sym (wanted_stays front rest q r w.attached)) w.whole;
   }
 
-  pub whole_on : {R : Type 0} (asks : R → ℕ → ℕ → Type 0) (stands : ℕ → List ℕ → P → Type 0) (old new : BoardSeat R) (ends : List (Option (End P))) → Stays asks old new → PiecesStand stands old.seen ends → PiecesStand stands new.seen ends
-  whole_on {R} asks stands old new ends s w = record {
-    each = λ q piece at. subst (λ (l : Journal). StandsWhole stands l q piece) s.later.1 (whole_on_one {ring = new.root.ring} stands old.seen s.later.0 q piece (subst (IsRun new.root.ring) (sym s.later.1) s.czar.lawful.run.run) (w.each q piece at));
-  }
+  -- the pieces still represent their queries' chunks, whichever lines are added
+  pub pieces_on : {R L : Type 0} (stands : R → ℕ → List ℕ → P → Type 0) (home : ℕ → L) (old new : L → BoardSeat R) (ends : List (Option (End P)))
+      → ((p : L) → IsPrefix (old p).seen (new p).seen) → ((p : L) → (new p).root ≡ (old p).root) → ((p : L) → IsRun (new p).root.ring (new p).seen) → AllStand stands home old ends → AllStand stands home new ends
+  pieces_on {R} stands home old new ends later root run w = record { each = on } where
+    on : (q : ℕ) (piece : P) → at_query ends q ≡ Some (Answered piece) → StandsWhole (over_root stands home new) (seen_of home new q) q piece
+    on q piece at =
+        let a = old (home q) in
+        let b = new (home q) in
+        let l = later (home q) in
+        let x : StandsWhole (over_root stands home old) b.seen q piece = subst (λ (j : Journal). StandsWhole (over_root stands home old) j q piece) l.1
+        (whole_on_one {ring = b.root.ring} (over_root stands home old) a.seen l.0 q piece (subst (IsRun b.root.ring) (sym l.1) (run (home q))) (w.each q piece at)) in
+        record {
+          attached = x.attached;
+          whole = subst (λ r. stands r.root q (wanted b.seen q) piece) (sym (root (home q))) x.whole;
+        }
 
-  -- the same along any journal that goes on
-  pub pieces_joined : {R : Type 0} (asks : R → ℕ → ℕ → Type 0) (stands : ℕ → List ℕ → P → Type 0) (old new : BoardSeat R) (ends : List (Option (End P))) → IsPrefix old.seen new.seen → IsRun new.root.ring new.seen → PiecesStand stands old.seen ends → PiecesStand stands new.seen ends
-  pieces_joined {R} asks stands old new ends later run w = record {
-    each = λ q piece at. subst (λ (l : Journal). StandsWhole stands l q piece) later.1 (whole_on_one {ring = new.root.ring} stands old.seen later.0 q piece (subst (IsRun new.root.ring) (sym later.1) run) (w.each q piece at));
-  }
+  pub whole_on : {R L : Type 0} (asks : R → ℕ → ℕ → Type 0) (stands : R → ℕ → List ℕ → P → Type 0) (home : ℕ → L) (old new : L → BoardSeat R) (ends : List (Option (End P)))
+      → ((p : L) → Stays asks (old p) (new p)) → AllStand stands home old ends → AllStand stands home new ends
+  whole_on asks stands home old new ends s = pieces_on stands home old new ends (λ p. (s p).later) (λ p. (s p).root) (λ p. (s p).czar.lawful.run.run)
 
-  pub whole_set : (stands : ℕ → List ℕ → P → Type 0) (S : Journal) (ends : List (Option (End P))) (q : ℕ) (end : End P) → 1 ≤ q → q ≤ length ends → IsCollected stands S q end → PiecesStand stands S ends → PiecesStand stands S (slice_set ends (q - 1) (Some end))
+  pub whole_set : (stands : ℕ → List ℕ → P → Type 0) (S : ℕ → Journal) (ends : List (Option (End P))) (q : ℕ) (end : End P) → 1 ≤ q → q ≤ length ends → IsCollected stands (S q) q end → PiecesStand stands S ends → PiecesStand stands S (slice_set ends (q - 1) (Some end))
   whole_set stands S ends q end h low c w = record {
     each = λ p piece at. ⊎_elim
         (λ pq. let e : Some end ≡ Some (Answered piece) = sym (set_same ends q (Some end) h low) ∙ subst (λ z. at_query (slice_set ends (q - 1) (Some end)) z ≡ Some (Answered piece)) pq at in
-        subst (λ z. StandsWhole stands S z piece) (sym pq) (subst (λ x. IsCollected stands S q x) (some_same end (Answered piece) e) c))
+        subst (λ z. StandsWhole stands (S z) z piece) (sym pq) (subst (λ x. IsCollected stands (S q) q x) (some_same end (Answered piece) e) c))
         (λ ne. w.each p piece (sym (set_other ends q p (Some end) h ne) ∙ at))
         (cases_eq p q);
   } where
@@ -161,27 +180,23 @@ module _ {P : Type 0} where
   known_state plan ends q (Some Cancelled) e h m = inr (_, ap state_by e)
   known_state plan ends q (Some Spent) e h m = inr (_, ap state_by e)
 
-  -- a cancel line of a query whose end is known
-  pub cancel_known : {ring : ℕ} → (plan : Plans) (done : List Step) (S : Journal) (ends : List (Option (End P))) (q : ℕ) → IsRun ring S → is_some (at_query ends q) ≡ true → Marks plan ends → list_any (is_query_of q) done ≡ true → Going plan done S (known_in ends) → Going plan (done ++ CancelStep q ∷ []) S (known_in ends)
-  cancel_known {ring} plan done S ends q r k m started g = ⊎_elim
-      (λ n. stopped_refused plan done S (known_in ends) q (ap is_some n) g)
-      (λ s. record {
-        drives = λ f. (stopped_late plan done S (known_in ends) q r started ((g.drives f).ended q s.0 s.1).stopped g).drives f;
-        calm = λ alone room. (stopped_late plan done S (known_in ends) q r started ((g.drives (alone_clean S alone)).ended q s.0 s.1).stopped g).calm alone room;
-      })
-      (known_state plan ends q (at_query ends q) refl k m)
+  -- a query whose end is known was refused, or has ended, at each place
+  pub known_at : (here : ℕ → Bool) (plan : Plans) (ends : List (Option (End P))) (q : ℕ) → is_some (at_query ends q) ≡ true → Marks plan ends → (is_some (only here plan q) ≡ false) ⊎ ((s : QueryState) × (only here (known_in ends) q ≡ Some s))
+  known_at here plan ends q k m = ⊎_elim
+      (λ t. ⊎_elim
+      (λ n. inl (ap is_some (here_is here plan q t ∙ n)))
+      (λ s. inr (s.0, here_is here (known_in ends) q t ∙ s.1))
+      (known_state plan ends q (at_query ends q) refl k m))
+      (λ f. inl (ap is_some (else_is here plan q f)))
+      (cases_Bool (here q))
 
-  -- a wait line, once the end is known
-  pub wait_known : (plan : Plans) (done : List Step) (S : Journal) (ends : List (Option (End P))) (q : ℕ) → is_some (at_query ends q) ≡ true → Marks plan ends → list_any (is_query_of q) done ≡ true → Driving plan done S (known_in ends) → Driving plan (done ++ Wait q ∷ []) S (known_in ends)
-  wait_known plan done S ends q k m started dr f = ⊎_elim
-      (λ n. waited_refused plan done S (known_in ends) q (ap is_some n) dr f)
-      (λ s. waited plan done S (known_in ends) q started ((dr f).ended q s.0 s.1).stopped dr f)
-      (known_state plan ends q (at_query ends q) refl k m)
-
-  pub goes_wait : (plan : Plans) (done : List Step) (S : Journal) (ends : List (Option (End P))) (q : ℕ) (r : Outcome) → list_any (is_query_of q) done ≡ true → (r ≡ Went → is_some (at_query ends q) ≡ true) → Marks plan ends → Goes (Driving plan done S (known_in ends)) S r → Goes (Going plan (done ++ Wait q ∷ []) S (known_in ends)) S r
-  goes_wait plan done S ends q Went started known m d = going_waited plan done S (known_in ends) q (wait_known plan done S ends q (known refl) m started d)
-  goes_wait plan done S ends q Odd started known m d = d
-  goes_wait plan done S ends q Memory started known m d = d
+  pub goes_wait : {R L : Type 0} (has : L → ℕ → Bool) (plan : Plans) (done : List Step) (seats : L → BoardSeat R) (ends : List (Option (End P))) (q : ℕ) (r : Outcome) → list_any (is_query_of q) done ≡ true → (r ≡ Went → is_some (at_query ends q) ≡ true) → Marks plan ends
+      → Goes (DrivingAll has plan done seats (known_in ends)) seats r → Goes (GoingAll has plan (done ++ Wait q ∷ []) seats (known_in ends)) seats r
+  goes_wait has plan done seats ends q Went started known m d = λ p.
+      going_waited (only (has p) plan) done (seats p).seen (only (has p) (known_in ends)) q
+      (wait_known (only (has p) plan) done (seats p).seen (only (has p) (known_in ends)) q (known_at (has p) plan ends q (known refl) m) started (d p))
+  goes_wait has plan done seats ends q Odd started known m d = d
+  goes_wait has plan done seats ends q Memory started known m d = d
 
   -- the query of a query line: what is planned for it
   pub ready_none : (plan : Plans) (done : List Step) (plans : List (Option (Planned P))) (q : ℕ) → Ready plan done plans → list_any (is_query_of q) done ≡ false → at_query plans q ≡ None → plan q ≡ None
@@ -198,10 +213,22 @@ module _ {P : Type 0} where
         ap (λ (o : Option (Planned P)). option_map (λ p. p.chunks) o) (set_other plans q p x h ne) ∙ r.ready p parts.0;
   }
 
-  pub fit_set : {R : Type 0} (stands : R → ℕ → List ℕ → P → Type 0) (asks : R → ℕ → ℕ → Type 0) (ring : ℕ) (root : R) (plans : List (Option (Planned P))) (q : ℕ) → 1 ≤ q → q ≤ length plans → PlansFit stands asks ring root plans → PlansFit stands asks ring root (slice_set plans (q - 1) None)
-  fit_set stands asks ring root plans q h low f = record {
-    each = λ p x at. ⊎_elim
-        (λ pq. let n : None ≡ Some x = sym (set_same plans q None h low) ∙ subst (λ z. at_query (slice_set plans (q - 1) None) z ≡ Some x) pq at in absurd (cc))
-        (λ ne. f.each p x (sym (set_other plans q p None h ne) ∙ at))
-        (cases_eq p q);
+  set_none : (plans : List (Option (Planned P))) (q p : ℕ) (x : Planned P) → 1 ≤ q → q ≤ length plans → at_query (slice_set plans (q - 1) None) p ≡ Some x → at_query plans p ≡ Some x
+  set_none plans q p x h low at = ⊎_elim
+      (λ pq. let n : None ≡ Some x = sym (set_same plans q None h low) ∙ subst (λ z. at_query (slice_set plans (q - 1) None) z ≡ Some x) pq at in absurd (cc))
+      (λ ne. sym (set_other plans q p None h ne) ∙ at)
+      (cases_eq p q)
+
+  pub fit_set : {R L : Type 0} (stands : R → ℕ → List ℕ → P → Type 0) (asks : R → ℕ → ℕ → Type 0) (suits : ℕ → List ℕ → Type 0) (seats : L → BoardSeat R) (plans : List (Option (Planned P))) (q : ℕ) → 1 ≤ q → q ≤ length plans
+      → AllFit stands asks suits seats plans → AllFit stands asks suits seats (slice_set plans (q - 1) None)
+  fit_set stands asks suits seats plans q h low f = record {
+    fit = λ l. record { each = λ p x at. (f.fit l).each p x (set_none plans q p x h low at) };
+    suit = λ p x at. f.suit p x (set_none plans q p x h low at);
+  }
+
+  pub fit_on : {R L : Type 0} (stands : R → ℕ → List ℕ → P → Type 0) (asks : R → ℕ → ℕ → Type 0) (suits : ℕ → List ℕ → Type 0) (old new : L → BoardSeat R) (plans : List (Option (Planned P)))
+      → ((p : L) → Stays asks (old p) (new p)) → AllFit stands asks suits old plans → AllFit stands asks suits new plans
+  fit_on stands asks suits old new plans s f = record {
+    fit = λ p. subst (λ r. PlansFit stands asks r.ring r.root plans) (sym (s p).root) (f.fit p);
+    suit = f.suit;
   }

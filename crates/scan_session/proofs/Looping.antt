@@ -1,20 +1,17 @@
 -- The loops over the script's lines and over the queries: one turn more.
 use Rattle.std.proofs.Common.{◌≡◌, ℕ, ◌+◌, ◌≤◌, ◌<◌, zero, suc, List, [], ◌∷◌, ◌++◌, length, take, drop, get_or, true, Option, is_some, ◌⊎◌, ⊎_elim, refl, sym, ◌∙◌, ap, subst, arith, take-append-drop, drop-cons}
 use Rattle.std.proofs.lemmas.List.{take_more}
-use Rattle.scan_rules.specs.Queries.{Journal}
 use Rattle.session_script.specs.declared.step.Step.{Step}
 use Rattle.scan_board.specs.Calls.{BoardSeat}
-use Rattle.scan_session.specs.Seats.{Stays}
 use Rattle.scan_session.specs.Goes.{Goes, IsNext, IsScript, number_of}
-use Rattle.scan_session.specs.KnownEnds.{at_query, PiecesStand, PlansFit, MoreKnown}
-use Rattle.scan_session.specs.declared.end.Planned.{Planned}
+use Rattle.scan_session.specs.KnownEnds.{at_query, MoreKnown}
 use Rattle.scan_session.specs.declared.end.End.{End}
 use Rattle.scan_session.specs.declared.end.Outcome.{Outcome}
 use Rattle.scan_session.proofs.Listing.{some_of}
 
 -- what a part leaves, where it is known how it ended
-pub goes_is : (holds : Type 0) (seen : Journal) (r s : Outcome) → r ≡ s → Goes holds seen r → Goes holds seen s
-goes_is holds seen r s e a = subst (λ (t : Outcome). Goes holds seen t) e a
+pub goes_is : {R L : Type 0} (holds : Type 0) (seats : L → BoardSeat R) (r s : Outcome) → r ≡ s → Goes holds seats r → Goes holds seats s
+goes_is holds seats r s e a = subst (λ (t : Outcome). Goes holds seats t) e a
 
 -- where the script is cut at a line
 pub cut_at : (steps : List Step) (i : ℕ) (d : Step) → i < length steps → steps ≡ take i steps ++ get_or steps i d ∷ drop (suc i) steps
@@ -39,18 +36,6 @@ take_whole (x ∷ steps) zero h = absurd (h (omega arith))
 take_whole (x ∷ steps) (suc i) h = ap (λ (l : List Step). x ∷ l) (take_whole steps i (λ lt. h (omega (arith, lt))))
 
 module _ {P : Type 0} where
-  -- pieces that stand over the root of one seat stand over that of another with the same root
-  pub whole_step : {R : Type 0} (asks : R → ℕ → ℕ → Type 0) (stands : R → ℕ → List ℕ → P → Type 0) (a b : BoardSeat R) (old new : Journal) (e f : List (Option (End P))) → Stays asks a b
-      → (PiecesStand (stands b.root.root) old e → PiecesStand (stands b.root.root) new f) → PiecesStand (stands a.root.root) old e → PiecesStand (stands a.root.root) new f
-  whole_step {R} asks stands a b old new e f s step w =
-      subst (λ r. PiecesStand (stands r.root) new f) s.root (step (subst (λ r. PiecesStand (stands r.root) old e) (sym s.root) w))
-
-  pub fit_step : {R : Type 0} (asks : R → ℕ → ℕ → Type 0) (stands : R → ℕ → List ℕ → P → Type 0) (a b : BoardSeat R) (plans : List (Option (Planned P))) → Stays asks a b → PlansFit stands asks b.root.ring b.root.root plans → PlansFit stands asks a.root.ring a.root.root plans
-  fit_step {R} asks stands a b plans s f = subst (λ r. PlansFit stands asks r.ring r.root plans) s.root f
-
-  pub fit_back : {R : Type 0} (asks : R → ℕ → ℕ → Type 0) (stands : R → ℕ → List ℕ → P → Type 0) (a b : BoardSeat R) (plans : List (Option (Planned P))) → Stays asks a b → PlansFit stands asks a.root.ring a.root.root plans → PlansFit stands asks b.root.ring b.root.root plans
-  fit_back {R} asks stands a b plans s f = subst (λ r. PlansFit stands asks r.ring r.root plans) (sym s.root) f
-
   -- an end that is known stays known
   pub known_stays : (a b : List (Option (End P))) (q : ℕ) → MoreKnown a b → is_some (at_query a q) ≡ true → is_some (at_query b q) ≡ true
   known_stays a b q m h = let k = some_of (at_query a q) h in ap is_some (m.stay q k.0 k.1)

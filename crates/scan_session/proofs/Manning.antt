@@ -1,24 +1,31 @@
 -- The joins of the workers' seats: what the czar's seat knows of theirs.
-use Rattle.std.proofs.Common.{◌≡◌, ℕ, ◌+◌, ◌-◌, ◌≤◌, nat_lt, List, [], ◌∷◌, ◌++◌, length, take, true, Option, ◌⊎◌, inl, inr, ⊎_elim, refl, sym, ◌∙◌, ap, subst, arith, append_assoc, Contains}
+use Rattle.std.proofs.Common.{◌≡◌, ℕ, ◌+◌, ◌-◌, ◌≤◌, nat_lt, List, [], ◌∷◌, ◌++◌, length, take, Bool, true, Option, ◌⊎◌, ⊎_elim, refl, sym, ◌∙◌, ap, subst, arith, append_assoc, append-nil, Contains}
 use Rattle.std.specs.List.{list_all}
 use Rattle.std.proofs.lemmas.Bool.{cases_Bool, cond-true, cond-false, false≢true}
 use Rattle.std.proofs.lemmas.List.Elements.{Contains-append_left, Contains-append_right}
 use mathlib.Core.List.{IsPrefix}
+use Rattle.atomic_table.specs.Seated.{TableId}
 use Rattle.turn_lock.specs.Pasts.{longer}
 use Rattle.turn_lock.specs.Seats.{Knows, joined_with, next_seat, one_more_made}
 use Rattle.scan_rules.specs.Lines.{seat_of, closes}
-use Rattle.scan_rules.specs.Queries.{Journal, QueryState, is_closed}
+use Rattle.scan_rules.specs.Queries.{Journal, QueryState, is_attached, is_closed, wanted}
 use Rattle.scan_rules.proofs.Lists.{any_stays}
 use Rattle.scan_core.specs.Boards.{IsLawful}
 use Rattle.scan_board.specs.Calls.{BoardSeat, board_at}
 use Rattle.scan_worker.specs.Working.{is_work, AllDelivered, Worked}
 use Rattle.session_script.specs.declared.step.Step.{Step}
-use Rattle.scan_session.specs.Plans.{Plans}
-use Rattle.scan_session.specs.Driven.{is_foreign}
+use Rattle.scan_session.specs.Plans.{AllRunAtOnce, Plans}
+use Rattle.scan_session.specs.Driven.{Going}
 use Rattle.scan_session.specs.Seats.{of_seat, IsCzar, Stays}
-use Rattle.scan_session.specs.Crews.{Leaves, KeepsWork, Manned}
+use Rattle.scan_session.specs.KnownEnds.{PlansFit}
+use Rattle.scan_session.specs.Places.{only, AreCzars, GoingAll, HasRoom, AllStand, AllFit}
+use Rattle.scan_session.specs.Crews.{Closed, Leaves, KeepsWork, Manned}
+use Rattle.scan_session.specs.declared.end.End.{End}
+use Rattle.scan_session.specs.declared.end.Planned.{Planned}
 use Rattle.scan_session.specs.declared.end.Outcome.{Outcome}
 use Rattle.scan_session.specs.declared.end.Outcome.TheVariants.{Went, Memory, Odd}
+use Rattle.scan_session.proofs.Closing.{foreign_later}
+use Rattle.scan_session.proofs.Placing.{clean_before, going_weaken, room_before}
 
 pub take_seam : {X : Type 0} (xs ys : List X) (n : ℕ) → length xs ≡ n → take n (xs ++ ys) ≡ xs
 take_seam {X} xs ys n e = subst (λ k. take k (xs ++ ys) ≡ xs) e (seam xs) where
@@ -26,34 +33,29 @@ take_seam {X} xs ys n e = subst (λ k. take k (xs ++ ys) ≡ xs) e (seam xs) whe
   seam [] = refl
   seam (x ∷ xs) = ap (λ (l : List X). x ∷ l) (seam xs)
 
--- what the czar leaves stays, where others add lines
-pub leaves_on : (plan : Plans) (steps : List Step) (seen more : Journal) (ends : ℕ → Option QueryState) (r : Outcome) → of_seat 0 (seen ++ more) ≡ of_seat 0 seen → Leaves plan steps seen ends r → Leaves plan steps (seen ++ more) ends r
-leaves_on plan steps seen more ends Memory own l = l
-leaves_on plan steps seen more ends Odd own l = any_stays is_foreign seen more l
-leaves_on plan steps seen more ends Went own l = ⊎_elim
-    (λ c. inl (record {
-      before = c.before;
-      rest = c.rest ++ more;
-      is = ap (λ (j : Journal). j ++ more) c.is ∙ append_assoc _ c.rest more;
-      own = own ∙ c.own;
-      drives = c.drives;
-    }))
-    (λ f. inr (any_stays is_foreign seen more f))
-    l
+-- the lines of a closed board, after others add lines
+closed_on : {Room : Type 0} (plan : Plans) (steps : List Step) (seen more : Journal) (ends : ℕ → Option QueryState) → of_seat 0 (seen ++ more) ≡ of_seat 0 seen → Closed Room plan steps seen ends → Closed Room plan steps (seen ++ more) ends
+closed_on plan steps seen more ends own c = record {
+  before = c.before;
+  rest = c.rest ++ more;
+  is = ap (λ (j : Journal). j ++ more) c.is ∙ append_assoc _ c.rest more;
+  own = own ∙ c.own;
+  drives = c.drives;
+}
 
 pub nothing_delivered : AllDelivered []
 nothing_delivered = record { each = λ t h. absurd (false≢true h) }
 
 module _ {R : Type 0} (asks : R → ℕ → ℕ → Type 0) where
   -- the czar alone
-  pub manned_alone : (old new : BoardSeat R) → Stays asks old new → is_closed new.seen ≡ true → Manned asks old new
-  manned_alone old new s c = record {
+  pub manned_alone : (old new : BoardSeat R) → Stays asks old new → is_closed new.seen ≡ true → Knows seat_of new → Manned asks old new
+  manned_alone old new s c knows = record {
     first = s.czar.first;
     turn = s.turn;
     root = s.root;
     made = let m = s.made in omega (arith, m);
     later = s.later;
-    known = s.czar.known;
+    known = knows;
     lawful = s.czar.lawful;
     delivered = s.czar.delivered;
     closed = c;
@@ -117,19 +119,20 @@ module _ {R : Type 0} (asks : R → ℕ → ℕ → Type 0) where
   pub own_same : (old new mid : BoardSeat R) → mid.number ≡ 0 → new.number ≡ 0 → new.mine ≡ mid.mine → Knows seat_of mid → Knows seat_of new → of_seat 0 new.seen ≡ of_seat 0 mid.seen
   own_same old new mid z y e k l = subst (λ n. of_seat n new.seen ≡ new.mine) y l.mine ∙ (e ∙ sym (subst (λ n. of_seat n mid.seen ≡ mid.mine) z k.mine))
 
-  pub leaves_joined : (plan : Plans) (steps : List Step) (ends : ℕ → Option QueryState) (r : Outcome) (old mid work new : BoardSeat R) → mid.number ≡ 0 → Knows seat_of mid → new ≡ joined_with mid work → IsPrefix mid.seen new.seen → Knows seat_of new
-      → Leaves plan steps mid.seen ends r → Leaves plan steps new.seen ends r
-  leaves_joined plan steps ends r old mid work new z k e later l leaves =
-      let own : of_seat 0 new.seen ≡ of_seat 0 mid.seen = own_same old new mid z (ap (λ (s : BoardSeat R). s.number) e ∙ z) (ap (λ (s : BoardSeat R). s.mine) e) k l in
-      subst (λ (j : Journal). Leaves plan steps j ends r) later.1 (leaves_on plan steps mid.seen later.0 ends r (subst (λ (j : Journal). of_seat 0 j ≡ of_seat 0 mid.seen) (sym later.1) own) leaves)
-
   -- the czar's seat, when one more seat was split off
-  pub czar_split : (old new : BoardSeat R) → new ≡ one_more_made old → IsCzar asks old → Knows seat_of new → IsCzar asks new
-  czar_split old new e z k = record {
+  czar_split : (old new : BoardSeat R) → new ≡ one_more_made old → IsCzar asks old → IsCzar asks new
+  czar_split old new e z = record {
     first = ap (λ (s : BoardSeat R). s.number) e ∙ z.first;
-    known = k;
+    own = subst (λ (s : BoardSeat R). of_seat 0 s.seen ≡ s.mine) (sym e) z.own;
     lawful = subst (λ (s : BoardSeat R). IsLawful asks (board_at s s.seen)) (sym e) z.lawful;
     delivered = subst AllDelivered (sym (ap (λ (s : BoardSeat R). s.mine) e)) z.delivered;
+  }
+
+  pub czars_split : {L : Type 0} (locks : L → TableId) (root : R) (old new : L → BoardSeat R) → ((p : L) → new p ≡ one_more_made (old p)) → AreCzars asks locks root old → AreCzars asks locks root new
+  czars_split locks root old new e z = record {
+    own = λ p. ap (λ (s : BoardSeat R). s.turn) (e p) ∙ z.own p;
+    czar = λ p. czar_split (old p) (new p) (e p) (z.czar p);
+    engine = λ p. z.engine p ∙ sym (ap (λ (s : BoardSeat R). s.root.root) (e p));
   }
 
   -- so many seats were made
@@ -141,3 +144,43 @@ module _ {R : Type 0} (asks : R → ℕ → ℕ → Type 0) where
 
   pub split_delivered : (old other : BoardSeat R) → other ≡ next_seat old → AllDelivered other.mine
   split_delivered old other e = subst AllDelivered (sym (ap (λ (s : BoardSeat R). s.mine) e)) nothing_delivered
+
+module _ {R L : Type 0} (asks : R → ℕ → ℕ → Type 0) (has : L → ℕ → Bool) (mid work new : L → BoardSeat R) (z : (p : L) → (mid p).number ≡ 0) (knows : (p : L) → Knows seat_of (mid p))
+    (joined : (p : L) → new p ≡ joined_with (mid p) (work p)) (later : (p : L) → IsPrefix (mid p).seen (new p).seen) (known : (p : L) → Knows seat_of (new p)) where
+  own_at : (p : L) → of_seat 0 (new p).seen ≡ of_seat 0 (mid p).seen
+  own_at p = own_same asks (mid p) (new p) (mid p) (z p) (ap (λ (s : BoardSeat R). s.number) (joined p) ∙ z p) (ap (λ (s : BoardSeat R). s.mine) (joined p)) (knows p) (known p)
+
+  -- what the czar leaves stays, after a join
+  pub leaves_joined : (plan : Plans) (steps : List Step) (ends : ℕ → Option QueryState) (r : Outcome) → Leaves has plan steps mid ends r → Leaves has plan steps new ends r
+  leaves_joined plan steps ends Memory l = l
+  leaves_joined plan steps ends Odd l = foreign_later mid new later l
+  leaves_joined plan steps ends Went l = λ clean p.
+      let own : of_seat 0 ((mid p).seen ++ (later p).0) ≡ of_seat 0 (mid p).seen = subst (λ (j : Journal). of_seat 0 j ≡ of_seat 0 (mid p).seen) (sym (later p).1) (own_at p) in
+      subst (λ (j : Journal). Closed (AllRunAtOnce plan) (only (has p) plan) steps j (only (has p) ends)) (later p).1
+      (closed_on (only (has p) plan) steps (mid p).seen (later p).0 (only (has p) ends) own (l (clean_before mid new later clean) p))
+
+-- what fits and suits the boards, when one more seat was split off
+pub fit_split : {R L P : Type 0} (stands : R → ℕ → List ℕ → P → Type 0) (asks : R → ℕ → ℕ → Type 0) (suits : ℕ → List ℕ → Type 0) (old new : L → BoardSeat R) (plans : List (Option (Planned P)))
+    → ((p : L) → new p ≡ one_more_made (old p)) → AllFit stands asks suits old plans → AllFit stands asks suits new plans
+fit_split {R} {L} {P} stands asks suits old new plans e f = record {
+  fit = λ p. subst (λ (s : BoardSeat R). PlansFit stands asks s.root.ring s.root.root plans) (sym (e p)) (f.fit p);
+  suit = f.suit;
+}
+
+-- what is driven on the lines seen, when one more seat was split off
+pub going_split : {R L : Type 0} (has : L → ℕ → Bool) (plan : Plans) (done : List Step) (ends : ℕ → Option QueryState) (old new : L → BoardSeat R)
+    → ((p : L) → new p ≡ one_more_made (old p)) → GoingAll has plan done old ends → GoingAll has plan done new ends
+going_split {R} has plan done ends old new e g p =
+    let later : (o : _) → IsPrefix (old o).seen (new o).seen = λ o. ([], append-nil (old o).seen ∙ sym (ap (λ (s : BoardSeat R). s.seen) (e o))) in
+    going_weaken (only (has p) plan) done (new p).seen (only (has p) ends) (room_before plan old new later)
+    (subst (λ (j : Journal). Going (HasRoom plan old) (only (has p) plan) done j (only (has p) ends)) (sym (ap (λ (s : BoardSeat R). s.seen) (e p))) (g p))
+
+-- what the pieces represent, when one more seat was split off
+pub pieces_split : {R L P : Type 0} (stands : R → ℕ → List ℕ → P → Type 0) (home : ℕ → L) (old new : L → BoardSeat R) (ends : List (Option (End P)))
+    → ((p : L) → new p ≡ one_more_made (old p)) → AllStand stands home old ends → AllStand stands home new ends
+pieces_split {R} stands home old new ends e w = record {
+  each = λ q piece at. let s = w.each q piece at in record {
+    attached = subst (λ (x : BoardSeat R). is_attached x.seen q ≡ true) (sym (e (home q))) s.attached;
+    whole = subst (λ (x : BoardSeat R). stands x.root.root q (wanted x.seen q) piece) (sym (e (home q))) s.whole;
+  };
+}

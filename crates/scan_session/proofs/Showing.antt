@@ -4,7 +4,6 @@ use Rattle.scan_rules.specs.Queries.{Journal, QueryState, Done, state_of, is_att
 use Rattle.session_script.specs.declared.step.Step.{Step}
 use Rattle.scan_session.specs.Plans.{Plans}
 use Rattle.scan_session.specs.Drove.{AreEnds, Drove, IsEnd}
-use Rattle.scan_session.specs.Crews.{TellsStates}
 use Rattle.scan_session.specs.Goes.{IsScript}
 use Rattle.scan_session.specs.KnownEnds.{at_query, known_in, state_by, AreKnown, PiecesStand}
 use Rattle.scan_session.specs.declared.end.End.{End}
@@ -51,29 +50,30 @@ module _ {P : Type 0} where
   same_end : (x y : End P) → ◌≡◌ {A = Option (End P)} (Some x) (Some y) → x ≡ y
   same_end x y e = cc
 
-  pub ends_are : (stands : ℕ → List ℕ → P → Type 0) (workers : ℕ) (plan : Plans) (steps : List Step) (seen : Journal) (known : List (Option (End P))) (ends : List (End P))
-      → IsScript (length known) steps → Drove workers plan steps seen → TellsStates seen (known_in known)
+  -- the ends of all queries, each by the lines of its board, which drove the plans of its own queries
+  pub ends_are : (stands : ℕ → List ℕ → P → Type 0) (workers : ℕ) (plan : Plans) (steps : List Step) (own : ℕ → Plans) (seen : ℕ → Journal) (known : List (Option (End P))) (ends : List (End P))
+      → IsScript (length known) steps → ((q : ℕ) → own q q ≡ plan q) → ((q : ℕ) → Drove workers (own q) steps (seen q)) → ((q : ℕ) → is_attached (seen q) q ≡ true → known_in known q ≡ Some (state_of (seen q) q))
       → ((q : ℕ) → 1 ≤ q → q ≤ length known → plan q ≡ None → at_query known q ≡ Some Refused)
       → PiecesStand stands seen known → AreKnown known ends → AreEnds stands plan seen ends
-  ends_are stands workers plan steps seen known ends script d tells refused pieces k = record {
+  ends_are stands workers plan steps own seen known ends script same d tells refused pieces k = record {
     each = λ i end there.
         let low : i < length ends = place_low ends i end there in
         let len = k.len in
         let here : at_query known (i + 1) ≡ Some end = at_next known i ∙ k.each i end there in
         shows (i + 1) end (omega arith) (omega (arith, low, len)) here (plan (i + 1)) refl;
   } where
-    attached : (q : ℕ) (chunks : List ℕ) → 1 ≤ q → q ≤ length known → plan q ≡ Some chunks → is_attached seen q ≡ true
-    attached q chunks from low p = planned_attached plan steps seen q d.attached (script.all q from low) (ap is_some p)
+    attached : (q : ℕ) (chunks : List ℕ) → 1 ≤ q → q ≤ length known → plan q ≡ Some chunks → is_attached (seen q) q ≡ true
+    attached q chunks from low p = planned_attached (own q) steps (seen q) q (d q).attached (script.all q from low) (ap is_some (same q ∙ p))
 
-    state : (q : ℕ) (end : End P) (chunks : List ℕ) → 1 ≤ q → q ≤ length known → at_query known q ≡ Some end → plan q ≡ Some chunks → state_by (Some end) ≡ Some (state_of seen q)
+    state : (q : ℕ) (end : End P) (chunks : List ℕ) → 1 ≤ q → q ≤ length known → at_query known q ≡ Some end → plan q ≡ Some chunks → state_by (Some end) ≡ Some (state_of (seen q) q)
     state q end chunks from low here p = sym (ap state_by here) ∙ tells q (attached q chunks from low p)
 
-    shows : (q : ℕ) (end : End P) → 1 ≤ q → q ≤ length known → at_query known q ≡ Some end → (o : Option (List ℕ)) → plan q ≡ o → IsEnd stands seen q o end
+    shows : (q : ℕ) (end : End P) → 1 ≤ q → q ≤ length known → at_query known q ≡ Some end → (o : Option (List ℕ)) → plan q ≡ o → IsEnd stands (seen q) q o end
     shows q end from low here None p = same_end end Refused (sym here ∙ refused q from low p)
     shows q (Answered piece) from low here (Some chunks) p = (
-      sym (same_state Done (state_of seen q) (state q (Answered piece) chunks from low here p)),
-      subst (λ (l : List ℕ). stands q l piece) (drove_wants_plans (length known) workers plan steps seen q chunks script d (script.all q from low) p) (pieces.each q piece here).whole,
+      sym (same_state Done (state_of (seen q) q) (state q (Answered piece) chunks from low here p)),
+      subst (λ (l : List ℕ). stands q l piece) (drove_wants_plans (length known) workers (own q) steps (seen q) q chunks script (d q) (script.all q from low) (same q ∙ p)) (pieces.each q piece here).whole,
     )
-    shows q Refused from low here (Some chunks) p = let n : ◌≡◌ {A = Option QueryState} None (Some (state_of seen q)) = state q Refused chunks from low here p in absurd (cc)
-    shows q Cancelled from low here (Some chunks) p = sym (same_state _ (state_of seen q) (state q Cancelled chunks from low here p))
-    shows q Spent from low here (Some chunks) p = sym (same_state _ (state_of seen q) (state q Spent chunks from low here p))
+    shows q Refused from low here (Some chunks) p = let n : ◌≡◌ {A = Option QueryState} None (Some (state_of (seen q) q)) = state q Refused chunks from low here p in absurd (cc)
+    shows q Cancelled from low here (Some chunks) p = sym (same_state _ (state_of (seen q) q) (state q Cancelled chunks from low here p))
+    shows q Spent from low here (Some chunks) p = sym (same_state _ (state_of (seen q) q) (state q Spent chunks from low here p))

@@ -1,5 +1,5 @@
 -- What the czar leaves when it has closed the board, and what is known once the workers' participants are joined.
-use Rattle.std.specs.Prelude.{◌≡◌, ℕ, ◌<◌, ◌≤◌, List, [], ◌∷◌, ◌++◌, true, Contains, Option, Some, ◌⊎◌}
+use Rattle.std.specs.Prelude.{◌≡◌, ℕ, ◌<◌, ◌≤◌, List, [], ◌∷◌, ◌++◌, Bool, true, Contains, Option, Some}
 use Rattle.std.specs.List.{list_all}
 use mathlib.Core.List.{IsPrefix}
 use Rattle.scan_rules.specs.declared.journal_line.JournalLine.TheVariants.{Close}
@@ -10,26 +10,28 @@ use Rattle.turn_lock.specs.Seats.{Knows}
 use Rattle.scan_board.specs.Calls.{BoardSeat, board_at}
 use Rattle.scan_worker.specs.Working.{is_work, AllDelivered}
 use Rattle.session_script.specs.declared.step.Step.{Step}
-use Rattle.scan_session.specs.Plans.{Plans}
-use Rattle.scan_session.specs.Driven.{Driving, has_foreign}
+use Rattle.scan_session.specs.Plans.{Plans, AllRunAtOnce}
+use Rattle.scan_session.specs.Driven.{Driving}
 use Rattle.scan_session.specs.Drove.{Drove}
+use Rattle.scan_session.specs.Places.{AreClean, SomeForeign, only}
 use Rattle.scan_session.specs.Seats.{of_seat}
 use Rattle.scan_session.specs.declared.end.Outcome.{Outcome}
 use Rattle.scan_session.specs.declared.end.Outcome.TheVariants.{Went, Memory, Odd}
 
 -- the czar ran these steps and closed the board; the lines after that are not its own
-pub record Closed (plan : Plans) (steps : List Step) (seen : Journal) (ends : ℕ → Option QueryState) : Type 0 where
+pub record Closed (Room : Type 0) (plan : Plans) (steps : List Step) (seen : Journal) (ends : ℕ → Option QueryState) : Type 0 where
   pub before : Journal
   pub rest : Journal
   pub is : seen ≡ (before ++ Close 0 ∷ []) ++ rest
   pub own : of_seat 0 seen ≡ of_seat 0 (before ++ Close 0 ∷ [])
-  pub drives : Driving plan steps before ends
+  pub drives : Driving Room plan steps before ends
 
--- what the czar's part leaves on the lines that were seen
-abbrev pub Leaves : Plans → List Step → Journal → (ℕ → Option QueryState) → Outcome → Type 0
-Leaves plan steps seen ends Went = Closed plan steps seen ends ⊎ (has_foreign seen ≡ true)
-Leaves plan steps seen ends Memory = Unit {0}
-Leaves plan steps seen ends Odd = has_foreign seen ≡ true
+-- what the czar's part leaves on the lines that were seen of each board
+abbrev pub Leaves : {R L : Type 0} → (L → ℕ → Bool) → Plans → List Step → (L → BoardSeat R) → (ℕ → Option QueryState) → Outcome → Type 0
+Leaves {R} {L} has plan steps seats ends Went = AreClean seats
+    → (p : L) → Closed (AllRunAtOnce plan) (only (has p) plan) steps (seats p).seen (only (has p) ends)
+Leaves has plan steps seats ends Memory = Unit {0}
+Leaves has plan steps seats ends Odd = SomeForeign seats
 
 -- a participant that was joined: its number, and its lines, which are work, all delivered
 pub record KeepsWork (ended : List (ℕ × Journal)) (number : ℕ) : Type 0 where
@@ -55,8 +57,9 @@ pub record Manned {R : Type 0} (asks : R → ℕ → ℕ → Type 0) (old new : 
 abbrev pub TellsStates : Journal → (ℕ → Option QueryState) → Type 0
 TellsStates seen ends = (q : ℕ) → is_attached seen q ≡ true → ends q ≡ Some (state_of seen q)
 
--- what the session promises in the end
-abbrev pub Promises : ℕ → Plans → List Step → Journal → (ℕ → Option QueryState) → Outcome → Type 0
-Promises workers plan steps seen ends Went = Drove workers plan steps seen × TellsStates seen ends
-Promises workers plan steps seen ends Memory = Unit {0}
-Promises workers plan steps seen ends Odd = ⊥
+-- what the session promises in the end, at each board
+abbrev pub Promises : {R L : Type 0} → ℕ → (L → ℕ → Bool) → Plans → List Step → (L → BoardSeat R) → (ℕ → Option QueryState) → Outcome → Type 0
+Promises {R} {L} workers has plan steps seats ends Went =
+    (p : L) → Drove workers (only (has p) plan) steps (seats p).seen × TellsStates (seats p).seen (only (has p) ends)
+Promises workers has plan steps seats ends Memory = Unit {0}
+Promises workers has plan steps seats ends Odd = ⊥

@@ -9,7 +9,7 @@ use Rattle.scan_rules.specs.Ends.{HasEnded}
 use Rattle.session_script.specs.declared.step.Step.{Step}
 use Rattle.session_rules.specs.Ends.{asks}
 use Rattle.scan_worker.specs.Working.{is_work}
-use Rattle.scan_session.specs.Plans.{Plans, AllRunAtOnce, settles, planned, MayCancel}
+use Rattle.scan_session.specs.Plans.{Plans, settles, planned, MayCancel}
 use Rattle.scan_session.specs.Quiet.{is_alone, Pinned, Untouched}
 
 -- the line is an Attach, Cancel, Collect or Close that is not the czar's
@@ -45,8 +45,9 @@ pub record Settled (S : Journal) (q : ℕ) (later : List Step) : Type 0 where
   pub stopped : is_running S q ≡ false
   pub before : RestsBefore S q later
 
--- what holds of the lines seen once these steps of the script are done, and these ends are known
-pub record Driven (plan : Plans) (done : List Step) (S : Journal) (ends : ℕ → Option QueryState) : Type 0 where
+-- What holds of the lines seen once these steps of the script are done, and these ends are known. The last field holds if
+-- all planned queries have room at once.
+pub record Driven (Room : Type 0) (plan : Plans) (done : List Step) (S : Journal) (ends : ℕ → Option QueryState) : Type 0 where
   pub attached : attached_in S ≡ planned plan done
   pub open_still : is_closed S ≡ false
   pub collected : (q : ℕ) → is_collected S q ≡ is_some (ends q)
@@ -54,13 +55,13 @@ pub record Driven (plan : Plans) (done : List Step) (S : Journal) (ends : ℕ �
   pub cancelled : (q : ℕ) → is_cancelled S q ≡ true → MayCancel done q
   pub settled : (a : List Step) (step : Step) (b : List Step) (q : ℕ)
       → done ≡ a ++ step ∷ b → settles q step ≡ true → is_some (plan q) ≡ true → Settled S q b
-  pub pinned : is_alone S ≡ true → AllRunAtOnce plan → Pinned plan done S
+  pub pinned : is_alone S ≡ true → Room → Pinned plan done S
 
 -- the lines are driven by these steps, if no other participant than the czar attaches, cancels, collects or closes
-abbrev pub Driving : Plans → List Step → Journal → (ℕ → Option QueryState) → Type 0
-Driving plan done S ends = has_foreign S ≡ false → Driven plan done S ends
+abbrev pub Driving : Type 0 → Plans → List Step → Journal → (ℕ → Option QueryState) → Type 0
+Driving Room plan done S ends = has_foreign S ≡ false → Driven Room plan done S ends
 
 -- the lines are driven between two steps: a czar that works alone has worked only for a wait line
-pub record Going (plan : Plans) (done : List Step) (S : Journal) (ends : ℕ → Option QueryState) : Type 0 where
-  pub drives : Driving plan done S ends
-  pub calm : is_alone S ≡ true → AllRunAtOnce plan → Untouched plan done S
+pub record Going (Room : Type 0) (plan : Plans) (done : List Step) (S : Journal) (ends : ℕ → Option QueryState) : Type 0 where
+  pub drives : Driving Room plan done S ends
+  pub calm : is_alone S ≡ true → Room → Untouched plan done S

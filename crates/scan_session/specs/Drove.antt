@@ -37,7 +37,7 @@ IsEnd stands S q (Some chunks) Refused = ⊥
 IsEnd stands S q (Some chunks) Cancelled = state_of S q ≡ CancelledState
 IsEnd stands S q (Some chunks) Spent = state_of S q ≡ SpentState
 
--- the ends of the queries, from 1 on
-pub record AreEnds {P : Type 0} (stands : ℕ → List ℕ → P → Type 0) (plan : Plans) (S : Journal) (ends : List (End P))
+-- the ends of the queries, from 1 on, by the lines of each query's board
+pub record AreEnds {P : Type 0} (stands : ℕ → List ℕ → P → Type 0) (plan : Plans) (S : ℕ → Journal) (ends : List (End P))
     : Type 0 where
-  pub each : (i : ℕ) (end : End P) → slice_get ends i ≡ Some end → IsEnd stands S (i + 1) (plan (i + 1)) end
+  pub each : (i : ℕ) (end : End P) → slice_get ends i ≡ Some end → IsEnd stands (S (i + 1)) (i + 1) (plan (i + 1)) end

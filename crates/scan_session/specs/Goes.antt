@@ -1,14 +1,15 @@
 -- What a part of a session leaves, by how it ends.
-use Rattle.std.specs.Prelude.{◌≡◌, ℕ, ◌≤◌, List, [], ◌∷◌, ◌++◌, true, false, Option, Some, None}
+use Rattle.std.specs.Prelude.{◌≡◌, ℕ, ◌≤◌, List, [], ◌∷◌, ◌++◌, Bool, true, false, Option, Some, None}
 use Rattle.std.specs.List.{list_any}
-use Rattle.scan_rules.specs.Queries.{Journal, QueryState}
+use Rattle.scan_rules.specs.Queries.{QueryState}
 use Rattle.scan_rules.specs.Runs.{MayAttach}
+use Rattle.scan_board.specs.Calls.{BoardSeat}
 use Rattle.session_script.specs.declared.step.Step.{Step}
 use Rattle.session_script.specs.declared.step.Step.TheVariants.{Query, Wait, Cancel as CancelStep}
 use Rattle.session_rules.specs.Ends.{asks}
 use Rattle.scan_session.specs.Plans.{Plans}
-use Rattle.scan_session.specs.Driven.{Driving, Going, has_foreign}
 use Rattle.scan_session.specs.KnownEnds.{state_by, with_end}
+use Rattle.scan_session.specs.Places.{DrivingAll, GoingAll, SomeForeign}
 use Rattle.scan_session.specs.declared.end.End.{End}
 use Rattle.scan_session.specs.declared.end.Outcome.{Outcome}
 use Rattle.scan_session.specs.declared.end.Outcome.TheVariants.{Went, Memory, Odd}
@@ -18,41 +19,41 @@ use Rattle.scan_session.specs.declared.end.Told.{Told}
 use Rattle.scan_session.specs.declared.end.Told.TheVariants as told
 
 -- this holds if the part ran to its end; Odd occurs only if another participant did what only the czar does
-abbrev pub Goes : Type 0 → Journal → Outcome → Type 0
-Goes holds seen Went = holds
-Goes holds seen Memory = Unit {0}
-Goes holds seen Odd = has_foreign seen ≡ true
+abbrev pub Goes : {R L : Type 0} → Type 0 → (L → BoardSeat R) → Outcome → Type 0
+Goes holds seats Went = holds
+Goes holds seats Memory = Unit {0}
+Goes holds seats Odd = SomeForeign seats
 
 -- what an attempt to attach leaves: all is as before if the board is full
-abbrev pub GoesTried : {P : Type 0}
-    → Plans → List Step → Step → Journal → (ℕ → Option QueryState) → Tried P → Type 0
-GoesTried plan done step seen ends tried.Attached = Going plan (done ++ step ∷ []) seen ends
-GoesTried plan done step seen ends (tried.Full planned) = Going plan done seen ends
-GoesTried plan done step seen ends tried.Memory = Unit {0}
-GoesTried plan done step seen ends tried.Odd = has_foreign seen ≡ true
+abbrev pub GoesTried : {R L P : Type 0} → (L → ℕ → Bool)
+    → Plans → List Step → Step → (L → BoardSeat R) → (ℕ → Option QueryState) → Tried P → Type 0
+GoesTried has plan done step seats ends tried.Attached = GoingAll has plan (done ++ step ∷ []) seats ends
+GoesTried has plan done step seats ends (tried.Full planned) = GoingAll has plan done seats ends
+GoesTried has plan done step seats ends tried.Memory = Unit {0}
+GoesTried has plan done step seats ends tried.Odd = SomeForeign seats
 
 -- out of memory is answered only if the board had room for the query: a full board is none
-abbrev pub TriesWithRoom : {P : Type 0} → ℕ → Journal → ℕ → List ℕ → Tried P → Type 0
-TriesWithRoom ring seen q chunks tried.Memory = MayAttach ring seen q chunks
-TriesWithRoom ring seen q chunks _ = Unit {0}
+abbrev pub TriesWithRoom : {R P : Type 0} → BoardSeat R → ℕ → List ℕ → Tried P → Type 0
+TriesWithRoom seat q chunks tried.Memory = MayAttach seat.root.ring seat.seen q chunks
+TriesWithRoom seat q chunks _ = Unit {0}
 
 -- so it is at the end of the attempts
-abbrev pub StartsWithRoom : ℕ → Journal → ℕ → List ℕ → Outcome → Type 0
-StartsWithRoom ring seen q chunks Memory = MayAttach ring seen q chunks
-StartsWithRoom ring seen q chunks _ = Unit {0}
+abbrev pub StartsWithRoom : {R : Type 0} → BoardSeat R → ℕ → List ℕ → Outcome → Type 0
+StartsWithRoom seat q chunks Memory = MayAttach seat.root.ring seat.seen q chunks
+StartsWithRoom seat q chunks _ = Unit {0}
 
 -- asking for a query's end makes it known, or leaves all as before
-abbrev pub GoesTold : {P : Type 0}
-    → Plans → List Step → Journal → (ℕ → Option QueryState) → ℕ → Told P → Type 0
-GoesTold plan done seen ends q (told.Ended end) = Driving plan done seen (with_end ends q (state_by (Some end)))
-GoesTold plan done seen ends q told.NotYet = Driving plan done seen ends
-GoesTold plan done seen ends q told.Odd = has_foreign seen ≡ true
+abbrev pub GoesTold : {R L P : Type 0} → (L → ℕ → Bool)
+    → Plans → List Step → (L → BoardSeat R) → (ℕ → Option QueryState) → ℕ → Told P → Type 0
+GoesTold has plan done seats ends q (told.Ended end) = DrivingAll has plan done seats (with_end ends q (state_by (Some end)))
+GoesTold has plan done seats ends q told.NotYet = DrivingAll has plan done seats ends
+GoesTold has plan done seats ends q told.Odd = SomeForeign seats
 
 -- what is left by an end that is learned, or by a result that cannot occur
-abbrev pub GoesEnded : {P : Type 0}
-    → Plans → List Step → Journal → (ℕ → Option QueryState) → ℕ → Option (End P) → Type 0
-GoesEnded plan done seen ends q (Some end) = Driving plan done seen (with_end ends q (state_by (Some end)))
-GoesEnded plan done seen ends q None = has_foreign seen ≡ true
+abbrev pub GoesEnded : {R L P : Type 0} → (L → ℕ → Bool)
+    → Plans → List Step → (L → BoardSeat R) → (ℕ → Option QueryState) → ℕ → Option (End P) → Type 0
+GoesEnded has plan done seats ends q (Some end) = DrivingAll has plan done seats (with_end ends q (state_by (Some end)))
+GoesEnded has plan done seats ends q None = SomeForeign seats
 
 -- the number that a step names
 abbrev pub number_of : Step → ℕ

@@ -30,15 +30,21 @@ ShowsKind S q (Some chunks) j Refused = (state_of S q ≡ Done) × (is_refused j
 ShowsKind S q (Some chunks) j Cancelled = state_of S q ≡ CancelledState
 ShowsKind S q (Some chunks) j Spent = state_of S q ≡ SpentState
 
+-- Each query has the journal of its board, and the plans of the queries of that board, of which it is one.
+pub record AreDriven (workers : ℕ) (plan : Plans) (steps : List Step) (ring : ℕ) (plans : ℕ → Plans) (S : ℕ → Journal) : Type 0 where
+  pub run : (q : ℕ) → IsRun ring (S q)
+  pub drove : (q : ℕ) → Drove workers (plans q) steps (S q)
+  pub here : (q : ℕ) → plans q q ≡ plan q
+
 -- the ends of a session fit its script
 abbrev pub DroveFits : Type 0
 DroveFits =
-    (workers : ℕ) (plan : Plans) (steps : List Step) (ring : ℕ) (S : Journal) (judged : List Judged) (kinds : List EndKind)
-    → NumberedFrom 0 steps → IsRun ring S → Drove workers plan steps S
+    (workers : ℕ) (plan : Plans) (steps : List Step) (ring : ℕ) (plans : ℕ → Plans) (S : ℕ → Journal) (judged : List Judged) (kinds : List EndKind)
+    → NumberedFrom 0 steps → AreDriven workers plan steps ring plans S
     → length judged ≡ query_count steps → length kinds ≡ length judged
     → ((i : ℕ) (j : Judged) → slice_get judged i ≡ Some j → IsJudgedBy (plan (i + 1)) j)
     → ((i : ℕ) (j : Judged) (kind : EndKind) → slice_get judged i ≡ Some j → slice_get kinds i ≡ Some kind
-    → ShowsKind S (i + 1) (plan (i + 1)) j kind)
+    → ShowsKind (S (i + 1)) (i + 1) (plan (i + 1)) j kind)
     → fit workers steps judged kinds ≡ true
 
 -- a query of the script whose plan has no chunks is done in the end: it is neither cancelled nor lost

@@ -4,6 +4,7 @@ pub mod Driven
 pub mod Drove
 pub mod Seats
 pub mod KnownEnds
+pub mod Places
 pub mod Goes
 pub mod Crews
 pub mod Laws

@@ -2,109 +2,105 @@
 ghost use Rattle.std.specs.Prelude.{◌≡◌, ℕ, ◌≤◌, [], List, Option, true, length};
 ghost use Rattle.session_script.specs.declared.step.Step.{Step};
 ghost use Rattle.scan_rules.specs.declared.limits.TheConstants.{QUERY_MOST};
+ghost use Rattle.scan_rules.specs.Lines.{seat_of};
 ghost use Rattle.scan_rules.specs.Queries.{is_closed, QueryState};
+ghost use Rattle.turn_lock.specs.Seats.{Knows};
 ghost use Rattle.scan_session.specs.Plans.{Plans};
-ghost use Rattle.scan_session.specs.Driven.{Driving, Going};
-ghost use Rattle.scan_session.specs.Seats.{IsCzar, Stays};
-ghost use Rattle.scan_session.specs.KnownEnds.{known_in, AllKnown, Marks, MoreKnown, PiecesStand, PlansFit, Ready};
+ghost use Rattle.scan_session.specs.Seats.{Stays};
+ghost use Rattle.scan_session.specs.Places.{AreCzars, DrivingAll, GoingAll, AllStand, AllFit};
+ghost use Rattle.scan_session.specs.KnownEnds.{known_in, AllKnown, Marks, MoreKnown, Ready};
 ghost use Rattle.scan_session.specs.Goes.{Goes, IsScript};
 ghost use Rattle.scan_session.specs.Crews.{Leaves};
 ghost use Rattle.scan_session.specs.declared.end.Outcome.{Outcome};
 
 use crate::end::{End, Outcome, Planned};
+use crate::scan::Scan;
 use crate::script::{all_ends, all_lines};
-use scan_board::SharedBoard;
-use scan_core::{Board, Work};
+use scan_boards::Boards;
+use scan_core::Work;
 use scan_worker::{Desk, Engine};
 use session_script::Step;
 use sky_io::Gate;
 use std::sync::Wait;
-use turn_lock::Seat;
 
 /// Runs the script, and then learns the ends of all queries.
-fn whole<R: Wait, P: Work, E: Engine<P>, G: Gate>(
+fn whole<R: Wait, P: Work, B: Boards<P>, E: Engine<P>, G: Gate>(
+    scan: &Scan<'_, R, B, E, G>,
     desk: &mut Desk<E::Scratch>,
-    rt: &R,
-    board: &SharedBoard<P>,
-    seat: Seat<Board<P>>,
-    engine: &E,
-    gate: &G,
+    seat: B::Seat,
     plans: &mut [Option<Planned<P>>],
     ends: &mut [Option<End<P>>],
     steps: &[Step],
-) -> (Outcome, Seat<Board<P>>)
-    requires own { seat.turn ≡ board.now }
-    requires czar { IsCzar P.asks seat }
-    requires engine { E.root engine.now ≡ seat.root.root }
+) -> (Outcome, B::Seat)
+    requires seats { AreCzars P.asks (B.turn scan.now.boards.now) (E.root scan.now.engine.now)
+        (B.at seat) }
     requires script { IsScript (length ends.old) steps.now }
     requires len { length plans.old ≡ length ends.old }
     requires few { length ends.old ≤ QUERY_MOST }
-    requires fit { PlansFit P.stands P.asks seat.root.ring seat.root.root plans.old }
-    ensures goes { (plan : Plans) → Marks plan ends.old
-        → Ready plan [] plans.old → Going plan [] seat.seen (known_in ends.old)
-        → Goes (Driving plan steps.now result.1.seen (known_in ends.new)) result.1.seen result.0 }
+    requires fit { AllFit P.stands P.asks (B.suits scan.now.boards.now) (B.at seat) plans.old }
+    ensures goes { (plan : Plans) → Marks plan ends.old → Ready plan [] plans.old
+        → GoingAll (B.has scan.now.boards.now) plan [] (B.at seat) (known_in ends.old)
+        → Goes (DrivingAll (B.has scan.now.boards.now) plan steps.now (B.at result.1)
+        (known_in ends.new)) (B.at result.1) result.0 }
     ensures known { result.0 ≡ Outcome.Went → AllKnown ends.new }
     ensures more { MoreKnown ends.old ends.new }
-    ensures whole { PiecesStand (P.stands seat.root.root) seat.seen ends.old
-        → PiecesStand (P.stands seat.root.root) result.1.seen ends.new }
-    ensures stays { Stays P.asks seat result.1 }
+    ensures whole { AllStand P.stands (B.home scan.now.boards.now) (B.at seat) ends.old
+        → AllStand P.stands (B.home scan.now.boards.now) (B.at result.1) ends.new }
+    ensures stays { (p : B.Place) → Stays P.asks (B.at seat p) (B.at result.1 p) }
 {
-    let (outcome, seat) = all_lines(desk, rt, board, seat, engine, gate, plans, ends, steps);
+    let (outcome, seat) = all_lines(scan, desk, seat, plans, ends, steps);
     match outcome {
-        Outcome::Went => all_ends(desk, rt, board, seat, engine, gate, ends),
+        Outcome::Went => all_ends(scan, desk, seat, ends),
         Outcome::Memory => (Outcome::Memory, seat),
         Outcome::Odd => (Outcome::Odd, seat),
     }
 }
 
-/// Closes the board.
-pub fn close<R: Wait, P: Work>(
-    rt: &R,
-    board: &SharedBoard<P>,
-    seat: Seat<Board<P>>,
-) -> Seat<Board<P>>
-    requires own { seat.turn ≡ board.now }
-    requires czar { IsCzar P.asks seat }
+/// Closes each board.
+pub fn close<R: Wait, P: Work, B: Boards<P>, E: Engine<P>, G: Gate>(
+    scan: &Scan<'_, R, B, E, G>,
+    seat: B::Seat,
+) -> B::Seat
+    requires { AreCzars P.asks (B.turn scan.now.boards.now) (E.root scan.now.engine.now)
+        (B.at seat) }
     ensures leaves { (plan : Plans) (steps : List Step) (ends : ℕ → Option QueryState)
         (outcome : Outcome)
-        → Goes (Driving plan steps seat.seen ends) seat.seen outcome
-        → Leaves plan steps result.seen ends outcome }
-    ensures closed { is_closed result.seen ≡ true }
-    ensures stays { Stays P.asks seat result }
+        → Goes (DrivingAll (B.has scan.now.boards.now) plan steps (B.at seat) ends) (B.at seat) outcome
+        → Leaves (B.has scan.now.boards.now) plan steps (B.at result) ends outcome }
+    ensures closed { (p : B.Place) → is_closed (B.at result p).seen ≡ true }
+    ensures known { (p : B.Place) → Knows seat_of (B.at result p) }
+    ensures stays { (p : B.Place) → Stays P.asks (B.at seat p) (B.at result p) }
 {
-    board.close(rt, seat)
+    scan.boards.close(scan.rt, seat)
 }
 
 /// Runs the czar's part of a session: the script, the ends of all queries, and the close, also after an allocation
 /// failure.
-pub fn czar<R: Wait, P: Work, E: Engine<P>, G: Gate>(
+pub fn czar<R: Wait, P: Work, B: Boards<P>, E: Engine<P>, G: Gate>(
+    scan: &Scan<'_, R, B, E, G>,
     desk: &mut Desk<E::Scratch>,
-    rt: &R,
-    board: &SharedBoard<P>,
-    seat: Seat<Board<P>>,
-    engine: &E,
-    gate: &G,
+    seat: B::Seat,
     plans: &mut [Option<Planned<P>>],
     ends: &mut [Option<End<P>>],
     steps: &[Step],
-) -> (Outcome, Seat<Board<P>>)
-    requires own { seat.turn ≡ board.now }
-    requires czar { IsCzar P.asks seat }
-    requires engine { E.root engine.now ≡ seat.root.root }
+) -> (Outcome, B::Seat)
+    requires seats { AreCzars P.asks (B.turn scan.now.boards.now) (E.root scan.now.engine.now)
+        (B.at seat) }
     requires script { IsScript (length ends.old) steps.now }
     requires len { length plans.old ≡ length ends.old }
     requires few { length ends.old ≤ QUERY_MOST }
-    requires fit { PlansFit P.stands P.asks seat.root.ring seat.root.root plans.old }
-    ensures leaves { (plan : Plans) → Marks plan ends.old
-        → Ready plan [] plans.old → Going plan [] seat.seen (known_in ends.old)
-        → Leaves plan steps.now result.1.seen (known_in ends.new) result.0 }
+    requires fit { AllFit P.stands P.asks (B.suits scan.now.boards.now) (B.at seat) plans.old }
+    ensures leaves { (plan : Plans) → Marks plan ends.old → Ready plan [] plans.old
+        → GoingAll (B.has scan.now.boards.now) plan [] (B.at seat) (known_in ends.old)
+        → Leaves (B.has scan.now.boards.now) plan steps.now (B.at result.1) (known_in ends.new) result.0 }
     ensures known { result.0 ≡ Outcome.Went → AllKnown ends.new }
     ensures more { MoreKnown ends.old ends.new }
-    ensures whole { PiecesStand (P.stands seat.root.root) seat.seen ends.old
-        → PiecesStand (P.stands seat.root.root) result.1.seen ends.new }
-    ensures closed { is_closed result.1.seen ≡ true }
-    ensures stays { Stays P.asks seat result.1 }
+    ensures whole { AllStand P.stands (B.home scan.now.boards.now) (B.at seat) ends.old
+        → AllStand P.stands (B.home scan.now.boards.now) (B.at result.1) ends.new }
+    ensures closed { (p : B.Place) → is_closed (B.at result.1 p).seen ≡ true }
+    ensures knows { (p : B.Place) → Knows seat_of (B.at result.1 p) }
+    ensures stays { (p : B.Place) → Stays P.asks (B.at seat p) (B.at result.1 p) }
 {
-    let (outcome, seat) = whole(desk, rt, board, seat, engine, gate, plans, ends, steps);
-    (outcome, close(rt, board, seat))
+    let (outcome, seat) = whole(scan, desk, seat, plans, ends, steps);
+    (outcome, close(scan, seat))
 }

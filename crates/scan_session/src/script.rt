@@ -8,51 +8,49 @@ ghost use Rattle.sql_token.specs.declared.token.Span.{Span};
 ghost use Rattle.scan_rules.specs.declared.limits.TheConstants.{QUERY_MOST};
 ghost use Rattle.scan_rules.specs.Queries.{QueryState};
 ghost use Rattle.scan_session.specs.Plans.{Plans};
-ghost use Rattle.scan_session.specs.Driven.{Driving, Going};
-ghost use Rattle.scan_session.specs.Seats.{IsCzar, Stays};
-ghost use Rattle.scan_session.specs.KnownEnds.{at_query, known_in, AllKnown, Marks, MoreKnown, PiecesStand, PlansFit, Ready};
+ghost use Rattle.scan_session.specs.Seats.{Stays};
+ghost use Rattle.scan_session.specs.Places.{AreCzars, DrivingAll, GoingAll, AllStand, AllFit};
+ghost use Rattle.scan_session.specs.KnownEnds.{at_query, known_in, AllKnown, Marks, MoreKnown, Ready};
 ghost use Rattle.scan_session.specs.Goes.{Goes, IsNext, IsScript, number_of};
 
 use crate::end::{End, Outcome, Planned};
+use crate::scan::Scan;
 use crate::steps::{cancel, end_of, start};
-use scan_board::SharedBoard;
-use scan_core::{Board, Work};
+use scan_boards::Boards;
+use scan_core::Work;
 use scan_worker::{Desk, Engine};
 use session_script::Step;
 use sky_io::Gate;
 use std::sync::Wait;
-use turn_lock::Seat;
 
 /// Learns the end of a query, and waits for it if it is not known yet.
-pub fn await_end<R: Wait, P: Work, E: Engine<P>, G: Gate>(
+pub fn await_end<R: Wait, P: Work, B: Boards<P>, E: Engine<P>, G: Gate>(
+    scan: &Scan<'_, R, B, E, G>,
     desk: &mut Desk<E::Scratch>,
-    rt: &R,
-    board: &SharedBoard<P>,
-    seat: Seat<Board<P>>,
-    engine: &E,
-    gate: &G,
+    seat: B::Seat,
     ends: &mut [Option<End<P>>],
     q: u32,
-) -> (Outcome, Seat<Board<P>>)
-    requires own { seat.turn ≡ board.now }
-    requires czar { IsCzar P.asks seat }
-    requires engine { E.root engine.now ≡ seat.root.root }
+) -> (Outcome, B::Seat)
+    requires seats { AreCzars P.asks (B.turn scan.now.boards.now) (E.root scan.now.engine.now)
+        (B.at seat) }
     requires from_1 { 1 ≤ q }
     requires low { q ≤ length ends.old }
     ensures goes { (plan : Plans) (done : List Step) → Marks plan ends.old
-        → list_any (asks q) done ≡ true → Driving plan done seat.seen (known_in ends.old)
-        → Goes (Driving plan done result.1.seen (known_in ends.new)) result.1.seen result.0 }
+        → list_any (asks q) done ≡ true
+        → DrivingAll (B.has scan.now.boards.now) plan done (B.at seat) (known_in ends.old)
+        → Goes (DrivingAll (B.has scan.now.boards.now) plan done (B.at result.1) (known_in ends.new))
+        (B.at result.1) result.0 }
     ensures known { result.0 ≡ Outcome.Went → is_some (at_query ends.new q) ≡ true }
     ensures more { MoreKnown ends.old ends.new }
-    ensures whole { PiecesStand (P.stands seat.root.root) seat.seen ends.old
-        → PiecesStand (P.stands seat.root.root) result.1.seen ends.new }
-    ensures stays { Stays P.asks seat result.1 }
+    ensures whole { AllStand P.stands (B.home scan.now.boards.now) (B.at seat) ends.old
+        → AllStand P.stands (B.home scan.now.boards.now) (B.at result.1) ends.new }
+    ensures stays { (p : B.Place) → Stays P.asks (B.at seat p) (B.at result.1 p) }
 {
     let place = (q - 1) as usize;
     if ends[place].is_some() {
         return (Outcome::Went, seat);
     }
-    let (end, seat) = end_of(desk, rt, board, seat, engine, gate, q);
+    let (end, seat) = end_of(scan, desk, seat, q);
     match end {
         None => (Outcome::Odd, seat),
         Some(end) => {
@@ -63,135 +61,126 @@ pub fn await_end<R: Wait, P: Work, E: Engine<P>, G: Gate>(
 }
 
 /// Runs a cancel line: cancels the query, if its end is not known yet.
-fn cancel_line<R: Wait, P: Work>(
-    rt: &R,
-    board: &SharedBoard<P>,
-    seat: Seat<Board<P>>,
+fn cancel_line<R: Wait, P: Work, B: Boards<P>, E: Engine<P>, G: Gate>(
+    scan: &Scan<'_, R, B, E, G>,
+    seat: B::Seat,
     ends: &[Option<End<P>>],
     q: u32,
-) -> Seat<Board<P>>
-    requires own { seat.turn ≡ board.now }
-    requires czar { IsCzar P.asks seat }
+) -> B::Seat
+    requires seats { AreCzars P.asks (B.turn scan.now.boards.now) (E.root scan.now.engine.now)
+        (B.at seat) }
     requires from_1 { 1 ≤ q }
     requires low { q ≤ length ends.now }
     ensures goes { (plan : Plans) (done : List Step) → Marks plan ends.now
-        → list_any (asks q) done ≡ true → Going plan done seat.seen (known_in ends.now)
-        → Going plan (done ++ CancelStep q ∷ []) result.seen (known_in ends.now) }
-    ensures stays { Stays P.asks seat result }
+        → list_any (asks q) done ≡ true
+        → GoingAll (B.has scan.now.boards.now) plan done (B.at seat) (known_in ends.now)
+        → GoingAll (B.has scan.now.boards.now) plan (done ++ CancelStep q ∷ []) (B.at result)
+        (known_in ends.now) }
+    ensures stays { (p : B.Place) → Stays P.asks (B.at seat p) (B.at result p) }
 {
     let place = (q - 1) as usize;
     if ends[place].is_some() {
         return seat;
     }
-    cancel(rt, board, seat, q)
+    cancel(scan, seat, q)
 }
 
 /// Runs a query line: attaches the query, if it is planned.
-fn query_line<R: Wait, P: Work, E: Engine<P>, G: Gate>(
+fn query_line<R: Wait, P: Work, B: Boards<P>, E: Engine<P>, G: Gate>(
+    scan: &Scan<'_, R, B, E, G>,
     desk: &mut Desk<E::Scratch>,
-    rt: &R,
-    board: &SharedBoard<P>,
-    seat: Seat<Board<P>>,
-    engine: &E,
-    gate: &G,
+    seat: B::Seat,
     plans: &mut [Option<Planned<P>>],
     q: u32,
-) -> (Outcome, Seat<Board<P>>)
-    requires own { seat.turn ≡ board.now }
-    requires czar { IsCzar P.asks seat }
-    requires engine { E.root engine.now ≡ seat.root.root }
+) -> (Outcome, B::Seat)
+    requires seats { AreCzars P.asks (B.turn scan.now.boards.now) (E.root scan.now.engine.now)
+        (B.at seat) }
     requires from_1 { 1 ≤ q }
     requires low { q ≤ length plans.old }
     requires few { length plans.old ≤ QUERY_MOST }
-    requires fit { PlansFit P.stands P.asks seat.root.ring seat.root.root plans.old }
+    requires fit { AllFit P.stands P.asks (B.suits scan.now.boards.now) (B.at seat) plans.old }
     ensures goes { (plan : Plans) (done : List Step) (ends : ℕ → Option QueryState) (span : Span)
-        → Ready plan done plans.old → list_any (asks q) done ≡ false → Going plan done seat.seen ends
-        → Goes (Going plan (done ++ Query q span ∷ []) result.1.seen ends) result.1.seen result.0 }
+        → Ready plan done plans.old → list_any (asks q) done ≡ false
+        → GoingAll (B.has scan.now.boards.now) plan done (B.at seat) ends
+        → Goes (GoingAll (B.has scan.now.boards.now) plan (done ++ Query q span ∷ []) (B.at result.1) ends)
+        (B.at result.1) result.0 }
     ensures ready { (plan : Plans) (done : List Step) (span : Span)
         → Ready plan done plans.old → Ready plan (done ++ Query q span ∷ []) plans.new }
-    ensures fit { PlansFit P.stands P.asks seat.root.ring seat.root.root plans.new }
+    ensures fit { AllFit P.stands P.asks (B.suits scan.now.boards.now) (B.at result.1) plans.new }
     ensures len { length plans.new ≡ length plans.old }
-    ensures stays { Stays P.asks seat result.1 }
+    ensures stays { (p : B.Place) → Stays P.asks (B.at seat p) (B.at result.1 p) }
 {
     let place = (q - 1) as usize;
     match plans[place].take() {
         None => (Outcome::Went, seat),
-        Some(planned) => start(desk, rt, board, seat, engine, gate, q, planned),
+        Some(planned) => start(scan, desk, seat, q, planned),
     }
 }
 
 /// Runs one line of the script.
-fn line<R: Wait, P: Work, E: Engine<P>, G: Gate>(
+fn line<R: Wait, P: Work, B: Boards<P>, E: Engine<P>, G: Gate>(
+    scan: &Scan<'_, R, B, E, G>,
     desk: &mut Desk<E::Scratch>,
-    rt: &R,
-    board: &SharedBoard<P>,
-    seat: Seat<Board<P>>,
-    engine: &E,
-    gate: &G,
+    seat: B::Seat,
     plans: &mut [Option<Planned<P>>],
     ends: &mut [Option<End<P>>],
     step: Step,
-) -> (Outcome, Seat<Board<P>>)
-    requires own { seat.turn ≡ board.now }
-    requires czar { IsCzar P.asks seat }
-    requires engine { E.root engine.now ≡ seat.root.root }
+) -> (Outcome, B::Seat)
+    requires seats { AreCzars P.asks (B.turn scan.now.boards.now) (E.root scan.now.engine.now)
+        (B.at seat) }
     requires from_1 { 1 ≤ number_of step }
     requires low { number_of step ≤ length ends.old }
     requires len { length plans.old ≡ length ends.old }
     requires few { length ends.old ≤ QUERY_MOST }
-    requires fit { PlansFit P.stands P.asks seat.root.ring seat.root.root plans.old }
+    requires fit { AllFit P.stands P.asks (B.suits scan.now.boards.now) (B.at seat) plans.old }
     ensures goes { (plan : Plans) (done : List Step) → IsNext done step → Marks plan ends.old
-        → Ready plan done plans.old → Going plan done seat.seen (known_in ends.old)
-        → Goes (Going plan (done ++ step ∷ []) result.1.seen (known_in ends.new))
-        result.1.seen result.0 }
+        → Ready plan done plans.old
+        → GoingAll (B.has scan.now.boards.now) plan done (B.at seat) (known_in ends.old)
+        → Goes (GoingAll (B.has scan.now.boards.now) plan (done ++ step ∷ []) (B.at result.1)
+        (known_in ends.new)) (B.at result.1) result.0 }
     ensures ready { (plan : Plans) (done : List Step)
         → Ready plan done plans.old → Ready plan (done ++ step ∷ []) plans.new }
-    ensures fit { PlansFit P.stands P.asks seat.root.ring seat.root.root plans.new }
+    ensures fit { AllFit P.stands P.asks (B.suits scan.now.boards.now) (B.at result.1) plans.new }
     ensures len { length plans.new ≡ length plans.old }
     ensures more { MoreKnown ends.old ends.new }
-    ensures whole { PiecesStand (P.stands seat.root.root) seat.seen ends.old
-        → PiecesStand (P.stands seat.root.root) result.1.seen ends.new }
-    ensures stays { Stays P.asks seat result.1 }
+    ensures whole { AllStand P.stands (B.home scan.now.boards.now) (B.at seat) ends.old
+        → AllStand P.stands (B.home scan.now.boards.now) (B.at result.1) ends.new }
+    ensures stays { (p : B.Place) → Stays P.asks (B.at seat p) (B.at result.1 p) }
 {
     match step {
-        Step::Query { number, span: _ } => {
-            query_line(desk, rt, board, seat, engine, gate, plans, number)
-        }
-        Step::Wait { number } => await_end(desk, rt, board, seat, engine, gate, ends, number),
-        Step::Cancel { number } => (Outcome::Went, cancel_line(rt, board, seat, ends, number)),
+        Step::Query { number, span: _ } => query_line(scan, desk, seat, plans, number),
+        Step::Wait { number } => await_end(scan, desk, seat, ends, number),
+        Step::Cancel { number } => (Outcome::Went, cancel_line(scan, seat, ends, number)),
     }
 }
 
 /// Runs all lines of the script.
-pub fn all_lines<R: Wait, P: Work, E: Engine<P>, G: Gate>(
+pub fn all_lines<R: Wait, P: Work, B: Boards<P>, E: Engine<P>, G: Gate>(
+    scan: &Scan<'_, R, B, E, G>,
     desk: &mut Desk<E::Scratch>,
-    rt: &R,
-    board: &SharedBoard<P>,
-    seat: Seat<Board<P>>,
-    engine: &E,
-    gate: &G,
+    seat: B::Seat,
     plans: &mut [Option<Planned<P>>],
     ends: &mut [Option<End<P>>],
     steps: &[Step],
-) -> (Outcome, Seat<Board<P>>)
-    requires own { seat.turn ≡ board.now }
-    requires czar { IsCzar P.asks seat }
-    requires engine { E.root engine.now ≡ seat.root.root }
+) -> (Outcome, B::Seat)
+    requires seats { AreCzars P.asks (B.turn scan.now.boards.now) (E.root scan.now.engine.now)
+        (B.at seat) }
     requires script { IsScript (length ends.old) steps.now }
     requires len { length plans.old ≡ length ends.old }
     requires few { length ends.old ≤ QUERY_MOST }
-    requires fit { PlansFit P.stands P.asks seat.root.ring seat.root.root plans.old }
-    ensures goes { (plan : Plans) → Marks plan ends.old
-        → Ready plan [] plans.old → Going plan [] seat.seen (known_in ends.old)
-        → Goes (Driving plan steps.now result.1.seen (known_in ends.new)) result.1.seen result.0 }
+    requires fit { AllFit P.stands P.asks (B.suits scan.now.boards.now) (B.at seat) plans.old }
+    ensures goes { (plan : Plans) → Marks plan ends.old → Ready plan [] plans.old
+        → GoingAll (B.has scan.now.boards.now) plan [] (B.at seat) (known_in ends.old)
+        → Goes (DrivingAll (B.has scan.now.boards.now) plan steps.now (B.at result.1)
+        (known_in ends.new)) (B.at result.1) result.0 }
     ensures more { MoreKnown ends.old ends.new }
-    ensures whole { PiecesStand (P.stands seat.root.root) seat.seen ends.old
-        → PiecesStand (P.stands seat.root.root) result.1.seen ends.new }
-    ensures stays { Stays P.asks seat result.1 }
+    ensures whole { AllStand P.stands (B.home scan.now.boards.now) (B.at seat) ends.old
+        → AllStand P.stands (B.home scan.now.boards.now) (B.at result.1) ends.new }
+    ensures stays { (p : B.Place) → Stays P.asks (B.at seat p) (B.at result.1 p) }
 {
     let mut seat = seat;
     for step in steps {
-        let (outcome, next) = line(desk, rt, board, seat, engine, gate, plans, ends, *step);
+        let (outcome, next) = line(scan, desk, seat, plans, ends, *step);
         seat = next;
         match outcome {
             Outcome::Went => {}
@@ -203,41 +192,29 @@ pub fn all_lines<R: Wait, P: Work, E: Engine<P>, G: Gate>(
 }
 
 /// Learns the ends of all queries.
-pub fn all_ends<R: Wait, P: Work, E: Engine<P>, G: Gate>(
+pub fn all_ends<R: Wait, P: Work, B: Boards<P>, E: Engine<P>, G: Gate>(
+    scan: &Scan<'_, R, B, E, G>,
     desk: &mut Desk<E::Scratch>,
-    rt: &R,
-    board: &SharedBoard<P>,
-    seat: Seat<Board<P>>,
-    engine: &E,
-    gate: &G,
+    seat: B::Seat,
     ends: &mut [Option<End<P>>],
-) -> (Outcome, Seat<Board<P>>)
-    requires own { seat.turn ≡ board.now }
-    requires czar { IsCzar P.asks seat }
-    requires engine { E.root engine.now ≡ seat.root.root }
+) -> (Outcome, B::Seat)
+    requires seats { AreCzars P.asks (B.turn scan.now.boards.now) (E.root scan.now.engine.now)
+        (B.at seat) }
     requires few { length ends.old ≤ QUERY_MOST }
     ensures goes { (plan : Plans) (done : List Step) → Marks plan ends.old
         → ((q : ℕ) → 1 ≤ q → q ≤ length ends.old → list_any (asks q) done ≡ true)
-        → Driving plan done seat.seen (known_in ends.old)
-        → Goes (Driving plan done result.1.seen (known_in ends.new)) result.1.seen result.0 }
+        → DrivingAll (B.has scan.now.boards.now) plan done (B.at seat) (known_in ends.old)
+        → Goes (DrivingAll (B.has scan.now.boards.now) plan done (B.at result.1) (known_in ends.new))
+        (B.at result.1) result.0 }
     ensures known { result.0 ≡ Outcome.Went → AllKnown ends.new }
     ensures more { MoreKnown ends.old ends.new }
-    ensures whole { PiecesStand (P.stands seat.root.root) seat.seen ends.old
-        → PiecesStand (P.stands seat.root.root) result.1.seen ends.new }
-    ensures stays { Stays P.asks seat result.1 }
+    ensures whole { AllStand P.stands (B.home scan.now.boards.now) (B.at seat) ends.old
+        → AllStand P.stands (B.home scan.now.boards.now) (B.at result.1) ends.new }
+    ensures stays { (p : B.Place) → Stays P.asks (B.at seat p) (B.at result.1 p) }
 {
     let mut seat = seat;
     for place in 0..ends.len() {
-        let (outcome, next) = await_end(
-            desk,
-            rt,
-            board,
-            seat,
-            engine,
-            gate,
-            ends,
-            place as u32 + 1,
-        );
+        let (outcome, next) = await_end(scan, desk, seat, ends, place as u32 + 1);
         seat = next;
         match outcome {
             Outcome::Went => {}

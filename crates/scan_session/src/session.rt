@@ -6,13 +6,15 @@ ghost use Rattle.session_script.specs.Laws.{NumberedFrom};
 ghost use Rattle.session_script.specs.Scripts.{query_count};
 ghost use Rattle.scan_session.specs.Drove.{AreEnds, Drove};
 ghost use Rattle.scan_session.specs.KnownEnds.{plan_in, AllKnown, AreKnown, IsFirstEnd, MarksPlans, PlansFit};
+ghost use Rattle.scan_session.specs.Places.{AllSuit, only, over_root, seen_of};
 ghost use Rattle.scan_session.specs.Crews.{Manned};
 
 use crate::crew::teamed;
 use crate::czar::close;
 use crate::end::{End, Outcome, Planned};
-use scan_board::SharedBoard;
-use scan_core::{Board, Work};
+use crate::scan::Scan;
+use scan_boards::Boards;
+use scan_core::Work;
 use scan_worker::Engine;
 use session_script::Step;
 use sky_io::{Gate, Memory};
@@ -20,7 +22,6 @@ use std::alloc::Global;
 use std::marker::Brand;
 use std::sync::Wait;
 use std::thread::Threads;
-use turn_lock::Seat;
 
 /// Returns what is known of the ends before the session: the queries that are not planned are refused. Allocates
 /// memory.
@@ -88,49 +89,55 @@ fn known_ends<P: Work>(known: Vec<Option<End<P>>>, ends: Vec<End<P>>) -> Vec<End
 }
 
 /// Runs a script with the given number of workers beside the czar, and returns the end of each query, in their order.
-/// Allocates memory, and waits. On Memory, too, the board is closed and each participant that was split off is joined
+/// Allocates memory, and waits. On Memory, too, each board is closed and each participant that was split off is joined
 /// again.
-pub fn drive<R: Threads + Wait + Sync, P: Work + Send, E: Engine<P> + Sync, G: Gate + Sync>(
-    alloc: Global,
-    rt: &R,
-    board: &SharedBoard<P>,
-    seat: Seat<Board<P>>,
-    engine: &E,
-    gate: &G,
+pub fn drive<
+    R: Threads + Wait + Sync,
+    P: Work + Send,
+    B: Boards<P> + Sync,
+    E: Engine<P> + Sync,
+    G: Gate + Sync,
+>(
+    scan: &Scan<'_, R, B, E, G>,
+    seat: B::Seat,
     plans: Vec<Option<Planned<P>>>,
     steps: &[Step],
     workers: u32,
-) -> (Result<Vec<End<P>>, Memory>, Seat<Board<P>>)
+) -> (Result<Vec<End<P>>, Memory>, B::Seat)
 where
     P::Root: Send,
+    B::Place: Send,
+    B::Seat: Send,
     E::Scratch: Send,
-    requires own { seat.turn ≡ board.now }
-    requires first { (seat.number ≡ 0) × (seat.seen ≡ []) × (seat.mine ≡ []) × (seat.made ≡ 1) }
-    requires ring { seat.root.ring ≤ RING_MOST }
-    requires engine { E.root engine.now ≡ seat.root.root }
+    requires own { (p : B.Place) → (B.at seat p).turn ≡ B.turn scan.now.boards.now p }
+    requires first { (p : B.Place) → ((B.at seat p).number ≡ 0) × ((B.at seat p).seen ≡ [])
+        × ((B.at seat p).mine ≡ []) × ((B.at seat p).made ≡ 1) }
+    requires ring { (p : B.Place) → (B.at seat p).root.ring ≤ RING_MOST }
+    requires engine { (p : B.Place) → E.root scan.now.engine.now ≡ (B.at seat p).root.root }
     requires numbered { NumberedFrom 0 steps.now }
     requires each { vec_len plans ≡ query_count steps.now }
     requires few { vec_len plans ≤ QUERY_MOST }
-    requires fit { PlansFit P.stands P.asks seat.root.ring seat.root.root plans.items }
+    requires fit { (p : B.Place) → PlansFit P.stands P.asks (B.at seat p).root.ring
+        (B.at seat p).root.root plans.items }
+    requires suits { AllSuit (B.suits scan.now.boards.now) plans.items }
     requires workers { workers ≤ WORKERS_MOST }
-    ensures drove { IfOk result.0 (λ ends.
-        Drove workers (plan_in plans.items) steps.now result.1.seen) }
+    ensures drove { IfOk result.0 (λ ends. (p : B.Place) → Drove workers
+        (only (B.has scan.now.boards.now p) (plan_in plans.items)) steps.now (B.at result.1 p).seen) }
     ensures len { IfOk result.0 (λ ends. vec_len ends ≡ vec_len plans) }
     ensures ends { IfOk result.0 (λ ends.
-        AreEnds (P.stands seat.root.root) (plan_in plans.items) result.1.seen ends.items) }
-    ensures made { IfOk result.0 (λ ends. result.1.made ≡ 1 + workers) }
-    ensures manned { Manned P.asks seat result.1 }
+        AreEnds (over_root P.stands (B.home scan.now.boards.now) (B.at seat)) (plan_in plans.items)
+        (seen_of (B.home scan.now.boards.now) (B.at result.1)) ends.items) }
+    ensures made { IfOk result.0 (λ ends. (p : B.Place) → (B.at result.1 p).made ≡ 1 + workers) }
+    ensures manned { (p : B.Place) → Manned P.asks (B.at seat p) (B.at result.1 p) }
 {
-    // the contract of `number` gives that the participant knows its own lines
-    let _number = seat.number();
-    let Ok(told) = room_for(alloc, plans.len()) else {
-        return (Err(Memory), close(rt, board, seat));
+    let Ok(told) = room_for(scan.alloc, plans.len()) else {
+        return (Err(Memory), close(scan, seat));
     };
-    let Ok(ends) = first_ends(alloc, plans.as_slice()) else {
-        return (Err(Memory), close(rt, board, seat));
+    let Ok(ends) = first_ends(scan.alloc, plans.as_slice()) else {
+        return (Err(Memory), close(scan, seat));
     };
-    let (outcome, ends, seat) = teamed::<R, P, E, G, Brand>(
-        alloc, rt, board, seat, engine, gate, plans, ends, steps, workers,
+    let (outcome, ends, seat) = teamed::<R, P, B, E, G, Brand>(
+        scan, seat, plans, ends, steps, workers,
     );
     match outcome {
         Outcome::Went => (Ok(known_ends(ends, told)), seat),

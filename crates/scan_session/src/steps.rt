@@ -1,5 +1,5 @@
-//! What the czar does at the board for one query: it attaches the query, cancels it, and waits for its end.
-ghost use Rattle.std.specs.Prelude.{◌≡◌, ℕ, ◌≤◌, ◌++◌, [], ◌∷◌, List, Option, true, None, is_some, IfSome, Some, false};
+//! What the czar does for one query at the query's board: it attaches the query, cancels it, and waits for its end.
+ghost use Rattle.std.specs.Prelude.{◌≡◌, ◌⊎◌, ℕ, ◌≤◌, ◌++◌, [], ◌∷◌, List, Option, true, None, is_some, IfSome, Some, false};
 ghost use Rattle.std.specs.List.{list_any};
 ghost use Rattle.session_script.specs.declared.step.Step.{Step};
 ghost use Rattle.session_script.specs.declared.step.Step.TheVariants.{Query, Cancel as CancelStep};
@@ -7,81 +7,73 @@ ghost use Rattle.session_rules.specs.Ends.{asks};
 ghost use Rattle.sql_token.specs.declared.token.Span.{Span};
 ghost use Rattle.scan_rules.specs.declared.limits.TheConstants.{QUERY_MOST};
 ghost use Rattle.scan_rules.specs.Queries.{QueryState};
-ghost use Rattle.scan_rules.specs.Lines.{seat_of};
-ghost use Rattle.scan_core.specs.Boards.{IsLawful};
-ghost use Rattle.turn_lock.specs.Seats.{Knows};
-ghost use Rattle.scan_board.specs.Calls.{board_at};
-ghost use Rattle.scan_worker.specs.Working.{AllDelivered, Worked};
+ghost use Rattle.scan_worker.specs.Rounds.{Observed};
+ghost use Rattle.scan_worker.specs.Working.{Worked};
 ghost use Rattle.scan_session.specs.Plans.{Plans};
-ghost use Rattle.scan_session.specs.Driven.{Driving, Going};
-ghost use Rattle.scan_session.specs.Seats.{IsCzar, Stays};
+ghost use Rattle.scan_session.specs.Seats.{Stays};
+ghost use Rattle.scan_session.specs.Places.{AreCzars, DrivingAll, GoingAll, over_root, seen_of};
 ghost use Rattle.scan_session.specs.KnownEnds.{IsCollected, MayStart, IfFull, IfTold};
 ghost use Rattle.scan_session.specs.Goes.{Goes, GoesEnded, GoesTold, GoesTried, StartsWithRoom, TriesWithRoom};
 
 use crate::end::{End, Outcome, Planned, Told, Tried};
-use scan_board::SharedBoard;
-use scan_core::{Attach, Board, Collect, Work};
+use crate::scan::Scan;
+use scan_boards::Boards;
+use scan_core::{Attach, Collect, Work};
 use scan_worker::{Desk, Engine, Round, work_once};
 use sky_io::Gate;
 use std::sync::Wait;
 use std::thread;
-use turn_lock::Seat;
 
 /// Runs one round of work; if there is nothing to do, yields the processor. Allocates memory, and waits.
-fn work<R: Wait, P: Work, E: Engine<P>, G: Gate>(
+fn work<R: Wait, P: Work, B: Boards<P>, E: Engine<P>, G: Gate>(
+    scan: &Scan<'_, R, B, E, G>,
     desk: &mut Desk<E::Scratch>,
-    rt: &R,
-    board: &SharedBoard<P>,
-    seat: Seat<Board<P>>,
-    engine: &E,
-    gate: &G,
-) -> Seat<Board<P>>
-    requires own { seat.turn ≡ board.now }
-    requires engine { E.root engine.now ≡ seat.root.root }
-    requires delivered { AllDelivered seat.mine }
-    ensures worked { Worked seat result }
-    ensures known { Knows seat_of result }
-    ensures lawful { IsLawful P.asks (board_at seat result.seen) }
+    seat: B::Seat,
+) -> B::Seat
+    requires { AreCzars P.asks (B.turn scan.now.boards.now) (E.root scan.now.engine.now)
+        (B.at seat) }
+    ensures worked { (p : B.Place) → Worked (B.at seat p) (B.at result p) }
+    ensures observed { (p : B.Place) →
+        (B.at result p ≡ B.at seat p) ⊎ Observed P.asks (B.at seat p) (B.at result p) }
 {
-    let (round, seat) = work_once(desk, rt, board, seat, engine, gate);
+    let (round, seat) = work_once(desk, scan.rt, scan.boards, seat, scan.engine, scan.gate);
     if round == Round::Idle {
         thread::yield_now();
     }
     seat
 }
 
-/// Tries once to attach a query; if the board is full, runs one round of work instead. Allocates memory, and waits.
-pub fn try_start<R: Wait, P: Work, E: Engine<P>, G: Gate>(
+/// Tries once to attach a query; if its board is full, runs one round of work instead. Allocates memory, and waits.
+pub fn try_start<R: Wait, P: Work, B: Boards<P>, E: Engine<P>, G: Gate>(
+    scan: &Scan<'_, R, B, E, G>,
     desk: &mut Desk<E::Scratch>,
-    rt: &R,
-    board: &SharedBoard<P>,
-    seat: Seat<Board<P>>,
-    engine: &E,
-    gate: &G,
+    seat: B::Seat,
     q: u32,
     planned: Planned<P>,
-) -> (Tried<P>, Seat<Board<P>>)
-    requires own { seat.turn ≡ board.now }
-    requires czar { IsCzar P.asks seat }
-    requires engine { E.root engine.now ≡ seat.root.root }
+) -> (Tried<P>, B::Seat)
+    requires seats { AreCzars P.asks (B.turn scan.now.boards.now) (E.root scan.now.engine.now)
+        (B.at seat) }
     requires from_1 { 1 ≤ q }
     requires to_255 { q ≤ QUERY_MOST }
-    requires may { MayStart P.stands P.asks seat.root.ring seat.root.root q planned }
+    requires suits { B.suits scan.now.boards.now q planned.chunks }
+    requires may { (p : B.Place) →
+        MayStart P.stands P.asks (B.at seat p).root.ring (B.at seat p).root.root q planned }
     ensures goes { (plan : Plans) (done : List Step) (ends : ℕ → Option QueryState) (span : Span)
         → list_any (asks q) done ≡ false → plan q ≡ Some planned.chunks
-        → Going plan done seat.seen ends
-        → GoesTried plan done (Query q span) result.1.seen ends result.0 }
+        → GoingAll (B.has scan.now.boards.now) plan done (B.at seat) ends
+        → GoesTried (B.has scan.now.boards.now) plan done (Query q span) (B.at result.1) ends result.0 }
     ensures full { IfFull result.0 (λ back. back ≡ planned) }
-    ensures room { TriesWithRoom seat.root.ring result.1.seen q planned.chunks result.0 }
-    ensures stays { Stays P.asks seat result.1 }
+    ensures room { TriesWithRoom (B.at result.1 (B.home scan.now.boards.now q)) q planned.chunks
+        result.0 }
+    ensures stays { (p : B.Place) → Stays P.asks (B.at seat p) (B.at result.1 p) }
 {
     let Planned { chunks, empty } = planned;
-    let (answer, seat) = board.attach(rt, seat, q, chunks, empty);
+    let (answer, seat) = scan.boards.attach(scan.rt, seat, q, chunks, empty);
     match answer {
         Attach::Attached => (Tried::Attached, seat),
         Attach::Full { chunks, empty } => (
             Tried::Full(Planned { chunks, empty }),
-            work(desk, rt, board, seat, engine, gate),
+            work(scan, desk, seat),
         ),
         Attach::Memory { .. } => (Tried::Memory, seat),
         Attach::Closed { .. } => (Tried::Odd, seat),
@@ -89,34 +81,34 @@ pub fn try_start<R: Wait, P: Work, E: Engine<P>, G: Gate>(
     }
 }
 
-/// Attaches a query, and works while the board is full. Allocates memory, and waits.
-pub fn start<R: Wait, P: Work, E: Engine<P>, G: Gate>(
+/// Attaches a query, and works while its board is full. Allocates memory, and waits.
+pub fn start<R: Wait, P: Work, B: Boards<P>, E: Engine<P>, G: Gate>(
+    scan: &Scan<'_, R, B, E, G>,
     desk: &mut Desk<E::Scratch>,
-    rt: &R,
-    board: &SharedBoard<P>,
-    seat: Seat<Board<P>>,
-    engine: &E,
-    gate: &G,
+    seat: B::Seat,
     q: u32,
     planned: Planned<P>,
-) -> (Outcome, Seat<Board<P>>)
-    requires own { seat.turn ≡ board.now }
-    requires czar { IsCzar P.asks seat }
-    requires engine { E.root engine.now ≡ seat.root.root }
+) -> (Outcome, B::Seat)
+    requires seats { AreCzars P.asks (B.turn scan.now.boards.now) (E.root scan.now.engine.now)
+        (B.at seat) }
     requires from_1 { 1 ≤ q }
     requires to_255 { q ≤ QUERY_MOST }
-    requires may { MayStart P.stands P.asks seat.root.ring seat.root.root q planned }
+    requires suits { B.suits scan.now.boards.now q planned.chunks }
+    requires may { (p : B.Place) →
+        MayStart P.stands P.asks (B.at seat p).root.ring (B.at seat p).root.root q planned }
     ensures goes { (plan : Plans) (done : List Step) (ends : ℕ → Option QueryState) (span : Span)
         → list_any (asks q) done ≡ false → plan q ≡ Some planned.chunks
-        → Going plan done seat.seen ends
-        → Goes (Going plan (done ++ Query q span ∷ []) result.1.seen ends) result.1.seen result.0 }
-    ensures room { StartsWithRoom seat.root.ring result.1.seen q planned.chunks result.0 }
-    ensures stays { Stays P.asks seat result.1 }
+        → GoingAll (B.has scan.now.boards.now) plan done (B.at seat) ends
+        → Goes (GoingAll (B.has scan.now.boards.now) plan (done ++ Query q span ∷ []) (B.at result.1) ends)
+        (B.at result.1) result.0 }
+    ensures room { StartsWithRoom (B.at result.1 (B.home scan.now.boards.now q)) q planned.chunks
+        result.0 }
+    ensures stays { (p : B.Place) → Stays P.asks (B.at seat p) (B.at result.1 p) }
 {
     let mut seat = seat;
     let mut planned = planned;
-    for _ in rt.forever() {
-        let (tried, next) = try_start(desk, rt, board, seat, engine, gate, q, planned);
+    for _ in scan.rt.forever() {
+        let (tried, next) = try_start(scan, desk, seat, q, planned);
         seat = next;
         match tried {
             Tried::Full(back) => planned = back,
@@ -129,45 +121,43 @@ pub fn start<R: Wait, P: Work, E: Engine<P>, G: Gate>(
 }
 
 /// Cancels a query, if it runs. Waits. Does not allocate.
-pub fn cancel<R: Wait, P: Work>(
-    rt: &R,
-    board: &SharedBoard<P>,
-    seat: Seat<Board<P>>,
+pub fn cancel<R: Wait, P: Work, B: Boards<P>, E: Engine<P>, G: Gate>(
+    scan: &Scan<'_, R, B, E, G>,
+    seat: B::Seat,
     q: u32,
-) -> Seat<Board<P>>
-    requires own { seat.turn ≡ board.now }
-    requires czar { IsCzar P.asks seat }
+) -> B::Seat
+    requires { AreCzars P.asks (B.turn scan.now.boards.now) (E.root scan.now.engine.now)
+        (B.at seat) }
     ensures goes { (plan : Plans) (done : List Step) (ends : ℕ → Option QueryState)
-        → list_any (asks q) done ≡ true → is_some (plan q) ≡ true → Going plan done seat.seen ends
-        → Going plan (done ++ CancelStep q ∷ []) result.seen ends }
-    ensures stays { Stays P.asks seat result }
+        → list_any (asks q) done ≡ true → is_some (plan q) ≡ true
+        → GoingAll (B.has scan.now.boards.now) plan done (B.at seat) ends
+        → GoingAll (B.has scan.now.boards.now) plan (done ++ CancelStep q ∷ []) (B.at result) ends }
+    ensures stays { (p : B.Place) → Stays P.asks (B.at seat p) (B.at result p) }
 {
-    board.cancel(rt, seat, q).1
+    scan.boards.cancel(scan.rt, seat, q).1
 }
 
 /// Asks for a query's end once; while the query runs, runs one round of work instead. Waits.
-pub fn ask_end<R: Wait, P: Work, E: Engine<P>, G: Gate>(
+pub fn ask_end<R: Wait, P: Work, B: Boards<P>, E: Engine<P>, G: Gate>(
+    scan: &Scan<'_, R, B, E, G>,
     desk: &mut Desk<E::Scratch>,
-    rt: &R,
-    board: &SharedBoard<P>,
-    seat: Seat<Board<P>>,
-    engine: &E,
-    gate: &G,
+    seat: B::Seat,
     q: u32,
-) -> (Told<P>, Seat<Board<P>>)
-    requires own { seat.turn ≡ board.now }
-    requires czar { IsCzar P.asks seat }
-    requires engine { E.root engine.now ≡ seat.root.root }
+) -> (Told<P>, B::Seat)
+    requires { AreCzars P.asks (B.turn scan.now.boards.now) (E.root scan.now.engine.now)
+        (B.at seat) }
     ensures goes { (plan : Plans) (done : List Step) (ends : ℕ → Option QueryState)
         → list_any (asks q) done ≡ true → is_some (plan q) ≡ true → ends q ≡ None
-        → Driving plan done seat.seen ends
-        → GoesTold plan done result.1.seen ends q result.0 }
-    ensures whole { IfTold result.0 (IsCollected (P.stands result.1.root.root) result.1.seen q) }
-    ensures stays { Stays P.asks seat result.1 }
+        → DrivingAll (B.has scan.now.boards.now) plan done (B.at seat) ends
+        → GoesTold (B.has scan.now.boards.now) plan done (B.at result.1) ends q result.0 }
+    ensures whole { IfTold result.0 (IsCollected
+        (over_root P.stands (B.home scan.now.boards.now) (B.at result.1))
+        (seen_of (B.home scan.now.boards.now) (B.at result.1) q) q) }
+    ensures stays { (p : B.Place) → Stays P.asks (B.at seat p) (B.at result.1 p) }
 {
-    let (answer, seat) = board.collect(rt, seat, q);
+    let (answer, seat) = scan.boards.collect(scan.rt, seat, q);
     match answer {
-        Collect::NotYet => (Told::NotYet, work(desk, rt, board, seat, engine, gate)),
+        Collect::NotYet => (Told::NotYet, work(scan, desk, seat)),
         Collect::Piece(piece) => (Told::Ended(End::Answered(piece)), seat),
         Collect::Cancelled => (Told::Ended(End::Cancelled), seat),
         Collect::Spent => (Told::Ended(End::Spent), seat),
@@ -177,28 +167,26 @@ pub fn ask_end<R: Wait, P: Work, E: Engine<P>, G: Gate>(
 
 /// Returns the end of a query, once it has ended; the czar works meanwhile. None if another participant collected it.
 /// Waits.
-pub fn end_of<R: Wait, P: Work, E: Engine<P>, G: Gate>(
+pub fn end_of<R: Wait, P: Work, B: Boards<P>, E: Engine<P>, G: Gate>(
+    scan: &Scan<'_, R, B, E, G>,
     desk: &mut Desk<E::Scratch>,
-    rt: &R,
-    board: &SharedBoard<P>,
-    seat: Seat<Board<P>>,
-    engine: &E,
-    gate: &G,
+    seat: B::Seat,
     q: u32,
-) -> (Option<End<P>>, Seat<Board<P>>)
-    requires own { seat.turn ≡ board.now }
-    requires czar { IsCzar P.asks seat }
-    requires engine { E.root engine.now ≡ seat.root.root }
+) -> (Option<End<P>>, B::Seat)
+    requires { AreCzars P.asks (B.turn scan.now.boards.now) (E.root scan.now.engine.now)
+        (B.at seat) }
     ensures goes { (plan : Plans) (done : List Step) (ends : ℕ → Option QueryState)
         → list_any (asks q) done ≡ true → is_some (plan q) ≡ true → ends q ≡ None
-        → Driving plan done seat.seen ends
-        → GoesEnded plan done result.1.seen ends q result.0 }
-    ensures whole { IfSome result.0 (IsCollected (P.stands result.1.root.root) result.1.seen q) }
-    ensures stays { Stays P.asks seat result.1 }
+        → DrivingAll (B.has scan.now.boards.now) plan done (B.at seat) ends
+        → GoesEnded (B.has scan.now.boards.now) plan done (B.at result.1) ends q result.0 }
+    ensures whole { IfSome result.0 (IsCollected
+        (over_root P.stands (B.home scan.now.boards.now) (B.at result.1))
+        (seen_of (B.home scan.now.boards.now) (B.at result.1) q) q) }
+    ensures stays { (p : B.Place) → Stays P.asks (B.at seat p) (B.at result.1 p) }
 {
     let mut seat = seat;
-    for _ in rt.forever() {
-        let (told, next) = ask_end(desk, rt, board, seat, engine, gate, q);
+    for _ in scan.rt.forever() {
+        let (told, next) = ask_end(scan, desk, seat, q);
         seat = next;
         match told {
             Told::NotYet => {}

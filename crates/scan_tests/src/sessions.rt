@@ -5,7 +5,7 @@ ghost use Rattle.session_rules.specs.declared.limits.TheConstants.{WORKERS_MOST}
 
 use scan_board::SharedBoard;
 use scan_core::{Board, ChunkSet, Work};
-use scan_session::{End, Planned, drive};
+use scan_session::{End, Planned, Scan, drive};
 use scan_worker::Engine;
 use session_script::Script;
 use sky_io::{Gate, ListGate, Memory, OpenGate, StepGate};
@@ -178,17 +178,14 @@ where
     let plans = plans_of(alloc, wants)?;
     let board = Board::new(alloc, 8, 7)?;
     let (board, seat) = SharedBoard::new(alloc, board)?;
-    let (ends, seat) = drive(
+    let scan = Scan {
         alloc,
         rt,
-        &board,
-        seat,
+        boards: &board,
         engine,
         gate,
-        plans,
-        script.steps(),
-        workers,
-    );
+    };
+    let (ends, seat) = drive(&scan, seat, plans, script.steps(), workers);
     drop(seat);
     Ok(letters(alloc, ends?.as_slice(), wants)?)
 }

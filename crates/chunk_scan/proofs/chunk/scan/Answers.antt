@@ -6,7 +6,7 @@ use Rattle.column_block.specs.Blocks.{Stored}
 use Rattle.chunk_store.proofs.ChunkBlocks.{chunk_taken}
 use Rattle.chunk_scan.specs.Lines.{IsPieceOver}
 use Rattle.chunk_scan.specs.Selection.{selection}
-use Rattle.chunk_scan.proofs.Found.{block_few, block_is, places_few, rows_len}
+use Rattle.chunk_scan.proofs.Found.{block_ascends, block_few, block_is, places_few, rows_len}
 use Rattle.chunk_scan.proofs.Scanned.{scanned}
 use Rattle.chunk_scan.proofs.chunk.scan.Goals as goal
 
@@ -17,6 +17,12 @@ selection-requires-clause-few c =
     let block = c.block-block.result.now.objects in
     let few = block_few g objects c.args.chunk block (c.block-block.ensures.places ∙ chunk_taken g objects c.args.chunk) c.know.ensures.few in
     omega (arith, few)
+
+pub selection-requires-clause-ascend : goal.selection-requires-clause-ascend
+selection-requires-clause-ascend c =
+    let g = c.args.store.now.plan in
+    let objects = c.args.store.now.rows.objects in
+    block_ascends g objects c.args.chunk c.block-block.result.now.objects (c.block-block.ensures.places ∙ chunk_taken g objects c.args.chunk) c.know.ensures.ascend
 
 pub piece_at-requires-clause-small : goal.piece_at-requires-clause-small
 piece_at-requires-clause-small c =

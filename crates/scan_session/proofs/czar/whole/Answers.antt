@@ -1,8 +1,8 @@
-use Rattle.std.proofs.Common.{arith, ap, sym, ◌∙◌}
+use Rattle.std.proofs.Common.{arith}
 use Rattle.scan_session.specs.declared.end.Outcome.TheVariants.{Went, Odd}
-use Rattle.scan_session.proofs.Calling.{stays_on}
 use Rattle.scan_session.proofs.Listing.{more_on, marks_on}
-use Rattle.scan_session.proofs.Looping.{goes_is, whole_step}
+use Rattle.scan_session.proofs.Looping.{goes_is}
+use Rattle.scan_session.proofs.Placing.{all_stay, czars_on}
 use Rattle.scan_session.proofs.czar.whole.Goals as goal
 
 pub returns-in-Went-clause-goes : goal.returns-in-Went-clause-goes
@@ -10,32 +10,26 @@ returns-in-Went-clause-goes g c plan marks ready d =
     let len = c.all_lines-outcome.ensures.more.len in
     c.all_ends.ensures.goes plan c.args.steps.now (marks_on plan c.args.ends.now c.all_lines-outcome.new.ends c.all_lines-outcome.ensures.more marks)
     (λ q h low. c.requires.script.all q h (omega (arith, low, len)))
-    (goes_is _ c.all_lines-outcome.result.1.seen c.all_lines-outcome.result.0 Went c.in-Went.is (c.all_lines-outcome.ensures.goes plan marks ready d))
+    (goes_is _ (g.B.Tasks.at c.all_lines-outcome.result.1) c.all_lines-outcome.result.0 Went c.in-Went.is (c.all_lines-outcome.ensures.goes plan marks ready d))
 
 pub returns-in-Went-clause-more : goal.returns-in-Went-clause-more
 returns-in-Went-clause-more g c = more_on c.args.ends.now c.all_lines-outcome.new.ends c.all_ends.new.ends c.all_lines-outcome.ensures.more c.all_ends.ensures.more
 
 pub returns-in-Went-clause-stays : goal.returns-in-Went-clause-stays
-returns-in-Went-clause-stays g c = stays_on g.P.Work.asks c.args.seat c.all_lines-outcome.result.1 c.all_ends.result.1 c.all_lines-outcome.ensures.stays c.all_ends.ensures.stays
+returns-in-Went-clause-stays g c = all_stay g.P.Work.asks (g.B.Tasks.at c.args.seat) (g.B.Tasks.at c.all_lines-outcome.result.1) (g.B.Tasks.at c.all_ends.result.1) c.all_lines-outcome.ensures.stays c.all_ends.ensures.stays
 
 pub returns-in-Odd-clause-goes : goal.returns-in-Odd-clause-goes
 returns-in-Odd-clause-goes g c plan marks ready d =
-    goes_is _ c.all_lines-outcome.result.1.seen c.all_lines-outcome.result.0 Odd c.in-Odd.is (c.all_lines-outcome.ensures.goes plan marks ready d)
+    goes_is _ (g.B.Tasks.at c.all_lines-outcome.result.1) c.all_lines-outcome.result.0 Odd c.in-Odd.is (c.all_lines-outcome.ensures.goes plan marks ready d)
 
-pub all_ends-requires-clause-own : goal.all_ends-requires-clause-own
-all_ends-requires-clause-own g c = c.all_lines-outcome.ensures.stays.turn ∙ c.requires.own
-
-pub all_ends-requires-clause-czar : goal.all_ends-requires-clause-czar
-all_ends-requires-clause-czar g c = c.all_lines-outcome.ensures.stays.czar
-
-pub all_ends-requires-clause-engine : goal.all_ends-requires-clause-engine
-all_ends-requires-clause-engine g c = c.requires.engine ∙ sym (ap (λ r. r.root) c.all_lines-outcome.ensures.stays.root)
+pub all_ends-requires-clause-seats : goal.all_ends-requires-clause-seats
+all_ends-requires-clause-seats g c = czars_on g.P.Work.asks (g.B.Tasks.turn c.args.scan.now.boards.now) (g.E.Engine.root c.args.scan.now.engine.now) (g.B.Tasks.at c.args.seat) (g.B.Tasks.at c.all_lines-outcome.result.1) c.requires.seats c.all_lines-outcome.ensures.stays
 
 pub returns-in-Went-clause-known : goal.returns-in-Went-clause-known
 returns-in-Went-clause-known g c = c.all_ends.ensures.known
 
 pub returns-in-Went-clause-whole : goal.returns-in-Went-clause-whole
-returns-in-Went-clause-whole g c w = whole_step g.P.Work.asks g.P.Work.stands c.args.seat c.all_lines-outcome.result.1 c.all_lines-outcome.result.1.seen c.all_ends.result.1.seen c.all_lines-outcome.new.ends c.all_ends.new.ends c.all_lines-outcome.ensures.stays c.all_ends.ensures.whole (c.all_lines-outcome.ensures.whole w)
+returns-in-Went-clause-whole g c w = c.all_ends.ensures.whole (c.all_lines-outcome.ensures.whole w)
 
 pub returns-in-Memory-clause-more : goal.returns-in-Memory-clause-more
 returns-in-Memory-clause-more g c = c.all_lines-outcome.ensures.more

@@ -1,8 +1,10 @@
-use Rattle.std.proofs.Common.{◌≤◌, ◌+◌, arith, length, rules, sym, ◌∙◌, ap}
+use Rattle.std.proofs.Common.{◌≤◌, ◌+◌, arith, length, rules}
+use Rattle.scan_session.specs.KnownEnds.{known_in}
+use Rattle.scan_session.specs.Places.{DrivingAll}
 use Rattle.scan_session.specs.declared.end.Outcome.TheVariants.{Went, Odd}
-use Rattle.scan_session.proofs.Calling.{stays_on}
+use Rattle.scan_session.proofs.Placing.{all_stay, czars_on}
 use Rattle.scan_session.proofs.Listing.{more_on, marks_on}
-use Rattle.scan_session.proofs.Looping.{goes_is, whole_step, known_next}
+use Rattle.scan_session.proofs.Looping.{goes_is, known_next}
 use Rattle.scan_session.proofs.script.all_ends.Goals as goal
 
 pub returns-in-Memory-clause-more : goal.returns-in-Memory-clause-more
@@ -15,7 +17,7 @@ pub returns-in-Odd-clause-goes : goal.returns-in-Odd-clause-goes
 returns-in-Odd-clause-goes g c plan done marks started d =
     let i = c.loop-place.invariant in
     let low : c.loop-place.place + 1 ≤ length c.args.ends.now = search rules in
-    goes_is _ c.await_end-outcome.result.1.seen c.await_end-outcome.result.0 Odd c.in-Odd.is
+    goes_is (DrivingAll (g.B.Boards.has c.args.scan.now.boards.now) plan done (g.B.Tasks.at c.await_end-outcome.result.1) (known_in c.await_end-outcome.new.ends)) (g.B.Tasks.at c.await_end-outcome.result.1) c.await_end-outcome.result.0 Odd c.in-Odd.is
     (c.await_end-outcome.ensures.goes plan done (marks_on plan c.args.ends.now c.loop-place.ends i.more marks) (started (c.loop-place.place + 1) (omega arith) low) (i.drives plan done marks started d))
 
 pub loop-place-preserved : goal.loop-place-preserved
@@ -23,34 +25,29 @@ loop-place-preserved g c =
     let i = c.loop-place.invariant in
     let low : c.loop-place.place + 1 ≤ length c.args.ends.now = search rules in
     record {
-      stays = stays_on g.P.Work.asks c.args.seat c.loop-place.seat c.await_end-outcome.result.1 i.stays c.await_end-outcome.ensures.stays;
+      stays = all_stay g.P.Work.asks (g.B.Tasks.at c.args.seat) (g.B.Tasks.at c.loop-place.seat) (g.B.Tasks.at c.await_end-outcome.result.1) i.stays c.await_end-outcome.ensures.stays;
       more = more_on c.args.ends.now c.loop-place.ends c.await_end-outcome.new.ends i.more c.await_end-outcome.ensures.more;
       known = known_next c.loop-place.ends c.await_end-outcome.new.ends c.loop-place.place c.await_end-outcome.ensures.more i.known (c.await_end-outcome.ensures.known c.in-Went.is);
-      whole = λ w. whole_step g.P.Work.asks g.P.Work.stands c.args.seat c.loop-place.seat c.loop-place.seat.seen c.await_end-outcome.result.1.seen c.loop-place.ends c.await_end-outcome.new.ends i.stays c.await_end-outcome.ensures.whole (i.whole w);
-      drives = λ plan done marks started d. goes_is _ c.await_end-outcome.result.1.seen c.await_end-outcome.result.0 Went c.in-Went.is
+      whole = λ w. c.await_end-outcome.ensures.whole (i.whole w);
+      drives = λ plan done marks started d. goes_is (DrivingAll (g.B.Boards.has c.args.scan.now.boards.now) plan done (g.B.Tasks.at c.await_end-outcome.result.1) (known_in c.await_end-outcome.new.ends)) (g.B.Tasks.at c.await_end-outcome.result.1) c.await_end-outcome.result.0 Went c.in-Went.is
           (c.await_end-outcome.ensures.goes plan done (marks_on plan c.args.ends.now c.loop-place.ends i.more marks) (started (c.loop-place.place + 1) (omega arith) low) (i.drives plan done marks started d));
     }
 
 pub returns-clause-known : goal.returns-clause-known
 returns-clause-known g c w = record { each = λ q h low. c.loop-place.invariant.known q h (let full : length c.loop-place.ends ≤ c.loop-place.place = search rules in omega (arith, low, full)) }
 
-pub await_end-outcome-requires-clause-own : goal.await_end-outcome-requires-clause-own
-await_end-outcome-requires-clause-own g c = c.loop-place.invariant.stays.turn ∙ c.requires.own
-
-pub await_end-outcome-requires-clause-czar : goal.await_end-outcome-requires-clause-czar
-await_end-outcome-requires-clause-czar g c = c.loop-place.invariant.stays.czar
-
-pub await_end-outcome-requires-clause-engine : goal.await_end-outcome-requires-clause-engine
-await_end-outcome-requires-clause-engine g c = c.requires.engine ∙ sym (ap (λ r. r.root) c.loop-place.invariant.stays.root)
+pub await_end-outcome-requires-clause-seats : goal.await_end-outcome-requires-clause-seats
+await_end-outcome-requires-clause-seats g c =
+    czars_on g.P.Work.asks (g.B.Tasks.turn c.args.scan.now.boards.now) (g.E.Engine.root c.args.scan.now.engine.now) (g.B.Tasks.at c.args.seat) (g.B.Tasks.at c.loop-place.seat) c.requires.seats c.loop-place.invariant.stays
 
 pub returns-in-Memory-clause-stays : goal.returns-in-Memory-clause-stays
-returns-in-Memory-clause-stays g c = stays_on g.P.Work.asks c.args.seat c.loop-place.seat c.await_end-outcome.result.1 c.loop-place.invariant.stays c.await_end-outcome.ensures.stays
+returns-in-Memory-clause-stays g c = all_stay g.P.Work.asks (g.B.Tasks.at c.args.seat) (g.B.Tasks.at c.loop-place.seat) (g.B.Tasks.at c.await_end-outcome.result.1) c.loop-place.invariant.stays c.await_end-outcome.ensures.stays
 
 pub returns-in-Memory-clause-whole : goal.returns-in-Memory-clause-whole
-returns-in-Memory-clause-whole g c w = whole_step g.P.Work.asks g.P.Work.stands c.args.seat c.loop-place.seat c.loop-place.seat.seen c.await_end-outcome.result.1.seen c.loop-place.ends c.await_end-outcome.new.ends c.loop-place.invariant.stays c.await_end-outcome.ensures.whole (c.loop-place.invariant.whole w)
+returns-in-Memory-clause-whole g c w = c.await_end-outcome.ensures.whole (c.loop-place.invariant.whole w)
 
 pub returns-in-Odd-clause-stays : goal.returns-in-Odd-clause-stays
-returns-in-Odd-clause-stays g c = stays_on g.P.Work.asks c.args.seat c.loop-place.seat c.await_end-outcome.result.1 c.loop-place.invariant.stays c.await_end-outcome.ensures.stays
+returns-in-Odd-clause-stays g c = all_stay g.P.Work.asks (g.B.Tasks.at c.args.seat) (g.B.Tasks.at c.loop-place.seat) (g.B.Tasks.at c.await_end-outcome.result.1) c.loop-place.invariant.stays c.await_end-outcome.ensures.stays
 
 pub returns-in-Odd-clause-whole : goal.returns-in-Odd-clause-whole
-returns-in-Odd-clause-whole g c w = whole_step g.P.Work.asks g.P.Work.stands c.args.seat c.loop-place.seat c.loop-place.seat.seen c.await_end-outcome.result.1.seen c.loop-place.ends c.await_end-outcome.new.ends c.loop-place.invariant.stays c.await_end-outcome.ensures.whole (c.loop-place.invariant.whole w)
+returns-in-Odd-clause-whole g c w = c.await_end-outcome.ensures.whole (c.loop-place.invariant.whole w)

@@ -1,12 +1,12 @@
-use Rattle.std.proofs.Common.{◌≡◌, arith, length, take, ◌∙◌, sym, ap, subst, List}
+use Rattle.std.proofs.Common.{◌≡◌, arith, length, take, ◌∙◌, subst, List}
 use Rattle.session_script.specs.declared.step.Step.{Step}
 use Rattle.session_script.specs.declared.step.Step.TheVariants.{Query}
-use Rattle.scan_session.specs.Driven.{Driving, Going}
+use Rattle.scan_session.specs.Places.{DrivingAll, GoingAll}
 use Rattle.scan_session.specs.KnownEnds.{known_in, Ready}
 use Rattle.scan_session.specs.declared.end.Outcome.TheVariants.{Went, Odd}
-use Rattle.scan_session.proofs.Calling.{stays_on}
+use Rattle.scan_session.proofs.Placing.{all_stay, czars_on}
 use Rattle.scan_session.proofs.Listing.{more_on, marks_on}
-use Rattle.scan_session.proofs.Looping.{goes_is, next_at, from_1_at, low_at, take_next, take_whole, whole_step, fit_step}
+use Rattle.scan_session.proofs.Looping.{goes_is, next_at, from_1_at, low_at, take_next, take_whole}
 use Rattle.scan_session.proofs.script.all_lines.Goals as goal
 
 pub line-outcome-requires-clause-from_1 : goal.line-outcome-requires-clause-from_1
@@ -22,19 +22,19 @@ pub returns-in-Memory-clause-more : goal.returns-in-Memory-clause-more
 returns-in-Memory-clause-more g c = more_on c.args.ends.now c.loop-step.ends c.line-outcome.new.ends c.loop-step.invariant.more c.line-outcome.ensures.more
 
 pub returns-in-Memory-clause-stays : goal.returns-in-Memory-clause-stays
-returns-in-Memory-clause-stays g c = stays_on g.P.Work.asks c.args.seat c.loop-step.seat c.line-outcome.result.1 c.loop-step.invariant.stays c.line-outcome.ensures.stays
+returns-in-Memory-clause-stays g c = all_stay g.P.Work.asks (g.B.Tasks.at c.args.seat) (g.B.Tasks.at c.loop-step.seat) (g.B.Tasks.at c.line-outcome.result.1) c.loop-step.invariant.stays c.line-outcome.ensures.stays
 
 pub returns-in-Odd-clause-goes : goal.returns-in-Odd-clause-goes
 returns-in-Odd-clause-goes g c plan marks ready d =
     let i = c.loop-step.invariant in
-    goes_is _ c.line-outcome.result.1.seen c.line-outcome.result.0 Odd c.in-Odd.is
+    goes_is _ (g.B.Tasks.at c.line-outcome.result.1) c.line-outcome.result.0 Odd c.in-Odd.is
     (c.line-outcome.ensures.goes plan (take c.loop-step.step-index c.args.steps.now) (next_at _ c.args.steps.now c.loop-step.step-index _ c.requires.script c.loop-step-test.true) (marks_on plan c.args.ends.now c.loop-step.ends i.more marks) (i.ready plan ready) (i.drives plan marks ready d))
 
 pub returns-in-Odd-clause-more : goal.returns-in-Odd-clause-more
 returns-in-Odd-clause-more g c = more_on c.args.ends.now c.loop-step.ends c.line-outcome.new.ends c.loop-step.invariant.more c.line-outcome.ensures.more
 
 pub returns-in-Odd-clause-stays : goal.returns-in-Odd-clause-stays
-returns-in-Odd-clause-stays g c = stays_on g.P.Work.asks c.args.seat c.loop-step.seat c.line-outcome.result.1 c.loop-step.invariant.stays c.line-outcome.ensures.stays
+returns-in-Odd-clause-stays g c = all_stay g.P.Work.asks (g.B.Tasks.at c.args.seat) (g.B.Tasks.at c.loop-step.seat) (g.B.Tasks.at c.line-outcome.result.1) c.loop-step.invariant.stays c.line-outcome.ensures.stays
 
 pub loop-step-preserved : goal.loop-step-preserved
 loop-step-preserved g c =
@@ -42,14 +42,14 @@ loop-step-preserved g c =
     let next = next_at _ c.args.steps.now c.loop-step.step-index _ c.requires.script c.loop-step-test.true in
     let more = take_next c.args.steps.now c.loop-step.step-index _ c.loop-step-test.true in
     record {
-      stays = stays_on g.P.Work.asks c.args.seat c.loop-step.seat c.line-outcome.result.1 i.stays c.line-outcome.ensures.stays;
+      stays = all_stay g.P.Work.asks (g.B.Tasks.at c.args.seat) (g.B.Tasks.at c.loop-step.seat) (g.B.Tasks.at c.line-outcome.result.1) i.stays c.line-outcome.ensures.stays;
       more = more_on c.args.ends.now c.loop-step.ends c.line-outcome.new.ends i.more c.line-outcome.ensures.more;
       len = c.line-outcome.ensures.len ∙ i.len;
-      fit = fit_step g.P.Work.asks g.P.Work.stands c.args.seat c.loop-step.seat c.line-outcome.new.plans i.stays c.line-outcome.ensures.fit;
-      whole = λ w. whole_step g.P.Work.asks g.P.Work.stands c.args.seat c.loop-step.seat c.loop-step.seat.seen c.line-outcome.result.1.seen c.loop-step.ends c.line-outcome.new.ends i.stays c.line-outcome.ensures.whole (i.whole w);
+      fit = c.line-outcome.ensures.fit;
+      whole = λ w. c.line-outcome.ensures.whole (i.whole w);
       ready = λ plan ready. subst (λ (l : List Step). Ready plan l c.line-outcome.new.plans) more (c.line-outcome.ensures.ready plan (take c.loop-step.step-index c.args.steps.now) (i.ready plan ready));
-      drives = λ plan marks ready d. subst (λ (l : List Step). Going plan l c.line-outcome.result.1.seen (known_in c.line-outcome.new.ends)) more
-          (goes_is _ c.line-outcome.result.1.seen c.line-outcome.result.0 Went c.in-Went.is
+      drives = λ plan marks ready d. subst (λ (l : List Step). GoingAll (g.B.Boards.has c.args.scan.now.boards.now) plan l (g.B.Tasks.at c.line-outcome.result.1) (known_in c.line-outcome.new.ends)) more
+          (goes_is _ (g.B.Tasks.at c.line-outcome.result.1) c.line-outcome.result.0 Went c.in-Went.is
           (c.line-outcome.ensures.goes plan (take c.loop-step.step-index c.args.steps.now) next (marks_on plan c.args.ends.now c.loop-step.ends i.more marks) (i.ready plan ready) (i.drives plan marks ready d)));
     }
 
@@ -57,19 +57,14 @@ pub returns-clause-goes : goal.returns-clause-goes
 returns-clause-goes g c plan marks ready d =
     let off = c.loop-step-test.false in
     let all : take c.loop-step.step-index c.args.steps.now ≡ c.args.steps.now = take_whole c.args.steps.now c.loop-step.step-index (λ lt. absurd (omega (arith, lt, off))) in
-    subst (λ (l : List Step). Driving plan l c.loop-step.seat.seen (known_in c.loop-step.ends)) all (c.loop-step.invariant.drives plan marks ready d).drives
+    subst (λ (l : List Step). DrivingAll (g.B.Boards.has c.args.scan.now.boards.now) plan l (g.B.Tasks.at c.loop-step.seat) (known_in c.loop-step.ends)) all (λ p. (c.loop-step.invariant.drives plan marks ready d p).drives)
 
-pub line-outcome-requires-clause-own : goal.line-outcome-requires-clause-own
-line-outcome-requires-clause-own g c = c.loop-step.invariant.stays.turn ∙ c.requires.own
-
-pub line-outcome-requires-clause-czar : goal.line-outcome-requires-clause-czar
-line-outcome-requires-clause-czar g c = c.loop-step.invariant.stays.czar
-
-pub line-outcome-requires-clause-engine : goal.line-outcome-requires-clause-engine
-line-outcome-requires-clause-engine g c = c.requires.engine ∙ sym (ap (λ r. r.root) c.loop-step.invariant.stays.root)
+pub line-outcome-requires-clause-seats : goal.line-outcome-requires-clause-seats
+line-outcome-requires-clause-seats g c =
+    czars_on g.P.Work.asks (g.B.Tasks.turn c.args.scan.now.boards.now) (g.E.Engine.root c.args.scan.now.engine.now) (g.B.Tasks.at c.args.seat) (g.B.Tasks.at c.loop-step.seat) c.requires.seats c.loop-step.invariant.stays
 
 pub returns-in-Memory-clause-whole : goal.returns-in-Memory-clause-whole
-returns-in-Memory-clause-whole g c w = whole_step g.P.Work.asks g.P.Work.stands c.args.seat c.loop-step.seat c.loop-step.seat.seen c.line-outcome.result.1.seen c.loop-step.ends c.line-outcome.new.ends c.loop-step.invariant.stays c.line-outcome.ensures.whole (c.loop-step.invariant.whole w)
+returns-in-Memory-clause-whole g c w = c.line-outcome.ensures.whole (c.loop-step.invariant.whole w)
 
 pub returns-in-Odd-clause-whole : goal.returns-in-Odd-clause-whole
-returns-in-Odd-clause-whole g c w = whole_step g.P.Work.asks g.P.Work.stands c.args.seat c.loop-step.seat c.loop-step.seat.seen c.line-outcome.result.1.seen c.loop-step.ends c.line-outcome.new.ends c.loop-step.invariant.stays c.line-outcome.ensures.whole (c.loop-step.invariant.whole w)
+returns-in-Odd-clause-whole g c w = c.line-outcome.ensures.whole (c.loop-step.invariant.whole w)

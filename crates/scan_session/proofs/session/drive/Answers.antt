@@ -1,21 +1,30 @@
-use Rattle.std.proofs.Common.{◌≡◌, length, vec_len, subst, rules, ◌∙◌}
+use Rattle.std.proofs.Common.{◌≡◌, ◌+◌, ℕ, length, vec_len, subst, rules, arith, ◌∙◌, ap}
 use Rattle.session_script.specs.Scripts.{query_count}
 use Rattle.scan_session.specs.KnownEnds.{plan_in, known_in, MarksPlans}
 use Rattle.scan_session.specs.Crews.{Promises}
 use Rattle.scan_session.specs.declared.end.Outcome.{Outcome}
 use Rattle.scan_session.proofs.Ending.{script_of, session_ends, session_promises}
 use Rattle.scan_session.proofs.Manning.{manned_alone}
-use Rattle.scan_session.proofs.Finishing.{first_czar}
+use Rattle.scan_session.proofs.Finishing.{first_czars}
 use Rattle.scan_session.proofs.session.drive.Goals as goal
 
-pub close-requires-clause-czar : goal.close-requires-clause-czar
-close-requires-clause-czar g c = first_czar g.P.Work.asks c.args.seat c.requires.first.0 c.requires.first.1 c.requires.first.2 c.requires.ring c.number-number.ensures.known
+pub close-requires : goal.close-requires
+close-requires g c = first_czars g.P.Work.asks (g.B.Tasks.turn c.args.scan.now.boards.now) (g.E.Engine.root c.args.scan.now.engine.now) (g.B.Tasks.at c.args.seat) c.requires.own c.requires.first c.requires.ring c.requires.engine
 
-pub close-requires-in_default-first_ends-clause-czar : goal.close-requires-in_default-first_ends-clause-czar
-close-requires-in_default-first_ends-clause-czar g c = first_czar g.P.Work.asks c.args.seat c.requires.first.0 c.requires.first.1 c.requires.first.2 c.requires.ring c.number-number.ensures.known
+pub close-requires-in_default-first_ends : goal.close-requires-in_default-first_ends
+close-requires-in_default-first_ends g c = first_czars g.P.Work.asks (g.B.Tasks.turn c.args.scan.now.boards.now) (g.E.Engine.root c.args.scan.now.engine.now) (g.B.Tasks.at c.args.seat) c.requires.own c.requires.first c.requires.ring c.requires.engine
 
-pub teamed-outcome-requires-clause-czar : goal.teamed-outcome-requires-clause-czar
-teamed-outcome-requires-clause-czar g c κs within = first_czar g.P.Work.asks c.args.seat c.requires.first.0 c.requires.first.1 c.requires.first.2 c.requires.ring c.number-number.ensures.known
+pub teamed-outcome-requires-clause-seats : goal.teamed-outcome-requires-clause-seats
+teamed-outcome-requires-clause-seats g c κs within = first_czars g.P.Work.asks (g.B.Tasks.turn c.args.scan.now.boards.now) (g.E.Engine.root c.args.scan.now.engine.now) (g.B.Tasks.at c.args.seat) c.requires.own c.requires.first c.requires.ring c.requires.engine
+
+pub teamed-outcome-requires-clause-fit : goal.teamed-outcome-requires-clause-fit
+teamed-outcome-requires-clause-fit g c κs within = record { fit = c.requires.fit; suit = c.requires.suits }
+
+pub teamed-outcome-requires-clause-from_1 : goal.teamed-outcome-requires-clause-from_1
+teamed-outcome-requires-clause-from_1 g c κs within p = omega (arith, (c.requires.first p).3)
+
+pub teamed-outcome-requires-clause-room : goal.teamed-outcome-requires-clause-room
+teamed-outcome-requires-clause-room g c κs within p = omega (arith, (c.requires.first p).3, c.requires.workers)
 
 pub teamed-outcome-requires-clause-script : goal.teamed-outcome-requires-clause-script
 teamed-outcome-requires-clause-script g c κs within =
@@ -23,38 +32,52 @@ teamed-outcome-requires-clause-script g c κs within =
     script_of (vec_len c.in-Ok-first_ends.ends) c.args.steps.now c.requires.numbered (len ∙ c.requires.each)
 
 pub returns-in-Went-clause-drove : goal.returns-in-Went-clause-drove
-returns-in-Went-clause-drove g c =
+returns-in-Went-clause-drove g c place =
     let first = c.in-Ok-first_ends.ends.items in
     let plans = c.args.plans.items in
+    let has = g.B.Boards.has c.args.scan.now.boards.now in
+    let new = g.B.Tasks.at c.teamed-outcome.result.2 in
     let marks : MarksPlans plans first = search rules in
     let each : length plans ≡ query_count c.args.steps.now = search rules in
     let len : length first ≡ length plans = search rules in
     let m = c.teamed-outcome in
-    let p = session_promises g.P.Work.asks c.args.workers c.args.seat m.result.2 plans first m.result.1.items c.args.steps.now c.requires.numbered each len marks m.ensures.more m.result.0 c.requires.first.3 c.requires.first.1 m.ensures.manned m.ensures.made m.ensures.known m.ensures.leaves in
-    (subst (λ (r : Outcome). Promises c.args.workers (plan_in plans) c.args.steps.now m.result.2.seen (known_in m.result.1.items) r) c.in-Went.is p).0
+    let p = session_promises g.P.Work.asks c.args.workers has (g.B.Tasks.at c.args.seat) new plans first m.result.1.items c.args.steps.now c.requires.numbered each len marks m.ensures.more m.result.0
+    (λ p. (c.requires.first p).3) (λ p. (c.requires.first p).1) m.ensures.manned m.ensures.made m.ensures.known m.ensures.leaves in
+    (subst (λ (r : Outcome). Promises c.args.workers has (plan_in plans) c.args.steps.now new (known_in m.result.1.items) r) c.in-Went.is p place).0
 
 pub returns-in-Went-clause-ends : goal.returns-in-Went-clause-ends
 returns-in-Went-clause-ends g c =
+    let boards = c.args.scan.now.boards.now in
     let first = c.in-Ok-first_ends.ends.items in
     let plans = c.args.plans.items in
+    let has = g.B.Boards.has boards in
+    let new = g.B.Tasks.at c.teamed-outcome.result.2 in
     let marks : MarksPlans plans first = search rules in
     let each : length plans ≡ query_count c.args.steps.now = search rules in
     let len : length first ≡ length plans = search rules in
     let m = c.teamed-outcome in
-    let p = session_promises g.P.Work.asks c.args.workers c.args.seat m.result.2 plans first m.result.1.items c.args.steps.now c.requires.numbered each len marks m.ensures.more m.result.0 c.requires.first.3 c.requires.first.1 m.ensures.manned m.ensures.made m.ensures.known m.ensures.leaves in
-    session_ends g.P.Work.asks c.args.workers c.args.seat m.result.2 plans first m.result.1.items c.args.steps.now c.requires.numbered each len marks m.ensures.more (g.P.Work.stands c.args.seat.root.root) c.known_ends.result.items
-    (subst (λ (r : Outcome). Promises c.args.workers (plan_in plans) c.args.steps.now m.result.2.seen (known_in m.result.1.items) r) c.in-Went.is p) m.ensures.whole c.known_ends.ensures
+    let p = session_promises g.P.Work.asks c.args.workers has (g.B.Tasks.at c.args.seat) new plans first m.result.1.items c.args.steps.now c.requires.numbered each len marks m.ensures.more m.result.0
+    (λ p. (c.requires.first p).3) (λ p. (c.requires.first p).1) m.ensures.manned m.ensures.made m.ensures.known m.ensures.leaves in
+    session_ends g.P.Work.asks c.args.workers has (g.B.Tasks.at c.args.seat) new plans first m.result.1.items c.args.steps.now c.requires.numbered each len marks m.ensures.more
+    g.P.Work.stands (g.B.Boards.home boards) c.known_ends.result.items ((g.met.B.Boards g.world.𝓛 g.world.𝓜 g.world.𝓡 ((λ s x. x), (λ x. x), (λ x. x), λ x. x)).housed boards) m.ensures.manned
+    (subst (λ (r : Outcome). Promises c.args.workers has (plan_in plans) c.args.steps.now new (known_in m.result.1.items) r) c.in-Went.is p) m.ensures.whole c.known_ends.ensures
 
 pub unreachable-requires : goal.unreachable-requires
 unreachable-requires g c =
     let first = c.in-Ok-first_ends.ends.items in
     let plans = c.args.plans.items in
+    let has = g.B.Boards.has c.args.scan.now.boards.now in
+    let new = g.B.Tasks.at c.teamed-outcome.result.2 in
     let marks : MarksPlans plans first = search rules in
     let each : length plans ≡ query_count c.args.steps.now = search rules in
     let len : length first ≡ length plans = search rules in
     let m = c.teamed-outcome in
-    let p = session_promises g.P.Work.asks c.args.workers c.args.seat m.result.2 plans first m.result.1.items c.args.steps.now c.requires.numbered each len marks m.ensures.more m.result.0 c.requires.first.3 c.requires.first.1 m.ensures.manned m.ensures.made m.ensures.known m.ensures.leaves in
-    subst (λ (r : Outcome). Promises c.args.workers (plan_in plans) c.args.steps.now m.result.2.seen (known_in m.result.1.items) r) c.in-Odd.is p
+    let p = session_promises g.P.Work.asks c.args.workers has (g.B.Tasks.at c.args.seat) new plans first m.result.1.items c.args.steps.now c.requires.numbered each len marks m.ensures.more m.result.0
+    (λ p. (c.requires.first p).3) (λ p. (c.requires.first p).1) m.ensures.manned m.ensures.made m.ensures.known m.ensures.leaves in
+    subst (λ (r : Outcome). Promises c.args.workers has (plan_in plans) c.args.steps.now new (known_in m.result.1.items) r) c.in-Odd.is p
+
+pub returns-in-Went-clause-made : goal.returns-in-Went-clause-made
+returns-in-Went-clause-made g c p = c.teamed-outcome.ensures.made p ∙ ap (λ (n : ℕ). n + c.args.workers) (c.requires.first p).3
 
 pub returns-in-Went-clause-manned : goal.returns-in-Went-clause-manned
 returns-in-Went-clause-manned g c = c.teamed-outcome.ensures.manned
@@ -63,7 +86,9 @@ pub returns-in-Memory-clause-manned : goal.returns-in-Memory-clause-manned
 returns-in-Memory-clause-manned g c = c.teamed-outcome.ensures.manned
 
 pub returns-in_default-clause-manned : goal.returns-in_default-clause-manned
-returns-in_default-clause-manned g c = manned_alone g.P.Work.asks c.args.seat c.close.result c.close.ensures.stays c.close.ensures.closed
+returns-in_default-clause-manned g c p = manned_alone g.P.Work.asks (g.B.Tasks.at c.args.seat p) (g.B.Tasks.at c.close.result p) (c.close.ensures.stays p) (c.close.ensures.closed p) (c.close.ensures.known p)
 
 pub returns-in_default-first_ends-clause-manned : goal.returns-in_default-first_ends-clause-manned
-returns-in_default-first_ends-clause-manned g c = manned_alone g.P.Work.asks c.args.seat c.close-in_default-first_ends.result c.close-in_default-first_ends.ensures.stays c.close-in_default-first_ends.ensures.closed
+returns-in_default-first_ends-clause-manned g c p =
+    let closed = c.close-in_default-first_ends in
+    manned_alone g.P.Work.asks (g.B.Tasks.at c.args.seat p) (g.B.Tasks.at closed.result p) (closed.ensures.stays p) (closed.ensures.closed p) (closed.ensures.known p)

@@ -4,7 +4,7 @@ use Rattle.session_script.specs.declared.step.Step.{Step}
 use Rattle.session_rules.specs.Ends.{asks}
 use Rattle.scan_rules.specs.Queries.{QueryState}
 use Rattle.scan_session.specs.Plans.{Plans}
-use Rattle.scan_session.specs.Driven.{Going}
+use Rattle.scan_session.specs.Places.{GoingAll}
 use Rattle.scan_session.specs.Seats.{Stays}
 use Rattle.scan_session.proofs.steps.start.Given as goal
 
@@ -12,7 +12,8 @@ abbrev pub invariant-loop : goal.invariant-loop
 invariant-loop g l = record {
   can : (goal.iterator-loop g).can_next l.iterator';
   finite : (goal.iterator-loop g).is_finite l.iterator';
-  stays : Stays g.P.Work.asks l.fn.seat l.seat;
+  stays : (p : _) → Stays g.P.Work.asks (g.B.Tasks.at l.fn.seat p) (g.B.Tasks.at l.seat p);
   same : l.planned ≡ l.fn.planned;
-  drives : (plan : Plans) (done : List Step) (ends : ℕ → Option QueryState) → list_any (asks l.fn.q) done ≡ false → plan l.fn.q ≡ Some l.fn.planned.chunks → Going plan done l.fn.seat.seen ends → Going plan done l.seat.seen ends;
+  drives : (plan : Plans) (done : List Step) (ends : ℕ → Option QueryState) → list_any (asks l.fn.q) done ≡ false → plan l.fn.q ≡ Some l.fn.planned.chunks
+      → GoingAll (g.B.Boards.has l.fn.scan.boards.now) plan done (g.B.Tasks.at l.fn.seat) ends → GoingAll (g.B.Boards.has l.fn.scan.boards.now) plan done (g.B.Tasks.at l.seat) ends;
 }

@@ -21,7 +21,7 @@ planned_so plans all (suc k) p h = ⊎_elim
     (below_or k (length plans))
 
 pub drive-ends-requires-clause-fit : goal.drive-ends-requires-clause-fit
-drive-ends-requires-clause-fit g c κs within =
+drive-ends-requires-clause-fit g c κs within place =
     let ring : 8 ≡ c.in_ok-board-2.seat.root.ring = search rules in
     record {
       each = λ q p h.

@@ -19,7 +19,7 @@ pub drive-ends-requires-sync-E : goal.drive-ends-requires-sync-E
 drive-ends-requires-sync-E g c = λ κs lives. search engine_crossing depth 60 fits 20000
 
 pub drive-ends-requires-clause-ring : goal.drive-ends-requires-clause-ring
-drive-ends-requires-clause-ring g c = λ κs lives.
+drive-ends-requires-clause-ring g c = λ κs lives p.
     subst (λ (n : ℕ). n ≤ RING_MOST) (sym (ap (λ s. s.root.ring) c.requires.seat)) c.know.ensures.sky.few_chunks
 
 pub drive-ends-requires-clause-each : goal.drive-ends-requires-clause-each
@@ -34,7 +34,7 @@ drive-ends-requires-clause-few g c = λ κs lives.
     omega (arith, c.args.planned.ok.0, ap length c.requires.planned, length-map c.args.plans.now attached, a_plan_each s.world.now.plan s.world.now.rows s.script.now c.args.plans.now c.requires.plans, c.queries.ensures.count, c.queries.ensures.few)
 
 pub drive-ends-requires-clause-fit : goal.drive-ends-requires-clause-fit
-drive-ends-requires-clause-fit g c = λ κs lives.
+drive-ends-requires-clause-fit g c = λ κs lives p.
     let s = c.args.self.now in
     let few : length c.args.plans.now ≤ QUERY_MOST =
     omega (arith, a_plan_each s.world.now.plan s.world.now.rows s.script.now c.args.plans.now c.requires.plans, c.queries.ensures.count, c.queries.ensures.few) in
@@ -42,10 +42,10 @@ drive-ends-requires-clause-fit g c = λ κs lives.
     (all_fit s.world.now.plan s.world.now.rows (query_lines s.script.now) c.args.plans.now c.args.planned.items c.know.ensures.sky c.know.ensures.rows few c.requires.plans c.requires.planned)
 
 pub returns-in-Ok-clause-own : goal.returns-in-Ok-clause-own
-returns-in-Ok-clause-own g c = c.drive-ends.ensures.manned.turn ∙ ap (λ s. s.turn) c.requires.seat
+returns-in-Ok-clause-own g c = (c.drive-ends.ensures.manned tt).turn ∙ ap (λ s. s.turn) c.requires.seat
 
 pub returns-in-Ok-clause-over : goal.returns-in-Ok-clause-over
 returns-in-Ok-clause-over g c =
     let s = c.args.self.now in
     of_value _ c.in-Ok.is (over s.workers s.world.now.plan s.world.now.rows s.script.now.steps c.steps.result.now c.args.plans.now c.args.planned c.args.seat c.drive-ends.result.1 _
-    c.steps.ensures.steps c.requires.planned (ap (λ s. s.made) c.requires.seat) (ap (λ s. s.root) c.requires.seat) c.drive-ends.ensures.manned c.drive-ends.ensures.drove c.drive-ends.ensures.len c.drive-ends.ensures.ends)
+    c.steps.ensures.steps c.requires.planned (ap (λ s. s.made) c.requires.seat) (ap (λ s. s.root) c.requires.seat) (c.drive-ends.ensures.manned tt) c.drive-ends.ensures.drove c.drive-ends.ensures.len c.drive-ends.ensures.ends)

@@ -1,0 +1,4 @@
+pub mod ClassLines
+pub mod OneOfTwo
+pub mod PairLemmas
+pub mod TwoTakes
