@@ -13,8 +13,8 @@ use Rattle.session_script.specs.Scripts.{part_of, query_count, query_spans}
 use Rattle.session_script.specs.Views.{ScriptView, query_lines}
 use Rattle.transcript_rules.specs.Blocks.{number_line, block}
 use Rattle.transcript_rules.specs.Tables.{headings, table_lines}
-use Rattle.transcript_rules.specs.Transcripts.{blocks_from, blocks_of}
-use Rattle.transcript_rules.proofs.Blocks.{blocks_in_order}
+use Rattle.transcript_rules.specs.Transcripts.{blocks_of}
+use Rattle.transcript_rules.proofs.Blocks.{as_many_blocks as as_many_from, blocks_in_order}
 use Rattle.transcript_rules.proofs.Steps.{answered_is_its_table}
 use Rattle.czar.specs.Ends.{EndShows, EndsShow, IsAnswered, kind_of}
 use Rattle.czar.specs.declared.end.End.{End}
@@ -53,18 +53,12 @@ end_at g c (t ∷ texts) (e ∷ ends) zero text end show there ended =
     subst (λ x. EndShows g c text x) same_end (subst (λ x. EndShows g c x e) same_text show.0)
 end_at g c (t ∷ texts) (e ∷ ends) (suc i) text end show there ended = end_at g c texts ends i text end show.1 there ended
 
--- there are as many blocks as lines
-as_many_from : (g : Partition) (c : Catalogue) (k : ℕ) (texts : List Bytes) (ends : List End) → EndsShow g c texts ends
-    → length (blocks_from g c k texts (map kind_of ends)) ≡ length texts
-as_many_from g c k [] ends show = refl
-as_many_from g c k (text ∷ texts) [] show = absurd show
-as_many_from g c k (text ∷ texts) (end ∷ ends) show = ap suc (as_many_from g c (k + 1) texts ends show.1)
-
--- and as queries
+-- there are as many blocks as queries
 pub as_many_blocks : (g : Partition) (c : Catalogue) (s : ScriptView) (ends : List End) → EndsShow g c (query_lines s) ends
     → length (blocks_of g c s (map kind_of ends)) ≡ query_count s.steps
 as_many_blocks g c s ends show =
-    as_many_from g c 1 (query_lines s) ends show ∙ length-map (query_spans s.steps) (λ span. part_of s.text (Some span))
+    as_many_from g c 1 (query_lines s) (map kind_of ends) (sym (length-map ends kind_of ∙ as_many_ends g c (query_lines s) ends show))
+    ∙ length-map (query_spans s.steps) (λ span. part_of s.text (Some span))
 
 -- the block at a place is that of the line and the end there
 pub block_there : (g : Partition) (c : Catalogue) (s : ScriptView) (ends : List End) (i : ℕ) (text : Bytes) (end : End)

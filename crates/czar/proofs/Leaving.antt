@@ -13,7 +13,7 @@ use Rattle.scan_session.specs.Drove.{AreEnds, IsEnd}
 use Rattle.scan_session.specs.KnownEnds.{plan_in}
 use Rattle.scan_session.specs.declared.end.End.{End as BoardEnd}
 use Rattle.scan_session.specs.declared.end.End.TheVariants as board
-use Rattle.czar.specs.Attached.{attached, base_of, chunk_query}
+use Rattle.czar.specs.Attached.{attached, base_of}
 use Rattle.czar.specs.declared.plan.Plan.{Plan}
 use Rattle.czar.specs.declared.plan.Plan.TheVariants.{Planned, Refused}
 use Rattle.czar.proofs.Attaching.{known_under}
@@ -41,7 +41,7 @@ same_chunk_query a b e = cc
 
 -- a piece that stands for the query of this number stands for its chunk query
 piece_for : (g : Partition) (c : Catalogue) (plans : List Plan) (i : ℕ) (head : Query) (query : Rewritten) (chunks : List ℕ) (piece : PieceView)
-    → slice_get plans i ≡ Some (Planned head query chunks) → StandsFor (base_of g c (map chunk_query plans)) (suc i) chunks piece
+    → slice_get plans i ≡ Some (Planned head query chunks) → StandsFor (base_of g c plans) (suc i) chunks piece
     → PieceFor g c.objects query.chunk chunks piece
 piece_for g c plans i head query chunks piece there stands =
     let is : stands.query ≡ query.chunk = same_chunk_query _ _ (sym stands.known ∙ known_under plans i head query chunks there) in
@@ -51,7 +51,7 @@ refused_end : (e : BoardEnd PieceView) (g : Partition) (c : Catalogue) (S : Jour
 refused_end e g c S k why is = subst (λ (x : BoardEnd PieceView). IsEndFor g c S k (Refused why) x) (sym is) tt
 
 end_for : (g : Partition) (c : Catalogue) (S : Journal) (plans : List Plan) (i : ℕ) (p : Plan) (e : BoardEnd PieceView)
-    → slice_get plans i ≡ Some p → IsEnd (StandsFor (base_of g c (map chunk_query plans))) S (suc i) (option_map (λ x. x.chunks) (attached p)) e
+    → slice_get plans i ≡ Some p → IsEnd (StandsFor (base_of g c plans)) S (suc i) (option_map (λ x. x.chunks) (attached p)) e
     → IsEndFor g c S (suc i) p e
 end_for g c S plans i (Planned head query chunks) (board.Answered piece) there is =
     (is.0, piece_for g c plans i head query chunks piece there is.1)
@@ -83,11 +83,11 @@ by_places g c S k (p ∷ plans) (e ∷ ends) each at = (
 )
 
 pub ends_for : (g : Partition) (c : Catalogue) (S : Journal) (plans : List Plan) (ends : List (BoardEnd PieceView)) → length ends ≡ length plans
-    → AreEnds (StandsFor (base_of g c (map chunk_query plans))) (plan_in (map attached plans)) (λ q. S) ends → AreEndsFor g c S 1 plans ends
+    → AreEnds (StandsFor (base_of g c plans)) (plan_in (map attached plans)) (λ q. S) ends → AreEndsFor g c S 1 plans ends
 ends_for g c S plans ends each are = by_places g c S 1 plans ends each (λ i p e here there.
     let on : i + 1 ≡ suc i = omega arith in
     let number : suc i ≡ 1 + i = omega arith in
-    let is : IsEnd (StandsFor (base_of g c (map chunk_query plans))) S (suc i) (plan_in (map attached plans) (suc i)) e =
-    subst (λ n. IsEnd (StandsFor (base_of g c (map chunk_query plans))) S n (plan_in (map attached plans) n) e) on (are.each i e there) in
+    let is : IsEnd (StandsFor (base_of g c plans)) S (suc i) (plan_in (map attached plans) (suc i)) e =
+    subst (λ n. IsEnd (StandsFor (base_of g c plans)) S n (plan_in (map attached plans) n) e) on (are.each i e there) in
     subst (λ n. IsEndFor g c S n p e) number (end_for g c S plans i p e here
-    (subst (λ (o : Option (List ℕ)). IsEnd (StandsFor (base_of g c (map chunk_query plans))) S (suc i) o e) (planned_in plans i p here) is)))
+    (subst (λ (o : Option (List ℕ)). IsEnd (StandsFor (base_of g c plans)) S (suc i) o e) (planned_in plans i p here) is)))

@@ -14,5 +14,5 @@ pub mod Planning
 pub mod Understood
 pub mod EndBlocks
 pub mod PlanBlocks
-pub mod BlocksByPlace
+pub mod Writing
 pub mod Tracing

@@ -27,7 +27,7 @@ use Rattle.scan_session.specs.declared.end.End.TheVariants as board
 use Rattle.scan_session.proofs.Fitting.{drove_fits}
 use Rattle.transcript_rules.specs.Refusals.{total_by, total_refusal, total_refusal_by}
 use Rattle.transcript_rules.specs.Transcripts.{FitEnds, is_idle, is_none_of, judged_of}
-use Rattle.czar.specs.Attached.{attached, chunk_query}
+use Rattle.czar.specs.Attached.{attached}
 use Rattle.czar.specs.Driven.{IsDriven}
 use Rattle.czar.specs.Ended.{AllMayEnd, MayEnd, all_ended, answer_end, ended}
 use Rattle.czar.specs.Ends.{EndShows, EndsShow, kind_of}
@@ -46,21 +46,18 @@ may_end g c S k text (Planned head query chunks) (board.Answered piece) sky rows
   may_finish g c query chunks piece sky rows (runnable g c head query chunks (record { text = text; is = for })) is.1,
   few g c head query chunks sky (record { text = text; is = for }),
 )
-may_end g c S k text (Planned head query chunks) board.Refused sky rows for is = is
+may_end g c S k text (Planned head query chunks) board.Refused sky rows for is = tt
 may_end g c S k text (Planned head query chunks) board.Cancelled sky rows for is = tt
 may_end g c S k text (Planned head query chunks) board.Spent sky rows for is = tt
-may_end g c S k text (Refused why) (board.Answered piece) sky rows for is = is
-may_end g c S k text (Refused why) board.Refused sky rows for is = tt
-may_end g c S k text (Refused why) board.Cancelled sky rows for is = tt
-may_end g c S k text (Refused why) board.Spent sky rows for is = tt
+may_end g c S k text (Refused why) e sky rows for is = tt
 
 all_may_end : (g : Partition) (c : Catalogue) (S : Journal) (k : ℕ) (texts : List Bytes) (plans : List Plan) (ends : List (BoardEnd PieceView))
     → IsSky g → IsCatalogue c → ArePlans g c texts plans → AreEndsFor g c S k plans ends → AllMayEnd plans ends
 all_may_end g c S k [] [] [] sky rows are is = tt
-all_may_end g c S k [] [] (e ∷ ends) sky rows are is = is
+all_may_end g c S k [] [] (e ∷ ends) sky rows are is = tt
 all_may_end g c S k [] (p ∷ plans) ends sky rows are is = absurd are
 all_may_end g c S k (t ∷ texts) [] ends sky rows are is = absurd are
-all_may_end g c S k (t ∷ texts) (p ∷ plans) [] sky rows are is = is
+all_may_end g c S k (t ∷ texts) (p ∷ plans) [] sky rows are is = tt
 all_may_end g c S k (t ∷ texts) (p ∷ plans) (e ∷ ends) sky rows are is =
     (may_end g c S k t p e sky rows are.0 is.0, all_may_end g c S (k + 1) texts plans ends sky rows are.1 is.1)
 
@@ -81,10 +78,7 @@ shows g c S k text (Planned head query chunks) (board.Answered piece) sky rows f
 shows g c S k text (Planned head query chunks) board.Refused sky rows for is = absurd is
 shows g c S k text (Planned head query chunks) board.Cancelled sky rows for is = tt
 shows g c S k text (Planned head query chunks) board.Spent sky rows for is = tt
-shows g c S k text (Refused why) (board.Answered piece) sky rows for is = absurd is
-shows g c S k text (Refused why) board.Refused sky rows for is = refused_early g c text why for
-shows g c S k text (Refused why) board.Cancelled sky rows for is = tt
-shows g c S k text (Refused why) board.Spent sky rows for is = tt
+shows g c S k text (Refused why) e sky rows for is = refused_early g c text why for
 
 all_show : (g : Partition) (c : Catalogue) (S : Journal) (k : ℕ) (texts : List Bytes) (plans : List Plan) (ends : List (BoardEnd PieceView))
     → IsSky g → IsCatalogue c → ArePlans g c texts plans → AreEndsFor g c S k plans ends → EndsShow g c texts (all_ended plans ends)
@@ -224,16 +218,16 @@ as_many g c S k (t ∷ texts) (p ∷ plans) (e ∷ ends) are is = ap suc (as_man
 
 -- what they are, plan by plan
 driven_ends : (workers : ℕ) (g : Partition) (c : Catalogue) (steps : List Step) (plans : List Plan) (ends : List (BoardEnd PieceView))
-    (d : IsDriven workers g c steps (map chunk_query plans) (map attached plans) ends) → AreEndsFor g c d.seen 1 plans ends
-driven_ends workers g c steps plans ends d = ends_for g c d.seen plans ends (d.by.each ∙ length-map plans attached) d.by.are
+    (d : IsDriven workers g c steps plans ends) → AreEndsFor g c d.seen 1 plans ends
+driven_ends workers g c steps plans ends d = ends_for g c d.seen plans ends d.by.each d.by.are
 
 pub session_may_end : (workers : ℕ) (g : Partition) (c : Catalogue) (s : ScriptView) (plans : List Plan) (ends : List (BoardEnd PieceView))
-    → IsSky g → IsCatalogue c → ArePlans g c (query_lines s) plans → IsDriven workers g c s.steps (map chunk_query plans) (map attached plans) ends → AllMayEnd plans ends
+    → IsSky g → IsCatalogue c → ArePlans g c (query_lines s) plans → IsDriven workers g c s.steps plans ends → AllMayEnd plans ends
 session_may_end workers g c s plans ends sky rows are d =
     all_may_end g c d.seen 1 (query_lines s) plans ends sky rows are (driven_ends workers g c s.steps plans ends d)
 
 pub session_shows : (workers : ℕ) (g : Partition) (c : Catalogue) (s : ScriptView) (plans : List Plan) (ends : List (BoardEnd PieceView))
-    → IsSky g → IsCatalogue c → ArePlans g c (query_lines s) plans → IsDriven workers g c s.steps (map chunk_query plans) (map attached plans) ends
+    → IsSky g → IsCatalogue c → ArePlans g c (query_lines s) plans → IsDriven workers g c s.steps plans ends
     → EndsShow g c (query_lines s) (all_ended plans ends)
 session_shows workers g c s plans ends sky rows are d =
     all_show g c d.seen 1 (query_lines s) plans ends sky rows are (driven_ends workers g c s.steps plans ends d)
@@ -242,7 +236,7 @@ from_first : (plans : List Plan) (n : ℕ) (p : Plan) → slice_get plans n ≡ 
 from_first plans n p here = let on : n ≡ 0 + n = omega arith in subst (λ m. slice_get plans m ≡ Some p) on here
 
 pub session_fits : (workers : ℕ) (g : Partition) (c : Catalogue) (s : ScriptView) (plans : List Plan) (ends : List (BoardEnd PieceView))
-    → IsSky g → IsCatalogue c → NumberedFrom 0 s.steps → ArePlans g c (query_lines s) plans → IsDriven workers g c s.steps (map chunk_query plans) (map attached plans) ends
+    → IsSky g → IsCatalogue c → NumberedFrom 0 s.steps → ArePlans g c (query_lines s) plans → IsDriven workers g c s.steps plans ends
     → FitEnds workers g c s (map kind_of (all_ended plans ends))
 session_fits workers g c s plans ends sky rows numbered are d =
     let lines = query_lines s in
@@ -262,14 +256,14 @@ session_fits workers g c s plans ends sky rows numbered are d =
 -- so of the ends
 pub ends_show : {V : Type 0} (workers : ℕ) (g : Partition) (c : Catalogue) (s : ScriptView) (plans : List Plan) (ends : List (BoardEnd PieceView))
     (items : V → List End) (r : Result V Memory) → IsSky g → IsCatalogue c → ArePlans g c (query_lines s) plans
-    → IsDriven workers g c s.steps (map chunk_query plans) (map attached plans) ends → IfOk r (λ v. items v ≡ all_ended plans ends) → IfOk r (λ v. EndsShow g c (query_lines s) (items v))
+    → IsDriven workers g c s.steps plans ends → IfOk r (λ v. items v ≡ all_ended plans ends) → IfOk r (λ v. EndsShow g c (query_lines s) (items v))
 ends_show workers g c s plans ends items (Ok v) sky rows are d is =
     subst (λ (es : List End). EndsShow g c (query_lines s) es) (sym is) (session_shows workers g c s plans ends sky rows are d)
 ends_show workers g c s plans ends items (Err m) sky rows are d is = tt
 
 pub ends_fit : {V : Type 0} (workers : ℕ) (g : Partition) (c : Catalogue) (s : ScriptView) (plans : List Plan) (ends : List (BoardEnd PieceView))
     (items : V → List End) (r : Result V Memory) → IsSky g → IsCatalogue c → NumberedFrom 0 s.steps → ArePlans g c (query_lines s) plans
-    → IsDriven workers g c s.steps (map chunk_query plans) (map attached plans) ends → IfOk r (λ v. items v ≡ all_ended plans ends)
+    → IsDriven workers g c s.steps plans ends → IfOk r (λ v. items v ≡ all_ended plans ends)
     → IfOk r (λ v. FitEnds workers g c s (map kind_of (items v)))
 ends_fit workers g c s plans ends items (Ok v) sky rows numbered are d is =
     subst (λ (es : List End). FitEnds workers g c s (map kind_of es)) (sym is) (session_fits workers g c s plans ends sky rows numbered are d)

@@ -26,7 +26,7 @@ use Rattle.scan_session.specs.declared.end.End.{End as BoardEnd}
 use Rattle.scan_session.specs.declared.end.End.TheVariants as board
 use Rattle.scan_session.proofs.Quiet.{attached_planned}
 use Rattle.transcript_rules.specs.Refusals.{understood}
-use Rattle.czar.specs.Attached.{attached, chunk_query}
+use Rattle.czar.specs.Attached.{attached}
 use Rattle.czar.specs.Driven.{IsDrivenBy, IsOver}
 use Rattle.czar.specs.Ended.{all_ended, answer_end, ended}
 use Rattle.czar.specs.Ends.{kind_of}
@@ -36,7 +36,6 @@ use Rattle.czar.specs.declared.end.End.{End}
 use Rattle.czar.specs.declared.plan.Plan.{Plan}
 use Rattle.czar.specs.declared.plan.Plan.TheVariants.{Planned, Refused}
 use Rattle.czar.proofs.Leaving.{AreEndsFor, IsEndFor, ends_for, planned_in}
-use Rattle.std.proofs.lemmas.List.{length-map}
 
 -- ---- what is attached for a script is what is planned for its lines
 
@@ -156,7 +155,7 @@ unplanned_state workers s S plans n p drove at none =
 
 pub session_traces : (workers : ℕ) (g : Partition) (c : Catalogue) (s : ScriptView) (plans : List Plan)
     (ends : List (BoardEnd PieceView)) (seen : Journal) (journal : BoardJournal) → ArePlans g c (query_lines s) plans
-    → IsDrivenBy workers g c s.steps (map chunk_query plans) (map attached plans) seen ends
+    → IsDrivenBy workers g c s.steps plans seen ends
     → journal ≡ record { ring = chunk_count g; lines = seen }
     → IsTraceOf workers g c s (map kind_of (all_ended plans ends)) journal
 session_traces workers g c s plans ends seen journal are d is =
@@ -168,14 +167,14 @@ session_traces workers g c s plans ends seen journal are d is =
       states = λ i end there. let on : 1 + i ≡ i + 1 = omega arith in
           subst (λ n. IsEndIn (state_of seen n) end) on
           (ends_in g c seen 1 plans ends i end (λ n p at none. unplanned_state workers s seen plans n p d.drove at none)
-          (ends_for g c seen plans ends (d.each ∙ length-map plans attached) d.are) there);
+          (ends_for g c seen plans ends d.each d.are) there);
     })
 
 -- so of the ends, under any names of the plans, the ends at the board and the lines that were seen
 pub ends_trace : {workers : ℕ} {g : Partition} {c : Catalogue} {s : ScriptView} {plans same : List Plan}
     {seat : BoardSeat Base} {ends at_board : List (BoardEnd PieceView)} {seen : Journal} {query_ends : List End} {journal : BoardJournal}
     → ArePlans g c (query_lines s) plans
-    → IsOver workers g c s.steps (map chunk_query plans) (map attached plans) seat ends
+    → IsOver workers g c s.steps plans seat ends
     → journal ≡ record { ring = chunk_count g; lines = seen } → query_ends ≡ all_ended same at_board
     → plans ≡ same → ends ≡ at_board → seat.seen ≡ seen → IsTraceOf workers g c s (map kind_of query_ends) journal
 ends_trace {workers} {g} {c} {s} {plans} {same} {seat} {ends} {at_board} {seen} {query_ends} {journal} are over read ended is at saw =

@@ -1,11 +1,10 @@
 -- What a session over the board leaves, and what the end of each query depends on.
-use Rattle.std.specs.Prelude.{◌≡◌, ℕ, List, Option, length}
+use Rattle.std.specs.Prelude.{◌≡◌, ℕ, List, length, map}
 use Rattle.table_rules.specs.Objects.{Catalogue}
 use Rattle.sky_rules.specs.Partition.{Partition, chunk_count}
 use Rattle.scan_rules.specs.Lines.{seat_of}
 use Rattle.scan_rules.specs.Queries.{Journal}
 use Rattle.scan_rules.specs.Runs.{IsRun}
-use Rattle.answer_rules.specs.declared.rewritten.ChunkQuery.{ChunkQuery}
 use Rattle.answer_rules.specs.Bases.{Base, StandsFor}
 use Rattle.answer_rules.specs.Pieces.{PieceView}
 use Rattle.turn_lock.specs.Ends.{AllHaveEnded}
@@ -15,23 +14,23 @@ use Rattle.session_script.specs.declared.step.Step.{Step}
 use Rattle.scan_session.specs.Drove.{AreEnds, Drove}
 use Rattle.scan_session.specs.KnownEnds.{plan_in}
 use Rattle.scan_session.specs.declared.end.End.{End as BoardEnd}
-use Rattle.scan_session.specs.declared.end.Planned.{Planned as Attachable}
-use Rattle.czar.specs.Attached.{base_of}
+use Rattle.czar.specs.Attached.{attached, base_of}
+use Rattle.czar.specs.declared.plan.Plan.{Plan}
 
--- This journal of the board justifies these ends, in a session with the given number of workers. Its queries have these
--- chunk queries, and this is attached for them.
-pub record IsDrivenBy (workers : ℕ) (g : Partition) (c : Catalogue) (steps : List Step) (queries : List (Option ChunkQuery))
-    (planned : List (Option (Attachable PieceView))) (seen : Journal) (ends : List (BoardEnd PieceView)) : Type 0 where
+-- This journal of the board justifies these ends, in a session with the given number of workers whose queries have
+-- these plans.
+pub record IsDrivenBy (workers : ℕ) (g : Partition) (c : Catalogue) (steps : List Step) (plans : List Plan) (seen : Journal)
+    (ends : List (BoardEnd PieceView)) : Type 0 where
   pub run : IsRun (chunk_count g) seen
-  pub drove : Drove workers (plan_in planned) steps seen
-  pub each : length ends ≡ length planned
-  pub are : AreEnds (StandsFor (base_of g c queries)) (plan_in planned) (λ q. seen) ends
+  pub drove : Drove workers (plan_in (map attached plans)) steps seen
+  pub each : length ends ≡ length plans
+  pub are : AreEnds (StandsFor (base_of g c plans)) (plan_in (map attached plans)) (λ q. seen) ends
 
 -- some journal of the board justifies these ends
-pub record IsDriven (workers : ℕ) (g : Partition) (c : Catalogue) (steps : List Step) (queries : List (Option ChunkQuery))
-    (planned : List (Option (Attachable PieceView))) (ends : List (BoardEnd PieceView)) : Type 0 where
+pub record IsDriven (workers : ℕ) (g : Partition) (c : Catalogue) (steps : List Step) (plans : List Plan)
+    (ends : List (BoardEnd PieceView)) : Type 0 where
   pub seen : Journal
-  pub by : IsDrivenBy workers g c steps queries planned seen ends
+  pub by : IsDrivenBy workers g c steps plans seen ends
 
 -- the czar's participant of a board over the chunks of a sky plan, once all others have ended in it
 pub record IsJoined (g : Partition) (seat : BoardSeat Base) : Type 0 where
@@ -42,7 +41,7 @@ pub record IsJoined (g : Partition) (seat : BoardSeat Base) : Type 0 where
 
 -- A session that is over: all others have ended in the czar's participant, and the journal that it has seen justifies
 -- the ends.
-pub record IsOver (workers : ℕ) (g : Partition) (c : Catalogue) (steps : List Step) (queries : List (Option ChunkQuery))
-    (planned : List (Option (Attachable PieceView))) (seat : BoardSeat Base) (ends : List (BoardEnd PieceView)) : Type 0 where
+pub record IsOver (workers : ℕ) (g : Partition) (c : Catalogue) (steps : List Step) (plans : List Plan)
+    (seat : BoardSeat Base) (ends : List (BoardEnd PieceView)) : Type 0 where
   pub joined : IsJoined g seat
-  pub by : IsDrivenBy workers g c steps queries planned seat.seen ends
+  pub by : IsDrivenBy workers g c steps plans seat.seen ends

@@ -5,6 +5,7 @@ use Rattle.sql_tree.specs.declared.query.Query.{Query}
 use Rattle.answer_rules.specs.Answers.{Answer}
 use Rattle.answer_rules.specs.Finish.{finished}
 use Rattle.answer_rules.specs.Pieces.{PieceView}
+use Rattle.answer_rules.specs.declared.rewritten.MergePlan.{MergePlan}
 use Rattle.partial_merge.specs.Joining.{MayFinish}
 use Rattle.transcript_rules.specs.declared.refusal.Refusal.TheVariants as refusal
 use Rattle.scan_session.specs.declared.end.End.{End as BoardEnd}
@@ -19,59 +20,48 @@ abbrev pub answer_end : Query → ℕ → Answer → End
 answer_end head chunks (Ok table) = Answered head table chunks
 answer_end head chunks (Err total) = Refused (refusal.Total (record { total = total }))
 
--- the end of a query with this plan and this piece over all its chunks
-abbrev pub finished_end : Plan → PieceView → End
-finished_end (plan.Planned head query chunks) piece = answer_end head (length chunks) (finished query.merge piece)
-finished_end (plan.Refused why) piece = Refused why
-
--- the end of a query that was not attached
-abbrev pub refused_end : Plan → End
-refused_end (plan.Planned head query chunks) = Spent
-refused_end (plan.Refused why) = Refused why
+-- the end of a query that is planned, with this merge and the given number of chunks, by how it ended at the board; one
+-- that was lost there is out of memory
+abbrev pub planned_end : Query → MergePlan → ℕ → BoardEnd PieceView → End
+planned_end head merge chunks (board.Answered piece) = answer_end head chunks (finished merge piece)
+planned_end head merge chunks board.Refused = Spent
+planned_end head merge chunks board.Cancelled = Cancelled
+planned_end head merge chunks board.Spent = Spent
 
 -- the end of a query with this plan, by how it ended at the board
 abbrev pub ended : Plan → BoardEnd PieceView → End
-ended p (board.Answered piece) = finished_end p piece
-ended p board.Refused = refused_end p
-ended p board.Cancelled = Cancelled
-ended p board.Spent = Spent
+ended (plan.Planned head query chunks) end = planned_end head query.merge (length chunks) end
+ended (plan.Refused why) end = Refused why
 
 -- the end of each query of a script, in their order
 abbrev pub all_ended : List Plan → List (BoardEnd PieceView) → List End
 all_ended (p ∷ plans) (e ∷ ends) = ended p e ∷ all_ended plans ends
 all_ended plans ends = []
 
--- the piece may be finished by the plan, and the number of chunks is within its limit
-abbrev pub MayAnswer : Plan → PieceView → Type 0
-MayAnswer (plan.Planned head query chunks) piece = MayFinish query.merge piece × (length chunks ≤ CHUNKS_MOST)
-MayAnswer (plan.Refused why) piece = ⊥
+-- a piece at the board may be finished by this merge, and the number of these chunks is within its limit
+abbrev pub MayAnswer : MergePlan → List ℕ → BoardEnd PieceView → Type 0
+MayAnswer merge chunks (board.Answered piece) = MayFinish merge piece × (length chunks ≤ CHUNKS_MOST)
+MayAnswer merge chunks board.Refused = Unit {0}
+MayAnswer merge chunks board.Cancelled = Unit {0}
+MayAnswer merge chunks board.Spent = Unit {0}
 
--- the plan is a refusal
-abbrev pub IsRefusal : Plan → Type 0
-IsRefusal (plan.Planned head query chunks) = ⊥
-IsRefusal (plan.Refused why) = Unit {0}
-
--- a query with this plan may end so at the board
+-- if the query is planned, its piece at the board may be finished
 abbrev pub MayEnd : Plan → BoardEnd PieceView → Type 0
-MayEnd p (board.Answered piece) = MayAnswer p piece
-MayEnd p board.Refused = IsRefusal p
-MayEnd p board.Cancelled = Unit {0}
-MayEnd p board.Spent = Unit {0}
+MayEnd (plan.Planned head query chunks) end = MayAnswer query.merge chunks end
+MayEnd (plan.Refused why) end = Unit {0}
 
--- there is an end for each query with one of these plans, in their order, and each may occur
+-- each of these ends is one that the query with the plan at its index may have
 abbrev pub AllMayEnd : List Plan → List (BoardEnd PieceView) → Type 0
-AllMayEnd [] [] = Unit {0}
-AllMayEnd [] (e ∷ ends) = ⊥
-AllMayEnd (p ∷ plans) [] = ⊥
 AllMayEnd (p ∷ plans) (e ∷ ends) = MayEnd p e × AllMayEnd plans ends
+AllMayEnd plans ends = Unit {0}
 
--- the first of these ends is one that a query with this plan may have
-abbrev pub IsNextEnd : Plan → List (BoardEnd PieceView) → Type 0
-IsNextEnd p [] = ⊥
-IsNextEnd p (e ∷ ends) = MayEnd p e
+-- the first of these ends, if there is one, is one that a query with this plan may have
+abbrev pub NextMayEnd : Plan → List (BoardEnd PieceView) → Type 0
+NextMayEnd p [] = Unit {0}
+NextMayEnd p (e ∷ ends) = MayEnd p e
 
 -- the first of these ends is removed, and the end that the query with this plan has by it is appended to the ends so
--- far
+-- far; if there is none, nothing changes
 abbrev pub PushesNextEnd : Plan → (old new : List (BoardEnd PieceView)) → (query_ends now : List End) → Type 0
-PushesNextEnd p [] new query_ends now = ⊥
+PushesNextEnd p [] new query_ends now = (new ≡ []) × (now ≡ query_ends)
 PushesNextEnd p (e ∷ ends) new query_ends now = (new ≡ ends) × (now ≡ query_ends ++ ended p e ∷ [])

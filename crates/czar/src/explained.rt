@@ -1,16 +1,13 @@
 //! The text that explains a script: the block of each query, by its plan.
 
-ghost use Rattle.std.specs.Prelude.{◌≡◌, ◌<◌, ◌+◌, [], get_or, length};
-ghost use Rattle.text_rules.specs.declared.limits.TheConstants.{QUERIES_MOST};
-ghost use Rattle.session_script.specs.Scripts.{query_count};
 ghost use Rattle.session_script.specs.Views.{query_lines};
 ghost use Rattle.sky_io.specs.Sinks.{Wrote};
-ghost use Rattle.transcript_rules.specs.Explained.{explain_block, explain_blocks_of, explained};
+ghost use Rattle.transcript_rules.specs.Explained.{explain_block, explained};
 ghost use Rattle.czar.specs.Plans.{ArePlans, IsPlanned, PlanFor};
 
 use crate::plan::Plan;
 use answer_rules::Rewritten;
-use answer_text::{Explained, put_explain, put_refusal};
+use answer_text::{Blocks, Explained, put_blocks, put_explain, put_refusal};
 use chunk_store::Store;
 use scan_rules::ChunkSet;
 use session_script::Script;
@@ -57,28 +54,35 @@ fn put_plan<K: Sink>(sink: &mut K, world: &Store, number: u32, text: &[u8], plan
     }
 }
 
-/// Writes the block that explains the query with an index, from 0.
-fn put_block<K: Sink>(
-    sink: &mut K,
-    world: &Store,
-    script: &Script<'_>,
-    plans: &[Plan],
-    place: u32,
-) -> Put
-    requires there { place < query_count script.now.steps }
-    requires few { place < QUERIES_MOST }
-    requires plans { ArePlans world.now.plan world.now.rows (query_lines script.now) plans.now }
-    ensures { Wrote (K.state sink.old) (K.state sink.new)
-        (get_or (explain_blocks_of world.now.plan world.now.rows script.now) place []) result }
-{
-    let number = place + 1;
-    put_plan(
-        sink,
-        world,
-        number,
-        script.text_of(number),
-        &plans[place as usize],
-    )
+/// A script whose queries have these plans, over a store.
+#[derive(Drop)]
+struct Explanation<'a, 't> {
+    world: &'a Store,
+    script: &'a Script<'t>,
+    plans: &'a [Plan],
+}
+
+impl<'a, 't> Blocks for Explanation<'a, 't> {
+    ghost use Rattle.session_script.specs.Views.{query_lines};
+    ghost use Rattle.transcript_rules.specs.Explained.{explain_blocks_of};
+    ghost use Rattle.czar.specs.Plans.{ArePlans};
+
+    ghost blocks = { λ t. explain_blocks_of t.world.now.plan t.world.now.rows t.script.now };
+
+    ghost fits = { λ t. ArePlans t.world.now.plan t.world.now.rows (query_lines t.script.now) t.plans.now };
+
+    fn put_block<K: Sink>(&self, sink: &mut K, place: u32) -> Put {
+        let _ = self.script.queries();
+        let plans = self.plans;
+        let number = place + 1;
+        put_plan(
+            sink,
+            self.world,
+            number,
+            self.script.text_of(number),
+            &plans[place as usize],
+        )
+    }
 }
 
 /// Writes the text that explains a script. Does not allocate.
@@ -92,11 +96,10 @@ pub fn put_explained<K: Sink>(
     ensures { Wrote (K.state sink.old) (K.state sink.new)
         (explained world.now.plan world.now.rows script.now) result }
 {
-    for place in 0..script.queries() {
-        match put_block(sink, world, script, plans, place) {
-            Put::Failed => return Put::Failed,
-            Put::Done => {}
-        }
-    }
-    Put::Done
+    let explanation = Explanation {
+        world,
+        script,
+        plans,
+    };
+    put_blocks(sink, &explanation, script.queries())
 }

@@ -2,13 +2,13 @@
 //!
 //! What a plan still holds is dropped by name, as in `plan`.
 
-ghost use Rattle.std.specs.Prelude.{◌≡◌, ◌≤◌, ◌++◌, ◌∷◌, [], IfErr, IfOk, OnOk, length};
+ghost use Rattle.std.specs.Prelude.{◌≡◌, ◌≤◌, ◌++◌, ◌∷◌, [], IfOk, OnOk, length};
 ghost use Rattle.std.specs.Vec.Iter.{into_iter_items, into_iter_len};
 ghost use Rattle.sky_rules.specs.declared.limits.TheConstants.{CHUNKS_MOST};
 ghost use Rattle.answer_rules.specs.Finish.{finished};
 ghost use Rattle.partial_merge.specs.Joining.{MayFinish};
-ghost use Rattle.czar.specs.Ended.{AllMayEnd, IsNextEnd, IsRefusal, MayAnswer, MayEnd, PushesNextEnd};
-ghost use Rattle.czar.specs.Ended.{all_ended, answer_end, ended, finished_end, refused_end};
+ghost use Rattle.czar.specs.Ended.{AllMayEnd, MayAnswer, MayEnd, NextMayEnd, PushesNextEnd};
+ghost use Rattle.czar.specs.Ended.{all_ended, answer_end, ended, planned_end};
 ghost use Rattle.czar.specs.Running.{IsOutOfRange};
 
 use crate::end::End;
@@ -58,10 +58,35 @@ fn out_of_range(stop: Stop<TotalOut>) -> Result<End, Memory>
     }
 }
 
-/// Returns the end of a query with this plan and this piece over all its chunks.
-fn finished_by(plan: Plan, piece: Piece<'_>) -> Result<End, Memory>
-    requires { MayAnswer plan piece }
-    ensures { IfOk result (λ end. end ≡ finished_end plan piece.entry) }
+/// Returns the end of a query that is planned over these chunks, by how it ended at the board.
+fn planned_end(
+    head: Query,
+    merge: &MergePlan,
+    chunks: &ChunkSet,
+    end: BoardEnd<Piece<'_>>,
+) -> Result<End, Memory>
+    requires { MayAnswer merge.now chunks.now end }
+    ensures { IfOk result (λ query_end.
+        query_end ≡ planned_end head merge.now (length chunks.now) end.entry) }
+{
+    match end {
+        BoardEnd::Answered(piece) => answer_of(head, merge, chunks, piece),
+        BoardEnd::Cancelled => {
+            drop(head);
+            Ok(End::Cancelled)
+        }
+        BoardEnd::Refused | BoardEnd::Spent => {
+            drop(head);
+            Ok(End::Spent)
+        }
+    }
+}
+
+/// Returns the end of a query with this plan, by how it ended at the board. A query that is refused before it is run
+/// ends so.
+fn end_by(plan: Plan, end: BoardEnd<Piece<'_>>) -> Result<End, Memory>
+    requires { MayEnd plan end }
+    ensures { IfOk result (λ query_end. query_end ≡ ended plan end.entry) }
 {
     match plan {
         Plan::Planned {
@@ -69,51 +94,14 @@ fn finished_by(plan: Plan, piece: Piece<'_>) -> Result<End, Memory>
             query,
             chunks,
         } => {
-            let end = answer_of(head, &query.merge, &chunks, piece);
+            let end = planned_end(head, &query.merge, &chunks, end);
             drop((chunks, query));
             end
         }
-        Plan::Refused(_) => unreachable!(),
-    }
-}
-
-/// Returns the end of a query that was not attached.
-fn refused_by(plan: Plan) -> End
-    requires { IsRefusal plan }
-    ensures { result ≡ refused_end plan }
-{
-    match plan {
-        Plan::Refused(why) => End::Refused(why),
-        Plan::Planned { .. } => unreachable!(),
-    }
-}
-
-/// Returns the end of a query that was cancelled.
-fn cancelled_by(plan: Plan) -> End
-    ensures { result ≡ End.Cancelled }
-{
-    drop(plan);
-    End::Cancelled
-}
-
-/// Returns the end of a query in whose work an allocation failed.
-fn spent_by(plan: Plan) -> End
-    ensures { result ≡ End.Spent }
-{
-    drop(plan);
-    End::Spent
-}
-
-/// Returns the end of a query with this plan, by how it ended at the board.
-fn end_by(plan: Plan, end: BoardEnd<Piece<'_>>) -> Result<End, Memory>
-    requires { MayEnd plan end }
-    ensures { IfOk result (λ query_end. query_end ≡ ended plan end.entry) }
-{
-    match end {
-        BoardEnd::Answered(piece) => finished_by(plan, piece),
-        BoardEnd::Refused => Ok(refused_by(plan)),
-        BoardEnd::Cancelled => Ok(cancelled_by(plan)),
-        BoardEnd::Spent => Ok(spent_by(plan)),
+        Plan::Refused(why) => {
+            drop(end);
+            Ok(End::Refused(why))
+        }
     }
 }
 
@@ -133,13 +121,13 @@ fn push_query_end(
     }
 }
 
-/// Appends the end of the query with this plan, by the next of these ends at the board.
+/// Appends the end of the query with this plan, by the next of these ends at the board, if there is one.
 fn push_next_end(
     plan: Plan,
     ends: &mut IntoIter<BoardEnd<Piece<'_>>, Global>,
     query_ends: &mut Vec<End>,
 ) -> Result<(), Memory>
-    requires may { IsNextEnd plan (into_iter_items ends.old) }
+    requires may { NextMayEnd plan (into_iter_items ends.old) }
     requires len { into_iter_len ends.old ≡ length (into_iter_items ends.old) }
     ensures len { into_iter_len ends.new ≡ length (into_iter_items ends.new) }
     ensures query_ends { OnOk result (PushesNextEnd plan
@@ -148,7 +136,10 @@ fn push_next_end(
 {
     match ends.next() {
         Some(end) => push_query_end(plan, end, query_ends),
-        None => unreachable!(),
+        None => {
+            drop(plan);
+            Ok(())
+        }
     }
 }
 

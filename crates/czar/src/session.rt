@@ -1,32 +1,26 @@
 //! The session of a script: its queries are planned and driven over a shared board with workers beside the czar, and
 //! their ends are returned.
 
-ghost use Rattle.std.specs.Prelude.{◌≡◌, ◌+◌, ◌≤◌, All, IfOk, length, map};
+ghost use Rattle.std.specs.Prelude.{◌≡◌, ◌≤◌, IfOk, map};
 ghost use Rattle.table_rules.specs.Objects.{IsCatalogue};
 ghost use Rattle.sky_rules.specs.Limits.{IsSky};
 ghost use Rattle.sky_rules.specs.Partition.{chunk_count};
-ghost use Rattle.scan_rules.specs.declared.limits.TheConstants.{QUERY_MOST};
-ghost use Rattle.answer_rules.specs.Bases.{Asks, StandsFor};
 ghost use Rattle.turn_lock.specs.Seats.{first_seat};
-ghost use Rattle.scan_session.specs.KnownEnds.{PlansFit};
 ghost use Rattle.session_rules.specs.declared.limits.TheConstants.{WORKERS_MOST};
-ghost use Rattle.session_script.specs.Scripts.{query_count};
 ghost use Rattle.session_script.specs.Views.{query_lines};
 ghost use Rattle.transcript_rules.specs.Transcripts.{FitEnds};
-ghost use Rattle.czar.specs.Attached.{IsSoundIfThere, attached, base_of, chunk_query};
+ghost use Rattle.czar.specs.Attached.{attached, base_of};
 ghost use Rattle.czar.specs.Driven.{IsDriven, IsJoined, IsOver};
 ghost use Rattle.czar.specs.Ended.{all_ended};
 ghost use Rattle.czar.specs.Ends.{EndsShow, kind_of};
 ghost use Rattle.czar.specs.Plans.{ArePlans};
 ghost use Rattle.czar.specs.Traces.{IsTraceOf};
-ghost use Rattle.table_rules.specs.declared.limits.TheConstants.{FIRST_COLUMNS};
 
-use crate::attach::{prepared, seated};
+use crate::attach::{all_attached, seated};
 use crate::chunk_engine::ChunkEngine;
 use crate::end::End;
 use crate::plan::{Plan, explain};
 use crate::query_ends::all_query_ends;
-use answer_rules::ChunkQuery;
 use chunk_store::Store;
 use partial_merge::Piece;
 use scan_board::{Board, Seat, SharedBoard};
@@ -140,7 +134,7 @@ impl<'s, 't, R: Threads + Wait + Sync, G: Gate + Sync> Session<'s, 't, R, G> {
         ensures own { IfOk result (λ r. r.1.seat.turn ≡ r.1.board) }
         ensures over { IfOk result (λ r. IsOver self.now.workers
             self.now.world.now.plan self.now.world.now.rows self.now.script.now.steps
-            (map chunk_query r.0.items) (map attached r.0.items) r.1.seat r.1.ends.items) }
+            r.0.items r.1.seat r.1.ends.items) }
     {
         let plans = explain(self.alloc, self.world, self.script)?;
         match self.driven(plans.as_slice()) {
@@ -176,8 +170,7 @@ impl<'s, 't, R: Threads + Wait + Sync, G: Gate + Sync> Session<'s, 't, R, G> {
         requires plans { ArePlans self.now.world.now.plan self.now.world.now.rows
             (query_lines self.now.script.now) plans.items }
         requires driven { IsDriven self.now.workers self.now.world.now.plan
-            self.now.world.now.rows self.now.script.now.steps
-            (map chunk_query plans.items) (map attached plans.items) ends.items }
+            self.now.world.now.rows self.now.script.now.steps plans.items ends.items }
         ensures fit { IfOk result (λ ends. FitEnds self.now.workers
             self.now.world.now.plan self.now.world.now.rows self.now.script.now
             (map kind_of ends.items)) }
@@ -192,75 +185,52 @@ impl<'s, 't, R: Threads + Wait + Sync, G: Gate + Sync> Session<'s, 't, R, G> {
         all_query_ends(self.alloc, plans, ends)
     }
 
-    /// Prepares the queries with these plans, and drives them.
+    /// Drives the queries with these plans over a board of their own.
     fn driven(&self, plans: &[Plan]) -> Result<Driven<'s>, Memory>
         requires few { self.now.workers ≤ WORKERS_MOST }
         requires plans { ArePlans self.now.world.now.plan self.now.world.now.rows
             (query_lines self.now.script.now) plans.now }
         ensures own { IfOk result (λ r. r.seat.turn ≡ r.board) }
         ensures over { IfOk result (λ r. IsOver self.now.workers self.now.world.now.plan
-            self.now.world.now.rows self.now.script.now.steps
-            (map chunk_query plans.now) (map attached plans.now) r.seat r.ends.items) }
+            self.now.world.now.rows self.now.script.now.steps plans.now r.seat r.ends.items) }
     {
-        know(self.world);
         let _ = self.script.queries();
-        match prepared(self.alloc, plans) {
-            Ok((queries, planned)) => self.driven_by(queries.as_slice(), planned),
-            Err(Memory) => Err(Memory),
+        let planned = all_attached(self.alloc, plans)?;
+        match seated(self.alloc, self.world, plans) {
+            Ok((board, seat)) => self.driven_at(plans, planned, board, seat),
+            Err(Memory) => {
+                drop(planned);
+                Err(Memory)
+            }
         }
     }
 
-    /// Drives what is attached over a board of its own, with these chunk queries.
-    fn driven_by(
-        &self,
-        queries: &[Option<ChunkQuery>],
-        planned: Vec<Option<Planned<Piece<'s>>>>,
-    ) -> Result<Driven<'s>, Memory>
-        requires few { self.now.workers ≤ WORKERS_MOST }
-        requires queries { length queries.now ≤ QUERY_MOST }
-        requires sound { All (IsSoundIfThere (FIRST_COLUMNS + length self.now.world.now.rows.names))
-            queries.now }
-        requires each { length planned.items ≡ query_count self.now.script.now.steps }
-        requires fit { PlansFit StandsFor Asks (chunk_count self.now.world.now.plan)
-            (base_of self.now.world.now.plan self.now.world.now.rows queries.now) planned.items }
-        ensures own { IfOk result (λ r. r.seat.turn ≡ r.board) }
-        ensures over { IfOk result (λ r. IsOver self.now.workers self.now.world.now.plan
-            self.now.world.now.rows self.now.script.now.steps
-            queries.now planned.entry.items r.seat r.ends.items) }
-    {
-        match seated(self.alloc, self.world, queries) {
-            Ok((board, seat)) => self.driven_at(queries, board, seat, planned),
-            Err(Memory) => Err(Memory),
-        }
-    }
-
-    /// Drives what is attached over this board, from the czar's first participant.
+    /// Drives what is attached for the queries with these plans over this board, from the czar's first participant.
     fn driven_at(
         &self,
-        queries: &[Option<ChunkQuery>],
+        plans: &[Plan],
+        planned: Vec<Option<Planned<Piece<'s>>>>,
         board: SharedBoard<Piece<'s>>,
         seat: Seat<Board<Piece<'s>>>,
-        planned: Vec<Option<Planned<Piece<'s>>>>,
     ) -> Result<Driven<'s>, Memory>
         requires few { self.now.workers ≤ WORKERS_MOST }
-        requires each { length planned.items ≡ query_count self.now.script.now.steps }
-        requires fit { PlansFit StandsFor Asks (chunk_count self.now.world.now.plan)
-            (base_of self.now.world.now.plan self.now.world.now.rows queries.now) planned.items }
+        requires plans { ArePlans self.now.world.now.plan self.now.world.now.rows
+            (query_lines self.now.script.now) plans.now }
+        requires planned { planned.items ≡ map attached plans.now }
         requires seat { seat ≡ first_seat board (record {
-          root = base_of self.now.world.now.plan self.now.world.now.rows queries.now;
+          root = base_of self.now.world.now.plan self.now.world.now.rows plans.now;
           ring = chunk_count self.now.world.now.plan;
         }) }
         ensures own { IfOk result (λ r. r.seat.turn ≡ r.board) }
         ensures over { IfOk result (λ r. IsOver self.now.workers self.now.world.now.plan
-            self.now.world.now.rows self.now.script.now.steps
-            queries.now planned.entry.items r.seat r.ends.items) }
+            self.now.world.now.rows self.now.script.now.steps plans.now r.seat r.ends.items) }
     {
         know(self.world);
         let _ = self.script.queries();
         let engine = ChunkEngine {
             alloc: self.alloc,
             world: self.world,
-            queries,
+            plans,
         };
         let scan = Scan {
             alloc: self.alloc,

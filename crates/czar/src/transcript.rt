@@ -1,17 +1,15 @@
 //! The transcript of a script: the block of each query, by how it ended.
 
-ghost use Rattle.std.specs.Prelude.{◌≡◌, ◌<◌, ◌+◌, [], get_or, length, map};
-ghost use Rattle.text_rules.specs.declared.limits.TheConstants.{QUERIES_MOST};
+ghost use Rattle.std.specs.Prelude.{map};
 ghost use Rattle.session_rules.specs.declared.end.EndKind.TheVariants.{Answered};
-ghost use Rattle.session_script.specs.Scripts.{query_count};
 ghost use Rattle.session_script.specs.Views.{query_lines};
 ghost use Rattle.sky_io.specs.Sinks.{Wrote};
 ghost use Rattle.transcript_rules.specs.Blocks.{block};
-ghost use Rattle.transcript_rules.specs.Transcripts.{blocks_of, transcript};
+ghost use Rattle.transcript_rules.specs.Transcripts.{transcript};
 ghost use Rattle.czar.specs.Ends.{EndShows, EndsShow, IsAnswered, kind_of};
 
 use crate::end::End;
-use answer_text::{Shown, put_cancelled, put_refusal, put_spent, put_table};
+use answer_text::{Blocks, Shown, put_blocks, put_cancelled, put_refusal, put_spent, put_table};
 use chunk_store::Store;
 use partial_merge::Table;
 use session_script::Script;
@@ -60,29 +58,36 @@ fn put_end<K: Sink>(sink: &mut K, world: &Store, number: u32, text: &[u8], end: 
     }
 }
 
-/// Writes the block of the query with an index, from 0.
-fn put_block<K: Sink>(
-    sink: &mut K,
-    world: &Store,
-    script: &Script<'_>,
-    ends: &[End],
-    place: u32,
-) -> Put
-    requires there { place < query_count script.now.steps }
-    requires few { place < QUERIES_MOST }
-    requires shown { EndsShow world.now.plan world.now.rows (query_lines script.now) ends.now }
-    ensures { Wrote (K.state sink.old) (K.state sink.new)
-        (get_or (blocks_of world.now.plan world.now.rows script.now (map kind_of ends.now))
-        place []) result }
-{
-    let number = place + 1;
-    put_end(
-        sink,
-        world,
-        number,
-        script.text_of(number),
-        &ends[place as usize],
-    )
+/// A script whose queries have these ends, over a store.
+#[derive(Drop)]
+struct Transcript<'a, 't> {
+    world: &'a Store,
+    script: &'a Script<'t>,
+    ends: &'a [End],
+}
+
+impl<'a, 't> Blocks for Transcript<'a, 't> {
+    ghost use Rattle.std.specs.Prelude.{map};
+    ghost use Rattle.session_script.specs.Views.{query_lines};
+    ghost use Rattle.transcript_rules.specs.Transcripts.{blocks_of};
+    ghost use Rattle.czar.specs.Ends.{EndsShow, kind_of};
+
+    ghost blocks = { λ t. blocks_of t.world.now.plan t.world.now.rows t.script.now (map kind_of t.ends.now) };
+
+    ghost fits = { λ t. EndsShow t.world.now.plan t.world.now.rows (query_lines t.script.now) t.ends.now };
+
+    fn put_block<K: Sink>(&self, sink: &mut K, place: u32) -> Put {
+        let _ = self.script.queries();
+        let ends = self.ends;
+        let number = place + 1;
+        put_end(
+            sink,
+            self.world,
+            number,
+            self.script.text_of(number),
+            &ends[place as usize],
+        )
+    }
 }
 
 /// Writes the transcript of a script whose queries have these ends. Does not allocate.
@@ -96,11 +101,10 @@ pub fn put_transcript<K: Sink>(
     ensures { Wrote (K.state sink.old) (K.state sink.new)
         (transcript world.now.plan world.now.rows script.now (map kind_of ends.now)) result }
 {
-    for place in 0..script.queries() {
-        match put_block(sink, world, script, ends, place) {
-            Put::Failed => return Put::Failed,
-            Put::Done => {}
-        }
-    }
-    Put::Done
+    let transcript = Transcript {
+        world,
+        script,
+        ends,
+    };
+    put_blocks(sink, &transcript, script.queries())
 }

@@ -7,8 +7,8 @@ use Rattle.text_rules.specs.Readings.{joined}
 use Rattle.request_loop.specs.Replies.{AreReplies, IsReply, long_line, memory_line}
 use Rattle.request_loop.specs.Requests.{lines_in, with_byte}
 use Rattle.reply_rules.specs.Lines.{EndsAtPlus, begins_with_plus}
-use Rattle.reply_rules.specs.Found.{AreEach, cut_at_plus, replies_in, with_line}
-use Rattle.reply_rules.specs.Laws.{FixedRepliesEndAtPlus, RepliesAreFound}
+use Rattle.reply_rules.specs.Found.{AreFound, cut_at_plus, replies_in, with_line}
+use Rattle.reply_rules.specs.Laws.{AnswerEndsAtPlus, AnswersAreFound, FixedRepliesEndAtPlus, RepliesAreFound}
 use Rattle.reply_rules.proofs.Whole.{no_lines, then_plus}
 
 -- a byte before the first line
@@ -69,14 +69,8 @@ reply_at_plus Answers ends request reply (inl answered) = ends request reply ans
 reply_at_plus Answers ends request reply (inr (inl long)) = subst EndsAtPlus (sym long.1) long_at_plus
 reply_at_plus Answers ends request reply (inr (inr memory)) = subst EndsAtPlus (sym memory) memory_at_plus
 
--- A client finds the reply to each of these requests in the text, in their order, whatever follows the text.
-pub record AreFound (Answers : List ℕ → List ℕ → Type 0) (requests : List (List ℕ)) (text : List ℕ) : Type 0 where
-  pub replies : List (List ℕ)
-  pub each : AreEach Answers requests replies
-  pub found : (later : List ℕ) → replies_in (text ++ later) ≡ replies ++ replies_in later
-
 -- if each answer ends at its one line that begins with `+`, a client finds the replies
-pub all_found : (Answers : List ℕ → List ℕ → Type 0) → ((request answer : List ℕ) → Answers request answer → EndsAtPlus answer)
+all_found : (Answers : List ℕ → List ℕ → Type 0) → ((request answer : List ℕ) → Answers request answer → EndsAtPlus answer)
     → (requests : List (List ℕ)) (text : List ℕ) → AreReplies Answers requests text → AreFound Answers requests text
 all_found Answers ends [] text are = record {
   replies = [];
@@ -93,3 +87,6 @@ all_found Answers ends (request ∷ requests) text are =
           ∙ found_first are.reply (are.later ++ later) (reply_at_plus Answers ends request are.reply are.is)
           ∙ ap (λ ts. are.reply ∷ ts) (more.found later);
     }
+
+pub answers_are_found : AnswersAreFound
+answers_are_found = all_found AnswerEndsAtPlus (λ request answer ends. ends)

@@ -42,12 +42,12 @@ use Rattle.transcript_rules.specs.declared.refusal.Refusal.TheVariants as refusa
 use Rattle.transcript_rules.proofs.Blocks.{split_and}
 use Rattle.print_rules.proofs.Limits.{Printable}
 use Rattle.print_rules.proofs.Walks.{Each}
-use Rattle.reply_rules.specs.Laws.{IsNamed, NoLineBeginsWithPlus, TranscriptsAreLines}
+use Rattle.reply_rules.specs.Laws.{AnsweredEndsAtPlus, IsNamed, NoLineBeginsWithPlus, TranscriptsAreLines}
 use Rattle.reply_rules.proofs.Bytes.{Plain, decimal_high, fixed_high, flat, flat_both, high, high_both, high_flat, high_plain, plain_both, signed_high, slice_flat, solid_plain, solid_then}
 use Rattle.reply_rules.proofs.Headings.{IsReadWell, both_printable, item_solid, items_flat, read_well, table_high}
 use Rattle.reply_rules.proofs.Named.{names_high}
 use Rattle.reply_rules.proofs.Scripts.{queries_flat}
-use Rattle.reply_rules.proofs.Whole.{AreWhole, lines_both, lines_each, no_lines, plain_line}
+use Rattle.reply_rules.proofs.Whole.{AreWhole, lines_both, lines_each, no_lines, plain_line, then_plus}
 
 -- ---- headings
 
@@ -230,3 +230,8 @@ no_line_begins_with_plus g c s ends named read = (transcript_whole g c s ends na
 
 pub transcripts_are_lines : TranscriptsAreLines
 transcripts_are_lines g c s ends named read = (transcript_whole g c s ends named read).whole
+
+-- then a line `+ ok` ends the reply
+pub answered_ends_at_plus : AnsweredEndsAtPlus
+answered_ends_at_plus g c s ends named read =
+    then_plus (transcript g c s ends) (codes "+ ok") (transcript_whole g c s ends named read) refl refl

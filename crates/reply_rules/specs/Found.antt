@@ -25,3 +25,9 @@ AreEach Answers [] replies = replies ≡ []
 AreEach Answers (request ∷ requests) [] = ⊥
 AreEach Answers (request ∷ requests) (reply ∷ replies) =
     IsReply Answers request reply × AreEach Answers requests replies
+
+-- A client finds the reply to each of these requests in the text, in their order, whatever follows the text.
+pub record AreFound (Answers : List ℕ → List ℕ → Type 0) (requests : List (List ℕ)) (text : List ℕ) : Type 0 where
+  pub replies : List (List ℕ)
+  pub each : AreEach Answers requests replies
+  pub found : (later : List ℕ) → replies_in (text ++ later) ≡ replies ++ replies_in later

@@ -1,5 +1,5 @@
 -- Facts about the lines of every transcript, and about the replies to requests.
-use Rattle.std.specs.Prelude.{◌≡◌, true, ℕ, List, ◌++◌, Ok, All}
+use Rattle.std.specs.Prelude.{◌≡◌, true, ℕ, List, ◌++◌, Ok, All, codes}
 use Rattle.std.specs.List.{list_all}
 use Rattle.text_rules.specs.Readings.{joined}
 use Rattle.table_rules.specs.Names.{is_name}
@@ -10,9 +10,9 @@ use Rattle.session_script.specs.Scripts.{script_of}
 use Rattle.session_script.specs.Views.{ScriptView}
 use Rattle.session_rules.specs.declared.end.EndKind.{EndKind}
 use Rattle.transcript_rules.specs.Transcripts.{transcript}
-use Rattle.request_loop.specs.Replies.{long_line, memory_line}
+use Rattle.request_loop.specs.Replies.{AreReplies, long_line, memory_line}
 use Rattle.reply_rules.specs.Lines.{EndsAtPlus, HasNoPlusLine, IsWholeLines}
-use Rattle.reply_rules.specs.Found.{replies_in}
+use Rattle.reply_rules.specs.Found.{AreFound, replies_in}
 
 -- each extra column has a name
 abbrev pub IsNamed : Catalogue → Type 0
@@ -38,6 +38,10 @@ NoLineBeginsWithPlus = OfTranscripts HasNoPlusLine
 abbrev pub TranscriptsAreLines : Type 0
 TranscriptsAreLines = OfTranscripts IsWholeLines
 
+-- the reply to an accepted script, its transcript and then the line `+ ok`, ends at that line
+abbrev pub AnsweredEndsAtPlus : Type 0
+AnsweredEndsAtPlus = OfTranscripts (λ text. EndsAtPlus (text ++ codes "+ ok\n"))
+
 -- the replies that are no answers end at their one line
 abbrev pub FixedRepliesEndAtPlus : Type 0
 FixedRepliesEndAtPlus = EndsAtPlus long_line × EndsAtPlus memory_line
@@ -47,3 +51,14 @@ abbrev pub RepliesAreFound : Type 0
 RepliesAreFound =
     (replies : List (List ℕ)) → All EndsAtPlus replies
     → (later : List ℕ) → replies_in (joined replies ++ later) ≡ replies ++ replies_in later
+
+-- an answer, to whatever request, ends at its one line that begins with `+`
+abbrev pub AnswerEndsAtPlus : (request answer : List ℕ) → Type 0
+AnswerEndsAtPlus request answer = EndsAtPlus answer
+
+-- if a text is the replies to some requests, and each answer ends at its one line that begins with `+`, a client finds the
+-- reply to each request in it, whatever follows
+abbrev pub AnswersAreFound : Type 0
+AnswersAreFound =
+    (requests : List (List ℕ)) (text : List ℕ) → AreReplies AnswerEndsAtPlus requests text
+    → AreFound AnswerEndsAtPlus requests text

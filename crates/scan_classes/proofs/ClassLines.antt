@@ -1,5 +1,5 @@
 -- Each call of the board of a class adds no line that may not be in its journal.
-use Rattle.std.proofs.Common.{◌≡◌, ℕ, zero, suc, List, [], ◌∷◌, ◌++◌, Bool, true, false, not, nat_lt, length, ◌⊎◌, inl, inr, ⊎_elim, refl, sym, ap, ◌∙◌, subst, arith, Contains, if◌then◌else◌, Option}
+use Rattle.std.proofs.Common.{◌≡◌, ℕ, zero, suc, List, [], ◌∷◌, ◌++◌, Bool, true, false, not, ◌⊎◌, inl, inr, ⊎_elim, refl, sym, ap, ◌∙◌, subst, arith, Contains, if◌then◌else◌, Option}
 use Rattle.std.specs.List.{list_all}
 use Rattle.std.proofs.lemmas.Bool.{and_from, and_parts, cases_Bool}
 use Rattle.turn_lock.proofs.Splitting.{no_member}
@@ -18,8 +18,7 @@ use Rattle.scan_core.specs.Delivering.{DeliversTask}
 use Rattle.scan_board.specs.Calls.{AnswersCancel, AnswersClose}
 use Rattle.scan_classes.specs.declared.class.Class.{Class}
 use Rattle.scan_classes.specs.declared.class.Class.TheVariants.{Short, Long}
-use Rattle.scan_classes.specs.declared.class.TheConstants.{SHORT_MOST}
-use Rattle.scan_classes.specs.Pairs.{AreOfClass, class_of, may_be_at}
+use Rattle.scan_classes.specs.Pairs.{AreOfClass, class_of, may_be_at, wants_many}
 
 -- no line is added, or one that may be at the board of the class
 abbrev pub AddsOf : Class → Journal → Journal → Type 0
@@ -55,8 +54,8 @@ is_long false e = absurd (short_is_not_long e) where
   short_is_not_long e = cc
 
 pub attach_may : (class : Class) (seat q : ℕ) (chunks : List ℕ) → class_of chunks ≡ class → may_be_at class (AttachLine seat q chunks) ≡ true
-attach_may Short seat q chunks e = is_short (nat_lt SHORT_MOST (length chunks)) e
-attach_may Long seat q chunks e = is_long (nat_lt SHORT_MOST (length chunks)) e
+attach_may Short seat q chunks e = is_short (wants_many chunks) e
+attach_may Long seat q chunks e = is_long (wants_many chunks) e
 
 -- so may each line that is no Attach
 take_may : (class : Class) (seat ticket chunk : ℕ) (queries : List ℕ) → may_be_at class (TakeLine seat ticket chunk queries) ≡ true

@@ -8,11 +8,15 @@ use Rattle.scan_rules.specs.Queries.{Journal}
 use Rattle.scan_board.specs.Calls.{BoardSeat}
 use Rattle.scan_classes.specs.declared.class.Class.{Class}
 use Rattle.scan_classes.specs.declared.class.Class.TheVariants.{Short, Long}
-use Rattle.scan_classes.specs.declared.class.TheConstants.{SHORT_MOST}
 
--- a query that wants more chunks than a short one may is long
+-- A query wants more chunks than a short one may. The number 16 is here, and not taken from the code, so that the code has
+-- this division and no other.
+abbrev pub wants_many : List ℕ → Bool
+wants_many chunks = nat_lt 16 (length chunks)
+
+-- a query that wants more than 16 chunks is long, and each other one is short
 abbrev pub class_of : List ℕ → Class
-class_of chunks = if nat_lt SHORT_MOST (length chunks) then Long else Short
+class_of chunks = if wants_many chunks then Long else Short
 
 -- the other class
 abbrev pub other_than : Class → Class
@@ -41,8 +45,8 @@ turn_at turns Long = turns.long
 
 -- the line may be in the journal of the board of a class: it attaches no query of the other class
 abbrev pub may_be_at : Class → JournalLine → Bool
-may_be_at Short (Attach seat q chunks) = not (nat_lt SHORT_MOST (length chunks))
-may_be_at Long (Attach seat q chunks) = nat_lt SHORT_MOST (length chunks)
+may_be_at Short (Attach seat q chunks) = not (wants_many chunks)
+may_be_at Long (Attach seat q chunks) = wants_many chunks
 may_be_at class _ = true
 
 -- these lines attach queries of the class alone

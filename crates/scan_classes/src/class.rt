@@ -5,13 +5,14 @@ ghost use Rattle.scan_classes.specs.ClassTakes.{after_ended, after_idle};
 
 use scan_board::{ChunkSet, Take, Task};
 
-/// The most chunks that a short query wants.
+/// The most chunks that a short query wants. The number is the project's own division: no format fixes it. `class_of`
+/// has it as a literal, so `Class::of` is refused with another number here.
 pub const SHORT_MOST: usize = 16;
 
 /// The class of a query, and of the board that runs the queries of this class.
 #[derive(Clone, Copy, Debug, PartialEq, Eq)]
 pub enum Class {
-    /// Queries of at most `SHORT_MOST` chunks.
+    /// Queries of at most 16 chunks (`SHORT_MOST`).
     Short,
     /// Queries of more chunks.
     Long,

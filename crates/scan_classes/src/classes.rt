@@ -67,8 +67,8 @@ impl<P: Work> Classes<P> {
         ))
     }
 
-    /// Attaches a query to the board of its class, as the board does, and returns the class. Waits for the lock.
-    /// Allocates memory.
+    /// Attaches a query to the board of its class, as the board does, and returns the class. `Again` means that this
+    /// board had the number before: the other board may have it too. Waits for the lock. Allocates memory.
     pub fn attach<R: Wait>(
         &self,
         rt: &R,

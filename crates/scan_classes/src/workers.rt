@@ -18,8 +18,9 @@ use sky_io::Gate;
 use std::alloc::Global;
 use std::sync::Wait;
 
-/// Runs rounds at both boards, with short tasks first, until both are closed and nothing is left to take at either.
-/// Waits. Allocates memory for pieces, to absorb them, and for a scratch, which is freed at the end.
+/// Runs rounds at both boards, until both are closed and nothing is left to take at either. Which board is asked first
+/// is in the contract of `Classes::take`, and not in this one. Waits. Allocates memory for pieces, to absorb them, and
+/// for a scratch, which is freed at the end.
 pub fn class_worker<R: Wait, P: Work, E: Engine<P>, G: Gate>(
     alloc: Global,
     rt: &R,

@@ -1,4 +1,4 @@
-use Rattle.czar.proofs.BlocksByPlace.{wrote_as}
+use Rattle.czar.proofs.Writing.{wrote_as}
 use Rattle.czar.proofs.EndBlocks.{answered_block}
 use Rattle.czar.proofs.transcript.put_answer.Goals as goal
 

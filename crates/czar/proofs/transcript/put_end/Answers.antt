@@ -2,7 +2,7 @@ use Rattle.std.proofs.Common.{ap, subst, sym, ◌∙◌}
 use Rattle.transcript_rules.specs.Blocks.{block}
 use Rattle.transcript_rules.proofs.Steps.{cancelled_by, refused_by, spent_by}
 use Rattle.czar.specs.Ends.{EndShows, kind_of}
-use Rattle.czar.proofs.BlocksByPlace.{wrote_as}
+use Rattle.czar.proofs.Writing.{wrote_as}
 use Rattle.czar.proofs.transcript.put_end.Goals as goal
 
 pub returns-in-Answered : goal.returns-in-Answered
