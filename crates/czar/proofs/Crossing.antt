@@ -54,7 +54,6 @@ use Rattle.czar.specs.contracts.plan.Plan as plan
 use Rattle.answer_rules.specs.contracts.rewritten.ChunkQuery as chunk_query
 use Rattle.answer_rules.specs.contracts.rewritten.MergePlan as merge_plan
 use Rattle.sql_tree.specs.contracts.query.Selection as selection
-use Rattle.sql_tree.specs.contracts.query.ItemKind as item_kind
 use Rattle.sql_tree.specs.contracts.cond.Cond as written_cond
 use Rattle.sql_tree.specs.contracts.query.Item as item
 
@@ -135,74 +134,6 @@ pub ruleset crossing = (
 
 -- what a plan consists of
 ruleset of_plan = (
-  lists.the_send,
-  lists.the_sync,
-  store.the_send,
-  store.the_sync,
-  block.the_send,
-  block.the_sync,
-  std_option.the_field_send,
-  std_option.the_send,
-  std_option.the_field_sync,
-  std_option.the_sync,
-  std_memory.the_field_send,
-  std_memory.the_send,
-  std_memory.the_field_sync,
-  std_memory.the_sync,
-  sky_plan.the_send,
-  sky_plan.the_sync,
-  stripe.the_send,
-  stripe.the_sync,
-  column.the_send,
-  column.the_sync,
-  columns.the_send,
-  columns.the_sync,
-  lists_of_sky_row.the_send,
-  lists_of_sky_row.the_sync,
-  rows.the_send,
-  rows.the_sync,
-  schema.the_send,
-  schema.the_sync,
-  dir.the_field_send,
-  dir.the_send,
-  dir.the_field_sync,
-  dir.the_sync,
-  pos.the_field_send,
-  pos.the_send,
-  pos.the_field_sync,
-  pos.the_sync,
-  area_test.the_field_send,
-  area_test.the_send,
-  area_test.the_field_sync,
-  area_test.the_sync,
-  bound_col.the_field_send,
-  bound_col.the_send,
-  bound_col.the_field_sync,
-  bound_col.the_sync,
-  shape.the_field_send,
-  shape.the_send,
-  shape.the_field_sync,
-  shape.the_sync,
-  squared_radius.the_send,
-  squared_radius.the_sync,
-  int.the_send,
-  int.the_sync,
-  cmp.the_field_send,
-  cmp.the_send,
-  cmp.the_field_sync,
-  cmp.the_sync,
-  boxed.the_send,
-  boxed.the_sync,
-  items.the_send,
-  items.the_sync,
-  std_box.the_send,
-  std_box.the_sync,
-  std_vec.the_send,
-  std_vec.the_sync,
-  std_global.the_field_send,
-  std_global.the_send,
-  std_global.the_field_sync,
-  std_global.the_sync,
   radius.the_field_sync,
   radius.the_sync,
   total_out.the_field_sync,
@@ -234,14 +165,10 @@ ruleset of_plan = (
   refusal.the_field_sync,
   refusal.the_sync,
   chunk_set.the_sync,
-  crosses,
-  conds.crosses,
-  exprs.crosses,
   written_conds.crosses,
   written_exprs.crosses,
-  sendable,
+  crossing,
 )
-
 
 -- ---- a plan may be read by all workers, part by part
 
@@ -254,11 +181,8 @@ merge_plan_sync = search of_plan depth 60 fits 20000
 rewritten_sync : IsSync rewritten.the_row
 rewritten_sync = declared_sync (declared rewritten.struct rewritten.the_propositions) (chunk_query_sync, (merge_plan_sync, tt))
 
-item_kind_sync : IsSync item_kind.the_row
-item_kind_sync = search of_plan depth 60 fits 20000
-
 item_sync : IsSync item.the_row
-item_sync = search (item_kind_sync, of_plan) depth 60 fits 20000
+item_sync = search of_plan depth 60 fits 20000
 
 selection_sync : IsSync selection.the_row
 selection_sync = search (item_sync, of_plan) depth 60 fits 20000
