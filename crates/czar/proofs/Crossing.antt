@@ -191,9 +191,19 @@ cond_sync : IsSync written_cond.the_row
 cond_sync = search of_plan depth 60 fits 20000
 
 query_sync : IsSync query.the_row
-query_sync = declared_sync (declared query.struct query.the_propositions) (selection_sync, (table_ref.the_sync,
-    (search of_plan depth 60 fits 20000, (search (cond_sync, of_plan) depth 60 fits 20000,
-    (search of_plan depth 60 fits 20000, (search of_plan depth 60 fits 20000, (search of_plan depth 60 fits 20000, tt)))))))
+query_sync = declared_sync (declared query.struct query.the_propositions) (
+  selection_sync,
+  (
+    table_ref.the_sync,
+    (
+      search of_plan depth 60 fits 20000,
+      (
+        search (cond_sync, of_plan) depth 60 fits 20000,
+        (search of_plan depth 60 fits 20000, (search of_plan depth 60 fits 20000, (search of_plan depth 60 fits 20000, tt))),
+      ),
+    ),
+  ),
+)
 
 pub plan_sync : IsSync plan.the_row
 plan_sync = variants_sync plan.enum ((query_sync, (rewritten_sync, (chunk_set.the_sync, tt))), ((refusal.the_sync, tt), tt))

@@ -8,8 +8,8 @@ use Rattle.czar.proofs.Writing.{wrote_as}
 use Rattle.czar.proofs.PlanBlocks.{a_plan_each, explained_there, plan_at}
 use Rattle.czar.proofs.explained.ExplanationBlocks.put_block.Goals as goal
 
-pub overflow_add-place : goal.overflow_add-place
-overflow_add-place g c =
+pub overflow_add-number : goal.overflow_add-number
+overflow_add-number g c =
     let t = c.args.self.now in
     omega (arith, c.requires.there, one_explained_each t.world.now.plan t.world.now.rows t.script.now, c.queries.ensures.count, c.queries.ensures.few)
 

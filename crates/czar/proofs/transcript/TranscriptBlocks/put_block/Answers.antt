@@ -7,8 +7,8 @@ use Rattle.czar.proofs.Writing.{wrote_as}
 use Rattle.czar.proofs.EndBlocks.{an_end_each, as_many_blocks, block_there, end_at}
 use Rattle.czar.proofs.transcript.TranscriptBlocks.put_block.Goals as goal
 
-pub overflow_add-place : goal.overflow_add-place
-overflow_add-place g c =
+pub overflow_add-number : goal.overflow_add-number
+overflow_add-number g c =
     let t = c.args.self.now in
     omega (arith, c.requires.there, as_many_blocks t.world.now.plan t.world.now.rows t.script.now t.ends.now c.requires.fits, c.queries.ensures.count, c.queries.ensures.few)
 
