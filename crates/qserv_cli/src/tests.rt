@@ -12,6 +12,7 @@ use text_rules::limits::TEXT_MOST;
 use top_call::{qserv, status};
 
 mod cuts;
+mod limits;
 
 pub(crate) const SKY: &[u8] = b"overlap 5\nstripe -268435472 4 2 2\nstripe 0 4 2 2\n";
 
@@ -36,10 +37,14 @@ fn words_for(alloc: Global, command: &str, workers: &str) -> Result<Vec<String>,
     Ok(words)
 }
 
-// The sky plan, the catalogue and a script by their names.
-fn texts_of(alloc: Global, script: &[u8]) -> Result<Vec<(String, Vec<u8>)>, Fail> {
+// The sky plan, a catalogue and a script by their names.
+pub(crate) fn texts_of<'t>(
+    alloc: Global,
+    catalogue: &'t [u8],
+    script: &'t [u8],
+) -> Result<Vec<(String, Vec<u8>)>, Fail> {
     let mut texts = Vec::new(alloc);
-    for (name, text) in [("sky", SKY), ("csv", CATALOGUE), ("script", script)] {
+    for (name, text) in [("sky", SKY), ("csv", catalogue), ("script", script)] {
         texts.push((String::from_str(alloc, name)?, text.to_vec(alloc)?))?;
     }
     Ok(texts)
@@ -68,7 +73,7 @@ fn run_past<R: Threads + Wait + Sync, G: Gate + Sync>(
     gate: &G,
 ) -> Result<u8, Fail> {
     let words = words_of(alloc, workers)?;
-    let mut shelf = PlainShelf::new(texts_of(alloc, script)?);
+    let mut shelf = PlainShelf::new(texts_of(alloc, CATALOGUE, script)?);
     Ok(status_past(rt, alloc, words.as_slice(), &mut shelf, sink, gate))
 }
 
@@ -141,7 +146,11 @@ fn a_shelf_that_fails_at_its_second_fetch_is_a_fault(rt: HostRuntime) -> Result<
     let alloc = rt.alloc();
     let mut sink = MemSink::new(alloc, 1000, Vec::new(alloc))?;
     let words = words_of(alloc, "0")?;
-    let mut shelf = MemShelf::new(alloc, texts_of(alloc, SCRIPT)?, vec![in alloc; 2]?);
+    let mut shelf = MemShelf::new(
+        alloc,
+        texts_of(alloc, CATALOGUE, SCRIPT)?,
+        vec![in alloc; 2]?,
+    );
     let found = status_past(
         &rt,
         alloc,
@@ -219,7 +228,7 @@ fn two_work_on_chunks_at_one_time_in_the_journal(rt: HostRuntime) -> Result<(), 
     let gate = StepGate::new(2, 10000000);
     let mut sink = MemSink::new(alloc, 4000, Vec::new(alloc))?;
     let words = words_for(alloc, "trace", "2")?;
-    let mut shelf = PlainShelf::new(texts_of(alloc, SCRIPT)?);
+    let mut shelf = PlainShelf::new(texts_of(alloc, CATALOGUE, SCRIPT)?);
     let found = status_past(&rt, alloc, words.as_slice(), &mut shelf, &mut sink, &gate);
     assert_eq!(rt; found, 0);
     assert!(rt; gate.met());

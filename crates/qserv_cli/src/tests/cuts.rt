@@ -52,15 +52,14 @@ fn texts_with(alloc: Global, cut: &str, left: &[u8]) -> Result<Vec<(String, Vec<
 }
 
 // A sink with what is written of these texts, and then the line of the outcome.
-fn told<R: Threads + Wait + Sync>(
+pub(crate) fn told<R: Threads + Wait + Sync>(
     rt: &R,
     alloc: Global,
-    cut: &str,
-    left: &[u8],
+    texts: Vec<(String, Vec<u8>)>,
 ) -> Result<MemSink, Fail> {
     let words = words_of(alloc, "0")?;
-    let mut shelf = PlainShelf::new(texts_with(alloc, cut, left)?);
-    let mut sink = MemSink::new(alloc, 1000, Vec::new(alloc))?;
+    let mut shelf = PlainShelf::new(texts);
+    let mut sink = MemSink::new(alloc, 10000, Vec::new(alloc))?;
     let outcome = qserv(
         rt,
         alloc,
@@ -76,7 +75,7 @@ fn told<R: Threads + Wait + Sync>(
 #[test]
 fn a_cut_text_has_its_first_fault_or_is_answered(rt: HostRuntime) -> Result<(), Fail> {
     for (cut, left, want) in CUTS {
-        let sink = told(&rt, rt.alloc(), cut, left)?;
+        let sink = told(&rt, rt.alloc(), texts_with(rt.alloc(), cut, left)?)?;
         assert_eq!(rt; sink.bytes(), want, "{cut}: {left:?}");
     }
     Ok(())
