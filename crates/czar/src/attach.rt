@@ -5,14 +5,13 @@ ghost use Rattle.std.specs.Prelude.{All, IfOk, OnOk, length, map, take};
 ghost use Rattle.sky_rules.specs.Partition.{chunk_count};
 ghost use Rattle.scan_rules.specs.declared.limits.TheConstants.{QUERY_MOST};
 ghost use Rattle.answer_rules.specs.Bases.{columns_in};
-ghost use Rattle.turn_lock.specs.Seats.{first_seat};
 ghost use Rattle.czar.specs.Attached.{IsSoundPlan, attached, base_of, with_next};
 ghost use Rattle.table_rules.specs.declared.limits.TheConstants.{FIRST_COLUMNS};
 
 use crate::plan::Plan;
 use chunk_store::Store;
 use partial_merge::{Piece, PieceRoot};
-use scan_board::{Board, Seat, SharedBoard};
+use scan_board::Board;
 use scan_session::Planned;
 use sky_io::Memory;
 use std::alloc::Global;
@@ -49,8 +48,8 @@ fn push_attached<'w>(
     Ok(())
 }
 
-/// Returns what is attached for each query of a script, in their order.
-pub(crate) fn all_attached<'w>(
+/// Returns what is attached for each query of a script, in their order. Allocates memory.
+pub fn all_attached<'w>(
     alloc: Global,
     plans: &[Plan],
 ) -> Result<Vec<Option<Planned<Piece<'w>>>>, Memory>
@@ -107,20 +106,20 @@ fn root_of<'w>(alloc: Global, world: &'w Store, plans: &[Plan]) -> Result<PieceR
     Ok(root)
 }
 
-/// Creates a board over the chunks of the world for the queries with these plans, and the czar's participant.
-pub(crate) fn seated<'w>(
+/// Creates a board over the chunks of the world for the queries with these plans. Allocates memory.
+pub(crate) fn board_over<'w>(
     alloc: Global,
     world: &'w Store,
     plans: &[Plan],
-) -> Result<(SharedBoard<Piece<'w>>, Seat<Board<Piece<'w>>>), Memory>
+) -> Result<Board<Piece<'w>>, Memory>
     requires few { length plans.now ≤ QUERY_MOST }
     requires sound { All (IsSoundPlan (FIRST_COLUMNS + length world.now.rows.names)) plans.now }
-    ensures { IfOk result (λ r. r.1 ≡ first_seat r.0 (record {
+    ensures { IfOk result (λ board. board ≡ record {
       root = base_of world.now.plan world.now.rows plans.now;
       ring = chunk_count world.now.plan;
-    })) }
+      past = [];
+    }) }
 {
     let root = root_of(alloc, world, plans)?;
-    let board = Board::new(alloc, world.plan().chunks(), root)?;
-    SharedBoard::new(alloc, board)
+    Board::new(alloc, world.plan().chunks(), root)
 }

@@ -19,8 +19,9 @@ pub mod session;
 mod transcript;
 pub mod understanding;
 
+pub use attach::all_attached;
 pub use end::End;
 pub use explained::put_explained;
 pub use plan::{Plan, explain};
-pub use session::{run_session, run_traced};
+pub use session::{Session, run_session, run_traced};
 pub use transcript::put_transcript;

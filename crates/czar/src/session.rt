@@ -1,22 +1,26 @@
 //! The session of a script: its queries are planned and driven over a shared board with workers beside the czar, and
 //! their ends are returned.
 
-ghost use Rattle.std.specs.Prelude.{◌≡◌, ◌≤◌, IfOk, map};
+ghost use Rattle.std.specs.Prelude.{◌≡◌, ◌≤◌, [], IfOk, map};
 ghost use Rattle.table_rules.specs.Objects.{IsCatalogue};
 ghost use Rattle.sky_rules.specs.Limits.{IsSky};
 ghost use Rattle.sky_rules.specs.Partition.{chunk_count};
 ghost use Rattle.turn_lock.specs.Seats.{first_seat};
+ghost use Rattle.answer_rules.specs.Bases.{Asks};
+ghost use Rattle.scan_session.specs.Crews.{Manned};
+ghost use Rattle.scan_session.specs.Drove.{Drove};
+ghost use Rattle.scan_session.specs.Places.{AllSuit, only, seen_of};
 ghost use Rattle.session_rules.specs.declared.limits.TheConstants.{WORKERS_MOST};
 ghost use Rattle.session_script.specs.Views.{query_lines};
 ghost use Rattle.transcript_rules.specs.Transcripts.{FitEnds};
 ghost use Rattle.czar.specs.Attached.{attached, base_of};
-ghost use Rattle.czar.specs.Driven.{IsDriven, IsJoined, IsOver};
+ghost use Rattle.czar.specs.Driven.{IsDriven, IsDrivenBy, IsJoined, IsOver, chunks_planned};
 ghost use Rattle.czar.specs.Ended.{all_ended};
 ghost use Rattle.czar.specs.Ends.{EndsShow, kind_of};
 ghost use Rattle.czar.specs.Plans.{ArePlans};
 ghost use Rattle.czar.specs.Traces.{IsTraceOf};
 
-use crate::attach::{all_attached, seated};
+use crate::attach::{all_attached, board_over};
 use crate::chunk_engine::ChunkEngine;
 use crate::end::End;
 use crate::plan::{Plan, explain};
@@ -24,6 +28,7 @@ use crate::query_ends::all_query_ends;
 use chunk_store::Store;
 use partial_merge::Piece;
 use scan_board::{Board, Seat, SharedBoard};
+use scan_boards::Boards;
 use scan_rules::Journal;
 use scan_session::{End as BoardEnd, Planned, Scan, drive};
 use session_script::Script;
@@ -105,15 +110,17 @@ pub fn run_traced<R: Threads + Wait + Sync, G: Gate + Sync>(
     }
 }
 
-/// What a session is run over, and the means to run it: it stays the same during the session.
+/// What a session is run over, and the means to run it: it stays the same during the session. A session may be over one
+/// board, or over several (`class_session`).
 #[derive(Drop)]
-struct Session<'s, 't, R, G> {
-    alloc: Global,
-    rt: &'s R,
-    world: &'s Store,
-    script: &'s Script<'t>,
-    workers: u32,
-    gate: &'s G,
+pub struct Session<'s, 't, R, G> {
+    pub alloc: Global,
+    pub rt: &'s R,
+    pub world: &'s Store,
+    pub script: &'s Script<'t>,
+    /// Beside the czar.
+    pub workers: u32,
+    pub gate: &'s G,
 }
 
 /// A session whose workers were joined: its board, the czar's participant, and the end of each query at the board.
@@ -161,8 +168,8 @@ impl<'s, 't, R: Threads + Wait + Sync, G: Gate + Sync> Session<'s, 't, R, G> {
         journal
     }
 
-    /// Returns the end of each query, by its plan and by how it ended at the board.
-    fn query_ends(
+    /// Returns the end of each query, by its plan and by how it ended at its board. Allocates memory.
+    pub fn query_ends(
         &self,
         plans: Vec<Plan>,
         ends: Vec<BoardEnd<Piece<'_>>>,
@@ -185,6 +192,20 @@ impl<'s, 't, R: Threads + Wait + Sync, G: Gate + Sync> Session<'s, 't, R, G> {
         all_query_ends(self.alloc, plans, ends)
     }
 
+    /// Creates a board over the chunks of the world for the queries with these plans. Allocates memory.
+    pub fn board(&self, plans: &[Plan]) -> Result<Board<Piece<'s>>, Memory>
+        requires plans { ArePlans self.now.world.now.plan self.now.world.now.rows
+            (query_lines self.now.script.now) plans.now }
+        ensures { IfOk result (λ board. board ≡ record {
+          root = base_of self.now.world.now.plan self.now.world.now.rows plans.now;
+          ring = chunk_count self.now.world.now.plan;
+          past = [];
+        }) }
+    {
+        let _ = self.script.queries();
+        board_over(self.alloc, self.world, plans)
+    }
+
     /// Drives the queries with these plans over a board of their own.
     fn driven(&self, plans: &[Plan]) -> Result<Driven<'s>, Memory>
         requires few { self.now.workers ≤ WORKERS_MOST }
@@ -194,36 +215,48 @@ impl<'s, 't, R: Threads + Wait + Sync, G: Gate + Sync> Session<'s, 't, R, G> {
         ensures over { IfOk result (λ r. IsOver self.now.workers self.now.world.now.plan
             self.now.world.now.rows self.now.script.now.steps plans.now r.seat r.ends.items) }
     {
-        let _ = self.script.queries();
         let planned = all_attached(self.alloc, plans)?;
-        match seated(self.alloc, self.world, plans) {
-            Ok((board, seat)) => self.driven_at(plans, planned, board, seat),
+        let (board, seat) = SharedBoard::new(self.alloc, self.board(plans)?)?;
+        let (ends, seat) = self.drive_over(&board, seat, plans, planned);
+        match ends {
+            Ok(ends) => Ok(Driven { board, seat, ends }),
             Err(Memory) => {
-                drop(planned);
+                drop((board, seat));
                 Err(Memory)
             }
         }
     }
 
-    /// Drives what is attached for the queries with these plans over this board, from the czar's first participant.
-    fn driven_at(
+    /// Drives what is attached for the queries with these plans over some boards, from the czar's first participant.
+    /// Returns the end of each query at its board. Waits. Allocates memory. On Memory, too, each board is closed and
+    /// the workers are joined.
+    pub fn drive_over<B: Boards<Piece<'s>> + Sync>(
         &self,
+        boards: &B,
+        seat: B::Seat,
         plans: &[Plan],
         planned: Vec<Option<Planned<Piece<'s>>>>,
-        board: SharedBoard<Piece<'s>>,
-        seat: Seat<Board<Piece<'s>>>,
-    ) -> Result<Driven<'s>, Memory>
+    ) -> (Result<Vec<BoardEnd<Piece<'s>>>, Memory>, B::Seat)
+    where
+        B::Place: Send,
+        B::Seat: Send,
         requires few { self.now.workers ≤ WORKERS_MOST }
         requires plans { ArePlans self.now.world.now.plan self.now.world.now.rows
             (query_lines self.now.script.now) plans.now }
         requires planned { planned.items ≡ map attached plans.now }
-        requires seat { seat ≡ first_seat board (record {
+        requires seats { (p : B.Place) → B.at seat p ≡ first_seat (B.turn boards.now p) (record {
           root = base_of self.now.world.now.plan self.now.world.now.rows plans.now;
           ring = chunk_count self.now.world.now.plan;
         }) }
-        ensures own { IfOk result (λ r. r.seat.turn ≡ r.board) }
-        ensures over { IfOk result (λ r. IsOver self.now.workers self.now.world.now.plan
-            self.now.world.now.rows self.now.script.now.steps plans.now r.seat r.ends.items) }
+        requires suits { AllSuit (B.suits boards.now) planned.items }
+        ensures manned { (p : B.Place) → Manned Asks (B.at seat p) (B.at result.1 p) }
+        ensures drove { IfOk result.0 (λ ends. (p : B.Place) → Drove self.now.workers
+            (only (B.has boards.now p) (chunks_planned plans.now)) self.now.script.now.steps
+            (B.at result.1 p).seen) }
+        ensures driven { IfOk result.0 (λ ends. IsDrivenBy self.now.workers
+            self.now.world.now.plan self.now.world.now.rows self.now.script.now.steps plans.now
+            (λ q. only (B.has boards.now (B.home boards.now q)) (chunks_planned plans.now))
+            (seen_of (B.home boards.now) (B.at result.1)) ends.items) }
     {
         know(self.world);
         let _ = self.script.queries();
@@ -235,18 +268,11 @@ impl<'s, 't, R: Threads + Wait + Sync, G: Gate + Sync> Session<'s, 't, R, G> {
         let scan = Scan {
             alloc: self.alloc,
             rt: self.rt,
-            boards: &board,
+            boards,
             engine: &engine,
             gate: self.gate,
         };
-        let (ends, seat) = drive(&scan, seat, planned, self.script.steps(), self.workers);
-        match ends {
-            Ok(ends) => Ok(Driven { board, seat, ends }),
-            Err(Memory) => {
-                drop((board, seat));
-                Err(Memory)
-            }
-        }
+        drive(&scan, seat, planned, self.script.steps(), self.workers)
     }
 }
 

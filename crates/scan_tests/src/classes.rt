@@ -75,7 +75,12 @@ fn attach<R: Wait>(
 // A task: its ticket, its chunk, its first query, and how many queries it has.
 fn shown(task: &Task) -> (u32, u32, Option<u32>, usize) {
     let queries = task.queries();
-    (task.ticket(), task.chunk(), queries.first().copied(), queries.len())
+    (
+        task.ticket(),
+        task.chunk(),
+        queries.first().copied(),
+        queries.len(),
+    )
 }
 
 // Takes. Returns the class of the task and the task, if there is one.
@@ -116,12 +121,7 @@ fn serve_a_further_short_query<R: Abort + Wait>(
 }
 
 // A query of 17 chunks is long. A short query that is attached later is served before it.
-fn serve_both<R: Abort + Wait>(
-    alloc: Global,
-    rt: &R,
-    classes: &Classes<Blank>,
-    pair: Pair<Blank>,
-)
+fn serve_both<R: Abort + Wait>(alloc: Global, rt: &R, classes: &Classes<Blank>, pair: Pair<Blank>)
     requires short { (pair.short.turn ≡ classes.now.short) × (pair.short.root.ring ≡ 34) }
     requires long { (pair.long.turn ≡ classes.now.long) × (pair.long.root.ring ≡ 34) }
 {

@@ -1,0 +1,2 @@
+pub mod ClassHomes
+pub mod FirstPairs
