@@ -1,7 +1,6 @@
 -- The czar's pair, before a session and after it.
-use Rattle.std.proofs.Common.{◌≡◌, ◌∙◌, sym, ap, subst, ℕ, ◌≤◌, true, arith, List}
+use Rattle.std.proofs.Common.{◌≡◌, sym, ap, ◌≤◌, true, arith, List}
 use Rattle.table_rules.specs.Objects.{Catalogue}
-use Rattle.sky_rules.specs.Limits.{IsSky}
 use Rattle.sky_rules.specs.Partition.{Partition, chunk_count}
 use Rattle.answer_rules.specs.Bases.{Asks, Base}
 use Rattle.turn_lock.specs.Ends.{AllHaveEnded}
@@ -26,19 +25,19 @@ module _ (g : Partition) (c : Catalogue) (plans : List Plan) (turns : ClassTurns
   first_at Short = first.short
   first_at Long = first.long
 
-  czars : IsSky g → AreCzars Asks (turn_at turns) (base_of g c plans) (seat_at old)
-  czars sky = first_czars Asks (turn_at turns) (base_of g c plans) (seat_at old)
+  czars : ((p : Class) → (seat_at old p).root.ring ≤ 16384) → AreCzars Asks (turn_at turns) (base_of g c plans) (seat_at old)
+  czars small = first_czars Asks (turn_at turns) (base_of g c plans) (seat_at old)
       (λ p. ap (λ s. s.turn) (first_at p))
       (λ p. let f = first_at p in (ap (λ s. s.number) f, (ap (λ s. s.seen) f, (ap (λ s. s.mine) f, ap (λ s. s.made) f))))
-      (λ p. subst (λ (n : ℕ). n ≤ 16384) (sym (ap (λ s. s.root.ring) (first_at p))) sky.few_chunks)
+      small
       (λ p. sym (ap (λ s. s.root.root) (first_at p)))
 
   -- once both boards are closed
-  pub closed_manned : (new : PairSeat Base) → IsSky g
+  pub closed_manned : (new : PairSeat Base)
       → ((p : Class) → Called Asks (AnswersClose (seat_at old p).number) (seat_at old p) (seat_at new p))
       → (p : Class) → Manned Asks (seat_at old p) (seat_at new p)
-  closed_manned new sky called p =
-      let stays = stays_all Asks (λ o q. true) (seat_at old) (seat_at new) (czars sky).czar called in
+  closed_manned new called p =
+      let stays = stays_all Asks (λ o q. true) (seat_at old) (seat_at new) (czars (λ o. (called o).lawful.small)).czar called in
       manned_alone Asks (seat_at old p) (seat_at new p) (stays p) (is_closed_now Asks (seat_at old p) (seat_at new p) (called p)) (called p).known
 
   ended_at : (new : PairSeat Base) → ((p : Class) → Manned Asks (seat_at old p) (seat_at new p)) → (p : Class) → AllHaveEnded (seat_at new p)

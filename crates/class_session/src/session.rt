@@ -125,7 +125,7 @@ fn driven<'s, R: Threads + Wait + Sync, G: Gate + Sync>(
         Ok((planned, of)) => {
             session.drive_over(&ClassBoards::new(classes, of), pair, plans, planned)
         }
-        Err(Memory) => (Err(Memory), closed(session, plans, classes, pair)),
+        Err(Memory) => (Err(Memory), classes.close(session.rt, pair)),
     }
 }
 
@@ -138,20 +138,4 @@ fn parts<'s>(
     ensures classes { IfOk result (λ r. r.1.items ≡ classes_for plans.now) }
 {
     Ok((all_attached(alloc, plans)?, classes_of(alloc, plans)?))
-}
-
-/// Closes both boards, to which nothing was attached.
-fn closed<'s, R: Wait, G>(
-    session: &Session<'s, '_, R, G>,
-    plans: &[Plan],
-    classes: &Classes<Piece<'s>>,
-    pair: Pair<Piece<'s>>,
-) -> Pair<Piece<'s>>
-    requires first { IsFirstPair session.now.world.now.plan session.now.world.now.rows plans.now
-        classes.now pair }
-    ensures { (class : Class) → Manned Asks (seat_at pair class) (seat_at result class) }
-{
-    // the contract of `chunks` gives that the ring is within its limit
-    let _ = session.world.store().plan().chunks();
-    classes.close(session.rt, pair)
 }
