@@ -1,2 +1,3 @@
+pub mod ClassEnds
 pub mod ClassHomes
 pub mod FirstPairs
