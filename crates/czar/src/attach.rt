@@ -10,8 +10,8 @@ ghost use Rattle.turn_lock.specs.Seats.{first_seat};
 ghost use Rattle.czar.specs.Attached.{attached, base_over, chunk_query};
 
 use crate::plan::Plan;
+use crate::world::World;
 use answer_rules::ChunkQuery;
-use chunk_store::Store;
 use partial_merge::{Piece, PieceRoot};
 use scan_board::{Board, Seat, SharedBoard};
 use scan_session::Planned;
@@ -99,7 +99,7 @@ pub(crate) fn chunk_queries<'p>(
 /// Returns the root of a session's pieces: the world, and the chunk queries with their numbers.
 fn root_of<'w>(
     alloc: Global,
-    world: &'w Store,
+    world: &World<'w>,
     queries: &[(u32, &ChunkQuery)],
 ) -> Result<PieceRoot<'w>, Memory>
     requires base { IsBase (base_over world.now.plan world.now.rows queries.now) }
@@ -116,7 +116,7 @@ fn root_of<'w>(
 /// Creates a board over the chunks of the world for these chunk queries, and the czar's participant.
 pub(crate) fn seated<'w>(
     alloc: Global,
-    world: &'w Store,
+    world: &World<'w>,
     queries: &[(u32, &ChunkQuery)],
 ) -> Result<(SharedBoard<Piece<'w>>, Seat<Board<Piece<'w>>>), Memory>
     requires base { IsBase (base_over world.now.plan world.now.rows queries.now) }

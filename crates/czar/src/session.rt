@@ -23,8 +23,8 @@ use crate::chunk_engine::ChunkEngine;
 use crate::end::End;
 use crate::plan::{Plan, explain};
 use crate::query_ends::all_query_ends;
+use crate::world::World;
 use answer_rules::ChunkQuery;
-use chunk_store::Store;
 use partial_merge::Piece;
 use scan_board::{Board, Seat, SharedBoard};
 use scan_rules::Journal;
@@ -42,7 +42,7 @@ use std::thread::Threads;
 pub fn run_session<R: Threads + Wait + Sync, G: Gate + Sync>(
     alloc: Global,
     rt: &R,
-    world: &Store,
+    world: &World<'_>,
     script: &Script<'_>,
     workers: u32,
     gate: &G,
@@ -76,7 +76,7 @@ pub fn run_session<R: Threads + Wait + Sync, G: Gate + Sync>(
 pub fn run_traced<R: Threads + Wait + Sync, G: Gate + Sync>(
     alloc: Global,
     rt: &R,
-    world: &Store,
+    world: &World<'_>,
     script: &Script<'_>,
     workers: u32,
     gate: &G,
@@ -113,7 +113,7 @@ pub fn run_traced<R: Threads + Wait + Sync, G: Gate + Sync>(
 struct Session<'s, 't, R, G> {
     alloc: Global,
     rt: &'s R,
-    world: &'s Store,
+    world: &'s World<'s>,
     script: &'s Script<'t>,
     workers: u32,
     gate: &'s G,
@@ -238,7 +238,7 @@ impl<'s, 't, R: Threads + Wait + Sync, G: Gate + Sync> Session<'s, 't, R, G> {
         let _ = self.script.queries();
         let engine = ChunkEngine {
             alloc: self.alloc,
-            world: self.world,
+            world: self.world.store(),
             queries,
         };
         let scan = Scan {
@@ -259,8 +259,8 @@ impl<'s, 't, R: Threads + Wait + Sync, G: Gate + Sync> Session<'s, 't, R, G> {
     }
 }
 
-/// States of a store that its plan and its rows are within the limits. Does not allocate.
-fn know(world: &Store)
+/// States of a world that its plan and its rows are within the limits. Does not allocate.
+fn know(world: &World<'_>)
     ensures sky { IsSky world.now.plan }
     ensures rows { IsCatalogue world.now.rows }
 {
