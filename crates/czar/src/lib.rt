@@ -18,6 +18,7 @@ mod query_ends;
 pub mod session;
 mod transcript;
 pub mod understanding;
+pub mod world;
 
 pub use attach::all_attached;
 pub use end::End;
@@ -25,3 +26,4 @@ pub use explained::put_explained;
 pub use plan::{Plan, explain};
 pub use session::{Session, run_session, run_traced};
 pub use transcript::put_transcript;
+pub use world::World;

@@ -6,6 +6,8 @@ ghost use Rattle.table_rules.specs.Objects.{IsCatalogue};
 ghost use Rattle.sky_rules.specs.Limits.{IsSky};
 ghost use Rattle.sky_rules.specs.Partition.{chunk_count};
 ghost use Rattle.turn_lock.specs.Seats.{first_seat};
+ghost use Rattle.partial_merge.specs.Roots.{shown};
+ghost use Rattle.session_rules.specs.Numbers.{numbered_from};
 ghost use Rattle.answer_rules.specs.Bases.{Asks};
 ghost use Rattle.scan_session.specs.Crews.{Manned};
 ghost use Rattle.scan_session.specs.Drove.{Drove};
@@ -13,19 +15,20 @@ ghost use Rattle.scan_session.specs.Places.{AllSuit, only, seen_of};
 ghost use Rattle.session_rules.specs.declared.limits.TheConstants.{WORKERS_MOST};
 ghost use Rattle.session_script.specs.Views.{query_lines};
 ghost use Rattle.transcript_rules.specs.Transcripts.{FitEnds};
-ghost use Rattle.czar.specs.Attached.{attached, base_of};
+ghost use Rattle.czar.specs.Attached.{attached, base_of, chunk_query};
 ghost use Rattle.czar.specs.Driven.{IsDriven, IsDrivenBy, IsJoined, IsOver, chunks_planned};
-ghost use Rattle.czar.specs.Ended.{all_ended};
+ghost use Rattle.czar.specs.Ended.{AreEnded};
 ghost use Rattle.czar.specs.Ends.{EndsShow, kind_of};
 ghost use Rattle.czar.specs.Plans.{ArePlans};
 ghost use Rattle.czar.specs.Traces.{IsTraceOf};
 
-use crate::attach::{all_attached, board_over};
+use crate::attach::{all_attached, board_over, chunk_queries};
 use crate::chunk_engine::ChunkEngine;
 use crate::end::End;
 use crate::plan::{Plan, explain};
 use crate::query_ends::all_query_ends;
-use chunk_store::Store;
+use crate::world::World;
+use answer_rules::ChunkQuery;
 use partial_merge::Piece;
 use scan_board::{Board, Seat, SharedBoard};
 use scan_boards::Boards;
@@ -44,7 +47,7 @@ use std::thread::Threads;
 pub fn run_session<R: Threads + Wait + Sync, G: Gate + Sync>(
     alloc: Global,
     rt: &R,
-    world: &Store,
+    world: &World<'_>,
     script: &Script<'_>,
     workers: u32,
     gate: &G,
@@ -78,7 +81,7 @@ pub fn run_session<R: Threads + Wait + Sync, G: Gate + Sync>(
 pub fn run_traced<R: Threads + Wait + Sync, G: Gate + Sync>(
     alloc: Global,
     rt: &R,
-    world: &Store,
+    world: &World<'_>,
     script: &Script<'_>,
     workers: u32,
     gate: &G,
@@ -116,7 +119,7 @@ pub fn run_traced<R: Threads + Wait + Sync, G: Gate + Sync>(
 pub struct Session<'s, 't, R, G> {
     pub alloc: Global,
     pub rt: &'s R,
-    pub world: &'s Store,
+    pub world: &'s World<'s>,
     pub script: &'s Script<'t>,
     /// Beside the czar.
     pub workers: u32,
@@ -185,25 +188,44 @@ impl<'s, 't, R: Threads + Wait + Sync, G: Gate + Sync> Session<'s, 't, R, G> {
             self.now.world.now.plan self.now.world.now.rows (query_lines self.now.script.now)
             ends.items) }
         ensures ended { IfOk result (λ query_ends.
-            query_ends.items ≡ all_ended plans.items ends.entry.items) }
+            AreEnded plans.items ends.entry.items query_ends.items) }
     {
         know(self.world);
         let _ = self.script.steps();
         all_query_ends(self.alloc, plans, ends)
     }
 
-    /// Creates a board over the chunks of the world for the queries with these plans. Allocates memory.
-    pub fn board(&self, plans: &[Plan]) -> Result<Board<Piece<'s>>, Memory>
+    /// Returns the chunk queries of the planned queries, each with the number of its query. Allocates memory.
+    pub fn queries<'p>(&self, plans: &'p [Plan]) -> Result<Vec<(u32, &'p ChunkQuery)>, Memory>
         requires plans { ArePlans self.now.world.now.plan self.now.world.now.rows
             (query_lines self.now.script.now) plans.now }
+        ensures { IfOk result (λ queries. shown queries.items (λ query. query.now)
+            ≡ numbered_from 1 (map chunk_query plans.now)) }
+    {
+        let _ = self.script.queries();
+        chunk_queries(self.alloc, plans)
+    }
+
+    /// Creates a board over the chunks of the world for the queries with these plans, of which these are the chunk
+    /// queries. Allocates memory. The plans are read by contracts alone.
+    pub fn board(
+        &self,
+        plans: &[Plan],
+        queries: &[(u32, &ChunkQuery)],
+    ) -> Result<Board<Piece<'s>>, Memory>
+        requires plans { ArePlans self.now.world.now.plan self.now.world.now.rows
+            (query_lines self.now.script.now) plans.now }
+        requires queries { shown queries.now (λ query. query.now)
+            ≡ numbered_from 1 (map chunk_query plans.now) }
         ensures { IfOk result (λ board. board ≡ record {
           root = base_of self.now.world.now.plan self.now.world.now.rows plans.now;
           ring = chunk_count self.now.world.now.plan;
           past = [];
         }) }
     {
+        know(self.world);
         let _ = self.script.queries();
-        board_over(self.alloc, self.world, plans)
+        board_over(self.alloc, self.world, queries)
     }
 
     /// Drives the queries with these plans over a board of their own.
@@ -215,9 +237,11 @@ impl<'s, 't, R: Threads + Wait + Sync, G: Gate + Sync> Session<'s, 't, R, G> {
         ensures over { IfOk result (λ r. IsOver self.now.workers self.now.world.now.plan
             self.now.world.now.rows self.now.script.now.steps plans.now r.seat r.ends.items) }
     {
+        let queries = self.queries(plans)?;
+        let board = self.board(plans, queries.as_slice())?;
+        let (board, seat) = SharedBoard::new(self.alloc, board)?;
         let planned = all_attached(self.alloc, plans)?;
-        let (board, seat) = SharedBoard::new(self.alloc, self.board(plans)?)?;
-        let (ends, seat) = self.drive_over(&board, seat, plans, planned);
+        let (ends, seat) = self.drive_over(&board, seat, plans, queries.as_slice(), planned);
         match ends {
             Ok(ends) => Ok(Driven { board, seat, ends }),
             Err(Memory) => {
@@ -229,12 +253,13 @@ impl<'s, 't, R: Threads + Wait + Sync, G: Gate + Sync> Session<'s, 't, R, G> {
 
     /// Drives what is attached for the queries with these plans over some boards, from the czar's first participant.
     /// Returns the end of each query at its board. Waits. Allocates memory. On Memory, too, each board is closed and
-    /// the workers are joined.
+    /// the workers are joined. The plans are read by contracts alone.
     pub fn drive_over<B: Boards<Piece<'s>> + Sync>(
         &self,
         boards: &B,
         seat: B::Seat,
         plans: &[Plan],
+        queries: &[(u32, &ChunkQuery)],
         planned: Vec<Option<Planned<Piece<'s>>>>,
     ) -> (Result<Vec<BoardEnd<Piece<'s>>>, Memory>, B::Seat)
     where
@@ -243,6 +268,8 @@ impl<'s, 't, R: Threads + Wait + Sync, G: Gate + Sync> Session<'s, 't, R, G> {
         requires few { self.now.workers ≤ WORKERS_MOST }
         requires plans { ArePlans self.now.world.now.plan self.now.world.now.rows
             (query_lines self.now.script.now) plans.now }
+        requires queries { shown queries.now (λ query. query.now)
+            ≡ numbered_from 1 (map chunk_query plans.now) }
         requires planned { planned.items ≡ map attached plans.now }
         requires seats { (p : B.Place) → B.at seat p ≡ first_seat (B.turn boards.now p) (record {
           root = base_of self.now.world.now.plan self.now.world.now.rows plans.now;
@@ -262,8 +289,8 @@ impl<'s, 't, R: Threads + Wait + Sync, G: Gate + Sync> Session<'s, 't, R, G> {
         let _ = self.script.queries();
         let engine = ChunkEngine {
             alloc: self.alloc,
-            world: self.world,
-            plans,
+            world: self.world.store(),
+            queries,
         };
         let scan = Scan {
             alloc: self.alloc,
@@ -276,8 +303,8 @@ impl<'s, 't, R: Threads + Wait + Sync, G: Gate + Sync> Session<'s, 't, R, G> {
     }
 }
 
-/// States of a store that its plan and its rows are within the limits. Does not allocate.
-fn know(world: &Store)
+/// States of a world that its plan and its rows are within the limits. Does not allocate.
+fn know(world: &World<'_>)
     ensures sky { IsSky world.now.plan }
     ensures rows { IsCatalogue world.now.rows }
 {
