@@ -10,9 +10,8 @@ ghost use Rattle.transcript_rules.specs.Transcripts.{FitEnds};
 ghost use Rattle.scan_classes.specs.Ends.{EachIsOfItsClass};
 ghost use Rattle.scan_classes.specs.Pairs.{seat_at};
 ghost use Rattle.scan_classes.specs.declared.class.Class.{Class};
-ghost use Rattle.partial_merge.specs.Roots.{shown};
 ghost use Rattle.session_rules.specs.Numbers.{numbered_from};
-ghost use Rattle.czar.specs.Attached.{attached, chunk_query};
+ghost use Rattle.czar.specs.Attached.{attached, chunk_query, numbered};
 ghost use Rattle.czar.specs.Driven.{IsDrivenBy, chunks_planned};
 ghost use Rattle.czar.specs.Ends.{EndsShow, kind_of};
 ghost use Rattle.czar.specs.Plans.{ArePlans};
@@ -150,8 +149,8 @@ fn parts<'p, 's, R: Threads + Wait + Sync, G: Gate + Sync>(
 ) -> Result<Parts<'p, 's>, Memory>
     requires plans { ArePlans session.now.world.now.plan session.now.world.now.rows
         (query_lines session.now.script.now) plans.now }
-    ensures queries { IfOk result (λ r. shown r.0.items (λ query. query.now)
-        ≡ numbered_from 1 (map chunk_query plans.now)) }
+    ensures queries { IfOk result (λ r.
+        numbered r.0.items ≡ numbered_from 1 (map chunk_query plans.now)) }
     ensures planned { IfOk result (λ r. r.1.items ≡ map attached plans.now) }
     ensures classes { IfOk result (λ r. r.2.items ≡ classes_for plans.now) }
 {

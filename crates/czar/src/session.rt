@@ -6,7 +6,6 @@ ghost use Rattle.table_rules.specs.Objects.{IsCatalogue};
 ghost use Rattle.sky_rules.specs.Limits.{IsSky};
 ghost use Rattle.sky_rules.specs.Partition.{chunk_count};
 ghost use Rattle.turn_lock.specs.Seats.{first_seat};
-ghost use Rattle.partial_merge.specs.Roots.{shown};
 ghost use Rattle.session_rules.specs.Numbers.{numbered_from};
 ghost use Rattle.answer_rules.specs.Bases.{Asks};
 ghost use Rattle.scan_session.specs.Crews.{Manned};
@@ -15,7 +14,7 @@ ghost use Rattle.scan_session.specs.Places.{AllSuit, only, seen_of};
 ghost use Rattle.session_rules.specs.declared.limits.TheConstants.{WORKERS_MOST};
 ghost use Rattle.session_script.specs.Views.{query_lines};
 ghost use Rattle.transcript_rules.specs.Transcripts.{FitEnds};
-ghost use Rattle.czar.specs.Attached.{attached, base_of, chunk_query};
+ghost use Rattle.czar.specs.Attached.{attached, base_of, chunk_query, numbered};
 ghost use Rattle.czar.specs.Driven.{IsDriven, IsDrivenBy, IsJoined, IsOver, chunks_planned};
 ghost use Rattle.czar.specs.Ended.{AreEnded};
 ghost use Rattle.czar.specs.Ends.{EndsShow, kind_of};
@@ -199,8 +198,8 @@ impl<'s, 't, R: Threads + Wait + Sync, G: Gate + Sync> Session<'s, 't, R, G> {
     pub fn queries<'p>(&self, plans: &'p [Plan]) -> Result<Vec<(u32, &'p ChunkQuery)>, Memory>
         requires plans { ArePlans self.now.world.now.plan self.now.world.now.rows
             (query_lines self.now.script.now) plans.now }
-        ensures { IfOk result (λ queries. shown queries.items (λ query. query.now)
-            ≡ numbered_from 1 (map chunk_query plans.now)) }
+        ensures { IfOk result (λ queries.
+            numbered queries.items ≡ numbered_from 1 (map chunk_query plans.now)) }
     {
         let _ = self.script.queries();
         chunk_queries(self.alloc, plans)
@@ -215,8 +214,7 @@ impl<'s, 't, R: Threads + Wait + Sync, G: Gate + Sync> Session<'s, 't, R, G> {
     ) -> Result<Board<Piece<'s>>, Memory>
         requires plans { ArePlans self.now.world.now.plan self.now.world.now.rows
             (query_lines self.now.script.now) plans.now }
-        requires queries { shown queries.now (λ query. query.now)
-            ≡ numbered_from 1 (map chunk_query plans.now) }
+        requires queries { numbered queries.now ≡ numbered_from 1 (map chunk_query plans.now) }
         ensures { IfOk result (λ board. board ≡ record {
           root = base_of self.now.world.now.plan self.now.world.now.rows plans.now;
           ring = chunk_count self.now.world.now.plan;
@@ -238,8 +236,8 @@ impl<'s, 't, R: Threads + Wait + Sync, G: Gate + Sync> Session<'s, 't, R, G> {
             self.now.world.now.rows self.now.script.now.steps plans.now r.seat r.ends.items) }
     {
         let queries = self.queries(plans)?;
-        let board = self.board(plans, queries.as_slice())?;
-        let (board, seat) = SharedBoard::new(self.alloc, board)?;
+        let blank = self.board(plans, queries.as_slice())?;
+        let (board, seat) = SharedBoard::new(self.alloc, blank)?;
         let planned = all_attached(self.alloc, plans)?;
         let (ends, seat) = self.drive_over(&board, seat, plans, queries.as_slice(), planned);
         match ends {
@@ -268,8 +266,7 @@ impl<'s, 't, R: Threads + Wait + Sync, G: Gate + Sync> Session<'s, 't, R, G> {
         requires few { self.now.workers ≤ WORKERS_MOST }
         requires plans { ArePlans self.now.world.now.plan self.now.world.now.rows
             (query_lines self.now.script.now) plans.now }
-        requires queries { shown queries.now (λ query. query.now)
-            ≡ numbered_from 1 (map chunk_query plans.now) }
+        requires queries { numbered queries.now ≡ numbered_from 1 (map chunk_query plans.now) }
         requires planned { planned.items ≡ map attached plans.now }
         requires seats { (p : B.Place) → B.at seat p ≡ first_seat (B.turn boards.now p) (record {
           root = base_of self.now.world.now.plan self.now.world.now.rows plans.now;

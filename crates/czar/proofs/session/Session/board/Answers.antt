@@ -1,7 +1,9 @@
-use Rattle.std.proofs.Common.{◌≤◌, arith, length, IfOk, List, ◌∙◌, ap}
+use Rattle.std.proofs.Common.{◌≡◌, ◌≤◌, [], arith, length, IfOk, subst}
 use Rattle.scan_rules.specs.declared.limits.TheConstants.{QUERY_MOST}
+use Rattle.sky_rules.specs.Partition.{chunk_count}
 use Rattle.session_script.specs.Views.{query_lines}
-use Rattle.czar.proofs.Attaching.{is_base_over, made_over}
+use Rattle.answer_rules.specs.Bases.{Base}
+use Rattle.czar.proofs.Attaching.{is_base_over, same_base}
 use Rattle.czar.proofs.Fitting.{sound_plans}
 use Rattle.czar.proofs.PlanBlocks.{a_plan_each}
 use Rattle.czar.proofs.session.Session.board.Goals as goal
@@ -17,4 +19,7 @@ board_over-requires g c =
     }
 
 pub returns : goal.returns
-returns g c = ?
+returns g c =
+    let s = c.args.self.now in
+    let same = same_base s.world.now.plan s.world.now.rows c.args.plans.now c.args.queries.now c.requires.queries in
+    subst (λ (b : Base). IfOk c.board_over.result (λ board. board ≡ record { root = b; ring = chunk_count s.world.now.plan; past = [] })) same c.board_over.ensures

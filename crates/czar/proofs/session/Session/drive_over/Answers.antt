@@ -5,7 +5,8 @@ use Rattle.session_script.specs.Scripts.{query_count}
 use Rattle.session_script.specs.Views.{query_lines}
 use Rattle.answer_rules.specs.Bases.{Asks, StandsFor}
 use Rattle.scan_session.specs.KnownEnds.{PlansFit}
-use Rattle.czar.specs.Attached.{attached}
+use Rattle.chunk_store.specs.Survey.{Survey}
+use Rattle.czar.specs.Attached.{attached, base_over}
 use Rattle.czar.proofs.Attaching.{same_base}
 use Rattle.czar.proofs.Crossing.{crossing, engine_crossing}
 use Rattle.czar.proofs.Driving.{driven_by, drove_over}
@@ -34,7 +35,9 @@ drive-requires-clause-ring g c = λ κs lives p.
 pub drive-requires-clause-engine : goal.drive-requires-clause-engine
 drive-requires-clause-engine g c = λ κs lives p.
     let s = c.args.self.now in
-    same_base s.world.now.plan s.world.now.rows c.args.plans.now c.args.queries.now c.requires.queries ∙ sym (ap (λ s. s.root.root) (c.requires.seats p))
+    ap (λ (w : Survey). base_over w.plan w.rows c.args.queries.now) c.store.ensures
+    ∙ same_base s.world.now.plan s.world.now.rows c.args.plans.now c.args.queries.now c.requires.queries
+    ∙ sym (ap (λ s. s.root.root) (c.requires.seats p))
 
 pub drive-requires-clause-each : goal.drive-requires-clause-each
 drive-requires-clause-each g c = λ κs lives.
