@@ -24,9 +24,13 @@ chunk_query (Refused why) = None
 abbrev pub base_of : Partition → Catalogue → List Plan → Base
 base_of g c plans = record { plan = g; rows = c; queries = numbered_from 1 (map chunk_query plans) }
 
+-- chunk queries that are borrowed, with the numbers of their queries
+abbrev pub numbered : List (ℕ × Bor ChunkQuery) → List (ℕ × ChunkQuery)
+numbered queries = shown queries (λ query. query.now)
+
 -- the root of the session's pieces: these chunk queries, with the numbers of their queries
 abbrev pub base_over : Partition → Catalogue → List (ℕ × Bor ChunkQuery) → Base
-base_over g c queries = record { plan = g; rows = c; queries = shown queries (λ query. query.now) }
+base_over g c queries = record { plan = g; rows = c; queries = numbered queries }
 
 -- the chunk query of a query, if that is planned, can be run over a table with the given number of columns
 abbrev pub IsSoundPlan : ℕ → Plan → Type 0
