@@ -15,7 +15,7 @@ use Rattle.answer_rules.specs.SoundChunks.{IsSoundChunk}
 use Rattle.session_rules.specs.Numbers.{numbered_from}
 use Rattle.session_rules.proofs.Numbers.{ascend_from, below_from, from_number, holds_from, known_at, numbered_more}
 use Rattle.sql_tree.specs.declared.query.Query.{Query}
-use Rattle.czar.specs.Attached.{base_of, base_over, chunk_query, numbered, IsSoundPlan}
+use Rattle.czar.specs.Attached.{base_of, base_over, chunk_query, numbered}
 use Rattle.czar.specs.declared.plan.Plan.{Plan}
 use Rattle.czar.specs.declared.plan.Plan.TheVariants.{Planned, Refused}
 
@@ -56,6 +56,11 @@ known_under plans i head query chunks there =
     ∙ known_at 1 (map chunk_query plans) i query.chunk (slice_get-map chunk_query plans i ∙ ap (option_map chunk_query) there)
 
 -- ---- the base is one
+
+-- the chunk query of a query, if that is planned, can be run over a table with the given number of columns
+abbrev pub IsSoundPlan : ℕ → Plan → Type 0
+IsSoundPlan columns (Planned head query chunks) = IsSoundChunk columns query.chunk
+IsSoundPlan columns (Refused why) = Unit {0}
 
 -- the chunk queries that are present can be run
 sound_there : (columns : ℕ) (plans : List Plan) → All (IsSoundPlan columns) plans
