@@ -5,13 +5,14 @@ ghost use Rattle.sky_rules.specs.Partition.{chunk_count};
 ghost use Rattle.scan_rules.specs.declared.limits.TheConstants.{QUERY_MOST};
 ghost use Rattle.answer_rules.specs.Bases.{IsBase};
 ghost use Rattle.session_rules.specs.Numbers.{numbered_from};
+ghost use Rattle.turn_lock.specs.Seats.{first_seat};
 ghost use Rattle.czar.specs.Attached.{attached, base_over, chunk_query, numbered};
 
 use crate::plan::Plan;
 use crate::world::World;
 use answer_rules::ChunkQuery;
 use partial_merge::{Piece, PieceRoot};
-use scan_board::Board;
+use scan_board::{Board, Seat, SharedBoard};
 use scan_session::Planned;
 use sky_io::Memory;
 use std::alloc::Global;
@@ -65,8 +66,9 @@ fn push_query<'p>(
     }
 }
 
-/// Returns the chunk queries of the planned queries of a script, each with the number of its query, from 1.
-pub(crate) fn chunk_queries<'p>(
+/// Returns the chunk queries of the planned queries of a script, each with the number of its query, from 1. Allocates
+/// memory.
+pub fn chunk_queries<'p>(
     alloc: Global,
     plans: &'p [Plan],
 ) -> Result<Vec<(u32, &'p ChunkQuery)>, Memory>
@@ -99,7 +101,7 @@ fn root_of<'w>(
 }
 
 /// Creates a board over the chunks of the world for these chunk queries. Allocates memory.
-pub(crate) fn board_over<'w>(
+pub fn board_over<'w>(
     alloc: Global,
     world: &World<'w>,
     queries: &[(u32, &ChunkQuery)],
@@ -113,4 +115,20 @@ pub(crate) fn board_over<'w>(
 {
     let root = root_of(alloc, world, queries)?;
     Board::new(alloc, world.plan().chunks(), root)
+}
+
+/// Creates a board over the chunks of the world for these chunk queries, and the czar's participant.
+pub(crate) fn seated<'w>(
+    alloc: Global,
+    world: &World<'w>,
+    queries: &[(u32, &ChunkQuery)],
+) -> Result<(SharedBoard<Piece<'w>>, Seat<Board<Piece<'w>>>), Memory>
+    requires base { IsBase (base_over world.now.plan world.now.rows queries.now) }
+    ensures { IfOk result (λ r. r.1 ≡ first_seat r.0 (record {
+      root = base_over world.now.plan world.now.rows queries.now;
+      ring = chunk_count world.now.plan;
+    })) }
+{
+    let board = board_over(alloc, world, queries)?;
+    SharedBoard::new(alloc, board)
 }

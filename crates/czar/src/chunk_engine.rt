@@ -20,10 +20,10 @@ use std::alloc::Global;
 
 /// The world of a session, and the chunk queries of its planned queries with their numbers, which ascend.
 #[derive(Drop)]
-pub(crate) struct ChunkEngine<'w, 's> {
-    pub(crate) alloc: Global,
-    pub(crate) world: &'w Store,
-    pub(crate) queries: &'s [(u32, &'s ChunkQuery)],
+pub struct ChunkEngine<'w, 's> {
+    pub alloc: Global,
+    pub world: &'w Store,
+    pub queries: &'s [(u32, &'s ChunkQuery)],
 }
 
 /// Returns the chunk query of the query with this number, which has one.
