@@ -6,23 +6,29 @@ use Rattle.czar.proofs.Fitting.{sound_plans}
 use Rattle.czar.proofs.PlanBlocks.{a_plan_each}
 use Rattle.class_session.proofs.boards.two_boards.Goals as goal
 
-pub chunk_queries-asked-requires-clause-few : goal.chunk_queries-asked-requires-clause-few
-chunk_queries-asked-requires-clause-few g c =
+pub chunk_queries-requires : goal.chunk_queries-requires
+chunk_queries-requires g c =
     let s = c.args.session.now in
-    omega (arith, a_plan_each s.world.now.plan s.world.now.rows s.script.now c.args.plans.now c.requires.plans, c.queries.ensures.count, c.queries.ensures.few)
+    record {
+      few = omega (arith, a_plan_each s.world.now.plan s.world.now.rows s.script.now c.args.plans.now c.requires.plans, c.queries.ensures.count, c.queries.ensures.few);
+    }
 
-pub board_over-short-requires-clause-base : goal.board_over-short-requires-clause-base
-board_over-short-requires-clause-base g c =
+pub board_over-requires : goal.board_over-requires
+board_over-requires g c =
     let s = c.args.session.now in
     let few : length c.args.plans.now ≤ QUERY_MOST =
     omega (arith, a_plan_each s.world.now.plan s.world.now.rows s.script.now c.args.plans.now c.requires.plans, c.queries.ensures.count, c.queries.ensures.few) in
-    is_base_over s.world.now.plan s.world.now.rows c.args.plans.now _ c.know.ensures.sky c.know.ensures.rows few
-    (sound_plans s.world.now.plan s.world.now.rows (query_lines s.script.now) c.args.plans.now c.requires.plans) (search rules)
+    record {
+      base = is_base_over s.world.now.plan s.world.now.rows c.args.plans.now _ c.know.ensures.sky c.know.ensures.rows few
+          (sound_plans s.world.now.plan s.world.now.rows (query_lines s.script.now) c.args.plans.now c.requires.plans) (search rules);
+    }
 
-pub board_over-long-requires-clause-base : goal.board_over-long-requires-clause-base
-board_over-long-requires-clause-base g c =
+pub board_over-2-requires : goal.board_over-2-requires
+board_over-2-requires g c =
     let s = c.args.session.now in
     let few : length c.args.plans.now ≤ QUERY_MOST =
     omega (arith, a_plan_each s.world.now.plan s.world.now.rows s.script.now c.args.plans.now c.requires.plans, c.queries.ensures.count, c.queries.ensures.few) in
-    is_base_over s.world.now.plan s.world.now.rows c.args.plans.now _ c.know.ensures.sky c.know.ensures.rows few
-    (sound_plans s.world.now.plan s.world.now.rows (query_lines s.script.now) c.args.plans.now c.requires.plans) (search rules)
+    record {
+      base = is_base_over s.world.now.plan s.world.now.rows c.args.plans.now _ c.know.ensures.sky c.know.ensures.rows few
+          (sound_plans s.world.now.plan s.world.now.rows (query_lines s.script.now) c.args.plans.now c.requires.plans) (search rules);
+    }
