@@ -1,14 +1,13 @@
 //! The engine of a session: it makes the piece of a query on a chunk.
 
-ghost use Rattle.std.specs.Prelude.{◌≡◌, ◌+◌, ◌∷◌, [], IfOk, length};
-ghost use Rattle.sky_rules.specs.Limits.{IsSky};
-ghost use Rattle.table_rules.specs.Objects.{IsCatalogue};
+ghost use Rattle.std.specs.Prelude.{◌≡◌, ◌+◌, ◌<◌, ◌∷◌, [], AllPairs, IfOk, Some, is_some, length, true};
+ghost use Rattle.answer_rules.specs.Bases.{query_at};
 ghost use Rattle.answer_rules.specs.Pieces.{PieceFor};
 ghost use Rattle.answer_rules.specs.SoundChunks.{IsSoundChunk};
+ghost use Rattle.czar.specs.Attached.{numbered};
 ghost use Rattle.czar.specs.Running.{IsOpen};
 ghost use Rattle.table_rules.specs.declared.limits.TheConstants.{FIRST_COLUMNS};
 
-use crate::plan::Plan;
 use answer_rules::ChunkQuery;
 use chunk_scan::{Scratch, scan};
 use chunk_store::Store;
@@ -19,12 +18,22 @@ use sky_io::Memory;
 use sql_bound::Shape;
 use std::alloc::Global;
 
-/// The world of a session, and the plans of its queries by their numbers, from 1.
+/// The world of a session, and the chunk queries of its planned queries with their numbers, which ascend.
 #[derive(Drop)]
-pub(crate) struct ChunkEngine<'w, 's> {
-    pub(crate) alloc: Global,
-    pub(crate) world: &'w Store,
-    pub(crate) plans: &'s [Plan],
+pub struct ChunkEngine<'w, 's> {
+    pub alloc: Global,
+    pub world: &'w Store,
+    pub queries: &'s [(u32, &'s ChunkQuery)],
+}
+
+/// Returns the chunk query of the query with this number, which has one.
+fn query_with<'s>(queries: &[(u32, &'s ChunkQuery)], q: u32) -> &'s ChunkQuery
+    requires ascend { AllPairs (λ a b. a.0 < b.0) (numbered queries.now) }
+    requires known { is_some (query_at (numbered queries.now) q) ≡ true }
+    ensures { query_at (numbered queries.now) q ≡ Some result.now }
+{
+    let place = queries.partition_point(|asked| asked.0 < q);
+    queries[place].1
 }
 
 /// Returns the piece of one chunk: by a scan of its rows, or for pairs by a join.
@@ -46,22 +55,18 @@ fn piece_of<'w>(
 }
 
 impl<'w, 's> Engine<Piece<'w>> for ChunkEngine<'w, 's> {
-    ghost use Rattle.czar.specs.Attached.{base_of};
+    ghost use Rattle.czar.specs.Attached.{base_over};
 
     type Scratch = Scratch;
 
-    ghost root = { λ s. base_of s.world.now.plan s.world.now.rows s.plans.now };
+    ghost root = { λ s. base_over s.world.now.plan s.world.now.rows s.queries.now };
 
     fn scratch(&self) -> Scratch {
         Scratch::new(self.alloc)
     }
 
     fn piece(&self, q: u32, chunk: u32, scratch: &mut Scratch) -> Result<Piece<'w>, Memory> {
-        match &self.plans[(q - 1) as usize] {
-            Plan::Planned { query, .. } => {
-                piece_of(self.alloc, self.world, &query.chunk, chunk, scratch)
-            }
-            Plan::Refused(_) => unreachable!(),
-        }
+        let query = query_with(self.queries, q);
+        piece_of(self.alloc, self.world, query, chunk, scratch)
     }
 }
