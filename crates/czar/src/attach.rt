@@ -4,10 +4,9 @@ ghost use Rattle.std.specs.Prelude.{◌≡◌, ◌≤◌, ◌++◌, ◌∷◌, [
 ghost use Rattle.sky_rules.specs.Partition.{chunk_count};
 ghost use Rattle.scan_rules.specs.declared.limits.TheConstants.{QUERY_MOST};
 ghost use Rattle.answer_rules.specs.Bases.{IsBase};
-ghost use Rattle.partial_merge.specs.Roots.{shown};
 ghost use Rattle.session_rules.specs.Numbers.{numbered_from};
 ghost use Rattle.turn_lock.specs.Seats.{first_seat};
-ghost use Rattle.czar.specs.Attached.{attached, base_over, chunk_query};
+ghost use Rattle.czar.specs.Attached.{attached, base_over, chunk_query, numbered};
 
 use crate::plan::Plan;
 use crate::world::World;
@@ -38,18 +37,6 @@ fn attached_by<'w>(alloc: Global, plan: &Plan) -> Result<Option<Planned<Piece<'w
     }
 }
 
-/// Appends what is attached for one more query.
-fn push_attached<'w>(
-    alloc: Global,
-    plan: &Plan,
-    all: &mut Vec<Option<Planned<Piece<'w>>>>,
-) -> Result<(), Memory>
-    ensures { OnOk result (all.new.items ≡ all.old.items ++ attached plan.now ∷ []) }
-{
-    all.push(attached_by(alloc, plan)?)?;
-    Ok(())
-}
-
 /// Returns what is attached for each query of a script, in their order.
 pub(crate) fn all_attached<'w>(
     alloc: Global,
@@ -59,7 +46,7 @@ pub(crate) fn all_attached<'w>(
 {
     let mut all = Vec::new(alloc);
     for plan in plans {
-        push_attached(alloc, plan, &mut all)?;
+        all.push(attached_by(alloc, plan)?)?;
     }
     Ok(all)
 }
@@ -70,9 +57,8 @@ fn push_query<'p>(
     q: u32,
     queries: &mut Vec<(u32, &'p ChunkQuery)>,
 ) -> Result<(), Memory>
-    ensures { OnOk result (shown queries.new.items (λ query. query.now)
-        ≡ shown queries.old.items (λ query. query.now)
-        ++ numbered_from q (chunk_query plan.now ∷ [])) }
+    ensures { OnOk result (numbered queries.new.items
+        ≡ numbered queries.old.items ++ numbered_from q (chunk_query plan.now ∷ [])) }
 {
     match plan {
         Plan::Planned { query, .. } => Ok(queries.push((q, &query.chunk))?),
@@ -86,8 +72,8 @@ pub(crate) fn chunk_queries<'p>(
     plans: &'p [Plan],
 ) -> Result<Vec<(u32, &'p ChunkQuery)>, Memory>
     requires few { length plans.now ≤ QUERY_MOST }
-    ensures { IfOk result (λ queries. shown queries.items (λ query. query.now)
-        ≡ numbered_from 1 (map chunk_query plans.now)) }
+    ensures { IfOk result (λ queries.
+        numbered queries.items ≡ numbered_from 1 (map chunk_query plans.now)) }
 {
     let mut queries = Vec::new(alloc);
     for place in 0..plans.len() {
@@ -107,8 +93,8 @@ fn root_of<'w>(
         root ≡ base_over world.now.plan world.now.rows queries.now) }
 {
     let mut root = PieceRoot::new(alloc, world.plan(), world.rows());
-    for (q, query) in queries {
-        root.push(*q, query)?;
+    for asked in queries {
+        root.push(asked.0, asked.1)?;
     }
     Ok(root)
 }

@@ -6,12 +6,11 @@ ghost use Rattle.table_rules.specs.Objects.{IsCatalogue};
 ghost use Rattle.sky_rules.specs.Limits.{IsSky};
 ghost use Rattle.sky_rules.specs.Partition.{chunk_count};
 ghost use Rattle.turn_lock.specs.Seats.{first_seat};
-ghost use Rattle.partial_merge.specs.Roots.{shown};
 ghost use Rattle.session_rules.specs.Numbers.{numbered_from};
 ghost use Rattle.session_rules.specs.declared.limits.TheConstants.{WORKERS_MOST};
 ghost use Rattle.session_script.specs.Views.{query_lines};
 ghost use Rattle.transcript_rules.specs.Transcripts.{FitEnds};
-ghost use Rattle.czar.specs.Attached.{attached, base_over, chunk_query};
+ghost use Rattle.czar.specs.Attached.{attached, base_over, chunk_query, numbered};
 ghost use Rattle.czar.specs.Driven.{IsDriven, IsJoined, IsOver};
 ghost use Rattle.czar.specs.Ended.{AreEnded};
 ghost use Rattle.czar.specs.Ends.{EndsShow, kind_of};
@@ -199,10 +198,10 @@ impl<'s, 't, R: Threads + Wait + Sync, G: Gate + Sync> Session<'s, 't, R, G> {
     {
         let _ = self.script.queries();
         know(self.world);
-        let queries = chunk_queries(self.alloc, plans)?;
+        let asked = chunk_queries(self.alloc, plans)?;
         let planned = all_attached(self.alloc, plans)?;
-        match seated(self.alloc, self.world, queries.as_slice()) {
-            Ok((board, seat)) => self.driven_at(plans, queries.as_slice(), planned, board, seat),
+        match seated(self.alloc, self.world, asked.as_slice()) {
+            Ok((board, seat)) => self.driven_at(plans, asked.as_slice(), planned, board, seat),
             Err(Memory) => {
                 drop(planned);
                 Err(Memory)
@@ -224,8 +223,7 @@ impl<'s, 't, R: Threads + Wait + Sync, G: Gate + Sync> Session<'s, 't, R, G> {
         requires plans { ArePlans self.now.world.now.plan self.now.world.now.rows
             (query_lines self.now.script.now) plans.now }
         requires planned { planned.items ≡ map attached plans.now }
-        requires queries { shown queries.now (λ query. query.now)
-            ≡ numbered_from 1 (map chunk_query plans.now) }
+        requires queries { numbered queries.now ≡ numbered_from 1 (map chunk_query plans.now) }
         requires seat { seat ≡ first_seat board (record {
           root = base_over self.now.world.now.plan self.now.world.now.rows queries.now;
           ring = chunk_count self.now.world.now.plan;

@@ -1,15 +1,20 @@
-use Rattle.std.proofs.Common.{arith}
+use Rattle.std.proofs.Common.{arith, length, rules, ◌≤◌}
+use Rattle.scan_rules.specs.declared.limits.TheConstants.{QUERY_MOST}
 use Rattle.session_script.specs.Views.{query_lines}
+use Rattle.czar.proofs.Attaching.{is_base_over}
 use Rattle.czar.proofs.Fitting.{sound_plans}
 use Rattle.czar.proofs.PlanBlocks.{a_plan_each}
 use Rattle.czar.proofs.session.Session.driven.Goals as goal
 
-pub seated-requires-clause-few : goal.seated-requires-clause-few
-seated-requires-clause-few g c =
+pub chunk_queries-asked-requires-clause-few : goal.chunk_queries-asked-requires-clause-few
+chunk_queries-asked-requires-clause-few g c =
     let s = c.args.self.now in
     omega (arith, a_plan_each s.world.now.plan s.world.now.rows s.script.now c.args.plans.now c.requires.plans, c.queries.ensures.count, c.queries.ensures.few)
 
-pub seated-requires-clause-sound : goal.seated-requires-clause-sound
-seated-requires-clause-sound g c =
+pub seated-requires-clause-base : goal.seated-requires-clause-base
+seated-requires-clause-base g c =
     let s = c.args.self.now in
-    sound_plans s.world.now.plan s.world.now.rows (query_lines s.script.now) c.args.plans.now c.requires.plans
+    let few : length c.args.plans.now ≤ QUERY_MOST =
+    omega (arith, a_plan_each s.world.now.plan s.world.now.rows s.script.now c.args.plans.now c.requires.plans, c.queries.ensures.count, c.queries.ensures.few) in
+    is_base_over s.world.now.plan s.world.now.rows c.args.plans.now _ c.know.ensures.sky c.know.ensures.rows few
+    (sound_plans s.world.now.plan s.world.now.rows (query_lines s.script.now) c.args.plans.now c.requires.plans) (search rules)
