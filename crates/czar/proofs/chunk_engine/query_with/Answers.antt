@@ -14,11 +14,7 @@ bounds-queries-place c =
     (parted es c.args.q c.requires.ascend) (λ a r f k. search (rules, of_calls)))).low
 
 pub bounds-queries-place-2 : goal.bounds-queries-place-2
-bounds-queries-place-2 c =
-    let es = c.args.queries.now in
-    (found es c.args.q c.partition_point-place.result c.requires.ascend c.requires.known
-    (IsPartitionPoint-from_clause (λ (e : ℕ × Bor ChunkQuery). ltb e.0 c.args.q) es _ c.partition_point-place.ensures.partitioned
-    (parted es c.args.q c.requires.ascend) (λ a r f k. search (rules, of_calls)))).low
+bounds-queries-place-2 c = bounds-queries-place c
 
 pub returns : goal.returns
 returns c =
