@@ -106,7 +106,7 @@ pub ruleset crossing = (
 )
 
 -- a chunk query may be read by all workers
-chunk_query_sync : IsSync chunk_query.the_row
+pub chunk_query_sync : IsSync chunk_query.the_row
 chunk_query_sync = search crossing depth 60 fits 20000
 
 -- the engine, which reads chunk queries

@@ -6,15 +6,19 @@ use Rattle.czar.proofs.Fitting.{sound_plans}
 use Rattle.czar.proofs.PlanBlocks.{a_plan_each}
 use Rattle.czar.proofs.session.Session.driven.Goals as goal
 
-pub chunk_queries-asked-requires-clause-few : goal.chunk_queries-asked-requires-clause-few
-chunk_queries-asked-requires-clause-few g c =
+pub chunk_queries-requires : goal.chunk_queries-requires
+chunk_queries-requires g c =
     let s = c.args.self.now in
-    omega (arith, a_plan_each s.world.now.plan s.world.now.rows s.script.now c.args.plans.now c.requires.plans, c.queries.ensures.count, c.queries.ensures.few)
+    record {
+      few = omega (arith, a_plan_each s.world.now.plan s.world.now.rows s.script.now c.args.plans.now c.requires.plans, c.queries.ensures.count, c.queries.ensures.few);
+    }
 
-pub seated-requires-clause-base : goal.seated-requires-clause-base
-seated-requires-clause-base g c =
+pub seated-requires : goal.seated-requires
+seated-requires g c =
     let s = c.args.self.now in
     let few : length c.args.plans.now ≤ QUERY_MOST =
     omega (arith, a_plan_each s.world.now.plan s.world.now.rows s.script.now c.args.plans.now c.requires.plans, c.queries.ensures.count, c.queries.ensures.few) in
-    is_base_over s.world.now.plan s.world.now.rows c.args.plans.now _ c.know.ensures.sky c.know.ensures.rows few
-    (sound_plans s.world.now.plan s.world.now.rows (query_lines s.script.now) c.args.plans.now c.requires.plans) (search rules)
+    record {
+      base = is_base_over s.world.now.plan s.world.now.rows c.args.plans.now _ c.know.ensures.sky c.know.ensures.rows few
+          (sound_plans s.world.now.plan s.world.now.rows (query_lines s.script.now) c.args.plans.now c.requires.plans) (search rules);
+    }
