@@ -28,7 +28,7 @@ use Rattle.scan_session.proofs.Quiet.{attached_planned}
 use Rattle.transcript_rules.specs.Refusals.{understood}
 use Rattle.czar.specs.Attached.{attached}
 use Rattle.czar.specs.Driven.{IsDrivenBy, IsOver}
-use Rattle.czar.specs.Ended.{all_ended, answer_end, ended}
+use Rattle.czar.specs.Ended.{AreEnded, IsEnded, answer_end}
 use Rattle.czar.specs.Ends.{kind_of}
 use Rattle.czar.specs.Plans.{ArePlans, PlanFor}
 use Rattle.czar.specs.Traces.{IsEndIn, IsTraceOf, chunks_needed, planned_chunks, plans_of}
@@ -96,21 +96,25 @@ finished_in head n (Ok table) = answered_in
 finished_in head n (Err total) = refused_in
 
 -- the end of a query with this plan
-end_in : (g : Partition) (c : Catalogue) (S : Journal) (k : ℕ) (p : Plan) (e : BoardEnd PieceView) → IsEndFor g c S k p e
-    → (option_map (λ x. x.chunks) (attached p) ≡ None → state_of S k ≡ Fresh) → IsEndIn (state_of S k) (kind_of (ended p e))
-end_in g c S k (Planned head query chunks) (board.Answered piece) is unplanned =
-    subst (λ (s : QueryState). IsEndIn s (kind_of (answer_end head (length chunks) (finished query.merge piece)))) (sym is.0)
-    (finished_in head (length chunks) (finished query.merge piece))
-end_in g c S k (Planned head query chunks) board.Refused is unplanned = absurd is
-end_in g c S k (Planned head query chunks) board.Cancelled is unplanned =
-    subst (λ (s : QueryState). IsEndIn s kind.Cancelled) (sym is) cancelled_in
-end_in g c S k (Planned head query chunks) board.Spent is unplanned =
-    subst (λ (s : QueryState). IsEndIn s kind.Spent) (sym is) spent_in
-end_in g c S k (Refused why) (board.Answered piece) is unplanned = absurd is
-end_in g c S k (Refused why) board.Refused is unplanned =
-    subst (λ (s : QueryState). IsEndIn s kind.Refused) (sym (unplanned refl)) unplanned_in
-end_in g c S k (Refused why) board.Cancelled is unplanned = absurd is
-end_in g c S k (Refused why) board.Spent is unplanned = absurd is
+end_in : (g : Partition) (c : Catalogue) (S : Journal) (k : ℕ) (p : Plan) (e : BoardEnd PieceView) (q : End) → IsEndFor g c S k p e
+    → IsEnded p e q → (option_map (λ x. x.chunks) (attached p) ≡ None → state_of S k ≡ Fresh) → IsEndIn (state_of S k) (kind_of q)
+end_in g c S k (Planned head query chunks) (board.Answered piece) q is ended unplanned =
+    subst (λ (x : End). IsEndIn (state_of S k) (kind_of x)) (sym ended)
+    (subst (λ (s : QueryState). IsEndIn s (kind_of (answer_end head (length chunks) (finished query.merge piece)))) (sym is.0)
+    (finished_in head (length chunks) (finished query.merge piece)))
+end_in g c S k (Planned head query chunks) board.Refused q is ended unplanned = absurd is
+end_in g c S k (Planned head query chunks) board.Cancelled q is ended unplanned =
+    subst (λ (x : End). IsEndIn (state_of S k) (kind_of x)) (sym ended)
+    (subst (λ (s : QueryState). IsEndIn s kind.Cancelled) (sym is) cancelled_in)
+end_in g c S k (Planned head query chunks) board.Spent q is ended unplanned =
+    subst (λ (x : End). IsEndIn (state_of S k) (kind_of x)) (sym ended)
+    (subst (λ (s : QueryState). IsEndIn s kind.Spent) (sym is) spent_in)
+end_in g c S k (Refused why) (board.Answered piece) q is ended unplanned = absurd is
+end_in g c S k (Refused why) board.Refused q is ended unplanned =
+    subst (λ (x : End). IsEndIn (state_of S k) (kind_of x)) (sym ended)
+    (subst (λ (s : QueryState). IsEndIn s kind.Refused) (sym (unplanned refl)) unplanned_in)
+end_in g c S k (Refused why) board.Cancelled q is ended unplanned = absurd is
+end_in g c S k (Refused why) board.Spent q is ended unplanned = absurd is
 
 no_kind : (x : EndKind) → ◌≡◌ {A = Option EndKind} None (Some x) → ⊥
 no_kind x e = absurd (cc)
@@ -119,26 +123,28 @@ same_kind : (x y : EndKind) → ◌≡◌ {A = Option EndKind} (Some x) (Some y)
 same_kind x y e = cc
 
 -- so of all queries from number k on
-ends_in : (g : Partition) (c : Catalogue) (S : Journal) (k : ℕ) (plans : List Plan) (ends : List (BoardEnd PieceView)) (i : ℕ)
+ends_in : (g : Partition) (c : Catalogue) (S : Journal) (k : ℕ) (plans : List Plan) (ends : List (BoardEnd PieceView)) (qs : List End) (i : ℕ)
     (end : EndKind)
     → ((n : ℕ) (p : Plan) → slice_get plans n ≡ Some p → option_map (λ x. x.chunks) (attached p) ≡ None → state_of S (k + n) ≡ Fresh)
-    → AreEndsFor g c S k plans ends → slice_get (map kind_of (all_ended plans ends)) i ≡ Some end
+    → AreEndsFor g c S k plans ends → AreEnded plans ends qs → slice_get (map kind_of qs) i ≡ Some end
     → IsEndIn (state_of S (k + i)) end
-ends_in g c S k [] [] i end unplanned is there = absurd (no_kind end there)
-ends_in g c S k [] (e ∷ ends) i end unplanned is there = absurd is
-ends_in g c S k (p ∷ plans) [] i end unplanned is there = absurd is
-ends_in g c S k (p ∷ plans) (e ∷ ends) zero end unplanned is there =
+ends_in g c S k [] [] [] i end unplanned is ended there = absurd (no_kind end there)
+ends_in g c S k [] [] (q ∷ qs) i end unplanned is ended there = absurd ended
+ends_in g c S k [] (e ∷ ends) qs i end unplanned is ended there = absurd is
+ends_in g c S k (p ∷ plans) [] qs i end unplanned is ended there = absurd is
+ends_in g c S k (p ∷ plans) (e ∷ ends) [] i end unplanned is ended there = absurd ended
+ends_in g c S k (p ∷ plans) (e ∷ ends) (q ∷ qs) zero end unplanned is ended there =
     let here : k ≡ k + 0 = omega arith in
     subst (λ n. IsEndIn (state_of S n) end) here
     (subst (λ (x : EndKind). IsEndIn (state_of S k) x) (same_kind _ _ there)
-    (end_in g c S k p e is.0 (λ none. subst (λ n. state_of S n ≡ Fresh) (sym here) (unplanned 0 p refl none))))
-ends_in g c S k (p ∷ plans) (e ∷ ends) (suc i) end unplanned is there =
+    (end_in g c S k p e q is.0 ended.0 (λ none. subst (λ n. state_of S n ≡ Fresh) (sym here) (unplanned 0 p refl none))))
+ends_in g c S k (p ∷ plans) (e ∷ ends) (q ∷ qs) (suc i) end unplanned is ended there =
     let on : (k + 1) + i ≡ k + suc i = omega arith in
     subst (λ n. IsEndIn (state_of S n) end) on
-    (ends_in g c S (k + 1) plans ends i end
-    (λ n q at none. let next : k + suc n ≡ (k + 1) + n = omega arith in
-    subst (λ m. state_of S m ≡ Fresh) next (unplanned (suc n) q at none))
-    is.1 there)
+    (ends_in g c S (k + 1) plans ends qs i end
+    (λ n r at none. let next : k + suc n ≡ (k + 1) + n = omega arith in
+    subst (λ m. state_of S m ≡ Fresh) next (unplanned (suc n) r at none))
+    is.1 ended.1 there)
 
 -- a query for which nothing is attached is Fresh
 unplanned_state : (workers : ℕ) (s : ScriptView) (S : Journal) (plans : List Plan) (n : ℕ) (p : Plan)
@@ -154,32 +160,31 @@ unplanned_state workers s S plans n p drove at none =
 -- ---- the trace
 
 pub session_traces : (workers : ℕ) (g : Partition) (c : Catalogue) (s : ScriptView) (plans : List Plan)
-    (ends : List (BoardEnd PieceView)) (seen : Journal) (journal : BoardJournal) → ArePlans g c (query_lines s) plans
-    → IsDrivenBy workers g c s.steps plans seen ends
+    (ends : List (BoardEnd PieceView)) (qs : List End) (seen : Journal) (journal : BoardJournal) → ArePlans g c (query_lines s) plans
+    → IsDrivenBy workers g c s.steps plans seen ends → AreEnded plans ends qs
     → journal ≡ record { ring = chunk_count g; lines = seen }
-    → IsTraceOf workers g c s (map kind_of (all_ended plans ends)) journal
-session_traces workers g c s plans ends seen journal are d is =
-    subst (λ (j : BoardJournal). IsTraceOf workers g c s (map kind_of (all_ended plans ends)) j) (sym is) (record {
+    → IsTraceOf workers g c s (map kind_of qs) journal
+session_traces workers g c s plans ends qs seen journal are d ended is =
+    subst (λ (j : BoardJournal). IsTraceOf workers g c s (map kind_of qs) j) (sym is) (record {
       ring = refl;
       right = d.run;
       drove = subst (λ (p : Plans). Drove workers p s.steps seen) (same_plans g c (query_lines s) plans are) d.drove;
       closed = omega (arith, closed_once seen d.run, some_counted closes seen d.drove.closed);
       states = λ i end there. let on : 1 + i ≡ i + 1 = omega arith in
           subst (λ n. IsEndIn (state_of seen n) end) on
-          (ends_in g c seen 1 plans ends i end (λ n p at none. unplanned_state workers s seen plans n p d.drove at none)
-          (ends_for g c seen plans ends d.each d.are) there);
+          (ends_in g c seen 1 plans ends qs i end (λ n p at none. unplanned_state workers s seen plans n p d.drove at none)
+          (ends_for g c seen plans ends d.each d.are) ended there);
     })
 
--- so of the ends, under any names of the plans, the ends at the board and the lines that were seen
+-- so under any names of the plans, the ends at the board and the lines that were seen
 pub ends_trace : {workers : ℕ} {g : Partition} {c : Catalogue} {s : ScriptView} {plans same : List Plan}
     {seat : BoardSeat Base} {ends at_board : List (BoardEnd PieceView)} {seen : Journal} {query_ends : List End} {journal : BoardJournal}
     → ArePlans g c (query_lines s) plans
     → IsOver workers g c s.steps plans seat ends
-    → journal ≡ record { ring = chunk_count g; lines = seen } → query_ends ≡ all_ended same at_board
+    → journal ≡ record { ring = chunk_count g; lines = seen } → AreEnded same at_board query_ends
     → plans ≡ same → ends ≡ at_board → seat.seen ≡ seen → IsTraceOf workers g c s (map kind_of query_ends) journal
 ends_trace {workers} {g} {c} {s} {plans} {same} {seat} {ends} {at_board} {seen} {query_ends} {journal} are over read ended is at saw =
-    subst (λ (l : List End). IsTraceOf workers g c s (map kind_of l) journal) (sym ended)
-    (subst (λ (l : List Plan). IsTraceOf workers g c s (map kind_of (all_ended l at_board)) journal) is
-    (subst (λ (l : List (BoardEnd PieceView)). IsTraceOf workers g c s (map kind_of (all_ended plans l)) journal) at
-    (session_traces workers g c s plans ends seat.seen journal are over.by
-    (read ∙ ap (λ (l : Journal). record { ring = chunk_count g; lines = l }) (sym saw)))))
+    session_traces workers g c s plans ends query_ends seat.seen journal are over.by
+    (subst (λ (l : List Plan). AreEnded l ends query_ends) (sym is)
+    (subst (λ (l : List (BoardEnd PieceView)). AreEnded same l query_ends) (sym at) ended))
+    (read ∙ ap (λ (l : Journal). record { ring = chunk_count g; lines = l }) (sym saw))

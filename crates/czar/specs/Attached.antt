@@ -1,4 +1,5 @@
 -- What a session attaches for the queries of a script: for each planned one its chunks, and its piece before any chunk.
+use denote.Ref.{Bor}
 use Rattle.std.specs.Prelude.{ℕ, List, Option, None, Some, map}
 use Rattle.table_rules.specs.Objects.{Catalogue}
 use Rattle.sky_rules.specs.Partition.{Partition}
@@ -8,7 +9,7 @@ use Rattle.answer_rules.specs.PieceLaws.{empty_view}
 use Rattle.answer_rules.specs.Pieces.{PieceView}
 use Rattle.answer_rules.specs.Rows.{limit_of}
 use Rattle.answer_rules.specs.SoundChunks.{IsSoundChunk}
-use Rattle.partial_merge.specs.Roots.{with_query}
+use Rattle.partial_merge.specs.Roots.{shown}
 use Rattle.session_rules.specs.Numbers.{numbered_from}
 use Rattle.scan_session.specs.declared.end.Planned.{Planned as Attachable}
 use Rattle.czar.specs.declared.plan.Plan.{Plan}
@@ -23,10 +24,9 @@ chunk_query (Refused why) = None
 abbrev pub base_of : Partition → Catalogue → List Plan → Base
 base_of g c plans = record { plan = g; rows = c; queries = numbered_from 1 (map chunk_query plans) }
 
--- the root with the chunk query of one more query, if that is planned
-abbrev pub with_next : Base → ℕ → Plan → Base
-with_next b q (Planned head query chunks) = with_query b q query.chunk
-with_next b q (Refused why) = b
+-- the root of the session's pieces: these chunk queries, with the numbers of their queries
+abbrev pub base_over : Partition → Catalogue → List (ℕ × Bor ChunkQuery) → Base
+base_over g c queries = record { plan = g; rows = c; queries = shown queries (λ query. query.now) }
 
 -- the chunk query of a query, if that is planned, can be run over a table with the given number of columns
 abbrev pub IsSoundPlan : ℕ → Plan → Type 0

@@ -1,16 +1,17 @@
 //! What a session attaches for the queries of a script, and the board to which it attaches.
 
-ghost use Rattle.std.specs.Prelude.{◌≡◌, ◌+◌, ◌<◌, ◌≤◌, ◌++◌, ◌∷◌, []};
-ghost use Rattle.std.specs.Prelude.{All, IfOk, OnOk, length, map, take};
+ghost use Rattle.std.specs.Prelude.{◌≡◌, ◌≤◌, ◌++◌, ◌∷◌, [], IfOk, OnOk, length, map};
 ghost use Rattle.sky_rules.specs.Partition.{chunk_count};
 ghost use Rattle.scan_rules.specs.declared.limits.TheConstants.{QUERY_MOST};
-ghost use Rattle.answer_rules.specs.Bases.{columns_in};
+ghost use Rattle.answer_rules.specs.Bases.{IsBase};
+ghost use Rattle.partial_merge.specs.Roots.{shown};
+ghost use Rattle.session_rules.specs.Numbers.{numbered_from};
 ghost use Rattle.turn_lock.specs.Seats.{first_seat};
-ghost use Rattle.czar.specs.Attached.{IsSoundPlan, attached, base_of, with_next};
-ghost use Rattle.table_rules.specs.declared.limits.TheConstants.{FIRST_COLUMNS};
+ghost use Rattle.czar.specs.Attached.{attached, base_over, chunk_query};
 
 use crate::plan::Plan;
-use chunk_store::Store;
+use crate::world::World;
+use answer_rules::ChunkQuery;
 use partial_merge::{Piece, PieceRoot};
 use scan_board::{Board, Seat, SharedBoard};
 use scan_session::Planned;
@@ -63,64 +64,68 @@ pub(crate) fn all_attached<'w>(
     Ok(all)
 }
 
-/// Adds to the root the chunk query of the query with this number, if it is planned.
-fn give(plan: &Plan, q: u32, root: &mut PieceRoot<'_>) -> Result<(), Memory>
-    requires above { All (λ e. e.0 < q) root.old.queries }
-    requires from_1 { 1 ≤ q }
-    requires to_255 { q ≤ QUERY_MOST }
-    requires sound { IsSoundPlan (columns_in root.old) plan.now }
-    ensures { OnOk result (root.new ≡ with_next root.old q plan.now) }
+/// Appends the chunk query of the query with this number, if it is planned.
+fn push_query<'p>(
+    plan: &'p Plan,
+    q: u32,
+    queries: &mut Vec<(u32, &'p ChunkQuery)>,
+) -> Result<(), Memory>
+    ensures { OnOk result (shown queries.new.items (λ query. query.now)
+        ≡ shown queries.old.items (λ query. query.now)
+        ++ numbered_from q (chunk_query plan.now ∷ [])) }
 {
     match plan {
-        Plan::Planned { query, .. } => root.push(q, &query.chunk),
+        Plan::Planned { query, .. } => Ok(queries.push((q, &query.chunk))?),
         Plan::Refused(_) => Ok(()),
     }
 }
 
-/// Adds the next query to a root that has those before it.
-fn give_next(
-    world: &Store,
-    plans: &[Plan],
-    place: usize,
-    root: &mut PieceRoot<'_>,
-) -> Result<(), Memory>
+/// Returns the chunk queries of the planned queries of a script, each with the number of its query, from 1.
+pub(crate) fn chunk_queries<'p>(
+    alloc: Global,
+    plans: &'p [Plan],
+) -> Result<Vec<(u32, &'p ChunkQuery)>, Memory>
     requires few { length plans.now ≤ QUERY_MOST }
-    requires there { place < length plans.now }
-    requires sound { All (IsSoundPlan (FIRST_COLUMNS + length world.now.rows.names)) plans.now }
-    requires given { root.old ≡ base_of world.now.plan world.now.rows (take place plans.now) }
-    ensures { OnOk result (root.new
-        ≡ base_of world.now.plan world.now.rows (take (place + 1) plans.now)) }
+    ensures { IfOk result (λ queries. shown queries.items (λ query. query.now)
+        ≡ numbered_from 1 (map chunk_query plans.now)) }
 {
-    give(&plans[place], place as u32 + 1, root)
+    let mut queries = Vec::new(alloc);
+    for place in 0..plans.len() {
+        push_query(&plans[place], place as u32 + 1, &mut queries)?;
+    }
+    Ok(queries)
 }
 
 /// Returns the root of a session's pieces: the world, and the chunk queries with their numbers.
-fn root_of<'w>(alloc: Global, world: &'w Store, plans: &[Plan]) -> Result<PieceRoot<'w>, Memory>
-    requires few { length plans.now ≤ QUERY_MOST }
-    requires sound { All (IsSoundPlan (FIRST_COLUMNS + length world.now.rows.names)) plans.now }
-    ensures { IfOk result (λ root. root ≡ base_of world.now.plan world.now.rows plans.now) }
+fn root_of<'w>(
+    alloc: Global,
+    world: &World<'w>,
+    queries: &[(u32, &ChunkQuery)],
+) -> Result<PieceRoot<'w>, Memory>
+    requires base { IsBase (base_over world.now.plan world.now.rows queries.now) }
+    ensures { IfOk result (λ root.
+        root ≡ base_over world.now.plan world.now.rows queries.now) }
 {
     let mut root = PieceRoot::new(alloc, world.plan(), world.rows());
-    for place in 0..plans.len() {
-        give_next(world, plans, place, &mut root)?;
+    for (q, query) in queries {
+        root.push(*q, query)?;
     }
     Ok(root)
 }
 
-/// Creates a board over the chunks of the world for the queries with these plans, and the czar's participant.
+/// Creates a board over the chunks of the world for these chunk queries, and the czar's participant.
 pub(crate) fn seated<'w>(
     alloc: Global,
-    world: &'w Store,
-    plans: &[Plan],
+    world: &World<'w>,
+    queries: &[(u32, &ChunkQuery)],
 ) -> Result<(SharedBoard<Piece<'w>>, Seat<Board<Piece<'w>>>), Memory>
-    requires few { length plans.now ≤ QUERY_MOST }
-    requires sound { All (IsSoundPlan (FIRST_COLUMNS + length world.now.rows.names)) plans.now }
+    requires base { IsBase (base_over world.now.plan world.now.rows queries.now) }
     ensures { IfOk result (λ r. r.1 ≡ first_seat r.0 (record {
-      root = base_of world.now.plan world.now.rows plans.now;
+      root = base_over world.now.plan world.now.rows queries.now;
       ring = chunk_count world.now.plan;
     })) }
 {
-    let root = root_of(alloc, world, plans)?;
+    let root = root_of(alloc, world, queries)?;
     let board = Board::new(alloc, world.plan().chunks(), root)?;
     SharedBoard::new(alloc, board)
 }

@@ -8,7 +8,6 @@ ghost use Rattle.answer_rules.specs.SoundChunks.{IsSoundChunk};
 ghost use Rattle.czar.specs.Running.{IsOpen};
 ghost use Rattle.table_rules.specs.declared.limits.TheConstants.{FIRST_COLUMNS};
 
-use crate::plan::Plan;
 use answer_rules::ChunkQuery;
 use chunk_scan::{Scratch, scan};
 use chunk_store::Store;
@@ -19,12 +18,12 @@ use sky_io::Memory;
 use sql_bound::Shape;
 use std::alloc::Global;
 
-/// The world of a session, and the plans of its queries by their numbers, from 1.
+/// The world of a session, and the chunk queries of its planned queries with their numbers, which ascend.
 #[derive(Drop)]
 pub(crate) struct ChunkEngine<'w, 's> {
     pub(crate) alloc: Global,
     pub(crate) world: &'w Store,
-    pub(crate) plans: &'s [Plan],
+    pub(crate) queries: &'s [(u32, &'s ChunkQuery)],
 }
 
 /// Returns the piece of one chunk: by a scan of its rows, or for pairs by a join.
@@ -46,22 +45,18 @@ fn piece_of<'w>(
 }
 
 impl<'w, 's> Engine<Piece<'w>> for ChunkEngine<'w, 's> {
-    ghost use Rattle.czar.specs.Attached.{base_of};
+    ghost use Rattle.czar.specs.Attached.{base_over};
 
     type Scratch = Scratch;
 
-    ghost root = { λ s. base_of s.world.now.plan s.world.now.rows s.plans.now };
+    ghost root = { λ s. base_over s.world.now.plan s.world.now.rows s.queries.now };
 
     fn scratch(&self) -> Scratch {
         Scratch::new(self.alloc)
     }
 
     fn piece(&self, q: u32, chunk: u32, scratch: &mut Scratch) -> Result<Piece<'w>, Memory> {
-        match &self.plans[(q - 1) as usize] {
-            Plan::Planned { query, .. } => {
-                piece_of(self.alloc, self.world, &query.chunk, chunk, scratch)
-            }
-            Plan::Refused(_) => unreachable!(),
-        }
+        let place = self.queries.partition_point(|asked| asked.0 < q);
+        piece_of(self.alloc, self.world, self.queries[place].1, chunk, scratch)
     }
 }

@@ -6,9 +6,9 @@ ghost use Rattle.transcript_rules.specs.Explained.{explain_block, explained};
 ghost use Rattle.czar.specs.Plans.{ArePlans, IsPlanned, PlanFor};
 
 use crate::plan::Plan;
+use crate::world::World;
 use answer_rules::Rewritten;
 use answer_text::{Blocks, Explained, put_blocks, put_explain, put_refusal};
-use chunk_store::Store;
 use scan_rules::ChunkSet;
 use session_script::Script;
 use sky_io::{Put, Sink};
@@ -17,7 +17,7 @@ use sql_tree::Query;
 /// Writes the block that explains a query that can be run; `text` is its line.
 fn put_planned<K: Sink>(
     sink: &mut K,
-    world: &Store,
+    world: &World<'_>,
     number: u32,
     text: &[u8],
     head: &Query,
@@ -39,7 +39,7 @@ fn put_planned<K: Sink>(
 }
 
 /// Writes the block that explains a query with this plan; `text` is its line.
-fn put_plan<K: Sink>(sink: &mut K, world: &Store, number: u32, text: &[u8], plan: &Plan) -> Put
+fn put_plan<K: Sink>(sink: &mut K, world: &World<'_>, number: u32, text: &[u8], plan: &Plan) -> Put
     requires { PlanFor world.now.plan world.now.rows text.now plan.now }
     ensures { Wrote (K.state sink.old) (K.state sink.new)
         (explain_block world.now.plan world.now.rows number text.now) result }
@@ -54,10 +54,10 @@ fn put_plan<K: Sink>(sink: &mut K, world: &Store, number: u32, text: &[u8], plan
     }
 }
 
-/// A script whose queries have these plans, over a store.
+/// A script whose queries have these plans, over a world.
 #[derive(Drop)]
 struct Explanation<'a, 't> {
-    world: &'a Store,
+    world: &'a World<'a>,
     script: &'a Script<'t>,
     plans: &'a [Plan],
 }
@@ -88,7 +88,7 @@ impl<'a, 't> Blocks for Explanation<'a, 't> {
 /// Writes the text that explains a script. Does not allocate.
 pub fn put_explained<K: Sink>(
     sink: &mut K,
-    world: &Store,
+    world: &World<'_>,
     script: &Script<'_>,
     plans: &[Plan],
 ) -> Put

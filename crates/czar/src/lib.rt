@@ -18,9 +18,11 @@ mod query_ends;
 pub mod session;
 mod transcript;
 pub mod understanding;
+pub mod world;
 
 pub use end::End;
 pub use explained::put_explained;
 pub use plan::{Plan, explain};
 pub use session::{run_session, run_traced};
 pub use transcript::put_transcript;
+pub use world::World;

@@ -12,11 +12,10 @@ ghost use Rattle.session_script.specs.Views.{query_lines};
 ghost use Rattle.czar.specs.Plans.{ArePlans, IsCutOf, IsPlanBy, IsPlanOf, PlanFor};
 
 use crate::understanding::{Understanding, understand};
+use crate::world::World;
 use answer_rules::Rewritten;
-use area_analyser::{plan, plan_by_areas, radius_ok};
+use area_analyser::{plan, radius_ok};
 use chunk_rewriter::rewrite;
-use chunk_store::Store;
-use object_index::Index;
 use scan_rules::ChunkSet;
 use session_script::Script;
 use session_script::laws::query_lines_are_query_texts;
@@ -41,7 +40,7 @@ pub enum Plan {
 
 /// Returns the plans of a script's queries, in their order; lines that wait or cancel are skipped. Allocates memory for
 /// them. Nothing is run.
-pub fn explain(alloc: Global, world: &Store, script: &Script<'_>) -> Result<Vec<Plan>, Memory>
+pub fn explain(alloc: Global, world: &World<'_>, script: &Script<'_>) -> Result<Vec<Plan>, Memory>
     ensures { IfOk result (λ plans.
         ArePlans world.now.plan world.now.rows (query_lines script.now) plans.items) }
 {
@@ -55,7 +54,7 @@ pub fn explain(alloc: Global, world: &Store, script: &Script<'_>) -> Result<Vec<
 /// Appends the plan of the query that follows `number` others.
 fn push_plan(
     alloc: Global,
-    world: &Store,
+    world: &World<'_>,
     script: &Script<'_>,
     before: u32,
     plans: &mut Vec<Plan>,
@@ -75,7 +74,7 @@ fn push_plan(
 }
 
 /// Returns the plan of the query with this line.
-pub(crate) fn plan_line(alloc: Global, world: &Store, text: &[u8]) -> Result<Plan, Memory>
+pub(crate) fn plan_line(alloc: Global, world: &World<'_>, text: &[u8]) -> Result<Plan, Memory>
     requires { length text.now ≤ QUERY_TEXT_MOST }
     ensures { IfOk result (PlanFor world.now.plan world.now.rows text.now) }
 {
@@ -88,7 +87,7 @@ pub(crate) fn plan_line(alloc: Global, world: &Store, text: &[u8]) -> Result<Pla
 /// Returns the plan of the queries with this understanding.
 fn plan_understood(
     alloc: Global,
-    world: &Store,
+    world: &World<'_>,
     understanding: Understanding,
 ) -> Result<Plan, Memory>
     ensures { IfOk result (IsPlanBy world.now.plan world.now.rows understanding) }
@@ -104,7 +103,7 @@ fn plan_understood(
 }
 
 /// Returns the plan of the queries with this tree and this bound query.
-fn plan_known(alloc: Global, world: &Store, tree: Query, bound: &Bound) -> Result<Plan, Memory>
+fn plan_known(alloc: Global, world: &World<'_>, tree: Query, bound: &Bound) -> Result<Plan, Memory>
     ensures { IfOk result (IsPlanOf world.now.plan world.now.rows tree bound.now) }
 {
     match chunks_of(alloc, world, bound) {
@@ -116,24 +115,20 @@ fn plan_known(alloc: Global, world: &Store, tree: Query, bound: &Bound) -> Resul
     }
 }
 
-/// Returns the chunks that the query needs. If it has id tests, allocates memory for an index of the ids.
-fn chunks_of(alloc: Global, world: &Store, bound: &Bound) -> Result<ChunkSet, Memory>
+/// Returns the chunks that the query needs.
+fn chunks_of(alloc: Global, world: &World<'_>, bound: &Bound) -> Result<ChunkSet, Memory>
     ensures plan { IfOk result (λ chunks.
         chunks ≡ plan_of world.now.plan world.now.rows.objects bound.now) }
     ensures there { IfOk result (λ chunks. All (λ c. c < chunk_count world.now.plan) chunks) }
 {
-    if bound.ids.as_slice().is_empty() {
-        plan_by_areas(alloc, bound, world.plan(), world.filled())
-    } else {
-        let index = Index::build(alloc, world.plan(), world.rows())?;
-        plan(alloc, bound, world.plan(), &index, world.filled())
-    }
+    let filled = world.store().filled();
+    plan(alloc, bound, world.plan(), world.index(), filled)
 }
 
 /// Returns the plan of the queries that need these chunks: they are refused if the chunks' overlap does not allow them.
 fn plan_over(
     alloc: Global,
-    world: &Store,
+    world: &World<'_>,
     tree: Query,
     bound: &Bound,
     chunks: ChunkSet,

@@ -2,13 +2,12 @@
 //!
 //! What a plan still holds is dropped by name, as in `plan`.
 
-ghost use Rattle.std.specs.Prelude.{◌≡◌, ◌≤◌, ◌++◌, ◌∷◌, [], IfOk, OnOk, length};
-ghost use Rattle.std.specs.Vec.Iter.{into_iter_items, into_iter_len};
+ghost use Rattle.std.specs.Prelude.{◌≡◌, ◌≤◌, IfOk, OnOk, length};
+ghost use Rattle.std.specs.List.{AllZip};
 ghost use Rattle.sky_rules.specs.declared.limits.TheConstants.{CHUNKS_MOST};
 ghost use Rattle.answer_rules.specs.Finish.{finished};
 ghost use Rattle.partial_merge.specs.Joining.{MayFinish};
-ghost use Rattle.czar.specs.Ended.{AllMayEnd, MayAnswer, MayEnd, NextMayEnd, PushesNextEnd};
-ghost use Rattle.czar.specs.Ended.{all_ended, answer_end, ended, planned_end};
+ghost use Rattle.czar.specs.Ended.{AreEnded, IsEnded, IsPlannedEnd, MayAnswer, MayEnd, PushesEnd, answer_end};
 ghost use Rattle.czar.specs.Running.{IsOutOfRange};
 
 use crate::end::End;
@@ -20,7 +19,6 @@ use scan_session::End as BoardEnd;
 use sky_io::{Memory, Stop};
 use sql_tree::Query;
 use std::alloc::Global;
-use std::vec::IntoIter;
 use transcript_rules::Refusal;
 
 /// Returns the answer of a query with this piece over these chunks, or its refusal for a total out of range.
@@ -67,7 +65,7 @@ fn planned_end(
 ) -> Result<End, Memory>
     requires { MayAnswer merge.now chunks.now end }
     ensures { IfOk result (λ query_end.
-        query_end ≡ planned_end head merge.now (length chunks.now) end.entry) }
+        IsPlannedEnd head merge.now (length chunks.now) end.entry query_end) }
 {
     match end {
         BoardEnd::Answered(piece) => answer_of(head, merge, chunks, piece),
@@ -75,10 +73,11 @@ fn planned_end(
             drop(head);
             Ok(End::Cancelled)
         }
-        BoardEnd::Refused | BoardEnd::Spent => {
+        BoardEnd::Spent => {
             drop(head);
             Ok(End::Spent)
         }
+        BoardEnd::Refused => unreachable!(),
     }
 }
 
@@ -86,7 +85,7 @@ fn planned_end(
 /// ends so.
 fn end_by(plan: Plan, end: BoardEnd<Piece<'_>>) -> Result<End, Memory>
     requires { MayEnd plan end }
-    ensures { IfOk result (λ query_end. query_end ≡ ended plan end.entry) }
+    ensures { IfOk result (λ query_end. IsEnded plan end.entry query_end) }
 {
     match plan {
         Plan::Planned {
@@ -112,34 +111,11 @@ fn push_query_end(
     query_ends: &mut Vec<End>,
 ) -> Result<(), Memory>
     requires { MayEnd plan end }
-    ensures { OnOk result (query_ends.new.items
-        ≡ query_ends.old.items ++ ended plan end.entry ∷ []) }
+    ensures { OnOk result (PushesEnd plan end.entry query_ends.old.items query_ends.new.items) }
 {
     match end_by(plan, end) {
         Ok(one) => Ok(query_ends.push(one)?),
         Err(Memory) => Err(Memory),
-    }
-}
-
-/// Appends the end of the query with this plan, by the next of these ends at the board, if there is one.
-fn push_next_end(
-    plan: Plan,
-    ends: &mut IntoIter<BoardEnd<Piece<'_>>, Global>,
-    query_ends: &mut Vec<End>,
-) -> Result<(), Memory>
-    requires may { NextMayEnd plan (into_iter_items ends.old) }
-    requires len { into_iter_len ends.old ≡ length (into_iter_items ends.old) }
-    ensures len { into_iter_len ends.new ≡ length (into_iter_items ends.new) }
-    ensures query_ends { OnOk result (PushesNextEnd plan
-        (into_iter_items ends.old) (into_iter_items ends.new)
-        query_ends.old.items query_ends.new.items) }
-{
-    match ends.next() {
-        Some(end) => push_query_end(plan, end, query_ends),
-        None => {
-            drop(plan);
-            Ok(())
-        }
     }
 }
 
@@ -149,14 +125,13 @@ pub(crate) fn all_query_ends(
     plans: Vec<Plan>,
     ends: Vec<BoardEnd<Piece<'_>>>,
 ) -> Result<Vec<End>, Memory>
-    requires may { AllMayEnd plans.items ends.items }
+    requires may { AllZip MayEnd plans.items ends.items }
     ensures { IfOk result (λ query_ends.
-        query_ends.items ≡ all_ended plans.items ends.entry.items) }
+        AreEnded plans.items ends.entry.items query_ends.items) }
 {
     let mut query_ends = Vec::new(alloc);
-    let mut rest = ends.into_iter();
-    for plan in plans {
-        push_next_end(plan, &mut rest, &mut query_ends)?;
+    for (plan, end) in plans.into_iter().zip(ends) {
+        push_query_end(plan, end, &mut query_ends)?;
     }
     Ok(query_ends)
 }

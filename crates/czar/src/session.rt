@@ -6,22 +6,25 @@ ghost use Rattle.table_rules.specs.Objects.{IsCatalogue};
 ghost use Rattle.sky_rules.specs.Limits.{IsSky};
 ghost use Rattle.sky_rules.specs.Partition.{chunk_count};
 ghost use Rattle.turn_lock.specs.Seats.{first_seat};
+ghost use Rattle.partial_merge.specs.Roots.{shown};
+ghost use Rattle.session_rules.specs.Numbers.{numbered_from};
 ghost use Rattle.session_rules.specs.declared.limits.TheConstants.{WORKERS_MOST};
 ghost use Rattle.session_script.specs.Views.{query_lines};
 ghost use Rattle.transcript_rules.specs.Transcripts.{FitEnds};
-ghost use Rattle.czar.specs.Attached.{attached, base_of};
+ghost use Rattle.czar.specs.Attached.{attached, base_over, chunk_query};
 ghost use Rattle.czar.specs.Driven.{IsDriven, IsJoined, IsOver};
-ghost use Rattle.czar.specs.Ended.{all_ended};
+ghost use Rattle.czar.specs.Ended.{AreEnded};
 ghost use Rattle.czar.specs.Ends.{EndsShow, kind_of};
 ghost use Rattle.czar.specs.Plans.{ArePlans};
 ghost use Rattle.czar.specs.Traces.{IsTraceOf};
 
-use crate::attach::{all_attached, seated};
+use crate::attach::{all_attached, chunk_queries, seated};
 use crate::chunk_engine::ChunkEngine;
 use crate::end::End;
 use crate::plan::{Plan, explain};
 use crate::query_ends::all_query_ends;
-use chunk_store::Store;
+use crate::world::World;
+use answer_rules::ChunkQuery;
 use partial_merge::Piece;
 use scan_board::{Board, Seat, SharedBoard};
 use scan_rules::Journal;
@@ -39,7 +42,7 @@ use std::thread::Threads;
 pub fn run_session<R: Threads + Wait + Sync, G: Gate + Sync>(
     alloc: Global,
     rt: &R,
-    world: &Store,
+    world: &World<'_>,
     script: &Script<'_>,
     workers: u32,
     gate: &G,
@@ -73,7 +76,7 @@ pub fn run_session<R: Threads + Wait + Sync, G: Gate + Sync>(
 pub fn run_traced<R: Threads + Wait + Sync, G: Gate + Sync>(
     alloc: Global,
     rt: &R,
-    world: &Store,
+    world: &World<'_>,
     script: &Script<'_>,
     workers: u32,
     gate: &G,
@@ -110,7 +113,7 @@ pub fn run_traced<R: Threads + Wait + Sync, G: Gate + Sync>(
 struct Session<'s, 't, R, G> {
     alloc: Global,
     rt: &'s R,
-    world: &'s Store,
+    world: &'s World<'s>,
     script: &'s Script<'t>,
     workers: u32,
     gate: &'s G,
@@ -178,7 +181,7 @@ impl<'s, 't, R: Threads + Wait + Sync, G: Gate + Sync> Session<'s, 't, R, G> {
             self.now.world.now.plan self.now.world.now.rows (query_lines self.now.script.now)
             ends.items) }
         ensures ended { IfOk result (λ query_ends.
-            query_ends.items ≡ all_ended plans.items ends.entry.items) }
+            AreEnded plans.items ends.entry.items query_ends.items) }
     {
         know(self.world);
         let _ = self.script.steps();
@@ -195,9 +198,11 @@ impl<'s, 't, R: Threads + Wait + Sync, G: Gate + Sync> Session<'s, 't, R, G> {
             self.now.world.now.rows self.now.script.now.steps plans.now r.seat r.ends.items) }
     {
         let _ = self.script.queries();
+        know(self.world);
+        let queries = chunk_queries(self.alloc, plans)?;
         let planned = all_attached(self.alloc, plans)?;
-        match seated(self.alloc, self.world, plans) {
-            Ok((board, seat)) => self.driven_at(plans, planned, board, seat),
+        match seated(self.alloc, self.world, queries.as_slice()) {
+            Ok((board, seat)) => self.driven_at(plans, queries.as_slice(), planned, board, seat),
             Err(Memory) => {
                 drop(planned);
                 Err(Memory)
@@ -206,9 +211,11 @@ impl<'s, 't, R: Threads + Wait + Sync, G: Gate + Sync> Session<'s, 't, R, G> {
     }
 
     /// Drives what is attached for the queries with these plans over this board, from the czar's first participant.
+    /// The plans are read by contracts alone.
     fn driven_at(
         &self,
         plans: &[Plan],
+        queries: &[(u32, &ChunkQuery)],
         planned: Vec<Option<Planned<Piece<'s>>>>,
         board: SharedBoard<Piece<'s>>,
         seat: Seat<Board<Piece<'s>>>,
@@ -217,8 +224,10 @@ impl<'s, 't, R: Threads + Wait + Sync, G: Gate + Sync> Session<'s, 't, R, G> {
         requires plans { ArePlans self.now.world.now.plan self.now.world.now.rows
             (query_lines self.now.script.now) plans.now }
         requires planned { planned.items ≡ map attached plans.now }
+        requires queries { shown queries.now (λ query. query.now)
+            ≡ numbered_from 1 (map chunk_query plans.now) }
         requires seat { seat ≡ first_seat board (record {
-          root = base_of self.now.world.now.plan self.now.world.now.rows plans.now;
+          root = base_over self.now.world.now.plan self.now.world.now.rows queries.now;
           ring = chunk_count self.now.world.now.plan;
         }) }
         ensures own { IfOk result (λ r. r.seat.turn ≡ r.board) }
@@ -229,8 +238,8 @@ impl<'s, 't, R: Threads + Wait + Sync, G: Gate + Sync> Session<'s, 't, R, G> {
         let _ = self.script.queries();
         let engine = ChunkEngine {
             alloc: self.alloc,
-            world: self.world,
-            plans,
+            world: self.world.store(),
+            queries,
         };
         let scan = Scan {
             alloc: self.alloc,
@@ -250,8 +259,8 @@ impl<'s, 't, R: Threads + Wait + Sync, G: Gate + Sync> Session<'s, 't, R, G> {
     }
 }
 
-/// States of a store that its plan and its rows are within the limits. Does not allocate.
-fn know(world: &Store)
+/// States of a world that its plan and its rows are within the limits. Does not allocate.
+fn know(world: &World<'_>)
     ensures sky { IsSky world.now.plan }
     ensures rows { IsCatalogue world.now.rows }
 {

@@ -63,14 +63,15 @@ fixed_replies_end_at_plus = (long_at_plus, memory_at_plus)
 
 -- ---- replies to requests
 
-reply_at_plus : (Answers : List ℕ → List ℕ → Type 0) → ((request answer : List ℕ) → Answers request answer → EndsAtPlus answer)
+-- a reply ends at its one line that begins with `+`, if each answer does
+pub reply_at_plus : (Answers : List ℕ → List ℕ → Type 0) → ((request answer : List ℕ) → Answers request answer → EndsAtPlus answer)
     → (request reply : List ℕ) → IsReply Answers request reply → EndsAtPlus reply
 reply_at_plus Answers ends request reply (inl answered) = ends request reply answered.1
 reply_at_plus Answers ends request reply (inr (inl long)) = subst EndsAtPlus (sym long.1) long_at_plus
 reply_at_plus Answers ends request reply (inr (inr memory)) = subst EndsAtPlus (sym memory) memory_at_plus
 
 -- if each answer ends at its one line that begins with `+`, a client finds the replies
-all_found : (Answers : List ℕ → List ℕ → Type 0) → ((request answer : List ℕ) → Answers request answer → EndsAtPlus answer)
+pub all_found : (Answers : List ℕ → List ℕ → Type 0) → ((request answer : List ℕ) → Answers request answer → EndsAtPlus answer)
     → (requests : List (List ℕ)) (text : List ℕ) → AreReplies Answers requests text → AreFound Answers requests text
 all_found Answers ends [] text are = record {
   replies = [];

@@ -1,9 +1,10 @@
 -- The answer of a script, by how it was written.
-use Rattle.std.proofs.Common.{◌≡◌, refl, inl, inr, ℕ, List, Ok, Err}
+use Rattle.std.proofs.Common.{◌≡◌, refl, sym, subst, inl, inr, ℕ, List, Ok, Err}
 use Rattle.sky_io.specs.Shelves.{ShelfState}
 use Rattle.sky_io.specs.Sinks.{SinkState, Wrote}
 use Rattle.sky_io.specs.declared.sink.Put.{Put}
 use Rattle.sky_io.specs.declared.sink.Put.TheVariants as put
+use Rattle.chunk_store.specs.Survey.{Survey}
 use Rattle.session_script.specs.Scripts.{script_of}
 use Rattle.session_script.specs.Views.{ScriptView}
 use Rattle.session_script.specs.declared.fault.ScriptFault.{ScriptFault}
@@ -13,9 +14,11 @@ use Rattle.request_loop.specs.Replies.{Answering}
 use Rattle.request_loop.specs.Sessions.{Streams}
 use Rattle.request_loop.specs.declared.answered.Answered.{Answered}
 use Rattle.request_loop.specs.declared.answered.Answered.TheVariants.{Done, Failed, Memory}
-use Rattle.script_server.specs.Answers.{Basis, IsAnswer, IsTranscript, answered_text, faulty_line}
+use Rattle.top_call.specs.Jobs.{IsSurveyOf}
+use Rattle.top_call.specs.Steps.{IsRead, IsSurveyStop}
+use Rattle.script_server.specs.Answers.{Basis, IsAnswer, IsTranscript, answered_text, basis_of, faulty_line}
 use Rattle.script_server.specs.Meanings.{OutcomeOf}
-use Rattle.script_server.specs.Steps.{AnswersScript, WroteScript, answered_by}
+use Rattle.script_server.specs.Steps.{AnswersScript, IsServed, WroteScript, answered_by}
 use Rattle.script_server.specs.Words.{ServeWords}
 use Rattle.script_server.specs.declared.outcome.ServeOutcome.{ServeOutcome}
 use Rattle.script_server.specs.declared.outcome.ServeOutcome.TheVariants.{Usage, Stopped, Ended}
@@ -56,3 +59,12 @@ pub not_usage : (words : ServeWords) (old new : ShelfState) (s : Streams) (outco
 not_usage words old new s Usage is e = is
 not_usage words old new s (Stopped outcome) is e = absurd (cc e)
 not_usage words old new s (Ended session) is e = absurd (cc e)
+
+-- an outcome of a survey that was loaded is one of the survey that the arguments name
+pub served : (words : ServeWords) (survey : Survey) (old new : ShelfState) (s : Streams) (outcome : ServeOutcome)
+    → IsRead (IsSurveyOf words.sky words.catalogue survey) old new → IsServed (basis_of survey words.workers) s outcome
+    → OutcomeOf words old new s outcome
+served words survey old new s Usage loaded is = is
+served words survey old new s (Stopped outcome) loaded is =
+    (subst (λ o. IsSurveyStop words.sky words.catalogue old new o) (sym is.0) (λ script sink. (loaded.same, refl)), is.1)
+served words survey old new s (Ended session) loaded is = record { survey = survey; loaded = loaded; session = is }

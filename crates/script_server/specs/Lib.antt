@@ -1,6 +1,7 @@
 pub mod Answers
-pub mod Steps
 pub mod Words
 pub mod WordForms
 pub mod Meanings
+pub mod Steps
 pub mod Outcomes
+pub mod Laws

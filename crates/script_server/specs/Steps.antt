@@ -1,4 +1,5 @@
--- The meaning of a step of an answer: the queries of a script are run, and their transcript is written.
+-- The meaning of a step: a survey that was loaded is served, the queries of a script are run, and their transcript is
+-- written.
 use Rattle.std.specs.Prelude.{◌≡◌, List}
 use Rattle.session_script.specs.Views.{ScriptView}
 use Rattle.session_rules.specs.declared.end.EndKind.{EndKind}
@@ -8,7 +9,19 @@ use Rattle.sky_io.specs.declared.sink.Put.{Put}
 use Rattle.sky_io.specs.declared.sink.Put.TheVariants as put
 use Rattle.request_loop.specs.declared.answered.Answered.{Answered}
 use Rattle.request_loop.specs.declared.answered.Answered.TheVariants.{Done, Failed, Memory}
-use Rattle.script_server.specs.Answers.{Basis, answered_text}
+use Rattle.request_loop.specs.Sessions.{Streams, IsSession}
+use Rattle.top_call.specs.declared.outcome.Outcome.TheVariants as outcome
+use Rattle.script_server.specs.Answers.{Basis, IsAnswer, answered_text}
+use Rattle.script_server.specs.Meanings.{AreUntouched}
+use Rattle.script_server.specs.declared.outcome.ServeOutcome.{ServeOutcome}
+use Rattle.script_server.specs.declared.outcome.ServeOutcome.TheVariants.{Usage, Stopped, Ended}
+
+-- the meaning of an outcome once the survey was loaded: the requests were answered, or an allocation failed before the
+-- first was read
+abbrev pub IsServed : Basis → Streams → ServeOutcome → Type 0
+IsServed basis s Usage = ⊥
+IsServed basis s (Stopped why) = (why ≡ outcome.Memory) × AreUntouched s
+IsServed basis s (Ended session) = IsSession (IsAnswer basis) s session
 
 -- the result of an answer that was written, or not
 abbrev pub answered_by : Put → Answered

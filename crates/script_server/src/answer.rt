@@ -1,4 +1,4 @@
-//! A script over a store: it is read, its queries are run, and its answer is written.
+//! A script over a survey: it is read, its queries are run, and its answer is written.
 ghost use Rattle.std.specs.Prelude.{◌≡◌, ◌≤◌, length, map};
 ghost use Rattle.text_rules.specs.declared.limits.TheConstants.{SCRIPT_TEXT_MOST};
 ghost use Rattle.session_rules.specs.declared.limits.TheConstants.{WORKERS_MOST};
@@ -10,7 +10,7 @@ ghost use Rattle.script_server.specs.Answers.{IsAnswer, answered_text, basis_of,
 ghost use Rattle.script_server.specs.Steps.{AnswersScript, answered_by};
 
 use chunk_store::Store;
-use czar::{End, put_transcript, run_session};
+use czar::{End, World, put_transcript, run_session};
 use request_loop::Answered;
 use session_script::{Script, ScriptFault};
 use sky_io::{Gate, Put, Sink, Stop};
@@ -24,7 +24,7 @@ use top_call::put_script_fault;
 pub(crate) fn answer_script<R: Threads + Wait + Sync, K: Sink, G: Gate + Sync>(
     alloc: Global,
     rt: &R,
-    store: &Store,
+    world: &World<'_>,
     workers: u32,
     request: &[u8],
     sink: &mut K,
@@ -32,11 +32,11 @@ pub(crate) fn answer_script<R: Threads + Wait + Sync, K: Sink, G: Gate + Sync>(
 ) -> Answered
     requires few { workers ≤ WORKERS_MOST }
     requires short { length request.now ≤ SCRIPT_TEXT_MOST }
-    ensures { Answering (IsAnswer (basis_of store.now workers)) request.now
+    ensures { Answering (IsAnswer (basis_of world.now workers)) request.now
         (K.state sink.old) (K.state sink.new) result }
 {
     match Script::read(alloc, request) {
-        Ok(script) => run_script(alloc, rt, store, workers, &script, sink, gate),
+        Ok(script) => run_script(alloc, rt, world, workers, &script, sink, gate),
         Err(Stop::Bad(fault)) => answered(put_fault(sink, &fault)),
         Err(Stop::Memory) => Answered::Memory,
     }
@@ -46,18 +46,18 @@ pub(crate) fn answer_script<R: Threads + Wait + Sync, K: Sink, G: Gate + Sync>(
 fn run_script<R: Threads + Wait + Sync, K: Sink, G: Gate + Sync>(
     alloc: Global,
     rt: &R,
-    store: &Store,
+    world: &World<'_>,
     workers: u32,
     script: &Script<'_>,
     sink: &mut K,
     gate: &G,
 ) -> Answered
     requires { workers ≤ WORKERS_MOST }
-    ensures { AnswersScript (basis_of store.now workers) script.now
+    ensures { AnswersScript (basis_of world.now workers) script.now
         (K.state sink.old) (K.state sink.new) result }
 {
-    match run_session(alloc, rt, store, script, workers, gate) {
-        Ok(ends) => answered(put_answer(sink, store, script, ends.as_slice())),
+    match run_session(alloc, rt, world, script, workers, gate) {
+        Ok(ends) => answered(put_answer(sink, world.store(), script, ends.as_slice())),
         Err(_) => Answered::Memory,
     }
 }

@@ -1,4 +1,4 @@
-//! A session over a store: all requests of an input are answered, one after another.
+//! A session over a survey: all requests of an input are answered, one after another.
 ghost use Rattle.std.specs.Prelude.{◌≡◌, ◌≤◌, false};
 ghost use Rattle.session_rules.specs.declared.limits.TheConstants.{WORKERS_MOST};
 ghost use Rattle.request_loop.specs.Sessions.{IsSession, streams};
@@ -6,7 +6,7 @@ ghost use Rattle.script_server.specs.Answers.{IsAnswer, basis_of};
 
 use crate::step::serve_next;
 use byte_source::Source;
-use chunk_store::Store;
+use czar::World;
 use request_loop::Session;
 use sky_io::{Gate, Put, Sink};
 use std::alloc::Global;
@@ -20,20 +20,20 @@ use std::thread::Threads;
 pub(crate) fn serve<R: Threads + Wait + Sync, S: Source, K: Sink, G: Gate + Sync>(
     alloc: Global,
     rt: &R,
-    store: &Store,
+    world: &World<'_>,
     workers: u32,
     source: &mut S,
     sink: &mut K,
     gate: &G,
 ) -> Session
     requires { workers ≤ WORKERS_MOST }
-    ensures { IsSession (IsAnswer (basis_of store.now workers))
+    ensures { IsSession (IsAnswer (basis_of world.now workers))
         (streams (S.state source.old) (S.state source.new) (K.state sink.old) (K.state sink.new))
         result }
 {
     match sink.flush_out() {
         Put::Failed => Session::SinkFault,
-        Put::Done => serve_all(alloc, rt, store, workers, source, sink, gate),
+        Put::Done => serve_all(alloc, rt, world, workers, source, sink, gate),
     }
 }
 
@@ -41,7 +41,7 @@ pub(crate) fn serve<R: Threads + Wait + Sync, S: Source, K: Sink, G: Gate + Sync
 fn serve_all<R: Threads + Wait + Sync, S: Source, K: Sink, G: Gate + Sync>(
     alloc: Global,
     rt: &R,
-    store: &Store,
+    world: &World<'_>,
     workers: u32,
     source: &mut S,
     sink: &mut K,
@@ -49,12 +49,12 @@ fn serve_all<R: Threads + Wait + Sync, S: Source, K: Sink, G: Gate + Sync>(
 ) -> Session
     requires few { workers ≤ WORKERS_MOST }
     requires sent { (K.state sink.old).held ≡ false }
-    ensures { IsSession (IsAnswer (basis_of store.now workers))
+    ensures { IsSession (IsAnswer (basis_of world.now workers))
         (streams (S.state source.old) (S.state source.new) (K.state sink.old) (K.state sink.new))
         result }
 {
     for _ in rt.forever() {
-        match serve_next(alloc, rt, store, workers, source, sink, gate) {
+        match serve_next(alloc, rt, world, workers, source, sink, gate) {
             None => {}
             Some(session) => return session,
         }

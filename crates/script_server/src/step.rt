@@ -8,7 +8,7 @@ ghost use Rattle.script_server.specs.Answers.{IsAnswer, basis_of};
 
 use crate::answer::answer_script;
 use byte_source::Source;
-use chunk_store::Store;
+use czar::World;
 use request_loop::{Answered, Request, Session, after_last, after_reply, read_request, send_line};
 use sky_io::{Gate, Put, Sink};
 use std::alloc::Global;
@@ -19,7 +19,7 @@ use std::thread::Threads;
 pub(crate) fn serve_next<R: Threads + Wait + Sync, S: Source, K: Sink, G: Gate + Sync>(
     alloc: Global,
     rt: &R,
-    store: &Store,
+    world: &World<'_>,
     workers: u32,
     source: &mut S,
     sink: &mut K,
@@ -27,13 +27,13 @@ pub(crate) fn serve_next<R: Threads + Wait + Sync, S: Source, K: Sink, G: Gate +
 ) -> Option<Session>
     requires few { workers ≤ WORKERS_MOST }
     requires sent { (K.state sink.old).held ≡ false }
-    ensures { Serves (IsAnswer (basis_of store.now workers))
+    ensures { Serves (IsAnswer (basis_of world.now workers))
         (streams (S.state source.old) (S.state source.new) (K.state sink.old) (K.state sink.new))
         result }
 {
     match read_request(alloc, rt, source, sink) {
         Request::Text(text) => {
-            let put = put_reply(alloc, rt, store, workers, text.as_slice(), sink, gate);
+            let put = put_reply(alloc, rt, world, workers, text.as_slice(), sink, gate);
             drop(text);
             after_reply(put)
         }
@@ -49,7 +49,7 @@ pub(crate) fn serve_next<R: Threads + Wait + Sync, S: Source, K: Sink, G: Gate +
 fn put_reply<R: Threads + Wait + Sync, K: Sink, G: Gate + Sync>(
     alloc: Global,
     rt: &R,
-    store: &Store,
+    world: &World<'_>,
     workers: u32,
     request: &[u8],
     sink: &mut K,
@@ -57,10 +57,10 @@ fn put_reply<R: Threads + Wait + Sync, K: Sink, G: Gate + Sync>(
 ) -> Put
     requires few { workers ≤ WORKERS_MOST }
     requires short { length request.now ≤ SCRIPT_TEXT_MOST }
-    ensures { SentReply (IsAnswer (basis_of store.now workers)) request.now
+    ensures { SentReply (IsAnswer (basis_of world.now workers)) request.now
         (K.state sink.old) (K.state sink.new) result }
 {
-    match answer_script(alloc, rt, store, workers, request, sink, gate) {
+    match answer_script(alloc, rt, world, workers, request, sink, gate) {
         Answered::Done => sink.flush_out(),
         Answered::Failed => Put::Failed,
         Answered::Memory => send_line(sink, b"+ out of memory\n"),

@@ -1,5 +1,5 @@
 -- What the work on the demo's script comes to explains the outcome.
-use Rattle.std.proofs.Common.{◌≡◌, ℕ, ◌≤◌, List, length, Ok, refl, subst, ◌∙◌}
+use Rattle.std.proofs.Common.{◌≡◌, ℕ, ◌≤◌, List, length, Ok, Err, refl, subst, ◌∙◌}
 use Rattle.text_rules.specs.declared.limits.TheConstants.{SCRIPT_TEXT_MOST}
 use Rattle.table_rules.specs.declared.limits.TheConstants.{ROWS_MOST}
 use Rattle.sky_rules.specs.SkyText.{sky_of}
@@ -8,43 +8,52 @@ use Rattle.demo_answers.specs.DemoInput.{demo_plan, demo_steps}
 use Rattle.demo_answers.specs.Laws.{DemoIsAnswered}
 use Rattle.session_script.specs.Scripts.{script_of}
 use Rattle.session_script.specs.Views.{ScriptView}
+use Rattle.session_script.specs.declared.fault.ScriptFault.{ScriptFault}
+use Rattle.session_script.specs.declared.step.Step.{Step}
 use Rattle.sky_io.specs.Shelves.{ShelfState}
 use Rattle.sky_io.specs.Sinks.{SinkState}
 use Rattle.chunk_store.specs.Survey.{Survey}
 use Rattle.top_call.specs.Words.{Demo}
-use Rattle.top_call.specs.Reached.{IsScriptOf}
 use Rattle.top_call.specs.Jobs.{Runs, IsDemoSurvey}
 use Rattle.top_call.specs.Explained.{ExplainedOf, shown}
-use Rattle.top_call.specs.Steps.{IsDemoOver, IsWritten}
+use Rattle.top_call.specs.Steps.{IsDemoOver, IsDemoWritten, IsTaskAsRead, IsTaskOver}
+use Rattle.top_call.specs.declared.task.Task.TheVariants.{Answer}
 use Rattle.top_call.specs.declared.outcome.Outcome.{Outcome}
 use Rattle.top_call.specs.declared.outcome.Outcome.TheVariants.{Done, Usage, BadSky, BadCatalogue, BadScript}
 use Rattle.top_call.specs.declared.outcome.Outcome.TheVariants.{TooLong, ShelfFault, SinkFault, Memory, BadJournal}
 use Rattle.top_call.proofs.DemoEnds.{demo_has_ends}
 use Rattle.top_call.proofs.Writing.{job_explained}
 
--- What is read of a text that is the same is the script of this one.
-pub same_script : (text named : List ℕ) (view : ScriptView) → text ≡ named → length named ≤ SCRIPT_TEXT_MOST
-    → view.text ≡ text → script_of text ≡ Ok view.steps → IsScriptOf named view
-same_script text named view is short same steps = record {
-  short = short;
-  same = same ∙ is;
-  read = subst (λ t. script_of t ≡ Ok view.steps) is steps;
+-- What is read of the demo's script, and the writing of its job.
+read_demo : (workers : ℕ) (survey : Survey) (text : List ℕ) (old new : SinkState) (outcome : Outcome) → text ≡ demo_script
+    → length demo_script ≤ SCRIPT_TEXT_MOST → IsTaskAsRead (Answer workers) survey text old new outcome
+    → IsDemoWritten workers survey old new outcome
+read_demo workers survey text old new outcome is short h = record {
+  view = h.view;
+  read = record { short = short; same = h.same ∙ is; read = subst (λ t. script_of t ≡ Ok h.view.steps) is h.steps };
+  work = h.work;
 }
 
--- What the writing of its transcript comes to is what the work on the demo's script comes to.
-pub demo_over : (workers : ℕ) (survey : Survey) (view : ScriptView) (old new : SinkState) (outcome : Outcome)
-    → IsScriptOf demo_script view → IsWritten (Runs workers survey view) old new outcome
-    → IsDemoOver workers survey old new outcome
-demo_over workers survey view old new (Done ends) read h = record { view = view; read = read; work = h }
-demo_over workers survey view old new (SinkFault ends) read h = record { view = view; read = read; work = h }
-demo_over workers survey view old new Usage read h = absurd h
-demo_over workers survey view old new (BadSky fault) read h = absurd h
-demo_over workers survey view old new (BadCatalogue fault) read h = absurd h
-demo_over workers survey view old new (BadScript fault) read h = absurd h
-demo_over workers survey view old new (TooLong which) read h = absurd h
-demo_over workers survey view old new (ShelfFault which) read h = absurd h
-demo_over workers survey view old new Memory read h = h
-demo_over workers survey view old new (BadJournal fault) read h = absurd h
+-- The demo's script is not refused.
+not_refused : (text : List ℕ) (steps : List Step) (fault : ScriptFault) → text ≡ demo_script → script_of demo_script ≡ Ok steps
+    → script_of text ≡ Err fault → ⊥
+not_refused text steps fault is accepted refused =
+    let read = subst (λ t. script_of t ≡ Err fault) is refused in absurd (cc (read, accepted))
+
+-- What the task of answering the demo's script comes to is what the work on it comes to.
+pub demo_task : (workers : ℕ) (survey : Survey) (text : List ℕ) (old new : SinkState) (outcome : Outcome) → text ≡ demo_script
+    → length demo_script ≤ SCRIPT_TEXT_MOST → script_of demo_script ≡ Ok demo_steps
+    → IsTaskOver (Answer workers) survey text old new outcome → IsDemoOver workers survey old new outcome
+demo_task workers survey text old new (Done ends) is short steps h = read_demo workers survey text old new (Done ends) is short h
+demo_task workers survey text old new (SinkFault ends) is short steps h = read_demo workers survey text old new (SinkFault ends) is short h
+demo_task workers survey text old new Usage is short steps h = absurd h.work
+demo_task workers survey text old new (BadSky fault) is short steps h = absurd h.work
+demo_task workers survey text old new (BadCatalogue fault) is short steps h = absurd h.work
+demo_task workers survey text old new (BadScript fault) is short steps h = absurd (not_refused text demo_steps fault is steps h.0)
+demo_task workers survey text old new (TooLong which) is short steps h = absurd h.work
+demo_task workers survey text old new (ShelfFault which) is short steps h = absurd h.work
+demo_task workers survey text old new Memory is short steps h = h
+demo_task workers survey text old new (BadJournal fault) is short steps h = absurd h.work
 
 -- What the work on the demo's script comes to explains the outcome, whatever the shelf.
 pub demo_explained : DemoIsAnswered → sky_of demo_sky ≡ Ok demo_plan → script_of demo_script ≡ Ok demo_steps

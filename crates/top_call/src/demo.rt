@@ -8,11 +8,11 @@ ghost use Rattle.top_call.specs.Steps.{IsDemo, IsDemoOver};
 ghost use Rattle.session_rules.specs.declared.limits.TheConstants.{WORKERS_MOST};
 
 use crate::outcome::Outcome;
-use crate::work::answer_queries;
+use crate::task::Task;
+use crate::work::do_task;
 use chunk_store::Store;
 use demo_answers::laws::demo_is_answered;
 use demo_answers::texts::{demo_script_is_accepted, demo_sky_is_accepted};
-use session_script::Script;
 use sky_generate::{demo_script, demo_sky, rows_by};
 use sky_io::{Gate, Memory, Sink};
 use sky_plan::SkyPlan;
@@ -81,13 +81,7 @@ fn answer_demo<R: Threads + Wait + Sync, K: Sink, G: Gate + Sync>(
     requires { workers ≤ WORKERS_MOST }
     ensures { IsDemoOver workers store (K.state sink.old) (K.state sink.new) result }
 {
-    // The text is a script, so only an allocation can fail.
+    // The text is a script, so it is not refused.
     demo_script_is_accepted();
-    match Script::read(alloc, demo_script()) {
-        Ok(script) => answer_queries(alloc, rt, store, &script, workers, sink, gate),
-        Err(_) => {
-            drop(store);
-            Outcome::Memory
-        }
-    }
+    do_task(alloc, rt, Task::Answer { workers }, store, demo_script(), sink, gate)
 }

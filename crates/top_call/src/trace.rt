@@ -15,8 +15,7 @@ ghost use Rattle.top_call.specs.Steps.{IsWritten};
 use crate::ends::kinds_of;
 use crate::outcome::Outcome;
 use crate::work::send;
-use chunk_store::Store;
-use czar::{End, run_traced};
+use czar::{End, World, run_traced};
 use scan_history::put_journal;
 use scan_rules::Journal;
 use session_script::Script;
@@ -30,36 +29,17 @@ use std::thread::Threads;
 pub fn trace_queries<R: Threads + Wait + Sync, K: Sink, G: Gate + Sync>(
     alloc: Global,
     rt: &R,
-    store: Store,
+    world: &World<'_>,
     script: &Script<'_>,
     workers: u32,
     sink: &mut K,
     gate: &G,
 ) -> Outcome
     requires { workers ≤ WORKERS_MOST }
-    ensures { IsWritten (Traces workers store script.now)
+    ensures { IsWritten (Traces workers world.now script.now)
         (K.state sink.old) (K.state sink.new) result }
 {
-    let outcome = trace_over(alloc, rt, &store, script, workers, sink, gate);
-    drop(store);
-    outcome
-}
-
-// Answers the queries of a script over a store, and writes the journal.
-fn trace_over<R: Threads + Wait + Sync, K: Sink, G: Gate + Sync>(
-    alloc: Global,
-    rt: &R,
-    store: &Store,
-    script: &Script<'_>,
-    workers: u32,
-    sink: &mut K,
-    gate: &G,
-) -> Outcome
-    requires { workers ≤ WORKERS_MOST }
-    ensures { IsWritten (Traces workers store.now script.now)
-        (K.state sink.old) (K.state sink.new) result }
-{
-    match run_traced(alloc, rt, store, script, workers, gate) {
+    match run_traced(alloc, rt, world, script, workers, gate) {
         Ok((ends, journal)) => {
             let outcome = write_trace(alloc, ends.as_slice(), &journal, sink);
             drop(journal);

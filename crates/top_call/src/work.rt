@@ -1,7 +1,8 @@
 //! The work of a command whose texts were fetched, and its writing.
 //!
-//! The store is dropped by name, which is one call; a value that goes out of scope is dropped part by part. All memory
-//! is allocated before the first byte is written: for the store, the answers, and the list of how the queries ended.
+//! The store and the index of its ids are dropped by name, which is one call; a value that goes out of scope is dropped
+//! part by part. All memory is allocated before the first byte is written: for the store, its index, the answers, and
+//! the list of how the queries ended.
 ghost use Rattle.std.specs.Prelude.{◌≡◌, ◌≤◌, ◌^◌, ℕ, [], length, map};
 ghost use Rattle.text_rules.specs.declared.limits.TheConstants.{SCRIPT_TEXT_MOST};
 ghost use Rattle.session_script.specs.Views.{query_lines};
@@ -19,7 +20,7 @@ use crate::task::Task;
 use crate::trace::trace_queries;
 use answer_text::put_report;
 use chunk_store::Store;
-use czar::{End, Plan, explain, put_explained, put_transcript, run_session};
+use czar::{End, Plan, World, explain, put_explained, put_transcript, run_session};
 use session_rules::Ends;
 use session_script::Script;
 use sky_io::{Gate, Put, Sink, Stop};
@@ -36,7 +37,8 @@ pub fn report<K: Sink>(alloc: Global, store: Store, sink: &mut K) -> Outcome
     outcome
 }
 
-/// Reads a script and executes the task on it. Allocates memory, and waits.
+/// Executes the task on a script, which is read, over a store. Allocates memory for the index of the store's ids too,
+/// and waits.
 pub fn do_task<R: Threads + Wait + Sync, K: Sink, G: Gate + Sync>(
     alloc: Global,
     rt: &R,
@@ -51,16 +53,55 @@ pub fn do_task<R: Threads + Wait + Sync, K: Sink, G: Gate + Sync>(
     ensures { IsTaskOver task store text.now
         (K.state sink.old) (K.state sink.new) result }
 {
+    let outcome = task_over(alloc, rt, task, &store, text, sink, gate);
+    drop(store);
+    outcome
+}
+
+// Indexes the ids of a store, and executes the task on a script over it.
+fn task_over<R: Threads + Wait + Sync, K: Sink, G: Gate + Sync>(
+    alloc: Global,
+    rt: &R,
+    task: Task,
+    store: &Store,
+    text: &[u8],
+    sink: &mut K,
+    gate: &G,
+) -> Outcome
+    requires short { length text.now ≤ SCRIPT_TEXT_MOST }
+    requires manned { IsManned task }
+    ensures { IsTaskOver task store.now text.now
+        (K.state sink.old) (K.state sink.new) result }
+{
+    match World::new(alloc, store) {
+        Ok(world) => {
+            let outcome = do_text(alloc, rt, task, &world, text, sink, gate);
+            drop(world);
+            outcome
+        }
+        Err(_) => Outcome::Memory,
+    }
+}
+
+// Reads a script and executes the task on it.
+fn do_text<R: Threads + Wait + Sync, K: Sink, G: Gate + Sync>(
+    alloc: Global,
+    rt: &R,
+    task: Task,
+    world: &World<'_>,
+    text: &[u8],
+    sink: &mut K,
+    gate: &G,
+) -> Outcome
+    requires short { length text.now ≤ SCRIPT_TEXT_MOST }
+    requires manned { IsManned task }
+    ensures { IsTaskOver task world.now text.now
+        (K.state sink.old) (K.state sink.new) result }
+{
     match Script::read(alloc, text) {
-        Ok(script) => do_script(alloc, rt, task, store, &script, sink, gate),
-        Err(Stop::Bad(fault)) => {
-            drop(store);
-            Outcome::BadScript { fault }
-        }
-        Err(Stop::Memory) => {
-            drop(store);
-            Outcome::Memory
-        }
+        Ok(script) => do_script(alloc, rt, task, world, &script, sink, gate),
+        Err(Stop::Bad(fault)) => Outcome::BadScript { fault },
+        Err(Stop::Memory) => Outcome::Memory,
     }
 }
 
@@ -69,60 +110,40 @@ fn do_script<R: Threads + Wait + Sync, K: Sink, G: Gate + Sync>(
     alloc: Global,
     rt: &R,
     task: Task,
-    store: Store,
+    world: &World<'_>,
     script: &Script<'_>,
     sink: &mut K,
     gate: &G,
 ) -> Outcome
     requires { IsManned task }
-    ensures { IsWritten (job_on task store script.now)
+    ensures { IsWritten (job_on task world.now script.now)
         (K.state sink.old) (K.state sink.new) result }
 {
     match task {
         Task::Answer { workers } => {
-            answer_queries(alloc, rt, store, script, workers, sink, gate)
+            answer_queries(alloc, rt, world, script, workers, sink, gate)
         }
-        Task::Trace { workers } => { trace_queries(alloc, rt, store, script, workers, sink, gate) }
-        Task::Explain => explain_queries(alloc, store, script, sink),
+        Task::Trace { workers } => { trace_queries(alloc, rt, world, script, workers, sink, gate) }
+        Task::Explain => explain_queries(alloc, world, script, sink),
     }
 }
 
-/// Answers the queries of a script with the given number of workers, and writes their transcript. Allocates memory, and
-/// waits.
-pub fn answer_queries<R: Threads + Wait + Sync, K: Sink, G: Gate + Sync>(
+// Answers the queries of a script with the given number of workers, and writes their transcript.
+fn answer_queries<R: Threads + Wait + Sync, K: Sink, G: Gate + Sync>(
     alloc: Global,
     rt: &R,
-    store: Store,
+    world: &World<'_>,
     script: &Script<'_>,
     workers: u32,
     sink: &mut K,
     gate: &G,
 ) -> Outcome
     requires { workers ≤ WORKERS_MOST }
-    ensures { IsWritten (Runs workers store script.now)
+    ensures { IsWritten (Runs workers world.now script.now)
         (K.state sink.old) (K.state sink.new) result }
 {
-    let outcome = answer_over(alloc, rt, &store, script, workers, sink, gate);
-    drop(store);
-    outcome
-}
-
-// Answers the queries of a script over a store, and writes their transcript.
-fn answer_over<R: Threads + Wait + Sync, K: Sink, G: Gate + Sync>(
-    alloc: Global,
-    rt: &R,
-    store: &Store,
-    script: &Script<'_>,
-    workers: u32,
-    sink: &mut K,
-    gate: &G,
-) -> Outcome
-    requires { workers ≤ WORKERS_MOST }
-    ensures { IsWritten (Runs workers store.now script.now)
-        (K.state sink.old) (K.state sink.new) result }
-{
-    match run_session(alloc, rt, store, script, workers, gate) {
-        Ok(ends) => write_transcript(alloc, store, script, ends.as_slice(), sink),
+    match run_session(alloc, rt, world, script, workers, gate) {
+        Ok(ends) => write_transcript(alloc, world.store(), script, ends.as_slice(), sink),
         Err(_) => Outcome::Memory,
     }
 }
@@ -130,25 +151,15 @@ fn answer_over<R: Threads + Wait + Sync, K: Sink, G: Gate + Sync>(
 // Explains the queries of a script, and writes the explanation.
 fn explain_queries<K: Sink>(
     alloc: Global,
-    store: Store,
+    world: &World<'_>,
     script: &Script<'_>,
     sink: &mut K,
 ) -> Outcome
-    ensures { IsWritten (Explains store script.now)
+    ensures { IsWritten (Explains world.now script.now)
         (K.state sink.old) (K.state sink.new) result }
 {
-    let outcome = explain_over(alloc, &store, script, sink);
-    drop(store);
-    outcome
-}
-
-// Explains the queries of a script over a store, and writes the explanation.
-fn explain_over<K: Sink>(alloc: Global, store: &Store, script: &Script<'_>, sink: &mut K) -> Outcome
-    ensures { IsWritten (Explains store.now script.now)
-        (K.state sink.old) (K.state sink.new) result }
-{
-    match explain(alloc, store, script) {
-        Ok(plans) => write_explained(alloc, store, script, plans.as_slice(), sink),
+    match explain(alloc, world, script) {
+        Ok(plans) => write_explained(alloc, world, script, plans.as_slice(), sink),
         Err(_) => Outcome::Memory,
     }
 }
@@ -191,17 +202,17 @@ fn write_transcript<K: Sink>(
 // Writes the explanation of a script with these plans, and sends it.
 fn write_explained<K: Sink>(
     alloc: Global,
-    store: &Store,
+    world: &World<'_>,
     script: &Script<'_>,
     plans: &[Plan],
     sink: &mut K,
 ) -> Outcome
-    requires { ArePlans store.now.plan store.now.rows (query_lines script.now) plans.now }
-    ensures { IsWritten (Explains store.now script.now)
+    requires { ArePlans world.now.plan world.now.rows (query_lines script.now) plans.now }
+    ensures { IsWritten (Explains world.now script.now)
         (K.state sink.old) (K.state sink.new) result }
 {
     let ends = no_ends(alloc);
-    match put_explained(sink, store, script, plans) {
+    match put_explained(sink, world, script, plans) {
         Put::Failed => Outcome::SinkFault { ends },
         Put::Done => send(sink, ends),
     }
