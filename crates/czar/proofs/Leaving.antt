@@ -29,12 +29,12 @@ IsEndFor g c S k (Refused why) board.Refused = Unit {0}
 IsEndFor g c S k (Refused why) board.Cancelled = ⊥
 IsEndFor g c S k (Refused why) board.Spent = ⊥
 
--- so of all queries from number k on
-abbrev pub AreEndsFor : Partition → Catalogue → Journal → ℕ → List Plan → List (BoardEnd PieceView) → Type 0
+-- so of all queries from number k on, each by the journal of its board
+abbrev pub AreEndsFor : Partition → Catalogue → (ℕ → Journal) → ℕ → List Plan → List (BoardEnd PieceView) → Type 0
 AreEndsFor g c S k [] [] = Unit {0}
 AreEndsFor g c S k [] (e ∷ ends) = ⊥
 AreEndsFor g c S k (p ∷ plans) [] = ⊥
-AreEndsFor g c S k (p ∷ plans) (e ∷ ends) = IsEndFor g c S k p e × AreEndsFor g c S (k + 1) plans ends
+AreEndsFor g c S k (p ∷ plans) (e ∷ ends) = IsEndFor g c (S k) k p e × AreEndsFor g c S (k + 1) plans ends
 
 same_chunk_query : (a b : ChunkQuery) → ◌≡◌ {A = Option ChunkQuery} (Some a) (Some b) → a ≡ b
 same_chunk_query a b e = cc
@@ -68,26 +68,26 @@ planned_in plans i p there =
     (get_or_from_slice_get (map attached plans) i (attached p) None (slice_get-map attached plans i ∙ ap (option_map attached) there))
 
 -- what holds of each place holds of the lists
-by_places : (g : Partition) (c : Catalogue) (S : Journal) (k : ℕ) (plans : List Plan) (ends : List (BoardEnd PieceView)) → length ends ≡ length plans
-    → ((i : ℕ) (p : Plan) (e : BoardEnd PieceView) → slice_get plans i ≡ Some p → slice_get ends i ≡ Some e → IsEndFor g c S (k + i) p e)
+by_places : (g : Partition) (c : Catalogue) (S : ℕ → Journal) (k : ℕ) (plans : List Plan) (ends : List (BoardEnd PieceView)) → length ends ≡ length plans
+    → ((i : ℕ) (p : Plan) (e : BoardEnd PieceView) → slice_get plans i ≡ Some p → slice_get ends i ≡ Some e → IsEndFor g c (S (k + i)) (k + i) p e)
     → AreEndsFor g c S k plans ends
 by_places g c S k [] [] each at = tt
 by_places g c S k [] (e ∷ ends) each at = absurd (omega (arith, each))
 by_places g c S k (p ∷ plans) [] each at = absurd (omega (arith, each))
 by_places g c S k (p ∷ plans) (e ∷ ends) each at = (
   let none : k + 0 ≡ k = omega arith in
-      subst (λ n. IsEndFor g c S n p e) none (at 0 p e refl refl),
+      subst (λ n. IsEndFor g c (S n) n p e) none (at 0 p e refl refl),
   by_places g c S (k + 1) plans ends (omega (arith, each)) (λ i q f here there.
       let on : k + suc i ≡ (k + 1) + i = omega arith in
-      subst (λ n. IsEndFor g c S n q f) on (at (suc i) q f here there)),
+      subst (λ n. IsEndFor g c (S n) n q f) on (at (suc i) q f here there)),
 )
 
-pub ends_for : (g : Partition) (c : Catalogue) (S : Journal) (plans : List Plan) (ends : List (BoardEnd PieceView)) → length ends ≡ length plans
-    → AreEnds (StandsFor (base_of g c plans)) (plan_in (map attached plans)) (λ q. S) ends → AreEndsFor g c S 1 plans ends
+pub ends_for : (g : Partition) (c : Catalogue) (S : ℕ → Journal) (plans : List Plan) (ends : List (BoardEnd PieceView)) → length ends ≡ length plans
+    → AreEnds (StandsFor (base_of g c plans)) (plan_in (map attached plans)) S ends → AreEndsFor g c S 1 plans ends
 ends_for g c S plans ends each are = by_places g c S 1 plans ends each (λ i p e here there.
     let on : i + 1 ≡ suc i = omega arith in
     let number : suc i ≡ 1 + i = omega arith in
-    let is : IsEnd (StandsFor (base_of g c plans)) S (suc i) (plan_in (map attached plans) (suc i)) e =
-    subst (λ n. IsEnd (StandsFor (base_of g c plans)) S n (plan_in (map attached plans) n) e) on (are.each i e there) in
-    subst (λ n. IsEndFor g c S n p e) number (end_for g c S plans i p e here
-    (subst (λ (o : Option (List ℕ)). IsEnd (StandsFor (base_of g c plans)) S (suc i) o e) (planned_in plans i p here) is)))
+    let is : IsEnd (StandsFor (base_of g c plans)) (S (suc i)) (suc i) (plan_in (map attached plans) (suc i)) e =
+    subst (λ n. IsEnd (StandsFor (base_of g c plans)) (S n) n (plan_in (map attached plans) n) e) on (are.each i e there) in
+    subst (λ n. IsEndFor g c (S n) n p e) number (end_for g c (S (suc i)) plans i p e here
+    (subst (λ (o : Option (List ℕ)). IsEnd (StandsFor (base_of g c plans)) (S (suc i)) (suc i) o e) (planned_in plans i p here) is)))

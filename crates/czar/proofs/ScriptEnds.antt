@@ -52,7 +52,7 @@ may_end g c S k text (Planned head query chunks) board.Cancelled sky rows for is
 may_end g c S k text (Planned head query chunks) board.Spent sky rows for is = tt
 may_end g c S k text (Refused why) e sky rows for is = tt
 
-all_may_end : (g : Partition) (c : Catalogue) (S : Journal) (k : ℕ) (texts : List Bytes) (plans : List Plan) (ends : List (BoardEnd PieceView))
+all_may_end : (g : Partition) (c : Catalogue) (S : ℕ → Journal) (k : ℕ) (texts : List Bytes) (plans : List Plan) (ends : List (BoardEnd PieceView))
     → IsSky g → IsCatalogue c → ArePlans g c texts plans → AreEndsFor g c S k plans ends → AllZip MayEnd plans ends
 all_may_end g c S k [] [] [] sky rows are is = tt
 all_may_end g c S k [] [] (e ∷ ends) sky rows are is = absurd is
@@ -60,7 +60,7 @@ all_may_end g c S k [] (p ∷ plans) ends sky rows are is = absurd are
 all_may_end g c S k (t ∷ texts) [] ends sky rows are is = absurd are
 all_may_end g c S k (t ∷ texts) (p ∷ plans) [] sky rows are is = absurd is
 all_may_end g c S k (t ∷ texts) (p ∷ plans) (e ∷ ends) sky rows are is =
-    (may_end g c S k t p e sky rows are.0 is.0, all_may_end g c S (k + 1) texts plans ends sky rows are.1 is.1)
+    (may_end g c (S k) k t p e sky rows are.0 is.0, all_may_end g c S (k + 1) texts plans ends sky rows are.1 is.1)
 
 -- ---- each shows what its query comes to
 
@@ -83,7 +83,7 @@ shows g c S k text (Planned head query chunks) board.Spent q sky rows for is end
 shows g c S k text (Refused why) e q sky rows for is ended =
     subst (λ (x : End). EndShows g c text x) (sym ended) (refused_early g c text why for)
 
-all_show : (g : Partition) (c : Catalogue) (S : Journal) (k : ℕ) (texts : List Bytes) (plans : List Plan) (ends : List (BoardEnd PieceView))
+all_show : (g : Partition) (c : Catalogue) (S : ℕ → Journal) (k : ℕ) (texts : List Bytes) (plans : List Plan) (ends : List (BoardEnd PieceView))
     (qs : List End) → IsSky g → IsCatalogue c → ArePlans g c texts plans → AreEndsFor g c S k plans ends → AreEnded plans ends qs
     → EndsShow g c texts qs
 all_show g c S k [] [] [] [] sky rows are is ended = tt
@@ -94,7 +94,7 @@ all_show g c S k (t ∷ texts) [] ends qs sky rows are is ended = absurd are
 all_show g c S k (t ∷ texts) (p ∷ plans) [] qs sky rows are is ended = absurd is
 all_show g c S k (t ∷ texts) (p ∷ plans) (e ∷ ends) [] sky rows are is ended = absurd ended
 all_show g c S k (t ∷ texts) (p ∷ plans) (e ∷ ends) (q ∷ qs) sky rows are is ended =
-    (shows g c S k t p e q sky rows are.0 is.0 ended.0, all_show g c S (k + 1) texts plans ends qs sky rows are.1 is.1 ended.1)
+    (shows g c (S k) k t p e q sky rows are.0 is.0 ended.0, all_show g c S (k + 1) texts plans ends qs sky rows are.1 is.1 ended.1)
 
 -- ---- each fits
 
@@ -188,12 +188,12 @@ judged_at g c all k (t ∷ texts) (p ∷ plans) (suc i) j at are there =
     are.1 there)
 
 -- and of the kind of its end
-kinds_at : (g : Partition) (c : Catalogue) (S : Journal) (all : List Plan) (k : ℕ) (texts : List Bytes) (plans : List Plan)
+kinds_at : (g : Partition) (c : Catalogue) (S : ℕ → Journal) (all : List Plan) (k : ℕ) (texts : List Bytes) (plans : List Plan)
     (ends : List (BoardEnd PieceView)) (qs : List End) (i : ℕ) (j : Judged) (kind : EndKind) → IsSky g → IsCatalogue c
     → ((n : ℕ) (p : Plan) → slice_get plans n ≡ Some p → slice_get all (k + n) ≡ Some p)
     → ArePlans g c texts plans → AreEndsFor g c S (suc k) plans ends → AreEnded plans ends qs
     → slice_get (map (judged_of g c) texts) i ≡ Some j → slice_get (map kind_of qs) i ≡ Some kind
-    → ShowsKind S (suc (k + i)) (plan_in (map attached all) (suc (k + i))) j kind
+    → ShowsKind (S (suc (k + i))) (suc (k + i)) (plan_in (map attached all) (suc (k + i))) j kind
 kinds_at g c S all k [] [] ends qs i j kind sky rows at are is ended there ended_so = absurd (none_is j there)
 kinds_at g c S all k [] (p ∷ plans) ends qs i j kind sky rows at are is ended there ended_so = absurd are
 kinds_at g c S all k (t ∷ texts) [] ends qs i j kind sky rows at are is ended there ended_so = absurd are
@@ -202,15 +202,15 @@ kinds_at g c S all k (t ∷ texts) (p ∷ plans) (e ∷ ends) [] i j kind sky ro
 kinds_at g c S all k (t ∷ texts) (p ∷ plans) (e ∷ ends) (q ∷ qs) zero j kind sky rows at are is ended there ended_so =
     let here = planned_in all (k + 0) p (at 0 p refl) in
     let first : suc k ≡ suc (k + 0) = omega arith in
-    subst (λ (o : Option (List ℕ)). ShowsKind S (suc (k + 0)) o j kind) (sym here)
-    (subst (λ n. ShowsKind S n (option_map (λ y. y.chunks) (attached p)) j kind) first
-    (subst (λ (x : Judged). ShowsKind S (suc k) (option_map (λ y. y.chunks) (attached p)) x kind) (same_some _ _ there)
-    (subst (λ (x : EndKind). ShowsKind S (suc k) (option_map (λ y. y.chunks) (attached p)) (judged_of g c t) x) (same_some _ _ ended_so)
-    (kind_shown g c S (suc k) t p e q sky rows are.0 is.0 ended.0))))
+    subst (λ (o : Option (List ℕ)). ShowsKind (S (suc (k + 0))) (suc (k + 0)) o j kind) (sym here)
+    (subst (λ n. ShowsKind (S n) n (option_map (λ y. y.chunks) (attached p)) j kind) first
+    (subst (λ (x : Judged). ShowsKind (S (suc k)) (suc k) (option_map (λ y. y.chunks) (attached p)) x kind) (same_some _ _ there)
+    (subst (λ (x : EndKind). ShowsKind (S (suc k)) (suc k) (option_map (λ y. y.chunks) (attached p)) (judged_of g c t) x) (same_some _ _ ended_so)
+    (kind_shown g c (S (suc k)) (suc k) t p e q sky rows are.0 is.0 ended.0))))
 kinds_at g c S all k (t ∷ texts) (p ∷ plans) (e ∷ ends) (q ∷ qs) (suc i) j kind sky rows at are is ended there ended_so =
     let on : (k + 1) + i ≡ k + suc i = omega arith in
     let next_end : suc k + 1 ≡ suc (k + 1) = omega arith in
-    subst (λ n. ShowsKind S (suc n) (plan_in (map attached all) (suc n)) j kind) on
+    subst (λ n. ShowsKind (S (suc n)) (suc n) (plan_in (map attached all) (suc n)) j kind) on
     (kinds_at g c S all (k + 1) texts plans ends qs i j kind sky rows
     (λ n r here. let next : k + suc n ≡ (k + 1) + n = omega arith in subst (λ m. slice_get all m ≡ Some r) next (at (suc n) r here))
     are.1 (subst (λ n. AreEndsFor g c S n plans ends) next_end is.1) ended.1 there ended_so)
@@ -257,13 +257,13 @@ session_fits workers g c s plans ends qs sky rows numbered are d ended =
     let spans : length lines ≡ query_count s.steps = length-map (query_spans s.steps) (λ span. part_of s.text (Some span)) in
     let judged : length (map (judged_of g c) lines) ≡ length lines = length-map lines (judged_of g c) in
     let kinds : length (map kind_of qs) ≡ length lines = length-map qs kind_of ∙ as_many g c lines plans ends qs are ended in
-    drove_fits workers (plan_in (map attached plans)) s.steps (chunk_count g) (λ q. plan_in (map attached plans)) (λ q. d.seen) (map (judged_of g c) lines) (map kind_of qs)
-    numbered (record { run = λ q. d.by.run; drove = λ q. d.by.drove; here = λ q. refl }) (judged ∙ spans) (kinds ∙ sym judged)
+    drove_fits workers (plan_in (map attached plans)) s.steps (chunk_count g) d.of_board d.seen (map (judged_of g c) lines) (map kind_of qs)
+    numbered d.by.driven (judged ∙ spans) (kinds ∙ sym judged)
     (λ i j there. let on : suc (0 + i) ≡ i + 1 = omega arith in
     subst (λ n. IsJudgedBy (plan_in (map attached plans) n) j) on
     (judged_at g c plans 0 lines plans i j (from_first plans) are there))
     (λ i j k there ended_so. let on : suc (0 + i) ≡ i + 1 = omega arith in
-    subst (λ n. ShowsKind d.seen n (plan_in (map attached plans) n) j k) on
+    subst (λ n. ShowsKind (d.seen n) n (plan_in (map attached plans) n) j k) on
     (kinds_at g c d.seen plans 0 lines plans ends qs i j k sky rows (from_first plans) are is ended there ended_so))
 
 -- so of the ends

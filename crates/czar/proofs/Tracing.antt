@@ -18,8 +18,10 @@ use Rattle.answer_rules.specs.Pieces.{PieceView}
 use Rattle.session_rules.specs.declared.end.EndKind.{EndKind}
 use Rattle.session_rules.specs.declared.end.EndKind.TheVariants as kind
 use Rattle.session_script.specs.Views.{ScriptView, query_lines}
+use Rattle.session_script.specs.declared.step.Step.{Step}
 use Rattle.scan_board.specs.Calls.{BoardSeat}
 use Rattle.scan_session.specs.Drove.{Drove}
+use Rattle.scan_session.specs.Laws.{AreDriven}
 use Rattle.scan_session.specs.KnownEnds.{plan_in}
 use Rattle.scan_session.specs.Plans.{Plans}
 use Rattle.scan_session.specs.declared.end.End.{End as BoardEnd}
@@ -31,7 +33,7 @@ use Rattle.czar.specs.Driven.{IsDrivenBy, IsOver}
 use Rattle.czar.specs.Ended.{AreEnded, IsEnded, answer_end}
 use Rattle.czar.specs.Ends.{kind_of}
 use Rattle.czar.specs.Plans.{ArePlans, PlanFor}
-use Rattle.czar.specs.Traces.{IsEndIn, IsTraceOf, chunks_needed, planned_chunks, plans_of}
+use Rattle.czar.specs.Traces.{AreEndsIn, IsEndIn, IsTraceOf, chunks_needed, planned_chunks, plans_of}
 use Rattle.czar.specs.declared.end.End.{End}
 use Rattle.czar.specs.declared.plan.Plan.{Plan}
 use Rattle.czar.specs.declared.plan.Plan.TheVariants.{Planned, Refused}
@@ -123,11 +125,11 @@ same_kind : (x y : EndKind) → ◌≡◌ {A = Option EndKind} (Some x) (Some y)
 same_kind x y e = cc
 
 -- so of all queries from number k on
-ends_in : (g : Partition) (c : Catalogue) (S : Journal) (k : ℕ) (plans : List Plan) (ends : List (BoardEnd PieceView)) (qs : List End) (i : ℕ)
+ends_in : (g : Partition) (c : Catalogue) (S : ℕ → Journal) (k : ℕ) (plans : List Plan) (ends : List (BoardEnd PieceView)) (qs : List End) (i : ℕ)
     (end : EndKind)
-    → ((n : ℕ) (p : Plan) → slice_get plans n ≡ Some p → option_map (λ x. x.chunks) (attached p) ≡ None → state_of S (k + n) ≡ Fresh)
+    → ((n : ℕ) (p : Plan) → slice_get plans n ≡ Some p → option_map (λ x. x.chunks) (attached p) ≡ None → state_of (S (k + n)) (k + n) ≡ Fresh)
     → AreEndsFor g c S k plans ends → AreEnded plans ends qs → slice_get (map kind_of qs) i ≡ Some end
-    → IsEndIn (state_of S (k + i)) end
+    → IsEndIn (state_of (S (k + i)) (k + i)) end
 ends_in g c S k [] [] [] i end unplanned is ended there = absurd (no_kind end there)
 ends_in g c S k [] [] (q ∷ qs) i end unplanned is ended there = absurd ended
 ends_in g c S k [] (e ∷ ends) qs i end unplanned is ended there = absurd is
@@ -135,45 +137,53 @@ ends_in g c S k (p ∷ plans) [] qs i end unplanned is ended there = absurd is
 ends_in g c S k (p ∷ plans) (e ∷ ends) [] i end unplanned is ended there = absurd ended
 ends_in g c S k (p ∷ plans) (e ∷ ends) (q ∷ qs) zero end unplanned is ended there =
     let here : k ≡ k + 0 = omega arith in
-    subst (λ n. IsEndIn (state_of S n) end) here
-    (subst (λ (x : EndKind). IsEndIn (state_of S k) x) (same_kind _ _ there)
-    (end_in g c S k p e q is.0 ended.0 (λ none. subst (λ n. state_of S n ≡ Fresh) (sym here) (unplanned 0 p refl none))))
+    subst (λ n. IsEndIn (state_of (S n) n) end) here
+    (subst (λ (x : EndKind). IsEndIn (state_of (S k) k) x) (same_kind _ _ there)
+    (end_in g c (S k) k p e q is.0 ended.0 (λ none. subst (λ n. state_of (S n) n ≡ Fresh) (sym here) (unplanned 0 p refl none))))
 ends_in g c S k (p ∷ plans) (e ∷ ends) (q ∷ qs) (suc i) end unplanned is ended there =
     let on : (k + 1) + i ≡ k + suc i = omega arith in
-    subst (λ n. IsEndIn (state_of S n) end) on
+    subst (λ n. IsEndIn (state_of (S n) n) end) on
     (ends_in g c S (k + 1) plans ends qs i end
     (λ n r at none. let next : k + suc n ≡ (k + 1) + n = omega arith in
-    subst (λ m. state_of S m ≡ Fresh) next (unplanned (suc n) r at none))
+    subst (λ m. state_of (S m) m ≡ Fresh) next (unplanned (suc n) r at none))
     is.1 ended.1 there)
 
 -- a query for which nothing is attached is Fresh
-unplanned_state : (workers : ℕ) (s : ScriptView) (S : Journal) (plans : List Plan) (n : ℕ) (p : Plan)
-    → Drove workers (plan_in (map attached plans)) s.steps S → slice_get plans n ≡ Some p
-    → option_map (λ x. x.chunks) (attached p) ≡ None → state_of S (1 + n) ≡ Fresh
-unplanned_state workers s S plans n p drove at none =
+unplanned_state : (workers ring : ℕ) (steps : List Step) (of_board : ℕ → Plans) (S : ℕ → Journal) (plans : List Plan) (n : ℕ) (p : Plan)
+    → AreDriven workers (plan_in (map attached plans)) steps ring of_board S → slice_get plans n ≡ Some p
+    → option_map (λ x. x.chunks) (attached p) ≡ None → state_of (S (1 + n)) (1 + n) ≡ Fresh
+unplanned_state workers ring steps of_board S plans n p d at none =
     let on : suc n ≡ 1 + n = omega arith in
-    let unplanned : is_some (plan_in (map attached plans) (suc n)) ≡ false = ap is_some (planned_in plans n p at ∙ none) in
-    let alone : is_attached S (suc n) ≡ false = false_from_ne_true _ (λ t.
-    both_ways _ unplanned (attached_planned (plan_in (map attached plans)) s.steps S (suc n) drove.attached t).1) in
-    subst (λ m. state_of S m ≡ Fresh) on (cond-true (not (is_attached S (suc n))) Fresh _ (not_from_false _ alone))
+    let unplanned : is_some (of_board (suc n) (suc n)) ≡ false = ap is_some (d.here (suc n) ∙ planned_in plans n p at ∙ none) in
+    let alone : is_attached (S (suc n)) (suc n) ≡ false = false_from_ne_true _ (λ t.
+    both_ways _ unplanned (attached_planned (of_board (suc n)) steps (S (suc n)) (suc n) (d.drove (suc n)).attached t).1) in
+    subst (λ m. state_of (S m) m ≡ Fresh) on (cond-true (not (is_attached (S (suc n)) (suc n))) Fresh _ (not_from_false _ alone))
+
+-- the ends of a session's queries are in the states of the journals of their boards
+pub session_ends_in : {workers : ℕ} {g : Partition} {c : Catalogue} {steps : List Step} {plans : List Plan} {of_board : ℕ → Plans}
+    {seen : ℕ → Journal} {ends : List (BoardEnd PieceView)} {query_ends : List End} → IsDrivenBy workers g c steps plans of_board seen ends
+    → AreEnded plans ends query_ends → AreEndsIn seen (map kind_of query_ends)
+session_ends_in {workers} {g} {c} {steps} {plans} {of_board} {seen} {ends} {query_ends} d ended = λ i end there.
+    let on : 1 + i ≡ i + 1 = omega arith in
+    subst (λ n. IsEndIn (state_of (seen n) n) end) on
+    (ends_in g c seen 1 plans ends query_ends i end
+    (λ n p at none. unplanned_state workers (chunk_count g) steps of_board seen plans n p d.driven at none)
+    (ends_for g c seen plans ends d.each d.are) ended there)
 
 -- ---- the trace
 
 pub session_traces : (workers : ℕ) (g : Partition) (c : Catalogue) (s : ScriptView) (plans : List Plan)
     (ends : List (BoardEnd PieceView)) (qs : List End) (seen : Journal) (journal : BoardJournal) → ArePlans g c (query_lines s) plans
-    → IsDrivenBy workers g c s.steps plans seen ends → AreEnded plans ends qs
+    → IsDrivenBy workers g c s.steps plans (λ q. plan_in (map attached plans)) (λ q. seen) ends → AreEnded plans ends qs
     → journal ≡ record { ring = chunk_count g; lines = seen }
     → IsTraceOf workers g c s (map kind_of qs) journal
 session_traces workers g c s plans ends qs seen journal are d ended is =
     subst (λ (j : BoardJournal). IsTraceOf workers g c s (map kind_of qs) j) (sym is) (record {
       ring = refl;
-      right = d.run;
-      drove = subst (λ (p : Plans). Drove workers p s.steps seen) (same_plans g c (query_lines s) plans are) d.drove;
-      closed = omega (arith, closed_once seen d.run, some_counted closes seen d.drove.closed);
-      states = λ i end there. let on : 1 + i ≡ i + 1 = omega arith in
-          subst (λ n. IsEndIn (state_of seen n) end) on
-          (ends_in g c seen 1 plans ends qs i end (λ n p at none. unplanned_state workers s seen plans n p d.drove at none)
-          (ends_for g c seen plans ends d.each d.are) ended there);
+      right = d.driven.run 0;
+      drove = subst (λ (p : Plans). Drove workers p s.steps seen) (same_plans g c (query_lines s) plans are) (d.driven.drove 0);
+      closed = omega (arith, closed_once seen (d.driven.run 0), some_counted closes seen (d.driven.drove 0).closed);
+      states = session_ends_in d ended;
     })
 
 -- so under any names of the plans, the ends at the board and the lines that were seen

@@ -7,6 +7,7 @@ use Rattle.scan_rules.specs.Lines.{closes}
 use Rattle.scan_rules.specs.Queries.{QueryState, Cancelled, Spent, state_of}
 use Rattle.scan_rules.specs.Runs.{IsRun}
 use Rattle.scan_rules.specs.declared.journal.Journal.{Journal}
+use Rattle.scan_rules.specs.declared.journal_line.JournalLine.{JournalLine}
 use Rattle.sql_rules.specs.PrintedExprs.{Bytes}
 use Rattle.answer_rules.specs.Plans.{plan_of}
 use Rattle.session_script.specs.Views.{ScriptView, query_lines}
@@ -37,6 +38,10 @@ pub record IsEndIn (state : QueryState) (end : EndKind) : Type 0 where
   pub cancelled : (end ≡ kind.Cancelled) ↔ (state ≡ Cancelled)
   pub spent : (end ≡ kind.Spent) ↔ (state ≡ Spent)
 
+-- each query ended as Cancelled, or as Spent, exactly if it is in that state in the journal of its board
+abbrev pub AreEndsIn : (ℕ → List JournalLine) → List EndKind → Type 0
+AreEndsIn seen ends = (i : ℕ) (end : EndKind) → slice_get ends i ≡ Some end → IsEndIn (state_of (seen (i + 1)) (i + 1)) end
+
 -- A journal that a session of this script may leave, with the given number of workers, over a sky plan and a catalogue,
 -- if its queries have these ends.
 pub record IsTraceOf (workers : ℕ) (g : Partition) (c : Catalogue) (s : ScriptView) (ends : List EndKind)
@@ -51,4 +56,4 @@ pub record IsTraceOf (workers : ℕ) (g : Partition) (c : Catalogue) (s : Script
   -- the board is closed once
   pub closed : count_by closes journal.lines ≡ 1
   -- each query ended as Cancelled, or as Spent, exactly if it is in that state in the journal
-  pub states : (i : ℕ) (end : EndKind) → slice_get ends i ≡ Some end → IsEndIn (state_of journal.lines (i + 1)) end
+  pub states : AreEndsIn (λ q. journal.lines) ends

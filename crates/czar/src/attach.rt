@@ -6,14 +6,13 @@ ghost use Rattle.scan_rules.specs.declared.limits.TheConstants.{QUERY_MOST};
 ghost use Rattle.answer_rules.specs.Bases.{IsBase};
 ghost use Rattle.partial_merge.specs.Roots.{shown};
 ghost use Rattle.session_rules.specs.Numbers.{numbered_from};
-ghost use Rattle.turn_lock.specs.Seats.{first_seat};
 ghost use Rattle.czar.specs.Attached.{attached, base_over, chunk_query};
 
 use crate::plan::Plan;
 use crate::world::World;
 use answer_rules::ChunkQuery;
 use partial_merge::{Piece, PieceRoot};
-use scan_board::{Board, Seat, SharedBoard};
+use scan_board::Board;
 use scan_session::Planned;
 use sky_io::Memory;
 use std::alloc::Global;
@@ -50,8 +49,8 @@ fn push_attached<'w>(
     Ok(())
 }
 
-/// Returns what is attached for each query of a script, in their order.
-pub(crate) fn all_attached<'w>(
+/// Returns what is attached for each query of a script, in their order. Allocates memory.
+pub fn all_attached<'w>(
     alloc: Global,
     plans: &[Plan],
 ) -> Result<Vec<Option<Planned<Piece<'w>>>>, Memory>
@@ -113,19 +112,19 @@ fn root_of<'w>(
     Ok(root)
 }
 
-/// Creates a board over the chunks of the world for these chunk queries, and the czar's participant.
-pub(crate) fn seated<'w>(
+/// Creates a board over the chunks of the world for these chunk queries. Allocates memory.
+pub(crate) fn board_over<'w>(
     alloc: Global,
     world: &World<'w>,
     queries: &[(u32, &ChunkQuery)],
-) -> Result<(SharedBoard<Piece<'w>>, Seat<Board<Piece<'w>>>), Memory>
+) -> Result<Board<Piece<'w>>, Memory>
     requires base { IsBase (base_over world.now.plan world.now.rows queries.now) }
-    ensures { IfOk result (λ r. r.1 ≡ first_seat r.0 (record {
+    ensures { IfOk result (λ board. board ≡ record {
       root = base_over world.now.plan world.now.rows queries.now;
       ring = chunk_count world.now.plan;
-    })) }
+      past = [];
+    }) }
 {
     let root = root_of(alloc, world, queries)?;
-    let board = Board::new(alloc, world.plan().chunks(), root)?;
-    SharedBoard::new(alloc, board)
+    Board::new(alloc, world.plan().chunks(), root)
 }

@@ -57,6 +57,12 @@ impl<'w, 's> Engine<Piece<'w>> for ChunkEngine<'w, 's> {
 
     fn piece(&self, q: u32, chunk: u32, scratch: &mut Scratch) -> Result<Piece<'w>, Memory> {
         let place = self.queries.partition_point(|asked| asked.0 < q);
-        piece_of(self.alloc, self.world, self.queries[place].1, chunk, scratch)
+        piece_of(
+            self.alloc,
+            self.world,
+            self.queries[place].1,
+            chunk,
+            scratch,
+        )
     }
 }

@@ -20,9 +20,10 @@ mod transcript;
 pub mod understanding;
 pub mod world;
 
+pub use attach::all_attached;
 pub use end::End;
 pub use explained::put_explained;
 pub use plan::{Plan, explain};
-pub use session::{run_session, run_traced};
+pub use session::{Session, run_session, run_traced};
 pub use transcript::put_transcript;
 pub use world::World;

@@ -1,24 +1,28 @@
 //! The session of a script: its queries are planned and driven over a shared board with workers beside the czar, and
 //! their ends are returned.
 
-ghost use Rattle.std.specs.Prelude.{◌≡◌, ◌≤◌, IfOk, map};
+ghost use Rattle.std.specs.Prelude.{◌≡◌, ◌≤◌, [], IfOk, map};
 ghost use Rattle.table_rules.specs.Objects.{IsCatalogue};
 ghost use Rattle.sky_rules.specs.Limits.{IsSky};
 ghost use Rattle.sky_rules.specs.Partition.{chunk_count};
 ghost use Rattle.turn_lock.specs.Seats.{first_seat};
 ghost use Rattle.partial_merge.specs.Roots.{shown};
 ghost use Rattle.session_rules.specs.Numbers.{numbered_from};
+ghost use Rattle.answer_rules.specs.Bases.{Asks};
+ghost use Rattle.scan_session.specs.Crews.{Manned};
+ghost use Rattle.scan_session.specs.Drove.{Drove};
+ghost use Rattle.scan_session.specs.Places.{AllSuit, only, seen_of};
 ghost use Rattle.session_rules.specs.declared.limits.TheConstants.{WORKERS_MOST};
 ghost use Rattle.session_script.specs.Views.{query_lines};
 ghost use Rattle.transcript_rules.specs.Transcripts.{FitEnds};
-ghost use Rattle.czar.specs.Attached.{attached, base_over, chunk_query};
-ghost use Rattle.czar.specs.Driven.{IsDriven, IsJoined, IsOver};
+ghost use Rattle.czar.specs.Attached.{attached, base_of, chunk_query};
+ghost use Rattle.czar.specs.Driven.{IsDriven, IsDrivenBy, IsJoined, IsOver, chunks_planned};
 ghost use Rattle.czar.specs.Ended.{AreEnded};
 ghost use Rattle.czar.specs.Ends.{EndsShow, kind_of};
 ghost use Rattle.czar.specs.Plans.{ArePlans};
 ghost use Rattle.czar.specs.Traces.{IsTraceOf};
 
-use crate::attach::{all_attached, chunk_queries, seated};
+use crate::attach::{all_attached, board_over, chunk_queries};
 use crate::chunk_engine::ChunkEngine;
 use crate::end::End;
 use crate::plan::{Plan, explain};
@@ -27,6 +31,7 @@ use crate::world::World;
 use answer_rules::ChunkQuery;
 use partial_merge::Piece;
 use scan_board::{Board, Seat, SharedBoard};
+use scan_boards::Boards;
 use scan_rules::Journal;
 use scan_session::{End as BoardEnd, Planned, Scan, drive};
 use session_script::Script;
@@ -108,15 +113,17 @@ pub fn run_traced<R: Threads + Wait + Sync, G: Gate + Sync>(
     }
 }
 
-/// What a session is run over, and the means to run it: it stays the same during the session.
+/// What a session is run over, and the means to run it: it stays the same during the session. A session may be over one
+/// board, or over several (`class_session`).
 #[derive(Drop)]
-struct Session<'s, 't, R, G> {
-    alloc: Global,
-    rt: &'s R,
-    world: &'s World<'s>,
-    script: &'s Script<'t>,
-    workers: u32,
-    gate: &'s G,
+pub struct Session<'s, 't, R, G> {
+    pub alloc: Global,
+    pub rt: &'s R,
+    pub world: &'s World<'s>,
+    pub script: &'s Script<'t>,
+    /// Beside the czar.
+    pub workers: u32,
+    pub gate: &'s G,
 }
 
 /// A session whose workers were joined: its board, the czar's participant, and the end of each query at the board.
@@ -164,8 +171,8 @@ impl<'s, 't, R: Threads + Wait + Sync, G: Gate + Sync> Session<'s, 't, R, G> {
         journal
     }
 
-    /// Returns the end of each query, by its plan and by how it ended at the board.
-    fn query_ends(
+    /// Returns the end of each query, by its plan and by how it ended at its board. Allocates memory.
+    pub fn query_ends(
         &self,
         plans: Vec<Plan>,
         ends: Vec<BoardEnd<Piece<'_>>>,
@@ -188,6 +195,39 @@ impl<'s, 't, R: Threads + Wait + Sync, G: Gate + Sync> Session<'s, 't, R, G> {
         all_query_ends(self.alloc, plans, ends)
     }
 
+    /// Returns the chunk queries of the planned queries, each with the number of its query. Allocates memory.
+    pub fn queries<'p>(&self, plans: &'p [Plan]) -> Result<Vec<(u32, &'p ChunkQuery)>, Memory>
+        requires plans { ArePlans self.now.world.now.plan self.now.world.now.rows
+            (query_lines self.now.script.now) plans.now }
+        ensures { IfOk result (λ queries. shown queries.items (λ query. query.now)
+            ≡ numbered_from 1 (map chunk_query plans.now)) }
+    {
+        let _ = self.script.queries();
+        chunk_queries(self.alloc, plans)
+    }
+
+    /// Creates a board over the chunks of the world for the queries with these plans, of which these are the chunk
+    /// queries. Allocates memory. The plans are read by contracts alone.
+    pub fn board(
+        &self,
+        plans: &[Plan],
+        queries: &[(u32, &ChunkQuery)],
+    ) -> Result<Board<Piece<'s>>, Memory>
+        requires plans { ArePlans self.now.world.now.plan self.now.world.now.rows
+            (query_lines self.now.script.now) plans.now }
+        requires queries { shown queries.now (λ query. query.now)
+            ≡ numbered_from 1 (map chunk_query plans.now) }
+        ensures { IfOk result (λ board. board ≡ record {
+          root = base_of self.now.world.now.plan self.now.world.now.rows plans.now;
+          ring = chunk_count self.now.world.now.plan;
+          past = [];
+        }) }
+    {
+        know(self.world);
+        let _ = self.script.queries();
+        board_over(self.alloc, self.world, queries)
+    }
+
     /// Drives the queries with these plans over a board of their own.
     fn driven(&self, plans: &[Plan]) -> Result<Driven<'s>, Memory>
         requires few { self.now.workers ≤ WORKERS_MOST }
@@ -197,42 +237,53 @@ impl<'s, 't, R: Threads + Wait + Sync, G: Gate + Sync> Session<'s, 't, R, G> {
         ensures over { IfOk result (λ r. IsOver self.now.workers self.now.world.now.plan
             self.now.world.now.rows self.now.script.now.steps plans.now r.seat r.ends.items) }
     {
-        let _ = self.script.queries();
-        know(self.world);
-        let queries = chunk_queries(self.alloc, plans)?;
+        let queries = self.queries(plans)?;
+        let board = self.board(plans, queries.as_slice())?;
+        let (board, seat) = SharedBoard::new(self.alloc, board)?;
         let planned = all_attached(self.alloc, plans)?;
-        match seated(self.alloc, self.world, queries.as_slice()) {
-            Ok((board, seat)) => self.driven_at(plans, queries.as_slice(), planned, board, seat),
+        let (ends, seat) = self.drive_over(&board, seat, plans, queries.as_slice(), planned);
+        match ends {
+            Ok(ends) => Ok(Driven { board, seat, ends }),
             Err(Memory) => {
-                drop(planned);
+                drop((board, seat));
                 Err(Memory)
             }
         }
     }
 
-    /// Drives what is attached for the queries with these plans over this board, from the czar's first participant.
-    /// The plans are read by contracts alone.
-    fn driven_at(
+    /// Drives what is attached for the queries with these plans over some boards, from the czar's first participant.
+    /// Returns the end of each query at its board. Waits. Allocates memory. On Memory, too, each board is closed and
+    /// the workers are joined. The plans are read by contracts alone.
+    pub fn drive_over<B: Boards<Piece<'s>> + Sync>(
         &self,
+        boards: &B,
+        seat: B::Seat,
         plans: &[Plan],
         queries: &[(u32, &ChunkQuery)],
         planned: Vec<Option<Planned<Piece<'s>>>>,
-        board: SharedBoard<Piece<'s>>,
-        seat: Seat<Board<Piece<'s>>>,
-    ) -> Result<Driven<'s>, Memory>
+    ) -> (Result<Vec<BoardEnd<Piece<'s>>>, Memory>, B::Seat)
+    where
+        B::Place: Send,
+        B::Seat: Send,
         requires few { self.now.workers ≤ WORKERS_MOST }
         requires plans { ArePlans self.now.world.now.plan self.now.world.now.rows
             (query_lines self.now.script.now) plans.now }
-        requires planned { planned.items ≡ map attached plans.now }
         requires queries { shown queries.now (λ query. query.now)
             ≡ numbered_from 1 (map chunk_query plans.now) }
-        requires seat { seat ≡ first_seat board (record {
-          root = base_over self.now.world.now.plan self.now.world.now.rows queries.now;
+        requires planned { planned.items ≡ map attached plans.now }
+        requires seats { (p : B.Place) → B.at seat p ≡ first_seat (B.turn boards.now p) (record {
+          root = base_of self.now.world.now.plan self.now.world.now.rows plans.now;
           ring = chunk_count self.now.world.now.plan;
         }) }
-        ensures own { IfOk result (λ r. r.seat.turn ≡ r.board) }
-        ensures over { IfOk result (λ r. IsOver self.now.workers self.now.world.now.plan
-            self.now.world.now.rows self.now.script.now.steps plans.now r.seat r.ends.items) }
+        requires suits { AllSuit (B.suits boards.now) planned.items }
+        ensures manned { (p : B.Place) → Manned Asks (B.at seat p) (B.at result.1 p) }
+        ensures drove { IfOk result.0 (λ ends. (p : B.Place) → Drove self.now.workers
+            (only (B.has boards.now p) (chunks_planned plans.now)) self.now.script.now.steps
+            (B.at result.1 p).seen) }
+        ensures driven { IfOk result.0 (λ ends. IsDrivenBy self.now.workers
+            self.now.world.now.plan self.now.world.now.rows self.now.script.now.steps plans.now
+            (λ q. only (B.has boards.now (B.home boards.now q)) (chunks_planned plans.now))
+            (seen_of (B.home boards.now) (B.at result.1)) ends.items) }
     {
         know(self.world);
         let _ = self.script.queries();
@@ -244,18 +295,11 @@ impl<'s, 't, R: Threads + Wait + Sync, G: Gate + Sync> Session<'s, 't, R, G> {
         let scan = Scan {
             alloc: self.alloc,
             rt: self.rt,
-            boards: &board,
+            boards,
             engine: &engine,
             gate: self.gate,
         };
-        let (ends, seat) = drive(&scan, seat, planned, self.script.steps(), self.workers);
-        match ends {
-            Ok(ends) => Ok(Driven { board, seat, ends }),
-            Err(Memory) => {
-                drop((board, seat));
-                Err(Memory)
-            }
-        }
+        drive(&scan, seat, planned, self.script.steps(), self.workers)
     }
 }
 

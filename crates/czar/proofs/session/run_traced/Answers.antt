@@ -1,10 +1,10 @@
 use Rattle.std.proofs.Common.{rules}
-use Rattle.czar.proofs.Driving.{is_driven}
+use Rattle.czar.proofs.Driving.{driven}
 use Rattle.czar.proofs.Tracing.{ends_trace}
 use Rattle.czar.proofs.session.run_traced.Goals as goal
 
 pub query_ends-requires-clause-driven : goal.query_ends-requires-clause-driven
-query_ends-requires-clause-driven g c = λ κs lives. is_driven c.in-Ok.ensures.over (search rules) (search rules)
+query_ends-requires-clause-driven g c = λ κs lives. driven c.in-Ok.ensures.over.by (search rules) (search rules)
 
 pub returns-in_ok-journal-in-Ok-clause-trace : goal.returns-in_ok-journal-in-Ok-clause-trace
 returns-in_ok-journal-in-Ok-clause-trace g c =

@@ -1,15 +1,9 @@
-use Rattle.std.proofs.Common.{arith}
-use Rattle.session_script.specs.Views.{query_lines}
-use Rattle.czar.proofs.Fitting.{sound_plans}
-use Rattle.czar.proofs.PlanBlocks.{a_plan_each}
+use Rattle.std.proofs.Common.{◌∙◌, ap}
+use Rattle.czar.proofs.Driving.{of_value, over}
 use Rattle.czar.proofs.session.Session.driven.Goals as goal
 
-pub seated-requires-clause-few : goal.seated-requires-clause-few
-seated-requires-clause-few g c =
-    let s = c.args.self.now in
-    omega (arith, a_plan_each s.world.now.plan s.world.now.rows s.script.now c.args.plans.now c.requires.plans, c.queries.ensures.count, c.queries.ensures.few)
+pub returns-in-Ok-clause-own : goal.returns-in-Ok-clause-own
+returns-in-Ok-clause-own g c = ?
 
-pub seated-requires-clause-sound : goal.seated-requires-clause-sound
-seated-requires-clause-sound g c =
-    let s = c.args.self.now in
-    sound_plans s.world.now.plan s.world.now.rows (query_lines s.script.now) c.args.plans.now c.requires.plans
+pub returns-in-Ok-clause-over : goal.returns-in-Ok-clause-over
+returns-in-Ok-clause-over g c = ?

@@ -1,0 +1,3 @@
+pub mod ClassEnds
+pub mod ClassHomes
+pub mod FirstPairs

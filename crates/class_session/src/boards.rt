@@ -1,0 +1,49 @@
+//! The boards of both classes for a script, and the class of each of its queries.
+ghost use Rattle.std.specs.Prelude.{◌≡◌, IfOk};
+ghost use Rattle.session_script.specs.Views.{query_lines};
+ghost use Rattle.czar.specs.Plans.{ArePlans};
+ghost use Rattle.class_session.specs.ClassPlans.{IsFirstPair, class_for, classes_for};
+
+use czar::{Plan, Session};
+use partial_merge::Piece;
+use scan_classes::{Class, Classes, Pair};
+use sky_io::Memory;
+use std::alloc::Global;
+
+/// The class of a query with this plan. A query that is refused is attached to no board: it is counted as short.
+fn class_by(plan: &Plan) -> Class
+    ensures { result ≡ class_for plan.now }
+{
+    match plan {
+        Plan::Planned { chunks, .. } => Class::of(chunks),
+        Plan::Refused(_) => Class::Short,
+    }
+}
+
+/// Returns the class of each query by its number, from 0, which no query has. Allocates memory.
+pub(crate) fn classes_of(alloc: Global, plans: &[Plan]) -> Result<Vec<Class>, Memory>
+    ensures { IfOk result (λ classes. classes.items ≡ classes_for plans.now) }
+{
+    let mut classes = Vec::new(alloc);
+    classes.push(Class::Short)?;
+    for plan in plans {
+        classes.push(class_by(plan))?;
+    }
+    Ok(classes)
+}
+
+/// Creates the two boards for the queries with these plans, over the chunks of the world, and the czar's pair. Allocates
+/// memory.
+pub(crate) fn two_boards<'s, R, G>(
+    session: &Session<'s, '_, R, G>,
+    plans: &[Plan],
+) -> Result<(Classes<Piece<'s>>, Pair<Piece<'s>>), Memory>
+    requires plans { ArePlans session.now.world.now.plan session.now.world.now.rows
+        (query_lines session.now.script.now) plans.now }
+    ensures { IfOk result (λ r.
+        IsFirstPair session.now.world.now.plan session.now.world.now.rows plans.now r.0 r.1) }
+{
+    let short = session.board(plans)?;
+    let long = session.board(plans)?;
+    Classes::new(session.alloc, short, long)
+}
