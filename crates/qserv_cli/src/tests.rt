@@ -210,7 +210,14 @@ pub(crate) fn count_by<R: Abort + Threads + Wait + Sync>(
     let script = counting(alloc, 65)?;
     let mut gate = NoteGate::new();
     let mut sink = MemSink::new(alloc, 10000, Vec::new(alloc))?;
-    let found = run_past(rt, alloc, (command, "0"), script.as_slice(), &mut sink, &gate)?;
+    let found = run_past(
+        rt,
+        alloc,
+        (command, "0"),
+        script.as_slice(),
+        &mut sink,
+        &gate,
+    )?;
     assert_eq!(rt; found, 0);
     for (pass, chunk) in [(0, 0), (1, 4), (2, 7), (3, 0), (4, 4), (5, 7)] {
         assert_eq!(rt; gate.noted(pass), Some((0, chunk)), "pass {pass}");

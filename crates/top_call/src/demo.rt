@@ -83,5 +83,13 @@ fn answer_demo<R: Threads + Wait + Sync, K: Sink, G: Gate + Sync>(
 {
     // The text is a script, so it is not refused.
     demo_script_is_accepted();
-    do_task(alloc, rt, Task::Answer { workers }, store, demo_script(), sink, gate)
+    do_task(
+        alloc,
+        rt,
+        Task::Answer { workers },
+        store,
+        demo_script(),
+        sink,
+        gate,
+    )
 }

@@ -173,7 +173,7 @@ fn write_ends<K: Sink>(
         EndsShow world.now.plan world.now.rows (query_lines script.now) ends.items) }
     ensures { (workers : ℕ)
         → IfOk ends (λ ends.
-            FitEnds workers world.now.plan world.now.rows script.now (map kind_of ends.items))
+        FitEnds workers world.now.plan world.now.rows script.now (map kind_of ends.items))
         → IsWritten (Runs workers world.now script.now) (K.state sink.old) (K.state sink.new) result }
 {
     match ends {
