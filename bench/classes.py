@@ -46,7 +46,7 @@ def ending_with(lines, number):
 
 
 def opened(path, process):
-    """The writing end of a named pipe, once the process reads it; None if it ends before."""
+    """The writing end of a named pipe, once the process reads it; None if it does not."""
     end = time.monotonic() + SECONDS
     while process.poll() is None and time.monotonic() < end:
         try:
@@ -65,7 +65,8 @@ def run(program, folder, command, workers, script):
     with subprocess.Popen(words, cwd=folder, stdout=subprocess.PIPE) as process:
         script_end = opened(pipe, process)
         if script_end is None:
-            sys.exit(f"{' '.join(words[1:])}: the program ended with status {process.wait()}")
+            process.kill()
+            sys.exit(f"{' '.join(words[1:])}: status {process.wait()}, and the script was not read")
         # the script is shorter than what a pipe holds
         os.write(script_end, script.encode())
         began = time.perf_counter()
