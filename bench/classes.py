@@ -10,9 +10,10 @@ with that query. The script comes through a named pipe, which the program opens 
 time from the writing of the script to the first byte of the transcript; planning, and putting the one answer in order, are in it.
 With workers, so is what they have in hand when the query ends: at most one chunk each.
 
-It prints a table of milliseconds, the least of N times (5), for each number of workers (0 3), and draws it as FILE (an SVG). The block
-of each query is compared with the one of the script without waits. FILE of --program is the built program, by default .qserv/qserv,
-where ./qserv leaves it. The status is 1 where a block is another. Only figures of an idle machine count.
+It prints a table of milliseconds, the least of N times (5), for each number of workers (0 3), and draws it as FILE (an SVG).
+The block of each query is compared with the one of the script without waits, which both commands answer alike. FILE of
+--program is the built program, by default .qserv/qserv, where ./qserv leaves it. The status is 1 where a block is another.
+Only figures of an idle machine count.
 """
 import errno
 import os
@@ -167,7 +168,9 @@ def main():
     if not os.path.exists(pipe):
         os.mkfifo(pipe)
     lines = queries(words.rows)
-    told, _ = run(words.program, words.folder, "query", 0, "\n".join(lines) + "\n")
+    told, other = (run(words.program, words.folder, command, 0, "\n".join(lines) + "\n")[0] for command in COMMANDS)
+    if told != other:
+        sys.exit("query and classes write different transcripts")
     wanted = [block(told, number) for number in range(1, len(lines) + 1)]
     measured = {}
     for workers in words.workers:
