@@ -14,6 +14,7 @@ use Rattle.sky_io.specs.Shelves.{ShelfState}
 use Rattle.sky_io.specs.Sinks.{SinkState}
 use Rattle.chunk_store.specs.Survey.{Survey}
 use Rattle.top_call.specs.Words.{Demo}
+use Rattle.top_call.specs.Reached.{IsScriptOf}
 use Rattle.top_call.specs.Jobs.{Runs, IsDemoSurvey}
 use Rattle.top_call.specs.Explained.{ExplainedOf, shown}
 use Rattle.top_call.specs.Steps.{IsDemoOver, IsDemoWritten, IsTaskAsRead, IsTaskOver}
@@ -24,21 +25,30 @@ use Rattle.top_call.specs.declared.outcome.Outcome.TheVariants.{TooLong, ShelfFa
 use Rattle.top_call.proofs.DemoEnds.{demo_has_ends}
 use Rattle.top_call.proofs.Writing.{job_explained}
 
+-- What is read of a text that is the same is the script of this one.
+same_script : (text named : List ℕ) (view : ScriptView) → text ≡ named → length named ≤ SCRIPT_TEXT_MOST
+    → view.text ≡ text → script_of text ≡ Ok view.steps → IsScriptOf named view
+same_script text named view is short same steps = record {
+  short = short;
+  same = same ∙ is;
+  read = subst (λ t. script_of t ≡ Ok view.steps) is steps;
+}
+
+-- A text that is the same as a script is not refused.
+not_refused : (text named : List ℕ) (steps : List Step) (fault : ScriptFault) → text ≡ named → script_of named ≡ Ok steps
+    → script_of text ≡ Err fault → ⊥
+not_refused text named steps fault is accepted refused =
+    let read = subst (λ t. script_of t ≡ Err fault) is refused in absurd (cc (read, accepted))
+
 -- What is read of the demo's script, and the writing of its job.
 read_demo : (workers : ℕ) (survey : Survey) (text : List ℕ) (old new : SinkState) (outcome : Outcome) → text ≡ demo_script
     → length demo_script ≤ SCRIPT_TEXT_MOST → IsTaskAsRead (Answer workers) survey text old new outcome
     → IsDemoWritten workers survey old new outcome
 read_demo workers survey text old new outcome is short h = record {
   view = h.view;
-  read = record { short = short; same = h.same ∙ is; read = subst (λ t. script_of t ≡ Ok h.view.steps) is h.steps };
+  read = same_script text demo_script h.view is short h.same h.steps;
   work = h.work;
 }
-
--- The demo's script is not refused.
-not_refused : (text : List ℕ) (steps : List Step) (fault : ScriptFault) → text ≡ demo_script → script_of demo_script ≡ Ok steps
-    → script_of text ≡ Err fault → ⊥
-not_refused text steps fault is accepted refused =
-    let read = subst (λ t. script_of t ≡ Err fault) is refused in absurd (cc (read, accepted))
 
 -- What the task of answering the demo's script comes to is what the work on it comes to.
 pub demo_task : (workers : ℕ) (survey : Survey) (text : List ℕ) (old new : SinkState) (outcome : Outcome) → text ≡ demo_script
@@ -49,7 +59,7 @@ demo_task workers survey text old new (SinkFault ends) is short steps h = read_d
 demo_task workers survey text old new Usage is short steps h = absurd h.work
 demo_task workers survey text old new (BadSky fault) is short steps h = absurd h.work
 demo_task workers survey text old new (BadCatalogue fault) is short steps h = absurd h.work
-demo_task workers survey text old new (BadScript fault) is short steps h = absurd (not_refused text demo_steps fault is steps h.0)
+demo_task workers survey text old new (BadScript fault) is short steps h = absurd (not_refused text demo_script demo_steps fault is steps h.0)
 demo_task workers survey text old new (TooLong which) is short steps h = absurd h.work
 demo_task workers survey text old new (ShelfFault which) is short steps h = absurd h.work
 demo_task workers survey text old new Memory is short steps h = h

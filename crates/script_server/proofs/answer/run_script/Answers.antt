@@ -9,4 +9,4 @@ pub returns-in-Ok : goal.returns-in-Ok
 returns-in-Ok g c =
     subst (λ r. AnswersScript (basis_of c.args.world.now c.args.workers) c.args.script.now (g.K.Sink.state c.args.sink.now) (g.K.Sink.state c.put_answer.new.sink) r) (sym c.answered.ensures)
     (script_answered (basis_of c.args.world.now c.args.workers) c.args.script.now (map kind_of c.in-Ok.ends.items) _ _ c.put_answer.result c.in-Ok.ensures.fit
-    (rw c.as_slice.ensures.value at c.put_answer.ensures))
+    (rw (c.as_slice.ensures.value, c.store.ensures) at c.put_answer.ensures))
