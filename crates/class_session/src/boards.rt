@@ -7,8 +7,10 @@ ghost use Rattle.class_session.specs.ClassPlans.{IsFirstPair, class_for, classes
 use czar::{Plan, Session};
 use partial_merge::Piece;
 use scan_classes::{Class, Classes, Pair};
-use sky_io::Memory;
+use sky_io::{Gate, Memory};
 use std::alloc::Global;
+use std::sync::Wait;
+use std::thread::Threads;
 
 /// The class of a query with this plan. A query that is refused is attached to no board: it is counted as short.
 fn class_by(plan: &Plan) -> Class
@@ -34,7 +36,7 @@ pub(crate) fn classes_of(alloc: Global, plans: &[Plan]) -> Result<Vec<Class>, Me
 
 /// Creates the two boards for the queries with these plans, over the chunks of the world, and the czar's pair. Allocates
 /// memory.
-pub(crate) fn two_boards<'s, R, G>(
+pub(crate) fn two_boards<'s, R: Threads + Wait + Sync, G: Gate + Sync>(
     session: &Session<'s, '_, R, G>,
     plans: &[Plan],
 ) -> Result<(Classes<Piece<'s>>, Pair<Piece<'s>>), Memory>
@@ -43,7 +45,8 @@ pub(crate) fn two_boards<'s, R, G>(
     ensures { IfOk result (λ r.
         IsFirstPair session.now.world.now.plan session.now.world.now.rows plans.now r.0 r.1) }
 {
-    let short = session.board(plans)?;
-    let long = session.board(plans)?;
+    let queries = session.queries(plans)?;
+    let short = session.board(plans, queries.as_slice())?;
+    let long = session.board(plans, queries.as_slice())?;
     Classes::new(session.alloc, short, long)
 }

@@ -10,7 +10,9 @@ ghost use Rattle.transcript_rules.specs.Transcripts.{FitEnds};
 ghost use Rattle.scan_classes.specs.Ends.{EachIsOfItsClass};
 ghost use Rattle.scan_classes.specs.Pairs.{seat_at};
 ghost use Rattle.scan_classes.specs.declared.class.Class.{Class};
-ghost use Rattle.czar.specs.Attached.{attached};
+ghost use Rattle.partial_merge.specs.Roots.{shown};
+ghost use Rattle.session_rules.specs.Numbers.{numbered_from};
+ghost use Rattle.czar.specs.Attached.{attached, chunk_query};
 ghost use Rattle.czar.specs.Driven.{IsDrivenBy, chunks_planned};
 ghost use Rattle.czar.specs.Ends.{EndsShow, kind_of};
 ghost use Rattle.czar.specs.Plans.{ArePlans};
@@ -18,6 +20,7 @@ ghost use Rattle.czar.specs.Traces.{AreEndsIn};
 ghost use Rattle.class_session.specs.ClassPlans.{IsFirstPair, class_at, classes_for, of_class};
 
 use crate::boards::{classes_of, two_boards};
+use answer_rules::ChunkQuery;
 use czar::{End, Plan, Session, World, all_attached, explain};
 use partial_merge::Piece;
 use scan_classes::lemmas::each_query_is_of_its_class_once_all_pairs_have_ended;
@@ -121,21 +124,39 @@ fn driven<'s, R: Threads + Wait + Sync, G: Gate + Sync>(
         (seen_of (class_at (chunks_planned plans.now)) (seat_at result.1)) ends.items) }
     ensures manned { (class : Class) → Manned Asks (seat_at pair class) (seat_at result.1 class) }
 {
-    match parts(session.alloc, plans) {
-        Ok((planned, of)) => {
-            session.drive_over(&ClassBoards::new(classes, of), pair, plans, planned)
-        }
+    match parts(session, plans) {
+        Ok((queries, planned, of)) => session.drive_over(
+            &ClassBoards::new(classes, of),
+            pair,
+            plans,
+            queries.as_slice(),
+            planned,
+        ),
         Err(Memory) => (Err(Memory), classes.close(session.rt, pair)),
     }
 }
 
-/// Returns what is attached for the queries with these plans, and the class of each. Allocates memory.
-fn parts<'s>(
-    alloc: Global,
-    plans: &[Plan],
-) -> Result<(Vec<Option<Planned<Piece<'s>>>>, Vec<Class>), Memory>
-    ensures planned { IfOk result (λ r. r.0.items ≡ map attached plans.now) }
-    ensures classes { IfOk result (λ r. r.1.items ≡ classes_for plans.now) }
+/// What is needed to drive queries: their chunk queries with their numbers, what is attached for each, and its class.
+type Parts<'p, 's> = (
+    Vec<(u32, &'p ChunkQuery)>,
+    Vec<Option<Planned<Piece<'s>>>>,
+    Vec<Class>,
+);
+
+/// Returns what is needed to drive the queries with these plans. Allocates memory.
+fn parts<'p, 's, R: Threads + Wait + Sync, G: Gate + Sync>(
+    session: &Session<'s, '_, R, G>,
+    plans: &'p [Plan],
+) -> Result<Parts<'p, 's>, Memory>
+    requires plans { ArePlans session.now.world.now.plan session.now.world.now.rows
+        (query_lines session.now.script.now) plans.now }
+    ensures queries { IfOk result (λ r. shown r.0.items (λ query. query.now)
+        ≡ numbered_from 1 (map chunk_query plans.now)) }
+    ensures planned { IfOk result (λ r. r.1.items ≡ map attached plans.now) }
+    ensures classes { IfOk result (λ r. r.2.items ≡ classes_for plans.now) }
 {
-    Ok((all_attached(alloc, plans)?, classes_of(alloc, plans)?))
+    let queries = session.queries(plans)?;
+    let planned = all_attached(session.alloc, plans)?;
+    let classes = classes_of(session.alloc, plans)?;
+    Ok((queries, planned, classes))
 }

@@ -1,15 +1,20 @@
-use Rattle.std.proofs.Common.{arith}
+use Rattle.std.proofs.Common.{◌≤◌, arith, length, IfOk, List, ◌∙◌, ap}
+use Rattle.scan_rules.specs.declared.limits.TheConstants.{QUERY_MOST}
 use Rattle.session_script.specs.Views.{query_lines}
+use Rattle.czar.proofs.Attaching.{is_base_over, made_over}
 use Rattle.czar.proofs.Fitting.{sound_plans}
 use Rattle.czar.proofs.PlanBlocks.{a_plan_each}
 use Rattle.czar.proofs.session.Session.board.Goals as goal
 
-pub board_over-requires-clause-few : goal.board_over-requires-clause-few
-board_over-requires-clause-few g c =
+pub board_over-requires : goal.board_over-requires
+board_over-requires g c =
     let s = c.args.self.now in
-    omega (arith, a_plan_each s.world.now.plan s.world.now.rows s.script.now c.args.plans.now c.requires.plans, c.queries.ensures.count, c.queries.ensures.few)
+    let few : length c.args.plans.now ≤ QUERY_MOST =
+    omega (arith, a_plan_each s.world.now.plan s.world.now.rows s.script.now c.args.plans.now c.requires.plans, c.queries.ensures.count, c.queries.ensures.few) in
+    record {
+      base = is_base_over s.world.now.plan s.world.now.rows c.args.plans.now c.args.queries.now c.know.ensures.sky c.know.ensures.rows few
+          (sound_plans s.world.now.plan s.world.now.rows (query_lines s.script.now) c.args.plans.now c.requires.plans) c.requires.queries;
+    }
 
-pub board_over-requires-clause-sound : goal.board_over-requires-clause-sound
-board_over-requires-clause-sound g c =
-    let s = c.args.self.now in
-    sound_plans s.world.now.plan s.world.now.rows (query_lines s.script.now) c.args.plans.now c.requires.plans
+pub returns : goal.returns
+returns g c = ?

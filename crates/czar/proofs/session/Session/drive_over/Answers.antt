@@ -6,6 +6,7 @@ use Rattle.session_script.specs.Views.{query_lines}
 use Rattle.answer_rules.specs.Bases.{Asks, StandsFor}
 use Rattle.scan_session.specs.KnownEnds.{PlansFit}
 use Rattle.czar.specs.Attached.{attached}
+use Rattle.czar.proofs.Attaching.{same_base}
 use Rattle.czar.proofs.Crossing.{crossing, engine_crossing}
 use Rattle.czar.proofs.Driving.{driven_by, drove_over}
 use Rattle.czar.proofs.Fitting.{all_fit}
@@ -31,7 +32,9 @@ drive-requires-clause-ring g c = λ κs lives p.
     subst (λ (n : ℕ). n ≤ RING_MOST) (sym (ap (λ s. s.root.ring) (c.requires.seats p))) c.know.ensures.sky.few_chunks
 
 pub drive-requires-clause-engine : goal.drive-requires-clause-engine
-drive-requires-clause-engine g c = λ κs lives p. sym (ap (λ s. s.root.root) (c.requires.seats p))
+drive-requires-clause-engine g c = λ κs lives p.
+    let s = c.args.self.now in
+    same_base s.world.now.plan s.world.now.rows c.args.plans.now c.args.queries.now c.requires.queries ∙ sym (ap (λ s. s.root.root) (c.requires.seats p))
 
 pub drive-requires-clause-each : goal.drive-requires-clause-each
 drive-requires-clause-each g c = λ κs lives.
