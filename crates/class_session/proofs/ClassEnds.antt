@@ -16,6 +16,11 @@ use Rattle.czar.specs.declared.end.End.{End}
 use Rattle.czar.specs.declared.plan.Plan.{Plan}
 use Rattle.czar.proofs.Tracing.{session_ends_in}
 
+-- what holds anyway holds if a result is Ok
+pub if_ok : {V : Type 0} {A : Type 0} (r : Result V Memory) → A → IfOk r (λ v. A)
+if_ok (Ok v) a = a
+if_ok (Err m) a = tt
+
 -- under any names of the plans and of the ends at the boards
 pub ends_in_states : {V : Type 0} {workers : ℕ} {g : Partition} {c : Catalogue} {steps : List Step} {plans same : List Plan}
     {of_board : ℕ → Plans} {seen : ℕ → Journal} {ends given : List (BoardEnd PieceView)} → IsDrivenBy workers g c steps plans of_board seen ends

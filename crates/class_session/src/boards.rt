@@ -4,7 +4,7 @@ ghost use Rattle.session_script.specs.Views.{query_lines};
 ghost use Rattle.czar.specs.Plans.{ArePlans};
 ghost use Rattle.class_session.specs.ClassPlans.{IsFirstPair, class_for, classes_for};
 
-use czar::{Plan, Session};
+use czar::{Plan, Session, board_over, chunk_queries, know};
 use partial_merge::Piece;
 use scan_classes::{Class, Classes, Pair};
 use sky_io::{Gate, Memory};
@@ -45,8 +45,10 @@ pub(crate) fn two_boards<'s, R: Threads + Wait + Sync, G: Gate + Sync>(
     ensures { IfOk result (λ r.
         IsFirstPair session.now.world.now.plan session.now.world.now.rows plans.now r.0 r.1) }
 {
-    let queries = session.queries(plans)?;
-    let short = session.board(plans, queries.as_slice())?;
-    let long = session.board(plans, queries.as_slice())?;
+    know(session.world);
+    let _ = session.script.queries();
+    let asked = chunk_queries(session.alloc, plans)?;
+    let short = board_over(session.alloc, session.world, asked.as_slice())?;
+    let long = board_over(session.alloc, session.world, asked.as_slice())?;
     Classes::new(session.alloc, short, long)
 }

@@ -1,6 +1,7 @@
 //! The session of a script over two boards: its short queries do not wait for the chunks of long ones.
-ghost use Rattle.std.specs.Prelude.{◌≡◌, ◌≤◌, IfOk, map};
+ghost use Rattle.std.specs.Prelude.{◌≡◌, ◌≤◌, IfOk, length, map};
 ghost use Rattle.answer_rules.specs.Bases.{Asks};
+ghost use Rattle.scan_rules.specs.declared.limits.TheConstants.{QUERY_MOST};
 ghost use Rattle.session_rules.specs.declared.limits.TheConstants.{WORKERS_MOST};
 ghost use Rattle.session_script.specs.Views.{query_lines};
 ghost use Rattle.scan_session.specs.Crews.{Manned};
@@ -10,9 +11,8 @@ ghost use Rattle.transcript_rules.specs.Transcripts.{FitEnds};
 ghost use Rattle.scan_classes.specs.Ends.{EachIsOfItsClass};
 ghost use Rattle.scan_classes.specs.Pairs.{seat_at};
 ghost use Rattle.scan_classes.specs.declared.class.Class.{Class};
-ghost use Rattle.partial_merge.specs.Roots.{shown};
 ghost use Rattle.session_rules.specs.Numbers.{numbered_from};
-ghost use Rattle.czar.specs.Attached.{attached, chunk_query};
+ghost use Rattle.czar.specs.Attached.{attached, chunk_query, numbered};
 ghost use Rattle.czar.specs.Driven.{IsDrivenBy, chunks_planned};
 ghost use Rattle.czar.specs.Ends.{EndsShow, kind_of};
 ghost use Rattle.czar.specs.Plans.{ArePlans};
@@ -21,11 +21,11 @@ ghost use Rattle.class_session.specs.ClassPlans.{IsFirstPair, class_at, classes_
 
 use crate::boards::{classes_of, two_boards};
 use answer_rules::ChunkQuery;
-use czar::{End, Plan, Session, World, all_attached, explain};
+use czar::{ChunkEngine, End, Plan, Session, World, all_attached, chunk_queries, explain, know};
 use partial_merge::Piece;
 use scan_classes::lemmas::each_query_is_of_its_class_once_all_pairs_have_ended;
 use scan_classes::{Class, ClassBoards, Classes, Pair};
-use scan_session::{End as BoardEnd, Planned};
+use scan_session::{End as BoardEnd, Planned, Scan, drive};
 use session_script::Script;
 use sky_io::{Gate, Memory};
 use std::alloc::Global;
@@ -124,14 +124,12 @@ fn driven<'s, R: Threads + Wait + Sync, G: Gate + Sync>(
         (seen_of (class_at (chunks_planned plans.now)) (seat_at result.1)) ends.items) }
     ensures manned { (class : Class) → Manned Asks (seat_at pair class) (seat_at result.1 class) }
 {
-    match parts(session, plans) {
-        Ok((queries, planned, of)) => session.drive_over(
-            &ClassBoards::new(classes, of),
-            pair,
-            plans,
-            queries.as_slice(),
-            planned,
-        ),
+    let _ = session.script.queries();
+    match parts(session.alloc, plans) {
+        Ok((queries, planned, of)) => {
+            let boards = ClassBoards::new(classes, of);
+            driven_at(session, plans, queries.as_slice(), planned, &boards, pair)
+        }
         Err(Memory) => (Err(Memory), classes.close(session.rt, pair)),
     }
 }
@@ -144,19 +142,65 @@ type Parts<'p, 's> = (
 );
 
 /// Returns what is needed to drive the queries with these plans. Allocates memory.
-fn parts<'p, 's, R: Threads + Wait + Sync, G: Gate + Sync>(
-    session: &Session<'s, '_, R, G>,
-    plans: &'p [Plan],
-) -> Result<Parts<'p, 's>, Memory>
-    requires plans { ArePlans session.now.world.now.plan session.now.world.now.rows
-        (query_lines session.now.script.now) plans.now }
-    ensures queries { IfOk result (λ r. shown r.0.items (λ query. query.now)
-        ≡ numbered_from 1 (map chunk_query plans.now)) }
+fn parts<'p, 's>(alloc: Global, plans: &'p [Plan]) -> Result<Parts<'p, 's>, Memory>
+    requires few { length plans.now ≤ QUERY_MOST }
+    ensures queries { IfOk result (λ r.
+        numbered r.0.items ≡ numbered_from 1 (map chunk_query plans.now)) }
     ensures planned { IfOk result (λ r. r.1.items ≡ map attached plans.now) }
     ensures classes { IfOk result (λ r. r.2.items ≡ classes_for plans.now) }
 {
-    let queries = session.queries(plans)?;
-    let planned = all_attached(session.alloc, plans)?;
-    let classes = classes_of(session.alloc, plans)?;
+    let queries = chunk_queries(alloc, plans)?;
+    let planned = all_attached(alloc, plans)?;
+    let classes = classes_of(alloc, plans)?;
     Ok((queries, planned, classes))
+}
+
+/// Drives what is attached for the queries with these plans over both boards, from the czar's first pair. The plans are
+/// read by contracts alone.
+fn driven_at<'s, R: Threads + Wait + Sync, G: Gate + Sync>(
+    session: &Session<'s, '_, R, G>,
+    plans: &[Plan],
+    queries: &[(u32, &ChunkQuery)],
+    planned: Vec<Option<Planned<Piece<'s>>>>,
+    boards: &ClassBoards<'_, Piece<'s>>,
+    pair: Pair<Piece<'s>>,
+) -> (Result<Vec<BoardEnd<Piece<'s>>>, Memory>, Pair<Piece<'s>>)
+    requires few { session.now.workers ≤ WORKERS_MOST }
+    requires plans { ArePlans session.now.world.now.plan session.now.world.now.rows
+        (query_lines session.now.script.now) plans.now }
+    requires queries { numbered queries.now ≡ numbered_from 1 (map chunk_query plans.now) }
+    requires planned { planned.items ≡ map attached plans.now }
+    requires classes { boards.now.classes ≡ classes_for plans.now }
+    requires first { IsFirstPair session.now.world.now.plan session.now.world.now.rows plans.now
+        boards.now.turns pair }
+    ensures drove { IfOk result.0 (λ ends. (class : Class) → Drove session.now.workers
+        (of_class class (chunks_planned plans.now)) session.now.script.now.steps
+        (seat_at result.1 class).seen) }
+    ensures driven { IfOk result.0 (λ ends. IsDrivenBy session.now.workers
+        session.now.world.now.plan session.now.world.now.rows session.now.script.now.steps
+        plans.now (λ q. of_class (class_at (chunks_planned plans.now) q) (chunks_planned plans.now))
+        (seen_of (class_at (chunks_planned plans.now)) (seat_at result.1)) ends.items) }
+    ensures manned { (class : Class) → Manned Asks (seat_at pair class) (seat_at result.1 class) }
+{
+    know(session.world);
+    let _ = session.script.queries();
+    let engine = ChunkEngine {
+        alloc: session.alloc,
+        world: session.world.store(),
+        queries,
+    };
+    let scan = Scan {
+        alloc: session.alloc,
+        rt: session.rt,
+        boards,
+        engine: &engine,
+        gate: session.gate,
+    };
+    drive(
+        &scan,
+        pair,
+        planned,
+        session.script.steps(),
+        session.workers,
+    )
 }

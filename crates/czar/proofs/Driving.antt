@@ -1,5 +1,5 @@
 -- What a session leaves once its workers were joined.
-use Rattle.std.proofs.Common.{◌≡◌, ◌∙◌, sym, ap, subst, ℕ, Bool, true, None, arith, List, length, map, Ok, Err, Result, IfOk, Option, Vec, vec_len}
+use Rattle.std.proofs.Common.{◌≡◌, ◌∙◌, sym, ap, refl, subst, ℕ, Bool, true, None, arith, List, length, map, Ok, Err, Result, IfOk, Option, Vec, vec_len}
 use Rattle.std.proofs.lemmas.Bool.{cond-true}
 use Rattle.table_rules.specs.Objects.{Catalogue}
 use Rattle.sky_io.specs.declared.Memory.{Memory}
@@ -81,11 +81,20 @@ joined g base old new one root manned = record {
 }
 
 -- the czar's participant has seen the journal that justifies the ends
-pub over : {workers : ℕ} {g : Partition} {c : Catalogue} {steps : List Step} {plans : List Plan} {ends : List (BoardEnd PieceView)}
-    (old new : BoardSeat Base) → old.made ≡ 1 → old.root ≡ record { root = base_of g c plans; ring = chunk_count g } → Manned Asks old new
-    → IsDrivenBy workers g c steps plans (λ q. chunks_planned plans) (λ q. new.seen) ends → IsOver workers g c steps plans new ends
-over {workers} {g} {c} {steps} {plans} {ends} old new one root manned by =
-    record { joined = joined g (base_of g c plans) old new one root manned; by = by }
+pub over : {Y Z : Type 0} (workers : ℕ) (g : Partition) (c : Catalogue) (steps ran : List Step) (plans : List Plan)
+    (planned : Vec (Option (Attachable PieceView)) Y) (old new : BoardSeat Base) (r : Result (Vec (BoardEnd PieceView) Z) Memory)
+    → ran ≡ steps → planned.items ≡ map attached plans → old.made ≡ 1
+    → old.root ≡ record { root = base_of g c plans; ring = chunk_count g } → Manned Asks old new
+    → IfOk r (λ v. Unit {0} → Drove workers (plan_in planned.items) ran new.seen)
+    → IfOk r (λ v. vec_len v ≡ vec_len planned)
+    → IfOk r (λ v. AreEnds (StandsFor old.root.root) (plan_in planned.items) (λ q. new.seen) v.items)
+    → IfOk r (λ v. IsOver workers g c steps plans new v.items)
+over workers g c steps ran plans planned old new (Ok v) same made one root manned drove each ends = record {
+  joined = joined g (base_of g c plans) old new one root manned;
+  by = driven_by workers g c steps ran plans planned (λ (p : Unit {0}) q. true) (λ q. tt) (λ p. old) (λ p. new) (Ok v)
+      same made (λ p. root) (λ q. refl) (λ p. manned) drove each ends;
+}
+over workers g c steps ran plans planned old new (Err m) same made one root manned drove each ends = tt
 
 -- what holds of an Ok result holds of its value
 pub of_value : {V : Type 0} {r : Result V Memory} {v : V} (holds : V → Type 0) → r ≡ Ok v → IfOk r holds → holds v

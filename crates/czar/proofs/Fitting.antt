@@ -16,12 +16,12 @@ use Rattle.answer_rules.proofs.Joining.{empty_piece}
 use Rattle.scan_session.specs.KnownEnds.{MayStart, PlansFit, at_query}
 use Rattle.scan_session.specs.declared.end.Planned.{Planned as Attachable}
 use Rattle.session_rules.specs.Numbers.{numbered_from}
-use Rattle.czar.specs.Attached.{IsSoundPlan, attached, base_of, chunk_query}
+use Rattle.czar.specs.Attached.{attached, base_of, chunk_query}
 use Rattle.czar.specs.Plans.{ArePlans, PlanFor}
 use Rattle.czar.specs.Running.{IsOpen, IsSomePlan}
 use Rattle.czar.specs.declared.plan.Plan.{Plan}
 use Rattle.czar.specs.declared.plan.Plan.TheVariants.{Planned, Refused}
-use Rattle.czar.proofs.Attaching.{is_base, known_under}
+use Rattle.czar.proofs.Attaching.{IsSoundPlan, is_base, known_under}
 use Rattle.czar.proofs.Ending.{opened, runnable, sound_chunk}
 
 -- some line has each of the plans

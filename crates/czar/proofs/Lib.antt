@@ -4,7 +4,7 @@ pub mod Attaching
 pub mod Fitting
 pub mod Leaving
 pub mod ScriptEnds
-pub mod Queueing
+pub mod Pairs
 pub mod Driving
 pub mod Stopping
 pub mod Scanning

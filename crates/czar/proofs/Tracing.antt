@@ -188,12 +188,12 @@ session_traces workers g c s plans ends qs seen journal are d ended is =
 
 -- so under any names of the plans, the ends at the board and the lines that were seen
 pub ends_trace : {workers : ℕ} {g : Partition} {c : Catalogue} {s : ScriptView} {plans same : List Plan}
-    {seat : BoardSeat Base} {ends at_board : List (BoardEnd PieceView)} {seen : Journal} {query_ends : List End} {journal : BoardJournal}
+    {seat : BoardSeat Base} {ends at_board : List (BoardEnd PieceView)} {seen : Journal} {journal : BoardJournal} (query_ends : List End)
     → ArePlans g c (query_lines s) plans
     → IsOver workers g c s.steps plans seat ends
     → journal ≡ record { ring = chunk_count g; lines = seen } → AreEnded same at_board query_ends
     → plans ≡ same → ends ≡ at_board → seat.seen ≡ seen → IsTraceOf workers g c s (map kind_of query_ends) journal
-ends_trace {workers} {g} {c} {s} {plans} {same} {seat} {ends} {at_board} {seen} {query_ends} {journal} are over read ended is at saw =
+ends_trace {workers} {g} {c} {s} {plans} {same} {seat} {ends} {at_board} {seen} {journal} query_ends are over read ended is at saw =
     session_traces workers g c s plans ends query_ends seat.seen journal are over.by
     (subst (λ (l : List Plan). AreEnded l ends query_ends) (sym is)
     (subst (λ (l : List (BoardEnd PieceView)). AreEnded same l query_ends) (sym at) ended))

@@ -8,7 +8,6 @@ use Rattle.answer_rules.specs.Bases.{Base}
 use Rattle.answer_rules.specs.PieceLaws.{empty_view}
 use Rattle.answer_rules.specs.Pieces.{PieceView}
 use Rattle.answer_rules.specs.Rows.{limit_of}
-use Rattle.answer_rules.specs.SoundChunks.{IsSoundChunk}
 use Rattle.partial_merge.specs.Roots.{shown}
 use Rattle.session_rules.specs.Numbers.{numbered_from}
 use Rattle.scan_session.specs.declared.end.Planned.{Planned as Attachable}
@@ -24,14 +23,13 @@ chunk_query (Refused why) = None
 abbrev pub base_of : Partition → Catalogue → List Plan → Base
 base_of g c plans = record { plan = g; rows = c; queries = numbered_from 1 (map chunk_query plans) }
 
--- the root of the session's pieces: these chunk queries, with the numbers of their queries
-abbrev pub base_over : Partition → Catalogue → List (ℕ × Bor ChunkQuery) → Base
-base_over g c queries = record { plan = g; rows = c; queries = shown queries (λ query. query.now) }
+-- borrowed chunk queries, with the numbers of their queries
+abbrev pub numbered : List (ℕ × Bor ChunkQuery) → List (ℕ × ChunkQuery)
+numbered queries = shown queries (λ query. query.now)
 
--- the chunk query of a query, if that is planned, can be run over a table with the given number of columns
-abbrev pub IsSoundPlan : ℕ → Plan → Type 0
-IsSoundPlan columns (Planned head query chunks) = IsSoundChunk columns query.chunk
-IsSoundPlan columns (Refused why) = Unit {0}
+-- the root of pieces over these chunk queries, with the numbers of their queries
+abbrev pub base_over : Partition → Catalogue → List (ℕ × Bor ChunkQuery) → Base
+base_over g c queries = record { plan = g; rows = c; queries = numbered queries }
 
 -- a query with its chunks and the piece over none; nothing is attached for one that is refused
 abbrev pub attached : Plan → Option (Attachable PieceView)

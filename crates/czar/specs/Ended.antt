@@ -1,5 +1,5 @@
 -- The end of a query, by its plan and by how it ended at the board.
-use Rattle.std.specs.Prelude.{◌≡◌, ℕ, ◌≤◌, List, [], ◌∷◌, ◌++◌, Ok, Err, length}
+use Rattle.std.specs.Prelude.{◌≡◌, ℕ, ◌≤◌, List, [], ◌∷◌, Ok, Err, length}
 use Rattle.sky_rules.specs.declared.limits.TheConstants.{CHUNKS_MOST}
 use Rattle.sql_tree.specs.declared.query.Query.{Query}
 use Rattle.answer_rules.specs.Answers.{Answer}
@@ -51,9 +51,3 @@ MayAnswer merge chunks board.Spent = Unit {0}
 abbrev pub MayEnd : Plan → BoardEnd PieceView → Type 0
 MayEnd (plan.Planned head query chunks) end = MayAnswer query.merge chunks end
 MayEnd (plan.Refused why) end = Unit {0}
-
--- the end that the query with this plan has, by how it ended at the board, is appended to the ends so far
-pub record PushesEnd (p : Plan) (e : BoardEnd PieceView) (old new : List End) : Type 0 where
-  pub end : End
-  pub is : IsEnded p e end
-  pub pushed : new ≡ old ++ end ∷ []

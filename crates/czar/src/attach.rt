@@ -4,15 +4,15 @@ ghost use Rattle.std.specs.Prelude.{◌≡◌, ◌≤◌, ◌++◌, ◌∷◌, [
 ghost use Rattle.sky_rules.specs.Partition.{chunk_count};
 ghost use Rattle.scan_rules.specs.declared.limits.TheConstants.{QUERY_MOST};
 ghost use Rattle.answer_rules.specs.Bases.{IsBase};
-ghost use Rattle.partial_merge.specs.Roots.{shown};
 ghost use Rattle.session_rules.specs.Numbers.{numbered_from};
-ghost use Rattle.czar.specs.Attached.{attached, base_over, chunk_query};
+ghost use Rattle.turn_lock.specs.Seats.{first_seat};
+ghost use Rattle.czar.specs.Attached.{attached, base_over, chunk_query, numbered};
 
 use crate::plan::Plan;
 use crate::world::World;
 use answer_rules::ChunkQuery;
 use partial_merge::{Piece, PieceRoot};
-use scan_board::Board;
+use scan_board::{Board, Seat, SharedBoard};
 use scan_session::Planned;
 use sky_io::Memory;
 use std::alloc::Global;
@@ -37,18 +37,6 @@ fn attached_by<'w>(alloc: Global, plan: &Plan) -> Result<Option<Planned<Piece<'w
     }
 }
 
-/// Appends what is attached for one more query.
-fn push_attached<'w>(
-    alloc: Global,
-    plan: &Plan,
-    all: &mut Vec<Option<Planned<Piece<'w>>>>,
-) -> Result<(), Memory>
-    ensures { OnOk result (all.new.items ≡ all.old.items ++ attached plan.now ∷ []) }
-{
-    all.push(attached_by(alloc, plan)?)?;
-    Ok(())
-}
-
 /// Returns what is attached for each query of a script, in their order. Allocates memory.
 pub fn all_attached<'w>(
     alloc: Global,
@@ -58,7 +46,7 @@ pub fn all_attached<'w>(
 {
     let mut all = Vec::new(alloc);
     for plan in plans {
-        push_attached(alloc, plan, &mut all)?;
+        all.push(attached_by(alloc, plan)?)?;
     }
     Ok(all)
 }
@@ -69,9 +57,8 @@ fn push_query<'p>(
     q: u32,
     queries: &mut Vec<(u32, &'p ChunkQuery)>,
 ) -> Result<(), Memory>
-    ensures { OnOk result (shown queries.new.items (λ query. query.now)
-        ≡ shown queries.old.items (λ query. query.now)
-        ++ numbered_from q (chunk_query plan.now ∷ [])) }
+    ensures { OnOk result (numbered queries.new.items
+        ≡ numbered queries.old.items ++ numbered_from q (chunk_query plan.now ∷ [])) }
 {
     match plan {
         Plan::Planned { query, .. } => Ok(queries.push((q, &query.chunk))?),
@@ -79,14 +66,15 @@ fn push_query<'p>(
     }
 }
 
-/// Returns the chunk queries of the planned queries of a script, each with the number of its query, from 1.
-pub(crate) fn chunk_queries<'p>(
+/// Returns the chunk queries of the planned queries of a script, each with the number of its query, from 1. Allocates
+/// memory.
+pub fn chunk_queries<'p>(
     alloc: Global,
     plans: &'p [Plan],
 ) -> Result<Vec<(u32, &'p ChunkQuery)>, Memory>
     requires few { length plans.now ≤ QUERY_MOST }
-    ensures { IfOk result (λ queries. shown queries.items (λ query. query.now)
-        ≡ numbered_from 1 (map chunk_query plans.now)) }
+    ensures { IfOk result (λ queries.
+        numbered queries.items ≡ numbered_from 1 (map chunk_query plans.now)) }
 {
     let mut queries = Vec::new(alloc);
     for place in 0..plans.len() {
@@ -106,14 +94,14 @@ fn root_of<'w>(
         root ≡ base_over world.now.plan world.now.rows queries.now) }
 {
     let mut root = PieceRoot::new(alloc, world.plan(), world.rows());
-    for (q, query) in queries {
-        root.push(*q, query)?;
+    for asked in queries {
+        root.push(asked.0, asked.1)?;
     }
     Ok(root)
 }
 
 /// Creates a board over the chunks of the world for these chunk queries. Allocates memory.
-pub(crate) fn board_over<'w>(
+pub fn board_over<'w>(
     alloc: Global,
     world: &World<'w>,
     queries: &[(u32, &ChunkQuery)],
@@ -127,4 +115,20 @@ pub(crate) fn board_over<'w>(
 {
     let root = root_of(alloc, world, queries)?;
     Board::new(alloc, world.plan().chunks(), root)
+}
+
+/// Creates a board over the chunks of the world for these chunk queries, and the czar's participant.
+pub(crate) fn seated<'w>(
+    alloc: Global,
+    world: &World<'w>,
+    queries: &[(u32, &ChunkQuery)],
+) -> Result<(SharedBoard<Piece<'w>>, Seat<Board<Piece<'w>>>), Memory>
+    requires base { IsBase (base_over world.now.plan world.now.rows queries.now) }
+    ensures { IfOk result (λ r. r.1 ≡ first_seat r.0 (record {
+      root = base_over world.now.plan world.now.rows queries.now;
+      ring = chunk_count world.now.plan;
+    })) }
+{
+    let board = board_over(alloc, world, queries)?;
+    SharedBoard::new(alloc, board)
 }

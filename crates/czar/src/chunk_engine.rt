@@ -1,10 +1,10 @@
 //! The engine of a session: it makes the piece of a query on a chunk.
 
-ghost use Rattle.std.specs.Prelude.{◌≡◌, ◌+◌, ◌∷◌, [], IfOk, length};
-ghost use Rattle.sky_rules.specs.Limits.{IsSky};
-ghost use Rattle.table_rules.specs.Objects.{IsCatalogue};
+ghost use Rattle.std.specs.Prelude.{◌≡◌, ◌+◌, ◌<◌, ◌∷◌, [], AllPairs, IfOk, Some, is_some, length, true};
+ghost use Rattle.answer_rules.specs.Bases.{query_at};
 ghost use Rattle.answer_rules.specs.Pieces.{PieceFor};
 ghost use Rattle.answer_rules.specs.SoundChunks.{IsSoundChunk};
+ghost use Rattle.czar.specs.Attached.{numbered};
 ghost use Rattle.czar.specs.Running.{IsOpen};
 ghost use Rattle.table_rules.specs.declared.limits.TheConstants.{FIRST_COLUMNS};
 
@@ -20,10 +20,20 @@ use std::alloc::Global;
 
 /// The world of a session, and the chunk queries of its planned queries with their numbers, which ascend.
 #[derive(Drop)]
-pub(crate) struct ChunkEngine<'w, 's> {
-    pub(crate) alloc: Global,
-    pub(crate) world: &'w Store,
-    pub(crate) queries: &'s [(u32, &'s ChunkQuery)],
+pub struct ChunkEngine<'w, 's> {
+    pub alloc: Global,
+    pub world: &'w Store,
+    pub queries: &'s [(u32, &'s ChunkQuery)],
+}
+
+/// Returns the chunk query of the query with this number, which has one.
+fn query_with<'s>(queries: &[(u32, &'s ChunkQuery)], q: u32) -> &'s ChunkQuery
+    requires ascend { AllPairs (λ a b. a.0 < b.0) (numbered queries.now) }
+    requires known { is_some (query_at (numbered queries.now) q) ≡ true }
+    ensures { query_at (numbered queries.now) q ≡ Some result.now }
+{
+    let place = queries.partition_point(|asked| asked.0 < q);
+    queries[place].1
 }
 
 /// Returns the piece of one chunk: by a scan of its rows, or for pairs by a join.
@@ -56,13 +66,7 @@ impl<'w, 's> Engine<Piece<'w>> for ChunkEngine<'w, 's> {
     }
 
     fn piece(&self, q: u32, chunk: u32, scratch: &mut Scratch) -> Result<Piece<'w>, Memory> {
-        let place = self.queries.partition_point(|asked| asked.0 < q);
-        piece_of(
-            self.alloc,
-            self.world,
-            self.queries[place].1,
-            chunk,
-            scratch,
-        )
+        let query = query_with(self.queries, q);
+        piece_of(self.alloc, self.world, query, chunk, scratch)
     }
 }

@@ -9,8 +9,8 @@
 //! its text. No file: texts are slices that the caller holds. Threads come from the caller.
 #![tactic(auto)]
 
-mod attach;
-mod chunk_engine;
+pub mod attach;
+pub mod chunk_engine;
 pub mod end;
 mod explained;
 pub mod plan;
@@ -20,10 +20,11 @@ mod transcript;
 pub mod understanding;
 pub mod world;
 
-pub use attach::all_attached;
+pub use attach::{all_attached, board_over, chunk_queries};
+pub use chunk_engine::ChunkEngine;
 pub use end::End;
 pub use explained::put_explained;
 pub use plan::{Plan, explain};
-pub use session::{Session, run_session, run_traced};
+pub use session::{Session, know, run_session, run_traced};
 pub use transcript::put_transcript;
 pub use world::World;

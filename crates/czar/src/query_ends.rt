@@ -2,12 +2,12 @@
 //!
 //! What a plan still holds is dropped by name, as in `plan`.
 
-ghost use Rattle.std.specs.Prelude.{◌≡◌, ◌≤◌, IfOk, OnOk, length};
+ghost use Rattle.std.specs.Prelude.{◌≡◌, ◌≤◌, IfOk, length};
 ghost use Rattle.std.specs.List.{AllZip};
 ghost use Rattle.sky_rules.specs.declared.limits.TheConstants.{CHUNKS_MOST};
 ghost use Rattle.answer_rules.specs.Finish.{finished};
 ghost use Rattle.partial_merge.specs.Joining.{MayFinish};
-ghost use Rattle.czar.specs.Ended.{AreEnded, IsEnded, IsPlannedEnd, MayAnswer, MayEnd, PushesEnd, answer_end};
+ghost use Rattle.czar.specs.Ended.{AreEnded, IsEnded, IsPlannedEnd, MayAnswer, MayEnd, answer_end};
 ghost use Rattle.czar.specs.Running.{IsOutOfRange};
 
 use crate::end::End;
@@ -104,21 +104,6 @@ fn end_by(plan: Plan, end: BoardEnd<Piece<'_>>) -> Result<End, Memory>
     }
 }
 
-/// Appends the end of a query with this plan, by how it ended at the board.
-fn push_query_end(
-    plan: Plan,
-    end: BoardEnd<Piece<'_>>,
-    query_ends: &mut Vec<End>,
-) -> Result<(), Memory>
-    requires { MayEnd plan end }
-    ensures { OnOk result (PushesEnd plan end.entry query_ends.old.items query_ends.new.items) }
-{
-    match end_by(plan, end) {
-        Ok(one) => Ok(query_ends.push(one)?),
-        Err(Memory) => Err(Memory),
-    }
-}
-
 /// Returns the end of each query of a script, in their order.
 pub(crate) fn all_query_ends(
     alloc: Global,
@@ -131,7 +116,7 @@ pub(crate) fn all_query_ends(
 {
     let mut query_ends = Vec::new(alloc);
     for (plan, end) in plans.into_iter().zip(ends) {
-        push_query_end(plan, end, &mut query_ends)?;
+        query_ends.push(end_by(plan, end)?)?;
     }
     Ok(query_ends)
 }

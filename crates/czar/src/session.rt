@@ -1,28 +1,23 @@
 //! The session of a script: its queries are planned and driven over a shared board with workers beside the czar, and
 //! their ends are returned.
 
-ghost use Rattle.std.specs.Prelude.{◌≡◌, ◌≤◌, [], IfOk, map};
+ghost use Rattle.std.specs.Prelude.{◌≡◌, ◌≤◌, IfOk, map};
 ghost use Rattle.table_rules.specs.Objects.{IsCatalogue};
 ghost use Rattle.sky_rules.specs.Limits.{IsSky};
 ghost use Rattle.sky_rules.specs.Partition.{chunk_count};
 ghost use Rattle.turn_lock.specs.Seats.{first_seat};
-ghost use Rattle.partial_merge.specs.Roots.{shown};
 ghost use Rattle.session_rules.specs.Numbers.{numbered_from};
-ghost use Rattle.answer_rules.specs.Bases.{Asks};
-ghost use Rattle.scan_session.specs.Crews.{Manned};
-ghost use Rattle.scan_session.specs.Drove.{Drove};
-ghost use Rattle.scan_session.specs.Places.{AllSuit, only, seen_of};
 ghost use Rattle.session_rules.specs.declared.limits.TheConstants.{WORKERS_MOST};
 ghost use Rattle.session_script.specs.Views.{query_lines};
 ghost use Rattle.transcript_rules.specs.Transcripts.{FitEnds};
-ghost use Rattle.czar.specs.Attached.{attached, base_of, chunk_query};
-ghost use Rattle.czar.specs.Driven.{IsDriven, IsDrivenBy, IsJoined, IsOver, chunks_planned};
+ghost use Rattle.czar.specs.Attached.{attached, base_over, chunk_query, numbered};
+ghost use Rattle.czar.specs.Driven.{IsDriven, IsJoined, IsOver};
 ghost use Rattle.czar.specs.Ended.{AreEnded};
 ghost use Rattle.czar.specs.Ends.{EndsShow, kind_of};
 ghost use Rattle.czar.specs.Plans.{ArePlans};
 ghost use Rattle.czar.specs.Traces.{IsTraceOf};
 
-use crate::attach::{all_attached, board_over, chunk_queries};
+use crate::attach::{all_attached, chunk_queries, seated};
 use crate::chunk_engine::ChunkEngine;
 use crate::end::End;
 use crate::plan::{Plan, explain};
@@ -31,7 +26,6 @@ use crate::world::World;
 use answer_rules::ChunkQuery;
 use partial_merge::Piece;
 use scan_board::{Board, Seat, SharedBoard};
-use scan_boards::Boards;
 use scan_rules::Journal;
 use scan_session::{End as BoardEnd, Planned, Scan, drive};
 use session_script::Script;
@@ -195,39 +189,6 @@ impl<'s, 't, R: Threads + Wait + Sync, G: Gate + Sync> Session<'s, 't, R, G> {
         all_query_ends(self.alloc, plans, ends)
     }
 
-    /// Returns the chunk queries of the planned queries, each with the number of its query. Allocates memory.
-    pub fn queries<'p>(&self, plans: &'p [Plan]) -> Result<Vec<(u32, &'p ChunkQuery)>, Memory>
-        requires plans { ArePlans self.now.world.now.plan self.now.world.now.rows
-            (query_lines self.now.script.now) plans.now }
-        ensures { IfOk result (λ queries. shown queries.items (λ query. query.now)
-            ≡ numbered_from 1 (map chunk_query plans.now)) }
-    {
-        let _ = self.script.queries();
-        chunk_queries(self.alloc, plans)
-    }
-
-    /// Creates a board over the chunks of the world for the queries with these plans, of which these are the chunk
-    /// queries. Allocates memory. The plans are read by contracts alone.
-    pub fn board(
-        &self,
-        plans: &[Plan],
-        queries: &[(u32, &ChunkQuery)],
-    ) -> Result<Board<Piece<'s>>, Memory>
-        requires plans { ArePlans self.now.world.now.plan self.now.world.now.rows
-            (query_lines self.now.script.now) plans.now }
-        requires queries { shown queries.now (λ query. query.now)
-            ≡ numbered_from 1 (map chunk_query plans.now) }
-        ensures { IfOk result (λ board. board ≡ record {
-          root = base_of self.now.world.now.plan self.now.world.now.rows plans.now;
-          ring = chunk_count self.now.world.now.plan;
-          past = [];
-        }) }
-    {
-        know(self.world);
-        let _ = self.script.queries();
-        board_over(self.alloc, self.world, queries)
-    }
-
     /// Drives the queries with these plans over a board of their own.
     fn driven(&self, plans: &[Plan]) -> Result<Driven<'s>, Memory>
         requires few { self.now.workers ≤ WORKERS_MOST }
@@ -237,53 +198,41 @@ impl<'s, 't, R: Threads + Wait + Sync, G: Gate + Sync> Session<'s, 't, R, G> {
         ensures over { IfOk result (λ r. IsOver self.now.workers self.now.world.now.plan
             self.now.world.now.rows self.now.script.now.steps plans.now r.seat r.ends.items) }
     {
-        let queries = self.queries(plans)?;
-        let board = self.board(plans, queries.as_slice())?;
-        let (board, seat) = SharedBoard::new(self.alloc, board)?;
+        let _ = self.script.queries();
+        know(self.world);
+        let asked = chunk_queries(self.alloc, plans)?;
         let planned = all_attached(self.alloc, plans)?;
-        let (ends, seat) = self.drive_over(&board, seat, plans, queries.as_slice(), planned);
-        match ends {
-            Ok(ends) => Ok(Driven { board, seat, ends }),
+        match seated(self.alloc, self.world, asked.as_slice()) {
+            Ok((board, seat)) => self.driven_at(plans, asked.as_slice(), planned, board, seat),
             Err(Memory) => {
-                drop((board, seat));
+                drop(planned);
                 Err(Memory)
             }
         }
     }
 
-    /// Drives what is attached for the queries with these plans over some boards, from the czar's first participant.
-    /// Returns the end of each query at its board. Waits. Allocates memory. On Memory, too, each board is closed and
-    /// the workers are joined. The plans are read by contracts alone.
-    pub fn drive_over<B: Boards<Piece<'s>> + Sync>(
+    /// Drives what is attached for the queries with these plans over this board, from the czar's first participant.
+    /// The plans are read by contracts alone.
+    fn driven_at(
         &self,
-        boards: &B,
-        seat: B::Seat,
         plans: &[Plan],
         queries: &[(u32, &ChunkQuery)],
         planned: Vec<Option<Planned<Piece<'s>>>>,
-    ) -> (Result<Vec<BoardEnd<Piece<'s>>>, Memory>, B::Seat)
-    where
-        B::Place: Send,
-        B::Seat: Send,
+        board: SharedBoard<Piece<'s>>,
+        seat: Seat<Board<Piece<'s>>>,
+    ) -> Result<Driven<'s>, Memory>
         requires few { self.now.workers ≤ WORKERS_MOST }
         requires plans { ArePlans self.now.world.now.plan self.now.world.now.rows
             (query_lines self.now.script.now) plans.now }
-        requires queries { shown queries.now (λ query. query.now)
-            ≡ numbered_from 1 (map chunk_query plans.now) }
         requires planned { planned.items ≡ map attached plans.now }
-        requires seats { (p : B.Place) → B.at seat p ≡ first_seat (B.turn boards.now p) (record {
-          root = base_of self.now.world.now.plan self.now.world.now.rows plans.now;
+        requires queries { numbered queries.now ≡ numbered_from 1 (map chunk_query plans.now) }
+        requires seat { seat ≡ first_seat board (record {
+          root = base_over self.now.world.now.plan self.now.world.now.rows queries.now;
           ring = chunk_count self.now.world.now.plan;
         }) }
-        requires suits { AllSuit (B.suits boards.now) planned.items }
-        ensures manned { (p : B.Place) → Manned Asks (B.at seat p) (B.at result.1 p) }
-        ensures drove { IfOk result.0 (λ ends. (p : B.Place) → Drove self.now.workers
-            (only (B.has boards.now p) (chunks_planned plans.now)) self.now.script.now.steps
-            (B.at result.1 p).seen) }
-        ensures driven { IfOk result.0 (λ ends. IsDrivenBy self.now.workers
-            self.now.world.now.plan self.now.world.now.rows self.now.script.now.steps plans.now
-            (λ q. only (B.has boards.now (B.home boards.now q)) (chunks_planned plans.now))
-            (seen_of (B.home boards.now) (B.at result.1)) ends.items) }
+        ensures own { IfOk result (λ r. r.seat.turn ≡ r.board) }
+        ensures over { IfOk result (λ r. IsOver self.now.workers self.now.world.now.plan
+            self.now.world.now.rows self.now.script.now.steps plans.now r.seat r.ends.items) }
     {
         know(self.world);
         let _ = self.script.queries();
@@ -295,16 +244,23 @@ impl<'s, 't, R: Threads + Wait + Sync, G: Gate + Sync> Session<'s, 't, R, G> {
         let scan = Scan {
             alloc: self.alloc,
             rt: self.rt,
-            boards,
+            boards: &board,
             engine: &engine,
             gate: self.gate,
         };
-        drive(&scan, seat, planned, self.script.steps(), self.workers)
+        let (ends, seat) = drive(&scan, seat, planned, self.script.steps(), self.workers);
+        match ends {
+            Ok(ends) => Ok(Driven { board, seat, ends }),
+            Err(Memory) => {
+                drop((board, seat));
+                Err(Memory)
+            }
+        }
     }
 }
 
 /// States of a world that its plan and its rows are within the limits. Does not allocate.
-fn know(world: &World<'_>)
+pub fn know(world: &World<'_>)
     ensures sky { IsSky world.now.plan }
     ensures rows { IsCatalogue world.now.rows }
 {

@@ -19,6 +19,7 @@ pub struct World<'w> {
 }
 
 impl<'w> Model for World<'w> {
+    ghost use Rattle.std.specs.Prelude.{◌≡◌};
     ghost use Rattle.chunk_store.specs.Survey.{Survey};
 
     ghost Value = { Survey };

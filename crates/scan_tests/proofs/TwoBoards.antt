@@ -1,7 +1,8 @@
 -- A call of two boards leaves the locks and the rings of a pair.
-use Rattle.std.proofs.Common.{◌≡◌, ℕ, ◌<◌, List, All, ap, sym, ◌∙◌, subst, ◌⊎◌, ⊎_elim, refl}
+use Rattle.std.proofs.Common.{◌≡◌, ℕ, ◌<◌, List, All, ap, sym, subst, ⊎_elim}
 use Rattle.scan_core.specs.Boards.{BoardState}
 use Rattle.scan_core.specs.declared.answers.Take.{Take}
+use Rattle.scan_core.specs.declared.answers.Take.TheVariants.{Task, Idle, Ended}
 use Rattle.scan_board.specs.Calls.{BoardSeat, Called}
 use Rattle.scan_classes.specs.declared.class.Class.{Class}
 use Rattle.scan_classes.specs.declared.class.Class.TheVariants.{Short, Long}
@@ -45,14 +46,14 @@ took_none_stays asks old new c = ⊎_elim (λ i. called_stays asks _ old new i) 
 -- after a take
 pub class_take_stays : {R : Type 0} (asks : R → ℕ → ℕ → Type 0) (old : PairSeat R) (answer : ClassTake) (new : PairSeat R)
     → AnswersClassTake asks old answer new → (p : Class) → Stays (seat_at old p) (seat_at new p)
-class_take_stays asks old (taken.Short task) new h Short = took_stays asks _ old.short new.short h.0
+class_take_stays asks old (taken.Short task) new h Short = took_stays asks (Task task) old.short new.short h.0
 class_take_stays asks old (taken.Short task) new h Long = same_stays old.long new.long h.1
 class_take_stays asks old (taken.Long task) new h Short = took_none_stays asks old.short new.short h.0
-class_take_stays asks old (taken.Long task) new h Long = took_stays asks _ old.long new.long h.1
-class_take_stays asks old taken.Idle new h Short = ⊎_elim (λ a. took_stays asks _ old.short new.short a.0) (λ b. took_stays asks _ old.short new.short b.0) h
-class_take_stays asks old taken.Idle new h Long = ⊎_elim (λ a. took_none_stays asks old.long new.long a.1) (λ b. took_stays asks _ old.long new.long b.1) h
-class_take_stays asks old taken.Ended new h Short = took_stays asks _ old.short new.short h.0
-class_take_stays asks old taken.Ended new h Long = took_stays asks _ old.long new.long h.1
+class_take_stays asks old (taken.Long task) new h Long = took_stays asks (Task task) old.long new.long h.1
+class_take_stays asks old taken.Idle new h Short = ⊎_elim (λ a. took_stays asks Idle old.short new.short a.0) (λ b. took_stays asks Ended old.short new.short b.0) h
+class_take_stays asks old taken.Idle new h Long = ⊎_elim (λ a. took_none_stays asks old.long new.long a.1) (λ b. took_stays asks Idle old.long new.long b.1) h
+class_take_stays asks old taken.Ended new h Short = took_stays asks Ended old.short new.short h.0
+class_take_stays asks old taken.Ended new h Long = took_stays asks Ended old.long new.long h.1
 
 -- chunks below the ring of both boards are below that of each
 pub in_ring_at : {R : Type 0} (pair : PairSeat R) (class : Class) (chunks : List ℕ) → pair.short.root.ring ≡ 34 → pair.long.root.ring ≡ 34

@@ -1,21 +1,22 @@
-use Rattle.std.proofs.Common.{◌≡◌, ◌∙◌, sym, ap, subst, arith, List, ◌∷◌, ◌++◌, length}
-use Rattle.std.specs.Vec.Iter.{into_iter_items}
-use Rattle.czar.specs.Ended.{AllMayEnd, all_ended}
+use Rattle.std.proofs.Common.{rules, subst, List, [], append-nil, Option}
+use Rattle.std.specs.Iterator.Adapters.{zip_first, zip_second, zip_steps}
+use Rattle.std.specs.Vec.Iter.{into_iter_items, into_iter_steps}
+use Rattle.answer_rules.specs.Pieces.{PieceView}
+use Rattle.scan_session.specs.declared.end.End.{End as BoardEnd}
+use Rattle.czar.specs.Ended.{AreEnded}
+use Rattle.czar.specs.declared.end.End.{End}
 use Rattle.czar.specs.declared.plan.Plan.{Plan}
-use Rattle.czar.proofs.Queueing.{rest_may, still_ended}
+use Rattle.czar.proofs.Pairs.{none_left}
 use Rattle.czar.proofs.query_ends.all_query_ends.Goals as goal
 
-pub loop-plan-preserved : goal.loop-plan-preserved
-loop-plan-preserved c =
-    let p = c.in-Some.plan in
-    let plans : List Plan = into_iter_items c.next.new.self in
-    let next : into_iter_items c.loop-plan.plan-iterator ≡ p ∷ plans = c.in-Some.ensures.steps.0 in
-    let may = subst (λ (ps : List Plan). AllMayEnd ps (into_iter_items c.loop-plan.rest)) next c.loop-plan.invariant.may in
-    record {
-      may = rest_may p plans _ _ _ _ may c.in_ok-push_next_end.ensures.query_ends;
-      plans_len = omega (arith, ap length next, c.in-Some.ensures.steps.1, c.loop-plan.invariant.plans_len);
-      ends_len = c.push_next_end.ensures.len;
-      query_ends = still_ended p plans _ _ _ _ c.in_ok-push_next_end.ensures.query_ends
-          ∙ ap (λ (ps : List Plan). c.loop-plan.query_ends.items ++ all_ended ps (into_iter_items c.loop-plan.rest)) (sym next)
-          ∙ c.loop-plan.invariant.query_ends;
-    }
+pub returns : goal.returns
+returns c =
+    let at = c.loop-plan.invariant in
+    let plans = into_iter_items (zip_first c.into_iter-plan-iterator.result) in
+    let ends = into_iter_items (zip_second c.into_iter-plan-iterator.result) in
+    let all : (qs : List End) → AreEnded plans ends qs → AreEnded c.args.plans.items c.args.ends.items qs = search rules in
+    let steps =
+    subst (λ (o : Option (Plan × BoardEnd PieceView)). zip_steps into_iter_steps into_iter_steps c.loop-plan.plan-iterator o c.next.new.self)
+    c.in-None.is c.next.ensures.steps in
+    all c.loop-plan.query_ends.items (subst (λ (qs : List End). AreEnded plans ends qs) (append-nil c.loop-plan.query_ends.items)
+    (at.ended [] (none_left _ _ _ _ at.plans_len at.ends_len at.may steps)))

@@ -8,5 +8,5 @@ query_ends-requires-clause-driven g c = λ κs lives. driven c.in-Ok.ensures.ove
 
 pub returns-in_ok-journal-in-Ok-clause-trace : goal.returns-in_ok-journal-in-Ok-clause-trace
 returns-in_ok-journal-in-Ok-clause-trace g c =
-    ends_trace c.in-Ok.ensures.plans c.in-Ok.ensures.over c.in_ok-journal-in-Ok.ensures c.in_ok-ends-in-Ok.ensures.ended
+    ends_trace _ c.in-Ok.ensures.plans c.in-Ok.ensures.over c.in_ok-journal-in-Ok.ensures c.in_ok-ends-in-Ok.ensures.ended
     (search rules) (search rules) (search rules)

@@ -11,14 +11,14 @@ attach-class-requires-clause-in_ring g c =
 pub attach-class-requires-clause-asked : goal.attach-class-requires-clause-asked
 attach-class-requires-clause-asked g c = c.in-Ok.ensures
 
-pub returns-in-Ok-clause-short : goal.returns-in-Ok-clause-short
-returns-in-Ok-clause-short g c =
+pub returns-after-matches-clause-short : goal.returns-after-matches-clause-short
+returns-after-matches-clause-short g c =
     let it = c.attach-class in
     let s = called_at_stays _ _ it.result.0 c.args.pair it.result.2 it.ensures.called Short in
     (s.turn ∙ c.requires.short.0, s.ring ∙ c.requires.short.1)
 
-pub returns-in-Ok-clause-long : goal.returns-in-Ok-clause-long
-returns-in-Ok-clause-long g c =
+pub returns-after-matches-clause-long : goal.returns-after-matches-clause-long
+returns-after-matches-clause-long g c =
     let it = c.attach-class in
     let s = called_at_stays _ _ it.result.0 c.args.pair it.result.2 it.ensures.called Long in
     (s.turn ∙ c.requires.long.0, s.ring ∙ c.requires.long.1)

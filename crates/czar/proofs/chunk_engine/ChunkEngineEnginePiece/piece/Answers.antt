@@ -1,38 +1,24 @@
-use Rattle.std.proofs.Common.{refl}
-use Rattle.czar.proofs.Scanning.{from_1, never_refused, open_for, query_is, sound_for, stands, within}
+use Rattle.std.proofs.Common.{ap, is_some}
+use Rattle.czar.proofs.Scanning.{open_for, sound_for, stands}
 use Rattle.czar.proofs.chunk_engine.ChunkEngineEnginePiece.piece.Goals as goal
 
-pub overflow_sub-q : goal.overflow_sub-q
-overflow_sub-q c = from_1 c.args.self.now.world.now.plan c.args.self.now.world.now.rows c.args.self.now.plans.now c.args.q c.args.chunk c.requires.asked
+pub query_with-query-requires-clause-ascend : goal.query_with-query-requires-clause-ascend
+query_with-query-requires-clause-ascend c = c.requires.asked.base.ascend
 
-pub bounds-self-q : goal.bounds-self-q
-bounds-self-q c = within c.args.self.now.world.now.plan c.args.self.now.world.now.rows c.args.self.now.plans.now c.args.q c.args.chunk c.requires.asked
+pub query_with-query-requires-clause-known : goal.query_with-query-requires-clause-known
+query_with-query-requires-clause-known c = ap is_some c.requires.asked.known
 
 pub piece_of-requires-clause-open : goal.piece_of-requires-clause-open
 piece_of-requires-clause-open c =
-    let g = c.args.self.now.world.now.plan in
-    let rows = c.args.self.now.world.now.rows in
-    let plans = c.args.self.now.plans.now in
-    open_for g rows plans c.args.q c.args.chunk c.in-Planned.query.chunk c.requires.asked
-    (query_is g rows plans c.args.q c.args.chunk _ _ c.in-Planned.query.chunk c.requires.asked c.in-Planned.is refl)
+    let s = c.args.self.now in
+    open_for s.world.now.plan s.world.now.rows s.queries.now c.args.q c.args.chunk _ c.requires.asked c.query_with-query.ensures
 
 pub piece_of-requires-clause-sound : goal.piece_of-requires-clause-sound
 piece_of-requires-clause-sound c =
-    let g = c.args.self.now.world.now.plan in
-    let rows = c.args.self.now.world.now.rows in
-    let plans = c.args.self.now.plans.now in
-    sound_for g rows plans c.args.q c.args.chunk c.in-Planned.query.chunk c.requires.asked
-    (query_is g rows plans c.args.q c.args.chunk _ _ c.in-Planned.query.chunk c.requires.asked c.in-Planned.is refl)
-
-pub unreachable-requires : goal.unreachable-requires
-unreachable-requires c =
-    never_refused c.args.self.now.world.now.plan c.args.self.now.world.now.rows c.args.self.now.plans.now c.args.q c.args.chunk _ _ c.requires.asked c.in-Refused.is refl
+    let s = c.args.self.now in
+    sound_for s.world.now.plan s.world.now.rows s.queries.now c.args.q c.args.chunk _ c.requires.asked c.query_with-query.ensures
 
 pub returns-clause-stands : goal.returns-clause-stands
 returns-clause-stands c =
-    let g = c.args.self.now.world.now.plan in
-    let rows = c.args.self.now.world.now.rows in
-    let plans = c.args.self.now.plans.now in
-    stands g rows plans c.args.q c.args.chunk c.in-Planned.query.chunk _ _ c.requires.asked
-    (query_is g rows plans c.args.q c.args.chunk _ _ c.in-Planned.query.chunk c.requires.asked c.in-Planned.is refl)
-    c.piece_of.ensures
+    let s = c.args.self.now in
+    stands s.world.now.plan s.world.now.rows s.queries.now c.args.q c.args.chunk _ _ _ c.requires.asked c.query_with-query.ensures c.piece_of.ensures

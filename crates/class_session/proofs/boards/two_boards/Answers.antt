@@ -1,0 +1,34 @@
+use Rattle.std.proofs.Common.{◌≤◌, arith, length, rules}
+use Rattle.scan_rules.specs.declared.limits.TheConstants.{QUERY_MOST}
+use Rattle.session_script.specs.Views.{query_lines}
+use Rattle.czar.proofs.Attaching.{is_base_over}
+use Rattle.czar.proofs.Fitting.{sound_plans}
+use Rattle.czar.proofs.PlanBlocks.{a_plan_each}
+use Rattle.class_session.proofs.boards.two_boards.Goals as goal
+
+pub chunk_queries-requires : goal.chunk_queries-requires
+chunk_queries-requires g c =
+    let s = c.args.session.now in
+    record {
+      few = omega (arith, a_plan_each s.world.now.plan s.world.now.rows s.script.now c.args.plans.now c.requires.plans, c.queries.ensures.count, c.queries.ensures.few);
+    }
+
+pub board_over-requires : goal.board_over-requires
+board_over-requires g c =
+    let s = c.args.session.now in
+    let few : length c.args.plans.now ≤ QUERY_MOST =
+    omega (arith, a_plan_each s.world.now.plan s.world.now.rows s.script.now c.args.plans.now c.requires.plans, c.queries.ensures.count, c.queries.ensures.few) in
+    record {
+      base = is_base_over s.world.now.plan s.world.now.rows c.args.plans.now _ c.know.ensures.sky c.know.ensures.rows few
+          (sound_plans s.world.now.plan s.world.now.rows (query_lines s.script.now) c.args.plans.now c.requires.plans) (search rules);
+    }
+
+pub board_over-2-requires : goal.board_over-2-requires
+board_over-2-requires g c =
+    let s = c.args.session.now in
+    let few : length c.args.plans.now ≤ QUERY_MOST =
+    omega (arith, a_plan_each s.world.now.plan s.world.now.rows s.script.now c.args.plans.now c.requires.plans, c.queries.ensures.count, c.queries.ensures.few) in
+    record {
+      base = is_base_over s.world.now.plan s.world.now.rows c.args.plans.now _ c.know.ensures.sky c.know.ensures.rows few
+          (sound_plans s.world.now.plan s.world.now.rows (query_lines s.script.now) c.args.plans.now c.requires.plans) (search rules);
+    }
