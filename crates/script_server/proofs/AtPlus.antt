@@ -1,5 +1,7 @@
 -- Each answer ends at its one line that begins with `+`, so a client finds each reply.
 use Rattle.std.proofs.Common.{◌≡◌, refl, sym, ap, subst, inl, inr, ℕ, List, [], ◌∷◌, ◌++◌, append_assoc, true, Ok, codes, decimal}
+use Rattle.csv.specs.Reading.{default_config, records, strip_bom}
+use Rattle.sky_io.specs.Shelves.{named_text}
 use Rattle.session_script.specs.Scripts.{script_of}
 use Rattle.session_script.specs.declared.fault.ScriptFault.{ScriptFault}
 use Rattle.session_script.specs.declared.fault.ScriptFault.TheVariants.{UnknownQuery, LineTooLong, TooManyQueries}
@@ -37,7 +39,8 @@ fault_at_plus (TooManyQueries line) = place_at_plus line (codes ": too many quer
 
 -- the extra columns of an accepted survey have names
 survey_named : (basis : Basis) → IsSurveyOfTexts basis → IsNamed basis.survey.rows
-survey_named basis (sky, catalogue, texts, is) = accepted_is_named _ basis.survey.rows is.1.1
+survey_named basis (sky, catalogue, texts, is) =
+    accepted_is_named (records default_config (strip_bom (named_text catalogue texts))) basis.survey.rows is.1.1
 
 transcript_at_plus : (basis : Basis) (request answer : List ℕ) → IsNamed basis.survey.rows → IsTranscript basis request answer → EndsAtPlus answer
 transcript_at_plus basis request answer named it =
