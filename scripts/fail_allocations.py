@@ -4,9 +4,10 @@
     scripts/fail_allocations.py FOLDER [--program FILE] [--workers N ..] [--session] [--processes N]
 
 The run is small: six rows, and a script with a query of every kind and one of every refusal. Each form of the command line
-is run: load, explain, check, query, trace and demo, the last three with each number of workers (0). So are query over three
-scripts and the catalogue of the worked rows, all ids, the pairs of neighbours, and a cancel with a wait, trace over the last of
-them, and query over 150 rows of one chunk, whose columns are gathered in three parts, with a first NULL in the second. First the
+is run: load, explain, check, query, classes, trace and demo, the last four with each number of workers (0). So are query and
+classes over three scripts and the catalogue of the worked rows, all ids, the pairs of neighbours, and a cancel with a wait, trace
+over the last of them, and query and classes over 150 rows of one chunk, whose columns are gathered in three parts, with a first
+NULL in the second. First the
 Nth request of the run is refused, for N from 1 until a run makes fewer, and then the Nth and all after it. A run has to end so:
 - with the whole right text and status 0;
 - with the right text but for `out of memory` in the place of an answer that wants chunks to be scanned, and status 0;
@@ -211,7 +212,8 @@ def forms(world, script, workers):
     for number in workers:
         found.append(written(["demo", "5", "7", str(number)], session_ends.choices(demo, lines, number, True)))
         for texts, over, asked in sessions(world, script):
-            found.append(written(["query", *texts, str(number)], session_ends.choices(over, asked, number, True)))
+            told = session_ends.choices(over, asked, number, True)
+            found += [written([command, *texts, str(number)], told) for command in ("query", "classes")]
             if texts[2] in ("script", "steps"):
                 found.append(traced(["trace", *texts, str(number)], over, asked, number))
     return found

@@ -4,9 +4,9 @@
     scripts/memory_checkers.py [PROGRAM] [--threads] [--scripts N] [--seed SEED] [--workers N ..] [--processes N]
     scripts/memory_checkers.py [PROGRAM] --why
 
-The example is reported, explained, answered and traced with each number of workers, a small demo is drawn, and a journal is
-checked. Then come N (200) random scripts that wait and cancel, each over a world of its own (`random_sessions.py`), with each
-number of workers.
+The example is reported, explained, answered by `query` and by `classes` and traced with each number of workers, a small demo is
+drawn, and a journal is checked. Then come N (200) random scripts that wait and cancel, each over a world of its own
+(`random_sessions.py`), with each number of workers, by `query` and by `classes` in turns.
 
 PROGRAM is the built program, by default crates/qserv_cli/out/qserv_cli, where the whole check leaves it. It runs under valgrind's
 memcheck, with 0, 2 and 16 workers. Whatever memcheck reports fails: a read or a write outside of what was allocated, a decision
@@ -96,7 +96,7 @@ def failed(checker, program, folder, words):
 
 
 def asked(workers, command="query"):
-    """The words that ask for answers, or for the journal, with each number of workers."""
+    """The words of a command that asks for answers, or for the journal, with each number of workers."""
     return [[command, "sky", "csv", "script", str(number)] for number in workers]
 
 
@@ -108,7 +108,7 @@ def worlds(words, folder):
         shutil.copyfile(os.path.join(EXAMPLES, source), os.path.join(first, name))
     compare_answers.write(first, {"journal": worked_runs.BOARD})
     forms = [["load", "sky", "csv"], ["explain", "sky", "csv", "script"], ["check", "journal"]]
-    forms += asked(words.workers) + asked(words.workers, "trace")
+    forms += [form for command in ("query", "classes", "trace") for form in asked(words.workers, command)]
     yield from ((first, form) for form in [*forms, *(["demo", "300", "7", str(number)] for number in words.workers)])
     for number in range(words.scripts):
         draw, own = random.Random(f"{words.seed} {number}"), os.path.join(folder, str(number))
@@ -116,7 +116,7 @@ def worlds(words, folder):
         world = random_sessions.world_of(draw)
         texts = {"sky": world.sky.text, "csv": world.catalogue(draw), "script": random_sessions.script_of(draw, world)}
         compare_answers.write(own, texts)
-        yield from ((own, form) for form in asked(words.workers))
+        yield from ((own, form) for form in asked(words.workers, ("query", "classes")[number % 2]))
 
 
 # ---- why helgrind and drd do not serve

@@ -42,8 +42,8 @@ TEXTS = {
 }
 LOAD, EXPLAIN, CHECK = ["load", "sky", "csv"], ["explain", "sky", "csv", "script"], ["check", "journal"]
 ASK_LONG = ["query", "sky", "csv", "long", "0"]
-ASK, TRACE = ([word, "sky", "csv", "script", "2"] for word in ("query", "trace"))
-FORMS = [LOAD, EXPLAIN, ASK, TRACE, CHECK, ["demo", "300", "7", "2"]]
+ASK, BY_CLASS, TRACE = ([word, "sky", "csv", "script", "2"] for word in ("query", "classes", "trace"))
+FORMS = [LOAD, EXPLAIN, ASK, BY_CLASS, TRACE, CHECK, ["demo", "300", "7", "2"]]
 # each place of a form in which the name of a text is
 PLACES = [(words, place) for words in FORMS for place, word in enumerate(words) if word in TEXTS]
 # how a run ends of which the text in a place is empty

@@ -1,6 +1,6 @@
 # Completions of qserv for bash: its commands, and then files where a command wants a file's name.
 _qserv() {
-    local commands='load query explain demo trace check serve --help --version'
+    local commands='load query explain demo classes trace check serve --help --version'
     local words=("${COMP_WORDS[@]}") at=$COMP_CWORD files=0
     COMPREPLY=()
     if [ "$at" -eq 1 ]; then
@@ -10,7 +10,7 @@ _qserv() {
     fi
     case ${words[1]} in
         load | serve) files=2 ;;
-        query | explain | trace) files=3 ;;
+        query | explain | classes | trace) files=3 ;;
         check | install) files=1 ;;
     esac
     if [ "$at" -le $((files + 1)) ]; then

@@ -2,15 +2,17 @@
 """Compares what the built program writes for random sessions, with each number of workers, with what it may write.
 
     scripts/random_sessions.py FOLDER [--program FILE] [--sessions N] [--seed SEED] [--workers N ..] [--processes N]
+                               [--commands WORD ..]
 
 A session is a script of queries with lines that wait and lines that cancel among them, over a small sky and
 catalogue: some name a query that is refused, or has ended, or was cancelled before. One in 200 has more queries than
-run at once. Each of N sessions (1,000) is run with each number of workers (0 1 2 4 16). What may be written is
-computed from the flat table and the script's lines alone (`session_ends.py`): one text for each query, or, where a
-line cancels it with no wait for it between, two; with no workers a prompt cancel in a script of at most 64 queries
-leaves `cancelled` alone. So with more workers the bytes are those of no workers wherever no cancel races. The same
-seed draws the same sessions, whatever the number of processes (as many as there are processors). Before them is a
-session whose ends are written here by hand.
+run at once. One world in four has 256 chunks, so that `classes` scans some queries on the board of long ones. Each of N
+sessions (1,000) is run by each command (query classes) with each number of workers (0 1 2 4 16). What may be written is
+the same for each command. It is computed from the flat table and the script's lines alone (`session_ends.py`): one text
+for each query, or, where a line cancels it with no wait for it between, two; with no workers a prompt cancel in a script
+of at most 64 queries leaves `cancelled` alone. So with more workers, and by the other command, the bytes are those of no
+workers wherever no cancel races. The same seed draws the same sessions, whatever the number of processes (as many as
+there are processors). Before them is a session whose ends are written here by hand.
 
 FILE is the built program, by default .qserv/qserv, where ./qserv leaves it. FOLDER is made where it isn't there; each
 process writes into a folder of its own there, and a session that differs stays, as sky, csv and script, in FOLDER itself.
@@ -36,6 +38,7 @@ import program_words
 OF_A_WORLD = 10
 SECONDS = 60
 TEXTS = ["sky", "csv", "script"]
+MANY_CHUNKS = "overlap 1000\n" + "".join(f"stripe {low} 64 2 2\n" for low in (-268435472, -1000000, 0, 1000000))
 
 
 # ---- drawing
@@ -45,6 +48,11 @@ def world_of(draw):
     """A small sky and at most twelve rows, mostly near each other and beside borders."""
     ids = {draw.choice([draw.randrange(20), draw.randrange(20), IDS]) for _ in range(draw.randrange(13))}
     return random_worlds.made(draw, draw.choice(random_worlds.SKIES), draw.randrange(3), sorted(ids))
+
+
+def wide_world_of(draw):
+    """40 to 59 rows, near each other and over 256 chunks: some queries have more than the 16 chunks of a short one."""
+    return random_worlds.made(draw, MANY_CHUNKS, draw.randrange(3), sorted(draw.sample(range(99), draw.randrange(40, 60))))
 
 
 def query_line(draw, asker):
@@ -86,9 +94,9 @@ def script_of(draw, world):
 # ---- running
 
 
-def told(program, folder, workers):
-    """What the program writes for the texts in a folder, or why that is of no use."""
-    words = [program, "query", *TEXTS, str(workers)]
+def told(program, folder, command, workers):
+    """What the program writes by a command for the texts in a folder, or why that is of no use."""
+    words = [program, command, *TEXTS, str(workers)]
     try:
         ended = subprocess.run(words, cwd=folder, capture_output=True, timeout=SECONDS)
     except subprocess.TimeoutExpired:
@@ -98,38 +106,43 @@ def told(program, folder, workers):
     return ended.stdout.decode("latin-1"), None
 
 
-def judged(program, folder, workers, found):
-    """How the queries end with this many workers, and what is wrong with that, if anything is."""
-    text, why = told(program, folder, workers)
+def judged(program, folder, command, workers, found):
+    """How the queries end by a command with this many workers, and what is wrong with that, if anything is."""
+    text, why = told(program, folder, command, workers)
     if why:
-        return [], f"{workers} workers: {why}"
+        return [], why
     ended = session_ends.ends_told(text, found)
     if isinstance(ended, list):
         return ended, None
     if ended == 0:
-        return [], f"{workers} workers: something stands behind the last query"
+        return [], "something stands behind the last query"
     wanted = "\n  or\n".join(found[ended - 1].values())
-    return [], f"{workers} workers: query {ended} is not\n{wanted}in\n{text}"
+    return [], f"query {ended} is not\n{wanted}in\n{text}"
 
 
-def counted(counts, workers, found, ended):
+def counted(counts, run, found, ended):
     """Counts how queries ended that may end in more than one way, or that some line cancels in time."""
     for own, end in zip(found, ended):
         kind = "fixed" if list(own) == ["told"] else "cancelled alone" if len(own) == 1 else f"either, {end}"
-        counts[workers, kind] += 1
+        counts[run, kind] += 1
 
 
-def run_session(program, folder, world, script, workers, counts):
-    """Runs a session with each number of workers; says what differs, if anything does."""
+def runs_of(words):
+    """Each command with each number of workers."""
+    return [(command, number) for command in words.commands for number in words.workers]
+
+
+def run_session(words, folder, world, script, counts):
+    """Runs a session by each command with each number of workers; says what differs, if anything does."""
     compare_answers.write(folder, {"script": script})
     steps = session_ends.steps_of(compare_answers.queries_of(script))
     blocks = [session_ends.asked(text, world) for word, text in steps if word == "query"]
-    for number in workers:
+    for command, number in runs_of(words):
         found = session_ends.chosen(steps, blocks, number)
-        ended, why = judged(program, folder, number, found)
+        ended, why = judged(words.program, folder, command, number, found)
         if why:
-            return why
-        counted(counts, number, found, ended)
+            return f"{command}, {number} workers: {why}"
+        counted(counts, (command, number), found, ended)
     return None
 
 
@@ -138,12 +151,12 @@ def run_world(number, words):
     folder = os.path.join(words.folder, multiprocessing.current_process().name)
     os.makedirs(folder, exist_ok=True)
     draw, counts = random.Random(f"{words.seed} {number}"), collections.Counter()
-    world = world_of(draw)
+    world = world_of(draw) if number % 4 else wide_world_of(draw)
     texts = {"sky": world.sky.text, "csv": world.catalogue(draw)}
     compare_answers.write(folder, texts)
     for at in range(number * OF_A_WORLD, min((number + 1) * OF_A_WORLD, words.sessions)):
         script = script_of(draw, world)
-        why = run_session(words.program, folder, world, script, words.workers, counts)
+        why = run_session(words, folder, world, script, counts)
         if why:
             return counts, {**texts, "script": script}, f"session {at + 1}, {why}"
     return counts, None, None
@@ -160,17 +173,18 @@ def by_hand(words):
         with open(os.path.join(folder, name), encoding="ascii") as file:
             compare_answers.write(words.folder, {name: file.read()})
     compare_answers.write(words.folder, {"script": script})
-    for workers in words.workers:
-        text, why = told(words.program, words.folder, workers)
+    for command, workers in runs_of(words):
+        text, why = told(words.program, words.folder, command, workers)
         allowed = [first + "query 2\ncancelled\n" + most] + [first + count + most] * (workers > 0)
         if text not in allowed:
-            return f"the session by hand, {workers} workers: {why or text}"
+            return f"the session by hand, {command}, {workers} workers: {why or text}"
     return None
 
 
 def main():
     parser = program_words.parser(__doc__, sessions=1000, seed=1, processes=os.cpu_count())
     parser.add_argument("--workers", type=int, nargs="+", default=[0, 1, 2, 4, 16])
+    parser.add_argument("--commands", nargs="+", default=["query", "classes"], metavar="WORD")
     words = parser.parse_args()
     words.folder = os.path.abspath(words.folder)
     wrong, counts = by_hand(words), collections.Counter()
@@ -185,10 +199,10 @@ def main():
     if wrong:
         print(f"{wrong}\nits texts are in {words.folder}")
         return 1
-    print(f"{words.sessions} sessions, each with {' '.join(map(str, words.workers))} workers: none differs")
-    for workers in words.workers:
-        kinds = sorted((kind, count) for (number, kind), count in counts.items() if number == workers)
-        print(f"{workers} workers: " + ", ".join(f"{count} {kind}" for kind, count in kinds))
+    print(f"{words.sessions} sessions, by {' and '.join(words.commands)}, each with {' '.join(map(str, words.workers))} workers: none differs")
+    for run in runs_of(words):
+        kinds = sorted((kind, count) for (own, kind), count in counts.items() if own == run)
+        print(f"{run[0]}, {run[1]} workers: " + ", ".join(f"{count} {kind}" for kind, count in kinds))
     return 0
 
 

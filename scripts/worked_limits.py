@@ -104,7 +104,11 @@ MOST_NOTES = ("#" * 31 + "\n") * 262144
 LAPS = {"sky": worked_laps.SKY, "csv": worked_laps.CSV, "script": worked_laps.SCRIPT}
 SCRIPTS = [
     # as many queries as there may be, over a row in each chunk
-    *(done(["query", "sky", "csv", "script", workers], worked_laps.TRANSCRIPT, **LAPS) for workers in ["0", "4"]),
+    *(
+        done([word, "sky", "csv", "script", workers], worked_laps.TRANSCRIPT, **LAPS)
+        for word in ("query", "classes")
+        for workers in ("0", "4")
+    ),
     # notes ask nothing
     done(EXPLAIN, "", script=MOST_NOTES),
     fault(EXPLAIN, 6, "script: too long", script=MOST_NOTES + "\n"),

@@ -8,7 +8,7 @@ PROGRAM is the built program, by default crates/qserv_cli/out/qserv_cli, where t
 The rows are in the files scripts/worked/*.rows. A line `[FORMS: SKY CSV]` begins a part: the forms that are run, `query`,
 `explain` or both, over a sky plan and a catalogue of that folder. In a part each line that isn't indented is a query, and the
 indented lines after it are its block; lines with a # at their head say why it is so. The queries of a part are one script:
-it is answered with 0, 1, 4 and 16 workers, and explained. A few texts are too long to be written down, and are made here.
+it is answered with 0, 1, 4 and 16 workers, by `classes` with 0 and 4, and explained. A few texts are too long to be written down, and are made here.
 Runs of other kinds are in scripts/worked_runs.py: sky plans and catalogues with their reports or their first faults, scripts
 that wait and cancel, the demo, words of no form, and an outcome of each status that a run can be brought to. Texts at each
 limit, and one beyond it, are in scripts/worked_limits.py. A larger sky, whose
@@ -40,6 +40,7 @@ WORKED = os.path.join(HERE, "worked")
 PROGRAM = os.path.join(HERE, "..", "crates", "qserv_cli", "out", "qserv_cli")
 HEAD = re.compile(r"\[((?:query|explain)(?: explain)?): ([a-z_.]+) ([a-z_.]+)\]")
 WORKERS = ["0", "1", "4", "16"]
+BY_CLASS = ["0", "4"]
 # far more than any of the runs takes
 SECONDS = 600
 
@@ -127,7 +128,7 @@ def parts():
 def runs_of(part):
     """The words of each run of a part's script."""
     texts = [part.sky, part.csv, "script"]
-    answered = [["query", *texts, workers] for workers in WORKERS]
+    answered = [["query", *texts, workers] for workers in WORKERS] + [["classes", *texts, workers] for workers in BY_CLASS]
     return answered * ("query" in part.forms) + [["explain", *texts]] * ("explain" in part.forms)
 
 

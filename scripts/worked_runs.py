@@ -208,6 +208,7 @@ CATALOGUES += [fault(LOAD_CSV, 4, "catalogue " + line, csv=text) for text, line 
 # ---- scripts
 
 QUERY = ["query", "sky.txt", "catalogue.csv", "script"]
+CLASSES = ["classes", *QUERY[1:]]
 EXPLAIN = ["explain", "sky.txt", "catalogue.csv", "script"]
 COUNT = "SELECT COUNT(*) FROM Object\n"
 NO_CHUNK = "SELECT objectId FROM Object WHERE objectId IN (99)\n"
@@ -269,7 +270,10 @@ SCRIPTS = [
     ("0 4", THREE + "wait 2\ncancel 2\nwait 2\n", COUNTED),
 ]
 STEPS = [
-    done([*QUERY, workers], *outs, script=text) for numbers, text, *outs in SCRIPTS for workers in numbers.split()
+    done([*words, workers], *outs, script=text)
+    for numbers, text, *outs in SCRIPTS
+    for workers in numbers.split()
+    for words in (QUERY, CLASSES)
 ]
 # the row of a cut catalogue, without its extra value
 STEPS += [
@@ -310,7 +314,19 @@ SCRIPT_FAULTS = [
 STEPS += [
     fault(words, 5, "script line " + line, script=text)
     for text, line in SCRIPT_FAULTS
-    for words in ([*QUERY, "0"], EXPLAIN)
+    for words in ([*QUERY, "0"], [*CLASSES, "0"], EXPLAIN)
+]
+# A query of 17 chunks is long, and one of one chunk is short: by `classes` they are on two boards.
+SEVENTEEN = {
+    "sky": "overlap 0\nstripe -268435472 1 1 1\n" + "".join(f"stripe {64 * stripe} 1 1 1\n" for stripe in range(17)),
+    "csv": FOUR + "".join(f"{stripe + 1},268435456,0,{64 * stripe}\n" for stripe in range(17)),
+    "script": COUNT + "SELECT COUNT(*) FROM Object WHERE objectId = 3\n",
+}
+OF_SEVENTEEN = "query 1\nCOUNT(*)\n17\n1 rows, 17 chunks\nquery 2\nCOUNT(*)\n1\n1 rows, 1 chunks\n"
+STEPS += [
+    done([word, "sky", "csv", "script", workers], OF_SEVENTEEN, **SEVENTEEN)
+    for word in ("query", "classes")
+    for workers in ("0", "4")
 ]
 
 # ---- the demo
@@ -358,9 +374,10 @@ DEMOS = [
 
 USAGE = (
     "usage: qserv load SKY CSV; query SKY CSV SCRIPT WORKERS; explain SKY CSV SCRIPT; demo COUNT SEED WORKERS; "
-    "trace SKY CSV SCRIPT WORKERS; check JOURNAL"
+    "trace SKY CSV SCRIPT WORKERS; check JOURNAL; classes SKY CSV SCRIPT WORKERS"
 )
 TEXTS = ["sky.txt", "catalogue.csv"]
+ANSWERING = ["query", "classes", "trace"]
 NO_FORMS = [
     [],
     ["query", "sky.txt"],
@@ -368,18 +385,17 @@ NO_FORMS = [
     ["check"],
     ["check", "sky.txt", "sky.txt"],
     ["checks", "sky.txt"],
-    ["trace", *QUERY[1:]],
-    QUERY,
+    *([word, *QUERY[1:]] for word in ANSWERING),
     [*EXPLAIN, "0"],
     # no number of workers: one too many, a minus, no digit, a digit too many
-    *([word, *QUERY[1:], workers] for word in ["query", "trace"] for workers in ["17", "-1", "", "00000000000"]),
+    *([word, *QUERY[1:], workers] for word in ANSWERING for workers in ["17", "-1", "", "00000000000"]),
     # a row too many, no seed and a seed too many, a worker too many, no number, no digit, a digit too many
     *(["demo", *words.split(" ")] for words in ["4194305 1 0", "1 0 0", "1 2147483647 0", "1 1 17", "1 x 0"]),
     *(["demo", *words.split(" ")] for words in [" 1 0", "00000000001 1 0"]),
 ]
 STATUSES = [fault(words, 2, USAGE, script="") for words in NO_FORMS]
 STATUSES += [done(["trace", *QUERY[1:], "16"], "ring 8\n0 close\n", script="")]
-STATUSES += [done([*QUERY, "0000000000"], "", script=""), done([*QUERY, "16"], "", script=""), done(EXPLAIN, "", script="")]
+STATUSES += [done([*CLASSES, "0000000016"], "", script=""), done([*QUERY, "0000000000"], "", script=""), done([*QUERY, "16"], "", script=""), done(EXPLAIN, "", script="")]
 STATUSES += [
     # a catalogue is no sky plan, and a sky plan no catalogue
     fault(["load", "catalogue.csv", "catalogue.csv"], 3, "sky line 1: syntax"),

@@ -1,17 +1,16 @@
 //! What no clause says: that a failing output or input is a fault, that threads meet, and that queries which run
 //! together share a chunk's scan.
-use scan_history::read_journal;
-use scan_rules::{Journal, JournalLine};
 use sky_io::{Gate, ListGate, MemShelf, MemSink, NoteGate, OpenGate, PlainShelf, Shelf, StepGate};
 use std::alloc::Global;
 use std::process::Abort;
 use std::sync::Wait;
 use std::test::Fail;
 use std::thread::Threads;
-use text_rules::limits::TEXT_MOST;
 use top_call::{qserv, status};
 
+mod classes;
 mod cuts;
+mod journal;
 mod limits;
 
 pub(crate) const SKY: &[u8] = b"overlap 5\nstripe -268435472 4 2 2\nstripe 0 4 2 2\n";
@@ -21,7 +20,7 @@ pub(crate) const CATALOGUE: &[u8] =
 
 pub(crate) const SCRIPT: &[u8] = b"SELECT objectId FROM Object\n";
 
-const ANSWER: &[u8] = b"query 1\nobjectId\n1\n2\n3\n4\n5\n6\n6 rows, 3 chunks\n";
+pub(crate) const ANSWER: &[u8] = b"query 1\nobjectId\n1\n2\n3\n4\n5\n6\n6 rows, 3 chunks\n";
 
 // The words that ask for the answers of the script with the given number of workers.
 pub(crate) fn words_of(alloc: Global, workers: &str) -> Result<Vec<String>, Fail> {
@@ -29,7 +28,7 @@ pub(crate) fn words_of(alloc: Global, workers: &str) -> Result<Vec<String>, Fail
 }
 
 // The words of a command over the script with the given number of workers.
-fn words_for(alloc: Global, command: &str, workers: &str) -> Result<Vec<String>, Fail> {
+pub(crate) fn words_for(alloc: Global, command: &str, workers: &str) -> Result<Vec<String>, Fail> {
     let mut words = Vec::new(alloc);
     for word in [command, "sky", "csv", "script", workers] {
         words.push(String::from_str(alloc, word)?)?;
@@ -43,15 +42,25 @@ pub(crate) fn texts_of<'t>(
     catalogue: &'t [u8],
     script: &'t [u8],
 ) -> Result<Vec<(String, Vec<u8>)>, Fail> {
+    texts_over(alloc, SKY, catalogue, script)
+}
+
+// A sky plan, a catalogue and a script by their names.
+pub(crate) fn texts_over<'t>(
+    alloc: Global,
+    sky: &'t [u8],
+    catalogue: &'t [u8],
+    script: &'t [u8],
+) -> Result<Vec<(String, Vec<u8>)>, Fail> {
     let mut texts = Vec::new(alloc);
-    for (name, text) in [("sky", SKY), ("csv", catalogue), ("script", script)] {
+    for (name, text) in [("sky", sky), ("csv", catalogue), ("script", script)] {
         texts.push((String::from_str(alloc, name)?, text.to_vec(alloc)?))?;
     }
     Ok(texts)
 }
 
 // The status of the top call over a shelf, past a gate.
-fn status_past<R: Threads + Wait + Sync, S: Shelf, G: Gate + Sync>(
+pub(crate) fn status_past<R: Threads + Wait + Sync, S: Shelf, G: Gate + Sync>(
     rt: &R,
     alloc: Global,
     words: &[String],
@@ -63,16 +72,16 @@ fn status_past<R: Threads + Wait + Sync, S: Shelf, G: Gate + Sync>(
     status(&outcome)
 }
 
-// The status of the top call over a script, past a gate.
-fn run_past<R: Threads + Wait + Sync, G: Gate + Sync>(
+// The status of a command over a script, with a number of workers, past a gate.
+pub(crate) fn run_past<R: Threads + Wait + Sync, G: Gate + Sync>(
     rt: &R,
     alloc: Global,
-    workers: &str,
+    asked: (&str, &str),
     script: &[u8],
     sink: &mut MemSink,
     gate: &G,
 ) -> Result<u8, Fail> {
-    let words = words_of(alloc, workers)?;
+    let words = words_for(alloc, asked.0, asked.1)?;
     let mut shelf = PlainShelf::new(texts_of(alloc, CATALOGUE, script)?);
     Ok(status_past(rt, alloc, words.as_slice(), &mut shelf, sink, gate))
 }
@@ -95,7 +104,7 @@ fn run_failing_at<R: Threads + Wait + Sync>(
     keep: u32,
 ) -> Result<(u8, bool), Fail> {
     let mut sink = failing_sink(alloc, call, keep)?;
-    let status = run_past(rt, alloc, "0", SCRIPT, &mut sink, &OpenGate)?;
+    let status = run_past(rt, alloc, ("query", "0"), SCRIPT, &mut sink, &OpenGate)?;
     let is_kept = call > 1 || sink.bytes().len() == keep as usize;
     let is_whole = status > 0 || sink.bytes() == ANSWER;
     Ok((
@@ -135,7 +144,7 @@ fn a_full_sink_has_what_it_has_room_for(rt: HostRuntime) -> Result<(), Fail> {
     let alloc = rt.alloc();
     for room in 0..ANSWER.len() {
         let mut sink = MemSink::cutting(alloc, room, Vec::new(alloc), 1000)?;
-        let status = run_past(&rt, alloc, "0", SCRIPT, &mut sink, &OpenGate)?;
+        let status = run_past(&rt, alloc, ("query", "0"), SCRIPT, &mut sink, &OpenGate)?;
         assert_eq!(rt; (status, sink.bytes()), (8, &ANSWER[..room]), "room {room}");
     }
     Ok(())
@@ -163,78 +172,24 @@ fn a_shelf_that_fails_at_its_second_fetch_is_a_fault(rt: HostRuntime) -> Result<
     Ok(())
 }
 
-#[test]
-fn two_work_on_chunks_at_one_time(rt: HostRuntime) -> Result<(), Fail> {
-    let alloc = rt.alloc();
+// Runs the script by a command with two workers, of whom two have to be at the gate at one time.
+pub(crate) fn meet_by<R: Abort + Threads + Wait + Sync>(
+    rt: &R,
+    alloc: Global,
+    command: &str,
+) -> Result<(), Fail> {
     let gate = StepGate::new(2, 10000000);
     let mut sink = MemSink::new(alloc, 1000, Vec::new(alloc))?;
-    run_past(&rt, alloc, "2", SCRIPT, &mut sink, &gate)?;
+    run_past(rt, alloc, (command, "2"), SCRIPT, &mut sink, &gate)?;
     assert_eq!(rt; sink.bytes(), ANSWER);
     assert!(rt; gate.met());
     assert!(rt; !gate.given_up());
     Ok(())
 }
 
-// The journal that was written.
-fn journal_in(alloc: Global, text: &[u8]) -> Result<Journal, Fail> {
-    if text.len() > TEXT_MOST {
-        return Err(Fail::new("a journal that is too long"));
-    }
-    match read_journal(alloc, text) {
-        Ok(journal) => Ok(journal),
-        Err(_) => Err(Fail::new("no journal")),
-    }
-}
-
-// Whether one of the lines delivers the task of this ticket.
-fn is_delivered(lines: &[JournalLine], number: u32) -> bool {
-    for line in lines {
-        if let JournalLine::Deliver { ticket, .. } = line {
-            if *ticket == number {
-                return true;
-            }
-        }
-    }
-    false
-}
-
-// Whether a task of another seat is in flight after these lines.
-fn is_another_in_flight(lines: &[JournalLine], own: u32) -> bool {
-    for line in lines {
-        if let JournalLine::Take { seat, ticket, .. } = line {
-            if *seat != own && !is_delivered(lines, *ticket) {
-                return true;
-            }
-        }
-    }
-    false
-}
-
-// Whether two takes of different seats are before the deliver of either.
-fn is_at_one_time(lines: &[JournalLine]) -> bool {
-    for place in 0..lines.len() {
-        if let JournalLine::Take { seat, .. } = &lines[place] {
-            if is_another_in_flight(&lines[..place], *seat) {
-                return true;
-            }
-        }
-    }
-    false
-}
-
 #[test]
-fn two_work_on_chunks_at_one_time_in_the_journal(rt: HostRuntime) -> Result<(), Fail> {
-    let alloc = rt.alloc();
-    let gate = StepGate::new(2, 10000000);
-    let mut sink = MemSink::new(alloc, 4000, Vec::new(alloc))?;
-    let words = words_for(alloc, "trace", "2")?;
-    let mut shelf = PlainShelf::new(texts_of(alloc, CATALOGUE, SCRIPT)?);
-    let found = status_past(&rt, alloc, words.as_slice(), &mut shelf, &mut sink, &gate);
-    assert_eq!(rt; found, 0);
-    assert!(rt; gate.met());
-    let journal = journal_in(alloc, sink.bytes())?;
-    assert!(rt; is_at_one_time(journal.lines.as_slice()));
-    Ok(())
+fn two_work_on_chunks_at_one_time(rt: HostRuntime) -> Result<(), Fail> {
+    meet_by(&rt, rt.alloc(), "query")
 }
 
 // The given number of lines, each of which counts all rows.
@@ -246,19 +201,34 @@ fn counting(alloc: Global, times: usize) -> Result<Vec<u8>, Fail> {
     Ok(text)
 }
 
-#[test]
-fn a_chunk_is_passed_once_for_all_queries_that_run(rt: HostRuntime) -> Result<(), Fail> {
-    let alloc = rt.alloc();
+// Runs 65 queries by a command. 64 of them run together, so that each chunk is passed once for them all.
+pub(crate) fn count_by<R: Abort + Threads + Wait + Sync>(
+    rt: &R,
+    alloc: Global,
+    command: &str,
+) -> Result<(), Fail> {
     let script = counting(alloc, 65)?;
     let mut gate = NoteGate::new();
     let mut sink = MemSink::new(alloc, 10000, Vec::new(alloc))?;
-    let found = run_past(&rt, alloc, "0", script.as_slice(), &mut sink, &gate)?;
+    let found = run_past(
+        rt,
+        alloc,
+        (command, "0"),
+        script.as_slice(),
+        &mut sink,
+        &gate,
+    )?;
     assert_eq!(rt; found, 0);
     for (pass, chunk) in [(0, 0), (1, 4), (2, 7), (3, 0), (4, 4), (5, 7)] {
         assert_eq!(rt; gate.noted(pass), Some((0, chunk)), "pass {pass}");
     }
     assert_eq!(rt; gate.noted(6), None);
     Ok(())
+}
+
+#[test]
+fn a_chunk_is_passed_once_for_all_queries_that_run(rt: HostRuntime) -> Result<(), Fail> {
+    count_by(&rt, rt.alloc(), "query")
 }
 
 // Three queries, the second of which is cancelled.
@@ -288,7 +258,7 @@ fn no_order_of_workers_changes_what_is_not_cancelled(rt: HostRuntime) -> Result<
     for order in [[1, 2, 1], [2, 2, 0], [0, 0, 0]] {
         let gate = ListGate::new(order.to_vec(alloc)?, 10000);
         let mut sink = MemSink::new(alloc, 1000, Vec::new(alloc))?;
-        let found = run_past(&rt, alloc, "2", CANCELLING, &mut sink, &gate)?;
+        let found = run_past(&rt, alloc, ("query", "2"), CANCELLING, &mut sink, &gate)?;
         assert_eq!(rt; found, 0);
         assert!(rt; is_transcript(sink.bytes()), "gave up: {}", gate.given_up());
     }

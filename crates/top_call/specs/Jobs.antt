@@ -19,7 +19,7 @@ use Rattle.top_call.specs.Words.{Form, Load, Asks, Check, Demo}
 use Rattle.top_call.specs.Journals.{IsChecked, IsJournalOf, tally_line}
 use Rattle.top_call.specs.Reached.{IfObservable, IsCatalogueOf, IsScriptOf, IsSkyOf, Texts}
 use Rattle.top_call.specs.declared.task.Task.{Task}
-use Rattle.top_call.specs.declared.task.Task.TheVariants.{Answer, Trace, Explain}
+use Rattle.top_call.specs.declared.task.Task.TheVariants.{Answer, ByClass, Trace, Explain}
 
 -- A job.
 pub data Job : Type 0 where
@@ -84,6 +84,7 @@ AreSurveyAndScript sky catalogue script survey view texts =
 -- the job of a task on a script over a survey
 abbrev pub job_on : Task → Survey → ScriptView → Job
 job_on (Answer workers) survey view = Runs workers survey view
+job_on (ByClass workers) survey view = Runs workers survey view
 job_on (Trace workers) survey view = Traces workers survey view
 job_on Explain survey view = Explains survey view
 

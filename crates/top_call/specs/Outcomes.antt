@@ -41,7 +41,7 @@ name_in (Some form) which = name_of (names_of form) which
 abbrev pub outcome_line : Outcome → Option Form → List ℕ
 outcome_line (Done ends) form = []
 outcome_line Usage form =
-    codes "usage: qserv load SKY CSV; query SKY CSV SCRIPT WORKERS; explain SKY CSV SCRIPT; demo COUNT SEED WORKERS; trace SKY CSV SCRIPT WORKERS; check JOURNAL\n"
+    codes "usage: qserv load SKY CSV; query SKY CSV SCRIPT WORKERS; explain SKY CSV SCRIPT; demo COUNT SEED WORKERS; trace SKY CSV SCRIPT WORKERS; check JOURNAL; classes SKY CSV SCRIPT WORKERS\n"
 outcome_line (BadSky fault) form = sky_line fault
 outcome_line (BadCatalogue fault) form = catalogue_line fault
 outcome_line (BadScript fault) form = script_line fault

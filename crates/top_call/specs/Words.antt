@@ -1,6 +1,6 @@
 -- The commands, and the arguments that give them.
 use Rattle.std.specs.Prelude.{ℕ, ◌≤◌, ◌&&◌, List, [], ◌∷◌, Option, None, Some, map, codes}
-use Rattle.std.specs.Prelude.{if◌then◌else◌, nat_le, String}
+use Rattle.std.specs.Prelude.{if◌then◌else◌, nat_le, option_and_then, option_map, String}
 use Rattle.std.specs.String.{string_bytes}
 use Rattle.std.specs.Str.{bytes_eq}
 use Rattle.std.specs.declared.alloc.Global.{Global}
@@ -10,7 +10,7 @@ use Rattle.demo_rules.specs.declared.limits.TheConstants.{SEED_MOST}
 use Rattle.session_rules.specs.declared.limits.TheConstants.{WORKERS_MOST}
 use Rattle.top_call.specs.declared.limits.TheConstants.{WORD_DIGITS_MOST}
 use Rattle.top_call.specs.declared.task.Task.{Task}
-use Rattle.top_call.specs.declared.task.Task.TheVariants.{Answer, Trace, Explain}
+use Rattle.top_call.specs.declared.task.Task.TheVariants.{Answer, ByClass, Trace, Explain}
 
 -- A command, with the names of the texts.
 pub data Form : Type 0 where
@@ -46,6 +46,7 @@ names_of (Demo count seed workers) = record { sky = None; catalogue = None; scri
 -- the workers beside the czar, if the task has any, are at most 16
 abbrev pub IsManned : Task → Type 0
 IsManned (Answer workers) = workers ≤ WORKERS_MOST
+IsManned (ByClass workers) = workers ≤ WORKERS_MOST
 IsManned (Trace workers) = workers ≤ WORKERS_MOST
 IsManned Explain = Unit {0}
 
@@ -58,15 +59,13 @@ number_between least most (Some n) = if nat_le least n && nat_le n most then Som
 abbrev pub workers_by : List ℕ → Option ℕ
 workers_by word = number_between 0 WORKERS_MOST (natural WORD_DIGITS_MOST word)
 
--- the command that answers the named script, if the number of workers is there
-abbrev pub query_of : (sky catalogue script : List ℕ) (workers : Option ℕ) → Option Form
-query_of sky catalogue script (Some workers) = Some (Asks (Answer workers) sky catalogue script)
-query_of sky catalogue script None = None
-
--- the command that answers the named script and writes the journal, if the number of workers is there
-abbrev pub trace_of : (sky catalogue script : List ℕ) (workers : Option ℕ) → Option Form
-trace_of sky catalogue script (Some workers) = Some (Asks (Trace workers) sky catalogue script)
-trace_of sky catalogue script None = None
+-- the task of the first argument, with a number of workers
+abbrev pub task_of : (word : List ℕ) → ℕ → Option Task
+task_of word workers =
+    if bytes_eq word (codes "query") then Some (Answer workers)
+    else if bytes_eq word (codes "classes") then Some (ByClass workers)
+    else if bytes_eq word (codes "trace") then Some (Trace workers)
+    else None
 
 -- the demo of this count and this seed, if they and the number of workers are there
 abbrev pub demo_of : (count seed workers : Option ℕ) → Option Form
@@ -88,16 +87,14 @@ form_of_four word second third fourth =
     else if bytes_eq word (codes "demo") then demo_by second third fourth
     else None
 
--- the command of five arguments, by the first
+-- the command of five arguments: the task of the first, with the number of workers, on the named script
 abbrev pub form_of_five : (word sky catalogue script workers : List ℕ) → Option Form
 form_of_five word sky catalogue script workers =
-    if bytes_eq word (codes "query") then query_of sky catalogue script (workers_by workers)
-    else if bytes_eq word (codes "trace") then trace_of sky catalogue script (workers_by workers)
-    else None
+    option_map (λ task. Asks task sky catalogue script) (option_and_then (task_of word) (workers_by workers))
 
--- the commands `check JOURNAL`, `load SKY CSV`, `explain SKY CSV SCRIPT`, `query SKY CSV SCRIPT WORKERS`,
--- `trace SKY CSV SCRIPT WORKERS` and `demo COUNT SEED WORKERS`, whose numbers are 1 to 10 digits and whose WORKERS is 0 to
--- 16; None for all other arguments
+-- the commands `check JOURNAL`, `load SKY CSV`, `explain SKY CSV SCRIPT`, `demo COUNT SEED WORKERS`, and with SKY CSV SCRIPT
+-- WORKERS `query`, `classes` and `trace`, whose numbers are 1 to 10 digits and whose WORKERS is 0 to 16; None for all other
+-- arguments
 abbrev pub form_of : List (List ℕ) → Option Form
 form_of (word ∷ journal ∷ []) = if bytes_eq word (codes "check") then Some (Check journal) else None
 form_of (word ∷ sky ∷ catalogue ∷ []) = if bytes_eq word (codes "load") then Some (Load sky catalogue) else None

@@ -12,7 +12,7 @@ use sky_io::{Put, Sink};
 
 /// The line of `Usage`: the commands.
 const USAGE: &[u8] =
-    b"usage: qserv load SKY CSV; query SKY CSV SCRIPT WORKERS; explain SKY CSV SCRIPT; demo COUNT SEED WORKERS; trace SKY CSV SCRIPT WORKERS; check JOURNAL\n";
+    b"usage: qserv load SKY CSV; query SKY CSV SCRIPT WORKERS; explain SKY CSV SCRIPT; demo COUNT SEED WORKERS; trace SKY CSV SCRIPT WORKERS; check JOURNAL; classes SKY CSV SCRIPT WORKERS\n";
 
 /// Writes the line of an outcome with its line feed, and nothing for `Done`. Does not allocate.
 pub fn put_outcome<K: Sink>(sink: &mut K, outcome: &Outcome, words: &[String]) -> Put

@@ -5,7 +5,9 @@
 pub enum Task {
     /// To answer them, with the given number of workers beside the czar.
     Answer { workers: u32 },
-    /// To answer them so, and to write the journal of the scan too.
+    /// To answer them so, with a board of their own for the short queries, which is looked at first.
+    ByClass { workers: u32 },
+    /// To answer them with one board for all, and to write its journal in place of the answers.
     Trace { workers: u32 },
     /// To explain their plans.
     Explain,

@@ -27,6 +27,7 @@ pub fn threads_of<R: Threads>(rt: &R, task: Task) -> u32
 {
     match task {
         Task::Answer { workers } => workers + 1,
+        Task::ByClass { workers } => workers + 1,
         Task::Trace { workers } => workers + 1,
         Task::Explain => processors(rt),
     }

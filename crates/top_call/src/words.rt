@@ -2,7 +2,8 @@
 ghost use Rattle.std.specs.Prelude.{◌≡◌, ◌≤◌, ◌^◌, [], ◌∷◌, None, Some, IfNone, IfSome};
 ghost use Rattle.text_rules.specs.Numbers.{natural};
 ghost use Rattle.top_call.specs.declared.limits.TheConstants.{WORD_DIGITS_MOST};
-ghost use Rattle.top_call.specs.Words.{bytes_of, demo_by, form_of, form_of_five, form_of_four, number_between, query_of, trace_of, workers_by};
+ghost use Rattle.top_call.specs.Words.{IsManned, bytes_of, demo_by, form_of, form_of_five, form_of_four, number_between, task_of, workers_by};
+ghost use Rattle.session_rules.specs.declared.limits.TheConstants.{WORKERS_MOST};
 ghost use Rattle.top_call.specs.WordForms.{IsWithin, asked_by};
 
 use crate::limits::WORD_DIGITS_MOST;
@@ -136,7 +137,7 @@ fn read_between(word: &[u8], least: u32, most: u32) -> Option<u32>
     Some(n as u32)
 }
 
-// Returns the command of five arguments: `query SKY CSV SCRIPT WORKERS` or `trace SKY CSV SCRIPT WORKERS`.
+// Returns the command of five arguments: `query`, `classes` or `trace`, and SKY CSV SCRIPT WORKERS.
 fn read_five<'a>(
     word: &str,
     sky: &'a str,
@@ -150,55 +151,29 @@ fn read_five<'a>(
         form_of_five word.now sky.now catalogue.now script.now workers.now ≡ Some (asked_by form)) }
     ensures within { IfSome result IsWithin }
 {
+    let workers = read_between(workers.as_bytes(), 0, WORKERS_MOST)?;
+    let task = read_task(word, workers)?;
+    Some(Form::Asks {
+        task,
+        sky,
+        catalogue,
+        script,
+    })
+}
+
+// Returns the task of the first argument, with a number of workers.
+fn read_task(word: &str, workers: u32) -> Option<Task>
+    ensures task { result ≡ task_of word.now workers }
+    ensures manned { workers ≤ WORKERS_MOST → IfSome result IsManned }
+{
     if word == "query" {
-        return read_query(sky, catalogue, script, workers.as_bytes());
+        return Some(Task::Answer { workers });
+    }
+    if word == "classes" {
+        return Some(Task::ByClass { workers });
     }
     if word != "trace" {
         return None;
     }
-    read_trace(sky, catalogue, script, workers.as_bytes())
-}
-
-// Returns the command that answers the named script, if its number of workers is one.
-fn read_query<'a>(
-    sky: &'a str,
-    catalogue: &'a str,
-    script: &'a str,
-    workers: &[u8],
-) -> Option<Form<'a>>
-    ensures none { IfNone result
-        (query_of sky.now catalogue.now script.now (workers_by workers.now) ≡ None) }
-    ensures form { IfSome result (λ form.
-        query_of sky.now catalogue.now script.now (workers_by workers.now) ≡ Some (asked_by form)) }
-    ensures within { IfSome result IsWithin }
-{
-    let workers = read_between(workers, 0, WORKERS_MOST)?;
-    Some(Form::Asks {
-        task: Task::Answer { workers },
-        sky,
-        catalogue,
-        script,
-    })
-}
-
-// Returns the command that answers the named script and writes the journal too, if its number of workers is one.
-fn read_trace<'a>(
-    sky: &'a str,
-    catalogue: &'a str,
-    script: &'a str,
-    workers: &[u8],
-) -> Option<Form<'a>>
-    ensures none { IfNone result
-        (trace_of sky.now catalogue.now script.now (workers_by workers.now) ≡ None) }
-    ensures form { IfSome result (λ form.
-        trace_of sky.now catalogue.now script.now (workers_by workers.now) ≡ Some (asked_by form)) }
-    ensures within { IfSome result IsWithin }
-{
-    let workers = read_between(workers, 0, WORKERS_MOST)?;
-    Some(Form::Asks {
-        task: Task::Trace { workers },
-        sky,
-        catalogue,
-        script,
-    })
+    Some(Task::Trace { workers })
 }

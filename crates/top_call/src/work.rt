@@ -3,7 +3,7 @@
 //! The store and the index of its ids are dropped by name, which is one call; a value that goes out of scope is dropped
 //! part by part. All memory is allocated before the first byte is written: for the store, its index, the answers, and
 //! the list of how the queries ended.
-ghost use Rattle.std.specs.Prelude.{◌≡◌, ◌≤◌, ◌^◌, ℕ, [], length, map};
+ghost use Rattle.std.specs.Prelude.{◌≡◌, ◌≤◌, ◌^◌, ℕ, [], IfOk, length, map};
 ghost use Rattle.text_rules.specs.declared.limits.TheConstants.{SCRIPT_TEXT_MOST};
 ghost use Rattle.session_script.specs.Views.{query_lines};
 ghost use Rattle.transcript_rules.specs.Transcripts.{FitEnds};
@@ -12,7 +12,6 @@ ghost use Rattle.czar.specs.Plans.{ArePlans};
 ghost use Rattle.top_call.specs.Jobs.{Explains, Reports, Runs, job_on};
 ghost use Rattle.top_call.specs.Steps.{IsFlushed, IsTaskOver, IsWritten};
 ghost use Rattle.top_call.specs.Words.{IsManned};
-ghost use Rattle.session_rules.specs.declared.limits.TheConstants.{WORKERS_MOST};
 
 use crate::ends::{kinds_of, no_ends};
 use crate::outcome::Outcome;
@@ -20,10 +19,11 @@ use crate::task::Task;
 use crate::trace::trace_queries;
 use answer_text::put_report;
 use chunk_store::Store;
+use class_session::run_classes;
 use czar::{End, Plan, World, explain, put_explained, put_transcript, run_session};
 use session_rules::Ends;
 use session_script::Script;
-use sky_io::{Gate, Put, Sink, Stop};
+use sky_io::{Gate, Memory, Put, Sink, Stop};
 use std::alloc::Global;
 use std::sync::Wait;
 use std::thread::Threads;
@@ -121,30 +121,15 @@ fn do_script<R: Threads + Wait + Sync, K: Sink, G: Gate + Sync>(
 {
     match task {
         Task::Answer { workers } => {
-            answer_queries(alloc, rt, world, script, workers, sink, gate)
+            let ends = run_session(alloc, rt, world, script, workers, gate);
+            write_ends(alloc, world, script, ends, sink)
+        }
+        Task::ByClass { workers } => {
+            let ends = run_classes(alloc, rt, world, script, workers, gate);
+            write_ends(alloc, world, script, ends, sink)
         }
         Task::Trace { workers } => { trace_queries(alloc, rt, world, script, workers, sink, gate) }
         Task::Explain => explain_queries(alloc, world, script, sink),
-    }
-}
-
-// Answers the queries of a script with the given number of workers, and writes their transcript.
-fn answer_queries<R: Threads + Wait + Sync, K: Sink, G: Gate + Sync>(
-    alloc: Global,
-    rt: &R,
-    world: &World<'_>,
-    script: &Script<'_>,
-    workers: u32,
-    sink: &mut K,
-    gate: &G,
-) -> Outcome
-    requires { workers ≤ WORKERS_MOST }
-    ensures { IsWritten (Runs workers world.now script.now)
-        (K.state sink.old) (K.state sink.new) result }
-{
-    match run_session(alloc, rt, world, script, workers, gate) {
-        Ok(ends) => write_transcript(alloc, world.store(), script, ends.as_slice(), sink),
-        Err(_) => Outcome::Memory,
     }
 }
 
@@ -172,6 +157,28 @@ fn write_report<K: Sink>(alloc: Global, store: &Store, sink: &mut K) -> Outcome
     match put_report(sink, store) {
         Put::Failed => Outcome::SinkFault { ends },
         Put::Done => send(sink, ends),
+    }
+}
+
+// Writes the transcript of a script whose session returned these ends, if it did, and sends it. What is written is the
+// transcript for any number of workers with which they may end so.
+fn write_ends<K: Sink>(
+    alloc: Global,
+    world: &World<'_>,
+    script: &Script<'_>,
+    ends: Result<Vec<End>, Memory>,
+    sink: &mut K,
+) -> Outcome
+    requires { IfOk ends (λ ends.
+        EndsShow world.now.plan world.now.rows (query_lines script.now) ends.items) }
+    ensures { (workers : ℕ)
+        → IfOk ends (λ ends.
+        FitEnds workers world.now.plan world.now.rows script.now (map kind_of ends.items))
+        → IsWritten (Runs workers world.now script.now) (K.state sink.old) (K.state sink.new) result }
+{
+    match ends {
+        Ok(ends) => write_transcript(alloc, world.store(), script, ends.as_slice(), sink),
+        Err(_) => Outcome::Memory,
     }
 }
 
