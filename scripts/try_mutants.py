@@ -16,10 +16,10 @@ the lemma of its proof that must not.
 
 A function is proved by the contracts of those that it calls, not by their code. So each mutant of code is refused by itself,
 though all those of a crate are made in one copy; two of one function take a check each. A mutant of a definition or of a ghost
-member changes what other proofs read, so it is made alone. So is one that is not refused beside the others: what a function owes
-may wait for the proof of one that it calls, which another mutant has broken. A check is of these functions and of those that
-they call, over the libraries that `rt ci` proved and left in crates/*/out/rlib. That the crate is proved without its mutants is
-what `rt ci` has shown.
+member changes what other proofs read, so it is made alone. Those that are not refused beside the others are made once more
+by themselves, and at last each alone: what a function owes may wait for the proof of one that it calls, which another mutant has
+broken. A check is of these functions and of those that they call, over the libraries that `rt ci` proved and left in
+crates/*/out/rlib. That the crate is proved without its mutants is what `rt ci` has shown.
 
 It prints a line for each mutant, and those that were not refused last; then the status is 1. With --times it prints the processor
 seconds of all checks. Without the libraries it ends with 1, without `rt` with 0, each with a line that says so. It writes into a
@@ -187,18 +187,24 @@ def verdicts(crate, tried, kit):
         output = output_of(crate, tried, kit)
     except Unfit as fault:
         return [(False, f"{mutant.crate}/{mutant.name}: {fault}") for mutant, _, _ in tried]
-    found = []
+    found, left = [], []
     for mutant, function, clause in tried:
-        label = f"{crate}/{mutant.name}"
         if is_refused(function, clause, crate, output):
-            found.append((True, f"{label}: refused at `{function}`: `{clause}`"))
-        elif len(tried) > 1:
-            # the goals of a function wait for the proofs of those that it calls, which another mutant may have broken
-            found += verdicts(crate, [(mutant, function, clause)], kit)
+            found.append((True, f"{crate}/{mutant.name}: refused at `{function}`: `{clause}`"))
         else:
-            told = "\n    ".join(it[:300] for it in said_of(function, crate, output)) or "nothing was said of the function"
-            found.append((False, f"{label}: NOT REFUSED at `{function}`: `{clause}`; the check says:\n    {told}"))
+            left.append((mutant, function, clause))
+    if len(tried) == 1:
+        return found or [(False, missed(crate, *tried[0], output))]
+    # the goals of a function wait for the proofs of those that it calls, which another mutant may have broken
+    for fewer in [left] if found and left else [[it] for it in left]:
+        found += verdicts(crate, fewer, kit)
     return found
+
+
+def missed(crate, mutant, function, clause, output):
+    """What to say of a mutant that is not refused by itself."""
+    told = "\n    ".join(it[:300] for it in said_of(function, crate, output)) or "nothing was said of the function"
+    return f"{crate}/{mutant.name}: NOT REFUSED at `{function}`: `{clause}`; the check says:\n    {told}"
 
 
 def processes():
