@@ -14,8 +14,7 @@ use Rattle.sql_tree.specs.declared.expr.Factor.{Factor, out-Factor}
 use Rattle.sql_tree.specs.declared.expr.Prod.{Prod, out-Prod}
 use Rattle.sql_tree.specs.declared.expr.Signed.{Signed, out-Signed}
 use Rattle.sql_tree.specs.declared.name.Col.{Col}
-use Rattle.table_rules.specs.Names.{column_of}
-use Rattle.bind_rules.specs.Widths.{Width, and_then, bound_by, just, taken_from_left, width_at_atom, width_at_expr}
+use Rattle.bind_rules.specs.Widths.{Width, and_then, just, taken_from_left, width_at_atom, width_at_expr}
 use Rattle.bind_rules.specs.Widths.{width_at_factor, width_at_prod, width_at_signed, width_of}
 use Rattle.bind_rules.proofs.Folds.{fold_int, fold_col, fold_bracket}
 use Rattle.bind_checks.specs.Narrow.{atom_width, capped, factor_width, narrow, narrow_both, narrow_factor}
@@ -110,58 +109,58 @@ left_at_end op part start xs i sum far ahead = rw (ahead, drop_all i xs far) ref
 -- ---- the parts of an expression
 
 -- the width of a sum, by its products
-expr_width_parts : (names : List (List ℕ)) (e : Expr)
-    → width_of names e ≡ taken_from_left (λ a b. a + b) (prod_width names (out-Expr e).first)
-    (map (signed_width names) (out-Expr e).rest)
+expr_width_parts : (size : Col → ℕ) (e : Expr)
+    → width_of size e ≡ taken_from_left (λ a b. a + b) (prod_width size (out-Expr e).first)
+    (map (signed_width size) (out-Expr e).rest)
 unfolding width_of atom_width factor_width prod_width signed_width
-expr_width_parts names e =
-    fold_out-Expr Width Width Width Width Width (width_at_atom names) width_at_expr width_at_factor width_at_prod
+expr_width_parts size e =
+    fold_out-Expr Width Width Width Width Width (width_at_atom size) width_at_expr width_at_factor width_at_prod
     width_at_signed e
 
 -- the width of a product, by its factors
-prod_width_parts : (names : List (List ℕ)) (p : Prod)
-    → prod_width names p ≡ taken_from_left (λ a b. a * b) (factor_width names (out-Prod p).first)
-    (map (factor_width names) (out-Prod p).rest)
+prod_width_parts : (size : Col → ℕ) (p : Prod)
+    → prod_width size p ≡ taken_from_left (λ a b. a * b) (factor_width size (out-Prod p).first)
+    (map (factor_width size) (out-Prod p).rest)
 unfolding width_of atom_width factor_width prod_width signed_width
-prod_width_parts names p =
-    fold_out-Prod Width Width Width Width Width (width_at_atom names) width_at_expr width_at_factor width_at_prod
+prod_width_parts size p =
+    fold_out-Prod Width Width Width Width Width (width_at_atom size) width_at_expr width_at_factor width_at_prod
     width_at_signed p
 
 -- the width of a further product
-pub signed_width_parts : (names : List (List ℕ)) (s : Signed)
-    → signed_width names s ≡ prod_width names (out-Signed s).prod
+pub signed_width_parts : (size : Col → ℕ) (s : Signed)
+    → signed_width size s ≡ prod_width size (out-Signed s).prod
 unfolding width_of atom_width factor_width prod_width signed_width
-signed_width_parts names s =
-    fold_out-Signed Width Width Width Width Width (width_at_atom names) width_at_expr width_at_factor width_at_prod
+signed_width_parts size s =
+    fold_out-Signed Width Width Width Width Width (width_at_atom size) width_at_expr width_at_factor width_at_prod
     width_at_signed s
 
 -- the width of a factor
-pub factor_width_parts : (names : List (List ℕ)) (f : Factor)
-    → factor_width names f ≡ atom_width names (out-Factor f).atom
+pub factor_width_parts : (size : Col → ℕ) (f : Factor)
+    → factor_width size f ≡ atom_width size (out-Factor f).atom
 unfolding width_of atom_width factor_width prod_width signed_width
-factor_width_parts names f =
-    fold_out-Factor Width Width Width Width Width (width_at_atom names) width_at_expr width_at_factor width_at_prod
+factor_width_parts size f =
+    fold_out-Factor Width Width Width Width Width (width_at_atom size) width_at_expr width_at_factor width_at_prod
     width_at_signed f
 
 -- a sum within the bound, by its products
-pub narrow_expr_parts : (names : List (List ℕ)) (e : Expr)
-    → narrow (width_of names e) ≡ narrow_from_left (λ a b. a + b) (narrow (prod_width names (out-Expr e).first))
-    (map (narrow_signed names) (out-Expr e).rest)
-narrow_expr_parts names e =
-    ap narrow (expr_width_parts names e)
-    ∙ all_narrow (λ a b. a + b) (prod_width names (out-Expr e).first) (map (signed_width names) (out-Expr e).rest)
-    ∙ ap (narrow_from_left (λ a b. a + b) (narrow (prod_width names (out-Expr e).first)))
-    (map_twice (signed_width names) narrow (out-Expr e).rest)
+pub narrow_expr_parts : (size : Col → ℕ) (e : Expr)
+    → narrow (width_of size e) ≡ narrow_from_left (λ a b. a + b) (narrow (prod_width size (out-Expr e).first))
+    (map (narrow_signed size) (out-Expr e).rest)
+narrow_expr_parts size e =
+    ap narrow (expr_width_parts size e)
+    ∙ all_narrow (λ a b. a + b) (prod_width size (out-Expr e).first) (map (signed_width size) (out-Expr e).rest)
+    ∙ ap (narrow_from_left (λ a b. a + b) (narrow (prod_width size (out-Expr e).first)))
+    (map_twice (signed_width size) narrow (out-Expr e).rest)
 
 -- a product within the bound, by its factors
-pub narrow_prod_parts : (names : List (List ℕ)) (p : Prod)
-    → narrow (prod_width names p) ≡ narrow_from_left (λ a b. a * b) (narrow (factor_width names (out-Prod p).first))
-    (map (narrow_factor names) (out-Prod p).rest)
-narrow_prod_parts names p =
-    ap narrow (prod_width_parts names p)
-    ∙ all_narrow (λ a b. a * b) (factor_width names (out-Prod p).first) (map (factor_width names) (out-Prod p).rest)
-    ∙ ap (narrow_from_left (λ a b. a * b) (narrow (factor_width names (out-Prod p).first)))
-    (map_twice (factor_width names) narrow (out-Prod p).rest)
+pub narrow_prod_parts : (size : Col → ℕ) (p : Prod)
+    → narrow (prod_width size p) ≡ narrow_from_left (λ a b. a * b) (narrow (factor_width size (out-Prod p).first))
+    (map (narrow_factor size) (out-Prod p).rest)
+narrow_prod_parts size p =
+    ap narrow (prod_width_parts size p)
+    ∙ all_narrow (λ a b. a * b) (factor_width size (out-Prod p).first) (map (factor_width size) (out-Prod p).rest)
+    ∙ ap (narrow_from_left (λ a b. a * b) (narrow (factor_width size (out-Prod p).first)))
+    (map_twice (factor_width size) narrow (out-Prod p).rest)
 
 -- a part that takes nothing on the way is within the bound where it is
 just_narrow : (n : ℕ) → narrow (just n) ≡ capped n
@@ -169,26 +168,26 @@ unfolding narrow capped
 just_narrow n = refl
 
 -- an int within the bound
-pub narrow_int : (names : List (List ℕ)) (n : ℤ) → narrow (atom_width names (atom.Int n)) ≡ capped (nat_abs n)
+pub narrow_int : (size : Col → ℕ) (n : ℤ) → narrow (atom_width size (atom.Int n)) ≡ capped (nat_abs n)
 unfolding atom_width
-narrow_int names n =
-    ap narrow (fold_int (width_at_atom names) width_at_expr width_at_factor width_at_prod width_at_signed n) ∙
+narrow_int size n =
+    ap narrow (fold_int (width_at_atom size) width_at_expr width_at_factor width_at_prod width_at_signed n) ∙
     just_narrow (nat_abs n)
 
 -- a column within the bound
-pub narrow_col : (names : List (List ℕ)) (c : Col)
-    → narrow (atom_width names (atom.Col c)) ≡ capped (bound_by (column_of names c.name.text))
+pub narrow_col : (size : Col → ℕ) (c : Col)
+    → narrow (atom_width size (atom.Col c)) ≡ capped (size c)
 unfolding atom_width
-narrow_col names c =
-    ap narrow (fold_col (width_at_atom names) width_at_expr width_at_factor width_at_prod width_at_signed c) ∙
-    just_narrow (bound_by (column_of names c.name.text))
+narrow_col size c =
+    ap narrow (fold_col (width_at_atom size) width_at_expr width_at_factor width_at_prod width_at_signed c) ∙
+    just_narrow (size c)
 
 -- brackets within the bound
-pub narrow_bracket : (names : List (List ℕ)) (e : Expr)
-    → narrow (atom_width names (atom.Bracket e)) ≡ narrow (width_of names e)
+pub narrow_bracket : (size : Col → ℕ) (e : Expr)
+    → narrow (atom_width size (atom.Bracket e)) ≡ narrow (width_of size e)
 unfolding atom_width width_of
-narrow_bracket names e =
-    ap narrow (fold_bracket (width_at_atom names) width_at_expr width_at_factor width_at_prod width_at_signed e)
+narrow_bracket size e =
+    ap narrow (fold_bracket (width_at_atom size) width_at_expr width_at_factor width_at_prod width_at_signed e)
 
 -- what is not within the bound is too wide, by whether it is
 none_by : (w : Width) (wide : Bool) → nat_lt NUMBER_MOST w.widest ≡ wide → is_none (narrow w) ≡ nat_lt NUMBER_MOST w.widest

@@ -3,13 +3,11 @@ use Rattle.std.proofs.Common.{◌≡◌, ℕ, Bool, true, false, not, List, [], 
 use Rattle.std.specs.List.{find}
 use Rattle.std.specs.Option.{option_map}
 use Rattle.sql_tree.specs.declared.name.Col.{Col}
-use Rattle.sql_tree.specs.declared.query.TableRef.{TableRef}
 use Rattle.sql_tree.specs.Spans.{col_span}
 use Rattle.sql_tree.specs.declared.query.Query.{Query}
 use Rattle.bind_rules.specs.declared.fault.BindFault.TheVariants as fault
-use Rattle.bind_rules.specs.Columns.{is_known, tables}
 use Rattle.bind_rules.specs.Mentions.{Mention, Column, mentions_of}
-use Rattle.bind_rules.specs.Names.{is_unknown, span_of, unknown_name}
+use Rattle.bind_rules.specs.Names.{Known, is_unknown, span_of, unknown_by}
 use Rattle.bind_checks.specs.Firsts.{first_place}
 use Rattle.bind_checks.specs.Unknowns.{unknown_at}
 
@@ -21,14 +19,13 @@ as_step c cols ms true later = refl
 as_step c cols ms false later = later
 
 -- the first of the columns that is not known is the first of them as mentions
-pub as_mentions : (names : List (List ℕ)) (ts : List TableRef) (cs : List Col)
-    → first_place col_span (λ c. not (is_known names ts c)) cs ≡ first_place span_of (is_unknown names ts)
-    (map Column cs)
+pub as_mentions : (known : Known) (cs : List Col)
+    → first_place col_span (λ c. not (known.column c)) cs ≡ first_place span_of (is_unknown known) (map Column cs)
 unfolding first_place
-as_mentions names ts [] = refl
-as_mentions names ts (c ∷ cs) =
-    as_step c (find (λ d. not (is_known names ts d)) cs) (find (is_unknown names ts) (map Column cs))
-    (not (is_known names ts c)) (as_mentions names ts cs)
+as_mentions known [] = refl
+as_mentions known (c ∷ cs) =
+    as_step c (find (λ d. not (known.column d)) cs) (find (is_unknown known) (map Column cs)) (not (known.column c))
+    (as_mentions known cs)
 
 -- one map behind another is a map
 map_twice : {A B C : Type 0} (f : A → B) (g : B → C) (o : Option A)
@@ -37,8 +34,8 @@ map_twice f g None = refl
 map_twice f g (Some x) = refl
 
 -- the place of the first mention that is not known, as the fault
-pub as_unknown_name : (names : List (List ℕ)) (q : Query)
-    → option_map (λ span. fault.UnknownName span) (unknown_at names q (mentions_of q)) ≡ unknown_name names q
-unfolding unknown_name first_place
-as_unknown_name names q =
-    map_twice span_of (λ span. fault.UnknownName span) (find (is_unknown names (tables q)) (mentions_of q))
+pub as_unknown_name : (known : Known) (q : Query)
+    → option_map (λ span. fault.UnknownName span) (unknown_at known (mentions_of q)) ≡ unknown_by known q
+unfolding unknown_by first_place
+as_unknown_name known q =
+    map_twice span_of (λ span. fault.UnknownName span) (find (is_unknown known) (mentions_of q))

@@ -1,4 +1,5 @@
--- Widths of expressions within the bound that all numbers of a query have.
+-- Widths of expressions within the bound that all numbers of a query have, given the largest size of a value of each
+-- column.
 use Rattle.std.specs.Prelude.{ℕ, nat_lt, if◌then◌else◌, List, [], ◌∷◌, Option, None, Some}
 use Rattle.sky_vector.specs.declared.limits.TheConstants.{NUMBER_MOST}
 use Rattle.sql_tree.specs.declared.expr.Atom.{Atom}
@@ -6,6 +7,7 @@ use Rattle.sql_tree.specs.declared.expr.Atom.TheFolds.{fold-Atom, fold-Factor, f
 use Rattle.sql_tree.specs.declared.expr.Factor.{Factor}
 use Rattle.sql_tree.specs.declared.expr.Prod.{Prod}
 use Rattle.sql_tree.specs.declared.expr.Signed.{Signed}
+use Rattle.sql_tree.specs.declared.name.Col.{Col}
 use Rattle.bind_rules.specs.Widths.{Width, width_at_atom, width_at_expr, width_at_factor, width_at_prod}
 use Rattle.bind_rules.specs.Widths.{width_at_signed}
 
@@ -28,33 +30,33 @@ narrow_from_left op n [] = n
 narrow_from_left op n (m ∷ ms) = narrow_from_left op (narrow_both op n m) ms
 
 -- the width of an atom
-unfoldable pub atom_width : List (List ℕ) → Atom → Width
-atom_width names =
-    fold-Atom Width Width Width Width Width (width_at_atom names) width_at_expr width_at_factor width_at_prod
+unfoldable pub atom_width : (Col → ℕ) → Atom → Width
+atom_width size =
+    fold-Atom Width Width Width Width Width (width_at_atom size) width_at_expr width_at_factor width_at_prod
     width_at_signed
 
 -- the width of a factor
-unfoldable pub factor_width : List (List ℕ) → Factor → Width
-factor_width names =
-    fold-Factor Width Width Width Width Width (width_at_atom names) width_at_expr width_at_factor width_at_prod
+unfoldable pub factor_width : (Col → ℕ) → Factor → Width
+factor_width size =
+    fold-Factor Width Width Width Width Width (width_at_atom size) width_at_expr width_at_factor width_at_prod
     width_at_signed
 
 -- the width of a product
-unfoldable pub prod_width : List (List ℕ) → Prod → Width
-prod_width names =
-    fold-Prod Width Width Width Width Width (width_at_atom names) width_at_expr width_at_factor width_at_prod
+unfoldable pub prod_width : (Col → ℕ) → Prod → Width
+prod_width size =
+    fold-Prod Width Width Width Width Width (width_at_atom size) width_at_expr width_at_factor width_at_prod
     width_at_signed
 
 -- the width of a product with its sign
-unfoldable pub signed_width : List (List ℕ) → Signed → Width
-signed_width names =
-    fold-Signed Width Width Width Width Width (width_at_atom names) width_at_expr width_at_factor width_at_prod
+unfoldable pub signed_width : (Col → ℕ) → Signed → Width
+signed_width size =
+    fold-Signed Width Width Width Width Width (width_at_atom size) width_at_expr width_at_factor width_at_prod
     width_at_signed
 
 -- the width of a factor within the bound
-abbrev pub narrow_factor : List (List ℕ) → Factor → Option ℕ
-narrow_factor names f = narrow (factor_width names f)
+abbrev pub narrow_factor : (Col → ℕ) → Factor → Option ℕ
+narrow_factor size f = narrow (factor_width size f)
 
 -- the width of a product with its sign, within the bound
-abbrev pub narrow_signed : List (List ℕ) → Signed → Option ℕ
-narrow_signed names s = narrow (signed_width names s)
+abbrev pub narrow_signed : (Col → ℕ) → Signed → Option ℕ
+narrow_signed size s = narrow (signed_width size s)

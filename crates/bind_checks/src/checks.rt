@@ -1,23 +1,23 @@
 //! The six checks of a query in their order. Each function makes one check, and those after it.
 ghost use Rattle.std.specs.Prelude.{◌≡◌};
-ghost use Rattle.bind_rules.specs.Checks.{bind_fault, order_name};
+ghost use Rattle.bind_rules.specs.Checks.{fault_by, order_by};
 ghost use Rattle.bind_checks.specs.Faults.{from_areas, from_grouping, from_join, from_widths};
 
 use crate::area_forms::first_bad_area;
+use crate::columns::Columns;
 use crate::forms::has_join_form;
 use crate::grouping::first_ungrouped;
 use crate::names::first_unknown;
 use crate::order_key::bad_order_key;
 use crate::widths::is_some_too_wide;
 use bind_rules::BindFault;
-use sky_row::Schema;
 use sql_tree::Query;
 
 // Checks the order key.
-fn from_order(query: &Query, schema: &Schema) -> Option<BindFault>
-    ensures { result ≡ order_name schema.now query.now }
+fn from_order<C: Columns>(query: &Query, columns: &C) -> Option<BindFault>
+    ensures { result ≡ order_by (C.known columns.now) query.now }
 {
-    match bad_order_key(query, schema) {
+    match bad_order_key(query, columns) {
         Some(span) => Some(BindFault::OrderName { span }),
         None => None,
     }
@@ -25,34 +25,34 @@ fn from_order(query: &Query, schema: &Schema) -> Option<BindFault>
 
 // Checks the widths, then the order key.
 #[tactic(auto, unfolding(crate::specs::Faults::from_widths))]
-fn from_widths(query: &Query, schema: &Schema) -> Option<BindFault>
-    ensures { result ≡ from_widths schema.now query.now }
+fn from_widths<C: Columns>(query: &Query, columns: &C) -> Option<BindFault>
+    ensures { result ≡ from_widths (C.known columns.now) (C.size columns.now) query.now }
 {
-    if is_some_too_wide(query, schema) {
+    if is_some_too_wide(query, columns) {
         Some(BindFault::TooWide)
     } else {
-        from_order(query, schema)
+        from_order(query, columns)
     }
 }
 
-// Checks the area tests, then the widths.
+/// Returns the first fault of the area tests, the widths and the order key. Does not allocate.
 #[tactic(auto, unfolding(crate::specs::Faults::from_areas))]
-fn from_areas(query: &Query, schema: &Schema) -> Option<BindFault>
-    ensures { result ≡ from_areas schema.now query.now }
+pub fn from_areas<C: Columns>(query: &Query, columns: &C) -> Option<BindFault>
+    ensures { result ≡ from_areas (C.known columns.now) (C.size columns.now) query.now }
 {
     match first_bad_area(query) {
         Some(span) => Some(BindFault::AreaForm { span }),
-        None => from_widths(query, schema),
+        None => from_widths(query, columns),
     }
 }
 
 // Checks the join form, then the area tests.
 #[tactic(auto, unfolding(crate::specs::Faults::from_join))]
-fn from_join(query: &Query, schema: &Schema) -> Option<BindFault>
-    ensures { result ≡ from_join schema.now query.now }
+fn from_join<C: Columns>(query: &Query, columns: &C) -> Option<BindFault>
+    ensures { result ≡ from_join (C.known columns.now) (C.size columns.now) query.now }
 {
     if has_join_form(query) {
-        from_areas(query, schema)
+        from_areas(query, columns)
     } else {
         Some(BindFault::JoinForm)
     }
@@ -60,22 +60,23 @@ fn from_join(query: &Query, schema: &Schema) -> Option<BindFault>
 
 // Checks the grouping, then the join form.
 #[tactic(auto, unfolding(crate::specs::Faults::from_grouping))]
-fn from_grouping(query: &Query, schema: &Schema) -> Option<BindFault>
-    ensures { result ≡ from_grouping schema.now query.now }
+fn from_grouping<C: Columns>(query: &Query, columns: &C) -> Option<BindFault>
+    ensures { result ≡ from_grouping (C.known columns.now) (C.size columns.now) query.now }
 {
     match first_ungrouped(query) {
         Some(span) => Some(BindFault::NotGrouped { span }),
-        None => from_join(query, schema),
+        None => from_join(query, columns),
     }
 }
 
-/// Returns the first fault of a query over a schema. Does not allocate.
-#[tactic(auto, unfolding(bind_rules::specs::Checks::bind_fault, crate::specs::Faults::from_grouping, crate::specs::Faults::from_join, crate::specs::Faults::from_areas, crate::specs::Faults::from_widths))]
-pub fn first_fault(query: &Query, schema: &Schema) -> Option<BindFault>
-    ensures { result ≡ bind_fault schema.now query.now }
+/// Returns the first fault of a query, given what its names refer to. Does not allocate.
+#[tactic(auto, unfolding(bind_rules::specs::Checks::fault_by, crate::specs::Faults::from_grouping, crate::specs::Faults::from_join, crate::specs::Faults::from_areas, crate::specs::Faults::from_widths))]
+pub fn first_fault<C: Columns>(query: &Query, columns: &C) -> Option<BindFault>
+    ensures { result ≡
+        fault_by (C.known columns.now) (C.size columns.now) query.now }
 {
-    match first_unknown(query, schema) {
+    match first_unknown(query, columns) {
         Some(span) => Some(BindFault::UnknownName { span }),
-        None => from_grouping(query, schema),
+        None => from_grouping(query, columns),
     }
 }

@@ -10,7 +10,7 @@ use sql_token::Span;
 use sql_tree::{Atom, Col, Expr, Factor, Prod, Signed};
 
 /// A test of columns.
-pub(crate) trait ColumnTest {
+pub trait ColumnTest {
     /// The columns that pass.
     ghost passes: { Self → Col → Bool };
 

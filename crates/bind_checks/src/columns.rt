@@ -1,11 +1,46 @@
-//! The tables and columns of a query, over the columns of a schema.
-ghost use Rattle.std.specs.Prelude.{◌≡◌};
+//! The tables and columns of a query.
+ghost use Rattle.std.specs.Prelude.{◌≡◌, ℕ};
 ghost use Rattle.std.specs.Str.{bytes_eq};
-ghost use Rattle.bind_rules.specs.Columns.{is_join, is_known, is_qualified_well, is_qualifier, is_same_column};
-ghost use Rattle.bind_rules.specs.Columns.{qualifier, tables};
+ghost use Rattle.bind_rules.specs.Names.{Known};
+ghost use Rattle.bind_rules.specs.Columns.{is_join, is_qualifier, is_same_column, qualifier, tables};
+ghost use Rattle.sql_bound.specs.declared.expr.BoundCol.{BoundCol};
+ghost use Rattle.sql_tree.specs.declared.name.Col.{Col};
 
-use sky_row::Schema;
-use sql_tree::{Col, Name, Query, TableRef};
+use sql_bound::BoundCol;
+use sql_tree::{Col, Query, TableRef};
+
+/// What the names of a query refer to. The checks and the binder are written over it; the object table is one case. No
+/// call allocates.
+pub trait Columns {
+    /// The columns, table names and qualifiers that the query may name.
+    ghost known: { Self → Known };
+
+    /// The largest size of a value of a column; 0 if it is unknown.
+    ghost size: { Self → Col → ℕ };
+
+    /// The column that a written one refers to; for an unknown one it is any column.
+    ghost means: { Self → Col → BoundCol };
+
+    /// Returns whether the column is known.
+    fn is_known(&self, col: &Col) -> bool
+        ensures { result ≡ (known self.now).column col.now };
+
+    /// Returns whether a table has the name.
+    fn is_table(&self, name: &[u8]) -> bool
+        ensures { result ≡ (known self.now).table name.now };
+
+    /// Returns whether a table of the query has the qualifier.
+    fn is_qualifier(&self, text: &[u8]) -> bool
+        ensures { result ≡ (known self.now).qualifier text.now };
+
+    /// Returns the largest size of a value of the column, and 0 for an unknown column.
+    fn size(&self, col: &Col) -> u128
+        ensures { result ≡ size self.now col.now };
+
+    /// Returns the column to which a written one refers.
+    fn column(&self, col: &Col) -> BoundCol
+        ensures { result ≡ means self.now col.now };
+}
 
 /// Returns the qualifier of a table's columns: its alias, or else its name.
 pub fn qualifier(table: &TableRef) -> &[u8]
@@ -32,7 +67,7 @@ fn has_qualifier(table: &TableRef, text: &[u8]) -> bool
 }
 
 /// Returns whether one of the query's tables has the qualifier.
-pub(crate) fn is_qualifier(query: &Query, text: &[u8]) -> bool
+pub fn is_qualifier(query: &Query, text: &[u8]) -> bool
     ensures { result ≡ is_qualifier (tables query.now) text.now }
 {
     if has_qualifier(&query.first, text) {
@@ -42,23 +77,6 @@ pub(crate) fn is_qualifier(query: &Query, text: &[u8]) -> bool
         Some(second) => has_qualifier(second, text),
         None => false,
     }
-}
-
-// Returns whether a qualifier, if one is written, is that of one of the query's tables.
-fn is_qualified_well(query: &Query, table: &Option<Name>) -> bool
-    ensures { result ≡ is_qualified_well (tables query.now) table.now }
-{
-    match table {
-        Some(name) => is_qualifier(query, name.text.as_slice()),
-        None => true,
-    }
-}
-
-/// Returns whether the column is one of the query's tables' and of the schema's.
-pub(crate) fn is_known(query: &Query, schema: &Schema, col: &Col) -> bool
-    ensures { result ≡ is_known schema.now (tables query.now) col.now }
-{
-    is_qualified_well(query, &col.table) && schema.column(col.name.text.as_slice()).is_some()
 }
 
 /// Returns whether both are the same column of a query over one table.

@@ -1,19 +1,18 @@
 //! The largest size of the numbers of an expression, if none can be above 2^100.
 ghost use Rattle.std.specs.Prelude.{◌≡◌, ◌+◌, ◌*◌, Some, map, nat_abs};
-ghost use Rattle.bind_rules.specs.Widths.{bound_by, is_too_wide, width_of};
-ghost use Rattle.table_rules.specs.Names.{column_of};
+ghost use Rattle.bind_rules.specs.Widths.{is_too_wide, width_of};
 ghost use Rattle.bind_checks.specs.Narrow.{atom_width, capped, factor_width, narrow, narrow_both, narrow_factor};
 ghost use Rattle.bind_checks.specs.Narrow.{narrow_from_left, narrow_signed, prod_width, signed_width};
 
-use sky_row::Schema;
+use crate::columns::Columns;
 use sky_vector::limits::NUMBER_MOST;
 use sql_tree::{Atom, Expr, Factor, Int, Prod, Signed};
 
 /// Returns whether some number of the expression may be above 2^100 in size.
-pub(crate) fn is_too_wide(schema: &Schema, e: &Expr) -> bool
-    ensures { result ≡ is_too_wide schema.now e.now }
+pub(crate) fn is_too_wide<C: Columns>(columns: &C, e: &Expr) -> bool
+    ensures { result ≡ is_too_wide (C.size columns.now) e.now }
 {
-    match narrow_expr(schema, e) {
+    match narrow_expr(columns, e) {
         Some(_) => false,
         None => true,
     }
@@ -21,24 +20,24 @@ pub(crate) fn is_too_wide(schema: &Schema, e: &Expr) -> bool
 
 // Returns the largest size of a number of the expression, if none can be above 2^100.
 #[cycle(narrow)]
-fn narrow_expr(schema: &Schema, e: &Expr) -> Option<u128>
-    ensures { result ≡ narrow (width_of schema.now e.now) }
+fn narrow_expr<C: Columns>(columns: &C, e: &Expr) -> Option<u128>
+    ensures { result ≡ narrow (width_of (C.size columns.now) e.now) }
 {
-    match narrow_prod(schema, &e.first) {
-        Some(width) => narrow_sum(schema, width, e.rest.as_slice()),
+    match narrow_prod(columns, &e.first) {
+        Some(width) => narrow_sum(columns, width, e.rest.as_slice()),
         None => None,
     }
 }
 
 // Adds the products of a sum after the first.
 #[cycle(narrow)]
-fn narrow_sum(schema: &Schema, first: u128, rest: &[Signed]) -> Option<u128>
+fn narrow_sum<C: Columns>(columns: &C, first: u128, rest: &[Signed]) -> Option<u128>
     ensures { result ≡
-        narrow_from_left (λ a b. a + b) (Some first) (map (narrow_signed schema.now) rest.now) }
+        narrow_from_left (λ a b. a + b) (Some first) (map (narrow_signed (C.size columns.now)) rest.now) }
 {
     let mut sum = first;
     for signed in rest {
-        match with_signed(schema, sum, signed) {
+        match with_signed(columns, sum, signed) {
             Some(width) => sum = width,
             None => return None,
         }
@@ -48,11 +47,11 @@ fn narrow_sum(schema: &Schema, first: u128, rest: &[Signed]) -> Option<u128>
 
 // Adds one such product.
 #[cycle(narrow)]
-fn with_signed(schema: &Schema, sum: u128, signed: &Signed) -> Option<u128>
+fn with_signed<C: Columns>(columns: &C, sum: u128, signed: &Signed) -> Option<u128>
     ensures { result ≡
-        narrow_both (λ a b. a + b) (Some sum) (narrow_signed schema.now signed.now) }
+        narrow_both (λ a b. a + b) (Some sum) (narrow_signed (C.size columns.now) signed.now) }
 {
-    match narrow_prod(schema, &signed.prod) {
+    match narrow_prod(columns, &signed.prod) {
         Some(width) => capped_sum(sum, width),
         None => None,
     }
@@ -60,24 +59,24 @@ fn with_signed(schema: &Schema, sum: u128, signed: &Signed) -> Option<u128>
 
 // Returns the largest size of a product.
 #[cycle(narrow)]
-fn narrow_prod(schema: &Schema, prod: &Prod) -> Option<u128>
-    ensures { result ≡ narrow (prod_width schema.now prod.now) }
+fn narrow_prod<C: Columns>(columns: &C, prod: &Prod) -> Option<u128>
+    ensures { result ≡ narrow (prod_width (C.size columns.now) prod.now) }
 {
-    match narrow_factor(schema, &prod.first) {
-        Some(width) => narrow_product(schema, width, prod.rest.as_slice()),
+    match narrow_factor(columns, &prod.first) {
+        Some(width) => narrow_product(columns, width, prod.rest.as_slice()),
         None => None,
     }
 }
 
 // Multiplies by the factors of a product after the first.
 #[cycle(narrow)]
-fn narrow_product(schema: &Schema, first: u128, rest: &[Factor]) -> Option<u128>
+fn narrow_product<C: Columns>(columns: &C, first: u128, rest: &[Factor]) -> Option<u128>
     ensures { result ≡
-        narrow_from_left (λ a b. a * b) (Some first) (map (narrow_factor schema.now) rest.now) }
+        narrow_from_left (λ a b. a * b) (Some first) (map (narrow_factor (C.size columns.now)) rest.now) }
 {
     let mut product = first;
     for factor in rest {
-        match with_factor(schema, product, factor) {
+        match with_factor(columns, product, factor) {
             Some(width) => product = width,
             None => return None,
         }
@@ -87,11 +86,11 @@ fn narrow_product(schema: &Schema, first: u128, rest: &[Factor]) -> Option<u128>
 
 // Multiplies by one such factor.
 #[cycle(narrow)]
-fn with_factor(schema: &Schema, product: u128, factor: &Factor) -> Option<u128>
+fn with_factor<C: Columns>(columns: &C, product: u128, factor: &Factor) -> Option<u128>
     ensures { result ≡
-        narrow_both (λ a b. a * b) (Some product) (narrow_factor schema.now factor.now) }
+        narrow_both (λ a b. a * b) (Some product) (narrow_factor (C.size columns.now) factor.now) }
 {
-    match narrow_factor(schema, factor) {
+    match narrow_factor(columns, factor) {
         Some(width) => capped_product(product, width),
         None => None,
     }
@@ -99,21 +98,21 @@ fn with_factor(schema: &Schema, product: u128, factor: &Factor) -> Option<u128>
 
 // Returns the largest size of a factor, whatever its sign.
 #[cycle(narrow)]
-fn narrow_factor(schema: &Schema, factor: &Factor) -> Option<u128>
-    ensures { result ≡ narrow_factor schema.now factor.now }
+fn narrow_factor<C: Columns>(columns: &C, factor: &Factor) -> Option<u128>
+    ensures { result ≡ narrow_factor (C.size columns.now) factor.now }
 {
-    narrow_atom(schema, &factor.atom)
+    narrow_atom(columns, &factor.atom)
 }
 
 // Returns the largest size of an int, a column, or an expression in brackets.
 #[cycle(narrow)]
-fn narrow_atom(schema: &Schema, atom: &Atom) -> Option<u128>
-    ensures { result ≡ narrow (atom_width schema.now atom.now) }
+fn narrow_atom<C: Columns>(columns: &C, atom: &Atom) -> Option<u128>
+    ensures { result ≡ narrow (atom_width (C.size columns.now) atom.now) }
 {
     match atom {
         Atom::Int(n) => capped(size_of(n)),
-        Atom::Col(col) => capped(bound_of(schema, col.name.text.as_slice())),
-        Atom::Bracket(e) => narrow_expr(schema, e.get()),
+        Atom::Col(col) => capped(columns.size(col)),
+        Atom::Bracket(e) => narrow_expr(columns, e.get()),
     }
 }
 
@@ -122,16 +121,6 @@ fn size_of(n: &Int) -> u128
     ensures { result ≡ nat_abs n.now }
 {
     u128::from(n.get().unsigned_abs())
-}
-
-// Returns the largest size of a value in the column, and 0 if there is no column of that name.
-fn bound_of(schema: &Schema, name: &[u8]) -> u128
-    ensures { result ≡ bound_by (column_of schema.now name.now) }
-{
-    match schema.column(name) {
-        Some(col) => schema.bound(col).unsigned_abs(),
-        None => 0,
-    }
 }
 
 // Returns the number, if it is at most 2^100.

@@ -145,8 +145,8 @@ fn pairs_both(query: &Query, a: &Option<Name>, b: &Option<Name>) -> bool
     }
 }
 
-// Returns whether there is no chord test.
-fn has_no_chord(query: &Query) -> bool
+/// Returns whether the query has no chord test. Does not allocate.
+pub fn has_no_chord(query: &Query) -> bool
     ensures { result ≡ list_all (λ c. false) (chords_of query.now) }
 {
     let mut any = AnyChord { is_there: false };

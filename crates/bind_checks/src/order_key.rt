@@ -4,14 +4,13 @@ ghost use Rattle.std.specs.List.{position};
 ghost use Rattle.std.specs.Option.{is_some, option_map};
 ghost use Rattle.bind_rules.specs.declared.fault.BindFault.TheVariants.{OrderName};
 ghost use Rattle.sql_tree.specs.Spans.{col_span};
-ghost use Rattle.bind_rules.specs.Checks.{alias_place, is_named, is_sortable, order_fault, order_name};
+ghost use Rattle.bind_rules.specs.Checks.{alias_place, is_named, is_sortable, order_by, order_fault};
 ghost use Rattle.bind_rules.specs.Columns.{is_join};
 ghost use Rattle.bind_rules.specs.Mentions.{items_of};
 ghost use Rattle.bind_rules.specs.Names.{is_grouped, is_key};
 
-use crate::columns::{is_join, is_known};
+use crate::columns::{Columns, is_join};
 use crate::grouping::{is_grouped, is_key};
-use sky_row::Schema;
 use sql_token::Span;
 use sql_tree::{Col, Item, ItemList, Name, OrderBy, Query, Selection};
 
@@ -80,17 +79,18 @@ fn is_settled(query: &Query, col: &Col) -> bool
 }
 
 // Returns whether the key is a column to order by.
-fn is_sortable(query: &Query, schema: &Schema, col: &Col) -> bool
-    ensures { result ≡ is_sortable schema.now query.now col.now }
+fn is_sortable<C: Columns>(query: &Query, columns: &C, col: &Col) -> bool
+    ensures { result ≡ is_sortable (C.known columns.now).column query.now col.now }
 {
-    is_known(query, schema, col) && is_told(query, col) && is_settled(query, col)
+    columns.is_known(col) && is_told(query, col) && is_settled(query, col)
 }
 
 // Returns the span of the key, if it is neither an alias nor a column to order by.
-fn bad_key(query: &Query, schema: &Schema, order: &OrderBy) -> Option<Span>
-    ensures { option_map OrderName result ≡ order_fault schema.now query.now (Some order.now) }
+fn bad_key<C: Columns>(query: &Query, columns: &C, order: &OrderBy) -> Option<Span>
+    ensures { option_map OrderName result
+        ≡ order_fault (C.known columns.now).column query.now (Some order.now) }
 {
-    if alias_place(query, &order.key).is_some() || is_sortable(query, schema, &order.key) {
+    if alias_place(query, &order.key).is_some() || is_sortable(query, columns, &order.key) {
         None
     } else {
         Some(order.key.span())
@@ -98,12 +98,12 @@ fn bad_key(query: &Query, schema: &Schema, order: &OrderBy) -> Option<Span>
 }
 
 /// Returns the span of the order key, if it is neither an alias nor a column to order by. Does not allocate.
-#[tactic(auto, unfolding(bind_rules::specs::Checks::order_name))]
-pub(crate) fn bad_order_key(query: &Query, schema: &Schema) -> Option<Span>
-    ensures { option_map OrderName result ≡ order_name schema.now query.now }
+#[tactic(auto, unfolding(bind_rules::specs::Checks::order_by))]
+pub(crate) fn bad_order_key<C: Columns>(query: &Query, columns: &C) -> Option<Span>
+    ensures { option_map OrderName result ≡ order_by (C.known columns.now) query.now }
 {
     match &query.order {
-        Some(order) => bad_key(query, schema, order),
+        Some(order) => bad_key(query, columns, order),
         None => None,
     }
 }

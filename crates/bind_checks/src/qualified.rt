@@ -44,7 +44,7 @@ fn are_cols_qualified(cols: &[Col]) -> bool
 
 /// Returns whether each column of a query, except the order key, has a qualifier. Does not allocate.
 #[tactic(auto, using(crate::proofs::QualifiedLaws::query_qualified))]
-pub(crate) fn is_query_qualified(query: &Query) -> bool
+pub fn is_query_qualified(query: &Query) -> bool
     ensures { result ≡ list_all (λ c. is_some c.table) (columns_in query.now) }
 {
     !is_in_query(&Bare, query) && are_cols_qualified(query.group.as_slice())

@@ -1,40 +1,37 @@
 //! The unknown columns of an expression.
 ghost use Rattle.std.specs.Prelude.{◌≡◌, map, not};
-ghost use Rattle.bind_rules.specs.Columns.{is_known, tables};
 ghost use Rattle.bind_rules.specs.Mentions.{Column, mentioned};
 ghost use Rattle.bind_checks.specs.Unknowns.{unknown_at};
 
 use crate::column_search::{ColumnTest, first_column, first_of_columns};
-use crate::columns::is_known;
-use sky_row::Schema;
+use crate::columns::Columns;
 use sql_token::Span;
-use sql_tree::{Col, Expr, Query};
+use sql_tree::{Col, Expr};
 
-// The test of a column that it is none of the query's tables', or none of the schema's.
+// The test of a column that it is unknown.
 #[derive(Drop)]
-struct Unknown<'a> {
-    query: &'a Query,
-    schema: &'a Schema,
+struct Unknown<'a, C> {
+    columns: &'a C,
 }
 
-impl ColumnTest for Unknown<'_> {
-    ghost passes = { λ test col. not (is_known test.schema.now (tables test.query.now) col) };
+impl<'a, C: Columns> ColumnTest for Unknown<'a, C> {
+    ghost passes = { λ test col. not ((C.known test.columns.now).column col) };
 
     fn passes(&self, col: &Col) -> bool {
-        !is_known(self.query, self.schema, col)
+        !self.columns.is_known(col)
     }
 }
 
 /// Returns the span of the first unknown column of an expression.
-pub(crate) fn unknown_in_expr(query: &Query, schema: &Schema, e: &Expr) -> Option<Span>
-    ensures { result ≡ unknown_at schema.now query.now (mentioned e.now) }
+pub(crate) fn unknown_in_expr<C: Columns>(columns: &C, e: &Expr) -> Option<Span>
+    ensures { result ≡ unknown_at (C.known columns.now) (mentioned e.now) }
 {
-    first_column(&Unknown { query, schema }, e)
+    first_column(&Unknown { columns }, e)
 }
 
 /// Returns the span of the first unknown one of these columns.
-pub(crate) fn unknown_in_columns(query: &Query, schema: &Schema, cols: &[Col]) -> Option<Span>
-    ensures { result ≡ unknown_at schema.now query.now (map Column cols.now) }
+pub(crate) fn unknown_in_columns<C: Columns>(columns: &C, cols: &[Col]) -> Option<Span>
+    ensures { result ≡ unknown_at (C.known columns.now) (map Column cols.now) }
 {
-    first_of_columns(&Unknown { query, schema }, cols)
+    first_of_columns(&Unknown { columns }, cols)
 }

@@ -19,7 +19,7 @@ use Rattle.value_rules.specs.Values.{Pick}
 use Rattle.bind_rules.specs.declared.fault.BindFault.TheVariants as fault
 use Rattle.bind_rules.specs.Binding.{chord_limit, first_or, bound_query}
 use Rattle.bind_rules.specs.BoundWhere.{within_limit, is_chord, is_plain, WhereHoldsAsBound, ConjunctsAreBound}
-use Rattle.bind_rules.specs.Bounds.{Scope}
+use Rattle.bind_rules.specs.Bounds.{Meaning, Scope, object_columns}
 use Rattle.bind_rules.specs.Columns.{is_join}
 use Rattle.bind_rules.specs.Conjuncts.{conjuncts, where_conjuncts}
 use Rattle.bind_rules.specs.Forms.{ChordAt, chord_by, chords_of, names_both, pairs_both, is_join_form, join_form}
@@ -88,32 +88,32 @@ good_tests names q f =
     (in_parts IsTop chord_at (tests_in q.cond) (faultless_chords names q f).1))
 
 -- each conjunct becomes a condition, or is a chord test
-all_kept : (s : Scope) (w : Option Cond) → Each IsGood (tests_in w) → Each (Kept s) (where_conjuncts w)
-all_kept s None h = tt
-all_kept s (Some c) h = by_two View (λ n. Each IsGood (found_in n)) (Kept s) (conjunct_kept s) (conjuncts c) (views c) (in_parts IsGood found_in (conjuncts c) h)
+all_kept : (means : Meaning) (w : Option Cond) → Each IsGood (tests_in w) → Each (Kept means) (where_conjuncts w)
+all_kept means None h = tt
+all_kept means (Some c) h = by_two View (λ n. Each IsGood (found_in n)) (Kept means) (conjunct_kept means) (conjuncts c) (views c) (in_parts IsGood found_in (conjuncts c) h)
 
 -- ---- the conditions are those of the conjuncts, in their order
 
-one_bound : (s : Scope) (n : Neg) (ns : List Neg) → Kept s n → map Some (flat_map (bound_conjunct s) ns) ≡ map (bound_cond s) (filter is_plain ns) → map Some (flat_map (bound_conjunct s) (n ∷ ns)) ≡ map (bound_cond s) (filter is_plain (n ∷ ns))
-one_bound s n ns (AsCondition c is free) h =
-    ap (λ w. map Some (option_to_list w ++ flat_map (bound_conjunct s) ns)) is ∙ ap (λ ws. Some c ∷ ws) h
-    ∙ sym (ap (λ b. map (bound_cond s) (cond (not b) (n ∷ filter is_plain ns) (filter is_plain ns))) free ∙ ap (λ w. w ∷ map (bound_cond s) (filter is_plain ns)) is)
-one_bound s n ns (AsLimit left right strict n' is) h =
-    ap (λ w. map Some (option_to_list w ++ flat_map (bound_conjunct s) ns)) (chord_is_left_out s n left right strict n' is) ∙ h
-    ∙ sym (ap (λ ts. map (bound_cond s) (cond (not (list_any is_chord ts)) (n ∷ filter is_plain ns) (filter is_plain ns))) (chord_is_tested n left right strict n' is))
+one_bound : (means : Meaning) (n : Neg) (ns : List Neg) → Kept means n → map Some (flat_map (bound_conjunct means) ns) ≡ map (bound_cond means) (filter is_plain ns) → map Some (flat_map (bound_conjunct means) (n ∷ ns)) ≡ map (bound_cond means) (filter is_plain (n ∷ ns))
+one_bound means n ns (AsCondition c is free) h =
+    ap (λ w. map Some (option_to_list w ++ flat_map (bound_conjunct means) ns)) is ∙ ap (λ ws. Some c ∷ ws) h
+    ∙ sym (ap (λ b. map (bound_cond means) (cond (not b) (n ∷ filter is_plain ns) (filter is_plain ns))) free ∙ ap (λ w. w ∷ map (bound_cond means) (filter is_plain ns)) is)
+one_bound means n ns (AsLimit left right strict n' is) h =
+    ap (λ w. map Some (option_to_list w ++ flat_map (bound_conjunct means) ns)) (chord_is_left_out means n left right strict n' is) ∙ h
+    ∙ sym (ap (λ ts. map (bound_cond means) (cond (not (list_any is_chord ts)) (n ∷ filter is_plain ns) (filter is_plain ns))) (chord_is_tested n left right strict n' is))
 
-all_bound : (s : Scope) (ns : List Neg) → Each (Kept s) ns → map Some (flat_map (bound_conjunct s) ns) ≡ map (bound_cond s) (filter is_plain ns)
-all_bound s [] h = refl
-all_bound s (n ∷ ns) h = one_bound s n ns h.0 (all_bound s ns h.1)
+all_bound : (means : Meaning) (ns : List Neg) → Each (Kept means) ns → map Some (flat_map (bound_conjunct means) ns) ≡ map (bound_cond means) (filter is_plain ns)
+all_bound means [] h = refl
+all_bound means (n ∷ ns) h = one_bound means n ns h.0 (all_bound means ns h.1)
 
-query_is_bound : (names : List (List ℕ)) (q : Query) → Faultless names q → map Some (bound_query (scope_of names q) q).conds ≡ map (bound_cond (scope_of names q)) (filter is_plain (where_conjuncts q.cond))
+query_is_bound : (names : List (List ℕ)) (q : Query) → Faultless names q → map Some (bound_query (scope_of names q) q).conds ≡ map (bound_cond (object_columns names q)) (filter is_plain (where_conjuncts q.cond))
 unfolding bound_query
-query_is_bound names q f = all_bound (scope_of names q) (where_conjuncts q.cond) (all_kept (scope_of names q) q.cond (good_tests names q f))
+query_is_bound names q f = all_bound (object_columns names q) (where_conjuncts q.cond) (all_kept (object_columns names q) q.cond (good_tests names q f))
 
 pub conjuncts_are_bound : ConjunctsAreBound
 conjuncts_are_bound names q b h =
     let two = binds names q b h in
-    subst (λ x. map Some x.conds ≡ map (bound_cond (scope_of names q)) (filter is_plain (where_conjuncts q.cond))) two.1 (query_is_bound names q two.0)
+    subst (λ x. map Some x.conds ≡ map (bound_cond (object_columns names q)) (filter is_plain (where_conjuncts q.cond))) two.1 (query_is_bound names q two.0)
 
 -- ---- a conjunct says what its condition or its chord test says
 
@@ -122,8 +122,8 @@ abbrev chord_holds : Pick → Test → Bool
 chord_holds p (Chord left right strict n) = is_true (chord_truth p strict n)
 chord_holds p t = true
 
-abbrev Said : Scope → Pick → Neg → Type 0
-Said s p n = is_true (conjunct_truth s p n) ≡ (meets (bound_conjunct s n) p && list_all (chord_holds p) (test_of n))
+abbrev Said : Meaning → Pick → Neg → Type 0
+Said means p n = is_true (conjunct_truth means p n) ≡ (meets (bound_conjunct means n) p && list_all (chord_holds p) (test_of n))
 
 other_holds : (p : Pick) (t : Test) → is_chord t ≡ false → chord_holds p t ≡ true
 other_holds p (Area kind span args) h = refl
@@ -135,13 +135,13 @@ others_hold : (p : Pick) (ts : Tests) → list_any is_chord ts ≡ false → lis
 others_hold p ts h =
     all_pass (chord_holds p) ts (weaker (λ t. is_chord t ≡ false) (λ t. chord_holds p t ≡ true) (other_holds p) ts (none_passes is_chord ts h))
 
-said : (s : Scope) (p : Pick) (n : Neg) → Kept s n → Said s p n
-said s p n (AsCondition c is free) =
-    ap is_true (sym (bound_conjuncts_say_the_same s p n c is)) ∙ and_true (holds c p) ∙ and_true (holds c p && true)
+said : (means : Meaning) (p : Pick) (n : Neg) → Kept means n → Said means p n
+said means p n (AsCondition c is free) =
+    ap is_true (sym (bound_conjuncts_say_the_same means p n c is)) ∙ and_true (holds c p) ∙ and_true (holds c p && true)
     ∙ sym (ap (λ w. (meets (option_to_list w) p && list_all (chord_holds p) (test_of n))) is ∙ ap (λ b. (meets (c ∷ []) p && b)) (others_hold p (test_of n) free))
-said s p n (AsLimit left right strict n' is) =
-    ap is_true (ap (conjunct_truth s p) is ∙ chord_conjunct s p left right strict n') ∙ and_true (is_true (chord_truth p strict n'))
-    ∙ sym (ap (λ w. (meets (option_to_list w) p && list_all (chord_holds p) (test_of n))) (chord_is_left_out s n left right strict n' is) ∙ ap (list_all (chord_holds p)) (chord_is_tested n left right strict n' is))
+said means p n (AsLimit left right strict n' is) =
+    ap is_true (ap (conjunct_truth means p) is ∙ chord_conjunct means p left right strict n') ∙ and_true (is_true (chord_truth p strict n'))
+    ∙ sym (ap (λ w. (meets (option_to_list w) p && list_all (chord_holds p) (test_of n))) (chord_is_left_out means n left right strict n' is) ∙ ap (list_all (chord_holds p)) (chord_is_tested n left right strict n' is))
 
 exchanged : (a b c d : Bool) → ((a && b) && (c && d)) ≡ ((a && c) && (b && d))
 exchanged true true c d = refl
@@ -149,14 +149,14 @@ exchanged true false true d = refl
 exchanged true false false d = refl
 exchanged false b c d = refl
 
-all_said : (s : Scope) (p : Pick) (ns : List Neg) → Each (Said s p) ns → list_all (λ n. is_true (conjunct_truth s p n)) ns ≡ (meets (flat_map (bound_conjunct s) ns) p && list_all (chord_holds p) (flat_map test_of ns))
-all_said s p [] h = refl
-all_said s p (n ∷ ns) h =
-    ap (λ b. (b && list_all (λ n. is_true (conjunct_truth s p n)) ns)) h.0
-    ∙ ap (λ b. ((meets (bound_conjunct s n) p && list_all (chord_holds p) (test_of n)) && b)) (all_said s p ns h.1)
-    ∙ exchanged (meets (bound_conjunct s n) p) (list_all (chord_holds p) (test_of n)) (meets (flat_map (bound_conjunct s) ns) p) (list_all (chord_holds p) (flat_map test_of ns))
-    ∙ sym (ap (λ b. (b && list_all (chord_holds p) (test_of n ++ flat_map test_of ns))) (all_append (λ c. holds c p) (bound_conjunct s n) (flat_map (bound_conjunct s) ns))
-    ∙ ap (λ b. ((meets (bound_conjunct s n) p && meets (flat_map (bound_conjunct s) ns) p) && b)) (all_append (chord_holds p) (test_of n) (flat_map test_of ns)))
+all_said : (means : Meaning) (p : Pick) (ns : List Neg) → Each (Said means p) ns → list_all (λ n. is_true (conjunct_truth means p n)) ns ≡ (meets (flat_map (bound_conjunct means) ns) p && list_all (chord_holds p) (flat_map test_of ns))
+all_said means p [] h = refl
+all_said means p (n ∷ ns) h =
+    ap (λ b. (b && list_all (λ n. is_true (conjunct_truth means p n)) ns)) h.0
+    ∙ ap (λ b. ((meets (bound_conjunct means n) p && list_all (chord_holds p) (test_of n)) && b)) (all_said means p ns h.1)
+    ∙ exchanged (meets (bound_conjunct means n) p) (list_all (chord_holds p) (test_of n)) (meets (flat_map (bound_conjunct means) ns) p) (list_all (chord_holds p) (flat_map test_of ns))
+    ∙ sym (ap (λ b. (b && list_all (chord_holds p) (test_of n ++ flat_map test_of ns))) (all_append (λ c. holds c p) (bound_conjunct means n) (flat_map (bound_conjunct means) ns))
+    ∙ ap (λ b. ((meets (bound_conjunct means n) p && meets (flat_map (bound_conjunct means) ns) p) && b)) (all_append (chord_holds p) (test_of n) (flat_map test_of ns)))
 
 -- ---- the chord test is the limit
 
@@ -247,14 +247,14 @@ limit_said s q p false false h = none_near p (flat_map chord_limit (top_tests q.
 
 -- ---- the law
 
-query_holds : (names : List (List ℕ)) (q : Query) (p : Pick) → Faultless names q → where_holds (scope_of names q) p q.cond ≡ (meets (bound_query (scope_of names q) q).conds p && within_limit (bound_query (scope_of names q) q).shape p)
+query_holds : (names : List (List ℕ)) (q : Query) (p : Pick) → Faultless names q → where_holds (object_columns names q) p q.cond ≡ (meets (bound_query (scope_of names q) q).conds p && within_limit (bound_query (scope_of names q) q).shape p)
 unfolding bound_query
 query_holds names q p f =
-    where_is_its_conjuncts (scope_of names q) p q.cond
-    ∙ all_said (scope_of names q) p (where_conjuncts q.cond) (weaker (Kept (scope_of names q)) (Said (scope_of names q) p) (said (scope_of names q) p) (where_conjuncts q.cond) (all_kept (scope_of names q) q.cond (good_tests names q f)))
-    ∙ ap (λ b. (meets (conds_in (scope_of names q) q.cond) p && b)) (all_near p (top_tests q.cond) ∙ limit_said (scope_of names q) q p (is_join q) (is_grouped q) (limits_asked names q f))
+    where_is_its_conjuncts (object_columns names q) p q.cond
+    ∙ all_said (object_columns names q) p (where_conjuncts q.cond) (weaker (Kept (object_columns names q)) (Said (object_columns names q) p) (said (object_columns names q) p) (where_conjuncts q.cond) (all_kept (object_columns names q) q.cond (good_tests names q f)))
+    ∙ ap (λ b. (meets (conds_in (object_columns names q) q.cond) p && b)) (all_near p (top_tests q.cond) ∙ limit_said (scope_of names q) q p (is_join q) (is_grouped q) (limits_asked names q f))
 
 pub where_holds_as_bound : WhereHoldsAsBound
 where_holds_as_bound names q b p h =
     let two = binds names q b h in
-    subst (λ x. where_holds (scope_of names q) p q.cond ≡ (meets x.conds p && within_limit x.shape p)) two.1 (query_holds names q p two.0)
+    subst (λ x. where_holds (object_columns names q) p q.cond ≡ (meets x.conds p && within_limit x.shape p)) two.1 (query_holds names q p two.0)

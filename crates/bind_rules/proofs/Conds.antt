@@ -22,7 +22,7 @@ use Rattle.value_rules.specs.Sound.{is_sound_at, is_sound_formula}
 use Rattle.value_rules.specs.Terms.{term_of}
 use Rattle.value_rules.proofs.Parts.{formula_bracket, formula_compare, formula_between, formula_among, formula_null, formula_area, formula_cond_roll, formula_all_roll, formula_any_roll}
 use Rattle.bind_rules.specs.Areas.{area_test}
-use Rattle.bind_rules.specs.Bounds.{Scope, bound_expr}
+use Rattle.bind_rules.specs.Bounds.{Meaning, expr_by}
 use Rattle.bind_rules.specs.Conjuncts.{conjuncts}
 use Rattle.bind_rules.specs.Wholes.{area_pred, bracket, before, all_there, conj_by, any_by, neg_by, bound_pred, bound_any, bound_all, bound_cond, bound_conjunct}
 use Rattle.bind_rules.specs.Forms.{values_of, is_area_form}
@@ -41,8 +41,8 @@ use Rattle.bind_rules.proofs.Views.{View, views}
 -- ---- what is sound
 
 -- the expression is sound, bound
-abbrev pub IsSoundExpr : Scope → (BoundCol → Bool) → Expr → Type 0
-IsSoundExpr s allowed e = is_sound_at allowed (term_of (bound_expr s e)) ≡ true
+abbrev pub IsSoundExpr : Meaning → (BoundCol → Bool) → Expr → Type 0
+IsSoundExpr means allowed e = is_sound_at allowed (term_of (expr_by means e)) ≡ true
 
 -- the arguments of an area test fit its function
 abbrev pub HasForm : Test → Type 0
@@ -122,56 +122,56 @@ any_by_sound allowed (Some c) (Some cs) h k = rw (formula_any_roll (record { fir
 -- ---- the law
 
 -- the claim of a part: where its expressions are sound and its area tests fit, what it is bound to is sound
-abbrev Claim : {A : Type 0} → Scope → (BoundCol → Bool) → (A → Formula) → Exprs → Tests → Option A → Type 0
-Claim s allowed formula exprs tests w = Each (IsSoundExpr s allowed) exprs → Each HasForm tests → IsSoundWhole allowed formula w
+abbrev Claim : {A : Type 0} → Meaning → (BoundCol → Bool) → (A → Formula) → Exprs → Tests → Option A → Type 0
+Claim means allowed formula exprs tests w = Each (IsSoundExpr means allowed) exprs → Each HasForm tests → IsSoundWhole allowed formula w
 
-claim_as : {A : Type 0} (s : Scope) (allowed : BoundCol → Bool) (formula : A → Formula) (es es' : Exprs) (ts ts' : Tests) (w w' : Option A) → es ≡ es' → ts ≡ ts' → w ≡ w' → Claim s allowed formula es' ts' w' → Claim s allowed formula es ts w
-claim_as s allowed formula es es' ts ts' w w' p q r h =
-    subst (λ x. Claim s allowed formula x ts w) (sym p) (subst (λ x. Claim s allowed formula es' x w) (sym q) (subst (λ x. Claim s allowed formula es' ts' x) (sym r) h))
+claim_as : {A : Type 0} (means : Meaning) (allowed : BoundCol → Bool) (formula : A → Formula) (es es' : Exprs) (ts ts' : Tests) (w w' : Option A) → es ≡ es' → ts ≡ ts' → w ≡ w' → Claim means allowed formula es' ts' w' → Claim means allowed formula es ts w
+claim_as means allowed formula es es' ts ts' w w' p q r h =
+    subst (λ x. Claim means allowed formula x ts w) (sym p) (subst (λ x. Claim means allowed formula es' x w) (sym q) (subst (λ x. Claim means allowed formula es' ts' x) (sym r) h))
 
 -- the claims of the parts of a layer
-spread : {A X : Type 0} (s : Scope) (allowed : BoundCol → Bool) (formula : A → Formula) (exprs : X → Exprs) (tests : X → Tests) (whole : X → Option A) (xs : List X) → Each (λ x. Claim s allowed formula (exprs x) (tests x) (whole x)) xs → Each (IsSoundExpr s allowed) (joined (map exprs xs)) → Each HasForm (joined (map tests xs)) → Each (IsSoundWhole allowed formula) (map whole xs)
-spread s allowed formula exprs tests whole [] h e t = tt
-spread s allowed formula exprs tests whole (x ∷ xs) h e t = (
-  h.0 (front (IsSoundExpr s allowed) (exprs x) (joined (map exprs xs)) e) (front HasForm (tests x) (joined (map tests xs)) t),
-  spread s allowed formula exprs tests whole xs h.1 (back (IsSoundExpr s allowed) (exprs x) (joined (map exprs xs)) e) (back HasForm (tests x) (joined (map tests xs)) t),
+spread : {A X : Type 0} (means : Meaning) (allowed : BoundCol → Bool) (formula : A → Formula) (exprs : X → Exprs) (tests : X → Tests) (whole : X → Option A) (xs : List X) → Each (λ x. Claim means allowed formula (exprs x) (tests x) (whole x)) xs → Each (IsSoundExpr means allowed) (joined (map exprs xs)) → Each HasForm (joined (map tests xs)) → Each (IsSoundWhole allowed formula) (map whole xs)
+spread means allowed formula exprs tests whole [] h e t = tt
+spread means allowed formula exprs tests whole (x ∷ xs) h e t = (
+  h.0 (front (IsSoundExpr means allowed) (exprs x) (joined (map exprs xs)) e) (front HasForm (tests x) (joined (map tests xs)) t),
+  spread means allowed formula exprs tests whole xs h.1 (back (IsSoundExpr means allowed) (exprs x) (joined (map exprs xs)) e) (back HasForm (tests x) (joined (map tests xs)) t),
 )
 
 -- what a predicate with or without NOT is bound to is sound, where its expressions are and its area tests fit
-whole_sound : (s : Scope) (allowed : BoundCol → Bool) (n : Neg) → Claim s allowed formula_of (from_neg exprs_at_pred n) (from_neg within_pred n) (bound_cond s n)
-whole_sound s allowed = neg_induction
-    (λ p. Claim s allowed formula_of_pred (from_pred exprs_at_pred p) (from_pred within_pred p) (bound_pred s p))
-    (λ c. Claim s allowed formula_of_any (from_cond exprs_at_pred c) (from_cond within_pred c) (bound_any s c))
-    (λ c. Claim s allowed formula_of_all (from_conj exprs_at_pred c) (from_conj within_pred c) (bound_all s c))
-    (λ n. Claim s allowed formula_of (from_neg exprs_at_pred n) (from_neg within_pred n) (bound_cond s n))
-    (λ c h. claim_as s allowed formula_of_pred _ (from_cond exprs_at_pred c) _ (from_cond within_pred c) _ (bracket (bound_any s c)) (fold_group exprs_at_pred (λ c. c.first ++ joined c.rest) (λ c. c.first ++ joined c.rest) (λ n. n.pred) c) (fold_group within_pred (λ c. c.first ++ joined c.rest) (λ c. c.first ++ joined c.rest) (λ n. n.pred) c) (bound_group s c) (λ e t. bracket_sound allowed (bound_any s c) (h e t)))
-    (λ left op right. claim_as s allowed formula_of_pred _ (left ∷ (right ∷ [])) _ (within_pred (Pred-F.Compare left op right)) _ (Some (bound.Compare (bound_expr s left) op (bound_expr s right))) (fold_compare exprs_at_pred (λ c. c.first ++ joined c.rest) (λ c. c.first ++ joined c.rest) (λ n. n.pred) left op right) (fold_compare within_pred (λ c. c.first ++ joined c.rest) (λ c. c.first ++ joined c.rest) (λ n. n.pred) left op right) (bound_compare s left op right) (λ h k. rw (formula_compare (bound_expr s left) op (bound_expr s right)) (two_true _ _ h.0 h.1.0)))
-    (λ without value low high. claim_as s allowed formula_of_pred _ (value ∷ (low ∷ (high ∷ []))) _ [] _ (Some (bound.Between without (bound_expr s value) (bound_expr s low) (bound_expr s high))) (fold_between exprs_at_pred (λ c. c.first ++ joined c.rest) (λ c. c.first ++ joined c.rest) (λ n. n.pred) without value low high) (fold_between within_pred (λ c. c.first ++ joined c.rest) (λ c. c.first ++ joined c.rest) (λ n. n.pred) without value low high) (bound_between s without value low high) (λ h k. rw (formula_between without (bound_expr s value) (bound_expr s low) (bound_expr s high)) (negated_sound allowed without _ (two_true _ _ (two_true _ _ h.1.0 h.0) (two_true _ _ h.0 h.1.1.0)))))
-    (λ without value list. claim_as s allowed formula_of_pred _ (value ∷ []) _ (within_pred (Pred-F.Among without value list)) _ (Some (bound.Among without (bound_expr s value) (values_of list))) (fold_among exprs_at_pred (λ c. c.first ++ joined c.rest) (λ c. c.first ++ joined c.rest) (λ n. n.pred) without value list) (fold_among within_pred (λ c. c.first ++ joined c.rest) (λ c. c.first ++ joined c.rest) (λ n. n.pred) without value list) (bound_among s without value list) (λ h k. rw (formula_among without (bound_expr s value) (values_of list)) (negated_sound allowed without _ h.0)))
-    (λ without value. claim_as s allowed formula_of_pred _ (value ∷ []) _ [] _ (Some (bound.IsNull without (bound_expr s value))) (fold_null exprs_at_pred (λ c. c.first ++ joined c.rest) (λ c. c.first ++ joined c.rest) (λ n. n.pred) without value) (fold_null within_pred (λ c. c.first ++ joined c.rest) (λ c. c.first ++ joined c.rest) (λ n. n.pred) without value) (bound_null s without value) (λ h k. rw (formula_null without (bound_expr s value)) (negated_sound allowed without _ h.0)))
-    (λ kind span args. claim_as s allowed formula_of_pred _ [] _ (Area kind span args ∷ []) _ (area_pred (area_test kind (values_of args))) (fold_area exprs_at_pred (λ c. c.first ++ joined c.rest) (λ c. c.first ++ joined c.rest) (λ n. n.pred) kind span args) (fold_area within_pred (λ c. c.first ++ joined c.rest) (λ c. c.first ++ joined c.rest) (λ n. n.pred) kind span args) (bound_area s kind span args) (λ h k. area_pred_sound allowed (area_test kind (values_of args)) (area_sound kind (values_of args))))
-    (λ left right strict n. claim_as s allowed formula_of_pred _ [] _ (Chord left right strict n ∷ []) _ None (fold_chord exprs_at_pred (λ c. c.first ++ joined c.rest) (λ c. c.first ++ joined c.rest) (λ n. n.pred) left right strict n) (fold_chord within_pred (λ c. c.first ++ joined c.rest) (λ c. c.first ++ joined c.rest) (λ n. n.pred) left right strict n) (bound_chord s left right strict n) (λ h k. tt))
-    (λ x h. claim_as s allowed formula_of _ (from_pred exprs_at_pred x.pred) _ (from_pred within_pred x.pred) _ (neg_by x.not (bound_pred s x.pred)) (fold-roll-Neg Exprs Exprs Exprs Exprs exprs_at_pred (λ c. c.first ++ joined c.rest) (λ c. c.first ++ joined c.rest) (λ n. n.pred) x) (fold-roll-Neg Tests Tests Tests Tests within_pred (λ c. c.first ++ joined c.rest) (λ c. c.first ++ joined c.rest) (λ n. n.pred) x) (bound_neg_roll s x) (λ e t. neg_sound allowed x.not (bound_pred s x.pred) (h e t)))
-    (λ x h k. claim_as s allowed formula_of_all _ (from_neg exprs_at_pred x.first ++ joined (map (from_neg exprs_at_pred) x.rest)) _ (from_neg within_pred x.first ++ joined (map (from_neg within_pred) x.rest)) _ (conj_by (bound_cond s x.first) (all_there (map (bound_cond s) x.rest))) (fold-roll-Conj Exprs Exprs Exprs Exprs exprs_at_pred (λ c. c.first ++ joined c.rest) (λ c. c.first ++ joined c.rest) (λ n. n.pred) x) (fold-roll-Conj Tests Tests Tests Tests within_pred (λ c. c.first ++ joined c.rest) (λ c. c.first ++ joined c.rest) (λ n. n.pred) x) (bound_conj_roll s x)
-    (λ e t. conj_sound allowed (bound_cond s x.first) (all_there (map (bound_cond s) x.rest))
-    (h (front (IsSoundExpr s allowed) (from_neg exprs_at_pred x.first) (joined (map (from_neg exprs_at_pred) x.rest)) e) (front HasForm (from_neg within_pred x.first) (joined (map (from_neg within_pred) x.rest)) t))
-    (there_sound allowed formula_of (map (bound_cond s) x.rest) (spread s allowed formula_of (from_neg exprs_at_pred) (from_neg within_pred) (bound_cond s) x.rest k (back (IsSoundExpr s allowed) (from_neg exprs_at_pred x.first) (joined (map (from_neg exprs_at_pred) x.rest)) e) (back HasForm (from_neg within_pred x.first) (joined (map (from_neg within_pred) x.rest)) t)))))
-    (λ x h k. claim_as s allowed formula_of_any _ (from_conj exprs_at_pred x.first ++ joined (map (from_conj exprs_at_pred) x.rest)) _ (from_conj within_pred x.first ++ joined (map (from_conj within_pred) x.rest)) _ (any_by (bound_all s x.first) (all_there (map (bound_all s) x.rest))) (fold-roll-Cond Exprs Exprs Exprs Exprs exprs_at_pred (λ c. c.first ++ joined c.rest) (λ c. c.first ++ joined c.rest) (λ n. n.pred) x) (fold-roll-Cond Tests Tests Tests Tests within_pred (λ c. c.first ++ joined c.rest) (λ c. c.first ++ joined c.rest) (λ n. n.pred) x) (bound_cond_roll s x)
-    (λ e t. any_by_sound allowed (bound_all s x.first) (all_there (map (bound_all s) x.rest))
-    (h (front (IsSoundExpr s allowed) (from_conj exprs_at_pred x.first) (joined (map (from_conj exprs_at_pred) x.rest)) e) (front HasForm (from_conj within_pred x.first) (joined (map (from_conj within_pred) x.rest)) t))
-    (there_sound allowed formula_of_all (map (bound_all s) x.rest) (spread s allowed formula_of_all (from_conj exprs_at_pred) (from_conj within_pred) (bound_all s) x.rest k (back (IsSoundExpr s allowed) (from_conj exprs_at_pred x.first) (joined (map (from_conj exprs_at_pred) x.rest)) e) (back HasForm (from_conj within_pred x.first) (joined (map (from_conj within_pred) x.rest)) t)))))
+whole_sound : (means : Meaning) (allowed : BoundCol → Bool) (n : Neg) → Claim means allowed formula_of (from_neg exprs_at_pred n) (from_neg within_pred n) (bound_cond means n)
+whole_sound means allowed = neg_induction
+    (λ p. Claim means allowed formula_of_pred (from_pred exprs_at_pred p) (from_pred within_pred p) (bound_pred means p))
+    (λ c. Claim means allowed formula_of_any (from_cond exprs_at_pred c) (from_cond within_pred c) (bound_any means c))
+    (λ c. Claim means allowed formula_of_all (from_conj exprs_at_pred c) (from_conj within_pred c) (bound_all means c))
+    (λ n. Claim means allowed formula_of (from_neg exprs_at_pred n) (from_neg within_pred n) (bound_cond means n))
+    (λ c h. claim_as means allowed formula_of_pred _ (from_cond exprs_at_pred c) _ (from_cond within_pred c) _ (bracket (bound_any means c)) (fold_group exprs_at_pred (λ c. c.first ++ joined c.rest) (λ c. c.first ++ joined c.rest) (λ n. n.pred) c) (fold_group within_pred (λ c. c.first ++ joined c.rest) (λ c. c.first ++ joined c.rest) (λ n. n.pred) c) (bound_group means c) (λ e t. bracket_sound allowed (bound_any means c) (h e t)))
+    (λ left op right. claim_as means allowed formula_of_pred _ (left ∷ (right ∷ [])) _ (within_pred (Pred-F.Compare left op right)) _ (Some (bound.Compare (expr_by means left) op (expr_by means right))) (fold_compare exprs_at_pred (λ c. c.first ++ joined c.rest) (λ c. c.first ++ joined c.rest) (λ n. n.pred) left op right) (fold_compare within_pred (λ c. c.first ++ joined c.rest) (λ c. c.first ++ joined c.rest) (λ n. n.pred) left op right) (bound_compare means left op right) (λ h k. rw (formula_compare (expr_by means left) op (expr_by means right)) (two_true _ _ h.0 h.1.0)))
+    (λ without value low high. claim_as means allowed formula_of_pred _ (value ∷ (low ∷ (high ∷ []))) _ [] _ (Some (bound.Between without (expr_by means value) (expr_by means low) (expr_by means high))) (fold_between exprs_at_pred (λ c. c.first ++ joined c.rest) (λ c. c.first ++ joined c.rest) (λ n. n.pred) without value low high) (fold_between within_pred (λ c. c.first ++ joined c.rest) (λ c. c.first ++ joined c.rest) (λ n. n.pred) without value low high) (bound_between means without value low high) (λ h k. rw (formula_between without (expr_by means value) (expr_by means low) (expr_by means high)) (negated_sound allowed without _ (two_true _ _ (two_true _ _ h.1.0 h.0) (two_true _ _ h.0 h.1.1.0)))))
+    (λ without value list. claim_as means allowed formula_of_pred _ (value ∷ []) _ (within_pred (Pred-F.Among without value list)) _ (Some (bound.Among without (expr_by means value) (values_of list))) (fold_among exprs_at_pred (λ c. c.first ++ joined c.rest) (λ c. c.first ++ joined c.rest) (λ n. n.pred) without value list) (fold_among within_pred (λ c. c.first ++ joined c.rest) (λ c. c.first ++ joined c.rest) (λ n. n.pred) without value list) (bound_among means without value list) (λ h k. rw (formula_among without (expr_by means value) (values_of list)) (negated_sound allowed without _ h.0)))
+    (λ without value. claim_as means allowed formula_of_pred _ (value ∷ []) _ [] _ (Some (bound.IsNull without (expr_by means value))) (fold_null exprs_at_pred (λ c. c.first ++ joined c.rest) (λ c. c.first ++ joined c.rest) (λ n. n.pred) without value) (fold_null within_pred (λ c. c.first ++ joined c.rest) (λ c. c.first ++ joined c.rest) (λ n. n.pred) without value) (bound_null means without value) (λ h k. rw (formula_null without (expr_by means value)) (negated_sound allowed without _ h.0)))
+    (λ kind span args. claim_as means allowed formula_of_pred _ [] _ (Area kind span args ∷ []) _ (area_pred (area_test kind (values_of args))) (fold_area exprs_at_pred (λ c. c.first ++ joined c.rest) (λ c. c.first ++ joined c.rest) (λ n. n.pred) kind span args) (fold_area within_pred (λ c. c.first ++ joined c.rest) (λ c. c.first ++ joined c.rest) (λ n. n.pred) kind span args) (bound_area means kind span args) (λ h k. area_pred_sound allowed (area_test kind (values_of args)) (area_sound kind (values_of args))))
+    (λ left right strict n. claim_as means allowed formula_of_pred _ [] _ (Chord left right strict n ∷ []) _ None (fold_chord exprs_at_pred (λ c. c.first ++ joined c.rest) (λ c. c.first ++ joined c.rest) (λ n. n.pred) left right strict n) (fold_chord within_pred (λ c. c.first ++ joined c.rest) (λ c. c.first ++ joined c.rest) (λ n. n.pred) left right strict n) (bound_chord means left right strict n) (λ h k. tt))
+    (λ x h. claim_as means allowed formula_of _ (from_pred exprs_at_pred x.pred) _ (from_pred within_pred x.pred) _ (neg_by x.not (bound_pred means x.pred)) (fold-roll-Neg Exprs Exprs Exprs Exprs exprs_at_pred (λ c. c.first ++ joined c.rest) (λ c. c.first ++ joined c.rest) (λ n. n.pred) x) (fold-roll-Neg Tests Tests Tests Tests within_pred (λ c. c.first ++ joined c.rest) (λ c. c.first ++ joined c.rest) (λ n. n.pred) x) (bound_neg_roll means x) (λ e t. neg_sound allowed x.not (bound_pred means x.pred) (h e t)))
+    (λ x h k. claim_as means allowed formula_of_all _ (from_neg exprs_at_pred x.first ++ joined (map (from_neg exprs_at_pred) x.rest)) _ (from_neg within_pred x.first ++ joined (map (from_neg within_pred) x.rest)) _ (conj_by (bound_cond means x.first) (all_there (map (bound_cond means) x.rest))) (fold-roll-Conj Exprs Exprs Exprs Exprs exprs_at_pred (λ c. c.first ++ joined c.rest) (λ c. c.first ++ joined c.rest) (λ n. n.pred) x) (fold-roll-Conj Tests Tests Tests Tests within_pred (λ c. c.first ++ joined c.rest) (λ c. c.first ++ joined c.rest) (λ n. n.pred) x) (bound_conj_roll means x)
+    (λ e t. conj_sound allowed (bound_cond means x.first) (all_there (map (bound_cond means) x.rest))
+    (h (front (IsSoundExpr means allowed) (from_neg exprs_at_pred x.first) (joined (map (from_neg exprs_at_pred) x.rest)) e) (front HasForm (from_neg within_pred x.first) (joined (map (from_neg within_pred) x.rest)) t))
+    (there_sound allowed formula_of (map (bound_cond means) x.rest) (spread means allowed formula_of (from_neg exprs_at_pred) (from_neg within_pred) (bound_cond means) x.rest k (back (IsSoundExpr means allowed) (from_neg exprs_at_pred x.first) (joined (map (from_neg exprs_at_pred) x.rest)) e) (back HasForm (from_neg within_pred x.first) (joined (map (from_neg within_pred) x.rest)) t)))))
+    (λ x h k. claim_as means allowed formula_of_any _ (from_conj exprs_at_pred x.first ++ joined (map (from_conj exprs_at_pred) x.rest)) _ (from_conj within_pred x.first ++ joined (map (from_conj within_pred) x.rest)) _ (any_by (bound_all means x.first) (all_there (map (bound_all means) x.rest))) (fold-roll-Cond Exprs Exprs Exprs Exprs exprs_at_pred (λ c. c.first ++ joined c.rest) (λ c. c.first ++ joined c.rest) (λ n. n.pred) x) (fold-roll-Cond Tests Tests Tests Tests within_pred (λ c. c.first ++ joined c.rest) (λ c. c.first ++ joined c.rest) (λ n. n.pred) x) (bound_cond_roll means x)
+    (λ e t. any_by_sound allowed (bound_all means x.first) (all_there (map (bound_all means) x.rest))
+    (h (front (IsSoundExpr means allowed) (from_conj exprs_at_pred x.first) (joined (map (from_conj exprs_at_pred) x.rest)) e) (front HasForm (from_conj within_pred x.first) (joined (map (from_conj within_pred) x.rest)) t))
+    (there_sound allowed formula_of_all (map (bound_all means) x.rest) (spread means allowed formula_of_all (from_conj exprs_at_pred) (from_conj within_pred) (bound_all means) x.rest k (back (IsSoundExpr means allowed) (from_conj exprs_at_pred x.first) (joined (map (from_conj exprs_at_pred) x.rest)) e) (back HasForm (from_conj within_pred x.first) (joined (map (from_conj within_pred) x.rest)) t)))))
 
 -- a conjunct is sound
-conjunct_sound : (s : Scope) (allowed : BoundCol → Bool) (n : Neg) → View n → Each (IsSoundExpr s allowed) (from_neg exprs_at_pred n) → Each FoundForm (found_in n) → Each (IsSoundCond allowed) (bound_conjunct s n)
+conjunct_sound : (means : Meaning) (allowed : BoundCol → Bool) (n : Neg) → View n → Each (IsSoundExpr means allowed) (from_neg exprs_at_pred n) → Each FoundForm (found_in n) → Each (IsSoundCond allowed) (bound_conjunct means n)
 unfolding within
-conjunct_sound s allowed n v e f = listed_sound allowed (bound_cond s n) (whole_sound s allowed n e (in_found HasForm n v f))
+conjunct_sound means allowed n v e f = listed_sound allowed (bound_cond means n) (whole_sound means allowed n e (in_found HasForm n v f))
 
 -- the conjuncts of a condition are sound, where its expressions are and its area tests fit
-pub conjuncts_sound : (s : Scope) (allowed : BoundCol → Bool) (c : Cond) → Each (IsSoundExpr s allowed) (exprs_of c) → Each FoundForm (flat_map found_in (conjuncts c)) → Each (IsSoundCond allowed) (flat_map (bound_conjunct s) (conjuncts c))
+pub conjuncts_sound : (means : Meaning) (allowed : BoundCol → Bool) (c : Cond) → Each (IsSoundExpr means allowed) (exprs_of c) → Each FoundForm (flat_map found_in (conjuncts c)) → Each (IsSoundCond allowed) (flat_map (bound_conjunct means) (conjuncts c))
 unfolding exprs_of
-conjuncts_sound s allowed c e f =
-    let exprs = in_parts (IsSoundExpr s allowed) (from_neg exprs_at_pred) (conjuncts c) (subst (Each (IsSoundExpr s allowed)) (from_conjuncts exprs_at_pred (λ c. refl) c) e) in
-    of_parts (IsSoundCond allowed) (bound_conjunct s) (conjuncts c)
-    (by_two (λ n. Each FoundForm (found_in n)) (λ n. View n × Each (IsSoundExpr s allowed) (from_neg exprs_at_pred n)) (λ n. Each (IsSoundCond allowed) (bound_conjunct s n)) (λ n f' two. conjunct_sound s allowed n two.0 two.1 f') (conjuncts c)
+conjuncts_sound means allowed c e f =
+    let exprs = in_parts (IsSoundExpr means allowed) (from_neg exprs_at_pred) (conjuncts c) (subst (Each (IsSoundExpr means allowed)) (from_conjuncts exprs_at_pred (λ c. refl) c) e) in
+    of_parts (IsSoundCond allowed) (bound_conjunct means) (conjuncts c)
+    (by_two (λ n. Each FoundForm (found_in n)) (λ n. View n × Each (IsSoundExpr means allowed) (from_neg exprs_at_pred n)) (λ n. Each (IsSoundCond allowed) (bound_conjunct means n)) (λ n f' two. conjunct_sound means allowed n two.0 two.1 f') (conjuncts c)
     (in_parts FoundForm found_in (conjuncts c) f)
-    (by_two View (λ n. Each (IsSoundExpr s allowed) (from_neg exprs_at_pred n)) (λ n. View n × Each (IsSoundExpr s allowed) (from_neg exprs_at_pred n)) (λ n v e'. (v, e')) (conjuncts c) (views c) exprs))
+    (by_two View (λ n. Each (IsSoundExpr means allowed) (from_neg exprs_at_pred n)) (λ n. View n × Each (IsSoundExpr means allowed) (from_neg exprs_at_pred n)) (λ n v e'. (v, e')) (conjuncts c) (views c) exprs))

@@ -15,13 +15,13 @@ use Rattle.bind_rules.specs.declared.fault.BindFault.TheVariants as fault
 use Rattle.table_rules.specs.Names.{column_of}
 use Rattle.bind_rules.specs.Binding.{by_fault, bound_query, bound_of}
 use Rattle.bind_rules.specs.Bounds.{Scope}
-use Rattle.bind_rules.specs.Checks.{too_wide, order_name, bind_fault}
+use Rattle.bind_rules.specs.Checks.{too_wide, too_wide_by, order_name, bind_fault, fault_by}
 use Rattle.bind_rules.specs.Columns.{tables, is_known, is_qualified_well}
 use Rattle.bind_rules.specs.Forms.{join_form, area_form, bad_area, first_of, is_area_form, values_of}
 use Rattle.bind_rules.specs.Mentions.{Mention, Column, Table, Mentions, columns_of, mentioned, item_exprs, mentions_of_where, mentions_of}
-use Rattle.bind_rules.specs.Names.{is_unknown, span_of, unknown_name, not_grouped}
+use Rattle.bind_rules.specs.Names.{known_names, is_unknown, span_of, unknown_by, unknown_name, not_grouped}
 use Rattle.bind_rules.specs.Tops.{Test, Area, Chord, Equals, Listed, Found, tests_in}
-use Rattle.bind_rules.specs.Widths.{is_too_wide, exprs_in, all_exprs}
+use Rattle.bind_rules.specs.Widths.{column_size, is_too_wide, exprs_in, all_exprs}
 use Rattle.bind_rules.proofs.Conds.{HasForm}
 use Rattle.bind_rules.proofs.Each.{front, back, both, weaker, in_parts, unmapped, none_found, none_passes}
 use Rattle.bind_rules.proofs.Exprs.{IsThere}
@@ -45,7 +45,7 @@ or_none None b h = (refl, h)
 or_none (Some f) b h = absurd cc
 
 faultless : (names : List (List ℕ)) (q : Query) → bind_fault names q ≡ None → Faultless names q
-unfolding bind_fault
+unfolding fault_by
 faultless names q h =
     let a = or_none (unknown_name names q) _ h in
     let b = or_none (not_grouped q) _ a.1 in
@@ -71,11 +71,11 @@ mapped_none f (Some x) h = absurd cc
 -- ---- names
 
 abbrev pub IsKnown : List (List ℕ) → Query → Mention → Type 0
-IsKnown names q m = is_unknown names (tables q) m ≡ false
+IsKnown names q m = is_unknown (known_names names q) m ≡ false
 
 pub known : (names : List (List ℕ)) (q : Query) → Faultless names q → Each (IsKnown names q) (mentions_of q)
-unfolding unknown_name
-known names q f = none_found (is_unknown names (tables q)) (mentions_of q) (mapped_none (λ m. fault.UnknownName (span_of m)) (find (is_unknown names (tables q)) (mentions_of q)) f.unknown)
+unfolding unknown_by
+known names q f = none_found (is_unknown (known_names names q)) (mentions_of q) (mapped_none (λ m. fault.UnknownName (span_of m)) (find (is_unknown (known_names names q)) (mentions_of q)) f.unknown)
 
 not_false : (b : Bool) → not b ≡ false → b ≡ true
 not_false true h = refl
@@ -125,9 +125,9 @@ if_none true x h = absurd cc
 if_none false x h = refl
 
 -- no expression is too wide
-pub narrow : (names : List (List ℕ)) (q : Query) → Faultless names q → Each (λ e. is_too_wide names e ≡ false) (all_exprs q)
-unfolding too_wide
-narrow names q f = none_passes (is_too_wide names) (all_exprs q) (if_none (list_any (is_too_wide names) (all_exprs q)) fault.TooWide f.wide)
+pub narrow : (names : List (List ℕ)) (q : Query) → Faultless names q → Each (λ e. is_too_wide (column_size names) e ≡ false) (all_exprs q)
+unfolding too_wide_by
+narrow names q f = none_passes (is_too_wide (column_size names)) (all_exprs q) (if_none (list_any (is_too_wide (column_size names)) (all_exprs q)) fault.TooWide f.wide)
 
 -- ---- area tests
 

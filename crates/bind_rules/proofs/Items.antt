@@ -19,7 +19,7 @@ use Rattle.value_rules.specs.Sound.{has_col, is_plain_col, is_sound_item, is_sou
 use Rattle.value_rules.proofs.Parts.{term_col, term_factor_roll, term_prod_roll, term_expr_roll}
 use Rattle.value_rules.specs.Terms.{Column, term_of}
 use Rattle.bind_rules.specs.Binding.{just_column, columns_from, star_items, bound_item, bound_items, chord_limit, first_or, bound_shape}
-use Rattle.bind_rules.specs.Bounds.{Scope, bound_col}
+use Rattle.bind_rules.specs.Bounds.{object_columns, Scope, bound_col}
 use Rattle.bind_rules.specs.Columns.{is_join}
 use Rattle.bind_rules.specs.Mentions.{items_of, expr_of, item_exprs}
 use Rattle.bind_rules.specs.Names.{is_aggregate, has_keys, is_grouped, plain_columns, is_key, ungrouped}
@@ -72,7 +72,7 @@ star_of_rows names =
     refl
 
 -- an item that is no aggregate
-plain_item : (s : Scope) (columns : ℕ) (kind : Shape) (w : ItemKind) → is_aggregate w ≡ false → Each (IsSoundExpr s (is_plain_col columns kind)) (expr_of w) → is_sound_item columns kind (bound_item s w) ≡ true
+plain_item : (s : Scope) (columns : ℕ) (kind : Shape) (w : ItemKind) → is_aggregate w ≡ false → Each (IsSoundExpr (bound_col s) (is_plain_col columns kind)) (expr_of w) → is_sound_item columns kind (bound_item s w) ≡ true
 plain_item s columns kind (what.Plain e) h k = k.0
 plain_item s columns kind what.Count h k = absurd cc
 plain_item s columns kind (what.CountOf e) h k = absurd cc
@@ -82,7 +82,7 @@ plain_item s columns kind (what.Max e) h k = absurd cc
 plain_item s columns kind (what.Avg e) h k = absurd cc
 
 -- an item of a grouping
-group_item : (s : Scope) (columns : ℕ) (keys : List BoundCol) (w : ItemKind) → Each (IsSoundExpr s (has_col columns false)) (expr_of w) → Each (λ c. is_plain_col columns (shape.Groups keys) (bound_col s c) ≡ true) (plain_columns w) → is_sound_item columns (shape.Groups keys) (bound_item s w) ≡ true
+group_item : (s : Scope) (columns : ℕ) (keys : List BoundCol) (w : ItemKind) → Each (IsSoundExpr (bound_col s) (has_col columns false)) (expr_of w) → Each (λ c. is_plain_col columns (shape.Groups keys) (bound_col s c) ≡ true) (plain_columns w) → is_sound_item columns (shape.Groups keys) (bound_item s w) ≡ true
 group_item s columns keys (what.Plain e) h k = sound_of_cols s (has_col columns false) (is_plain_col columns (shape.Groups keys)) e h.0 k
 group_item s columns keys what.Count h k = refl
 group_item s columns keys (what.CountOf e) h k = h.0
@@ -94,17 +94,17 @@ group_item s columns keys (what.Avg e) h k = h.0
 abbrev bound_list : Scope → List Item → List BoundItem
 bound_list s is = map (λ i. bound_item s i.what) is
 
-plain_items : (s : Scope) (columns : ℕ) (kind : Shape) (is : List Item) → Each (λ i. is_aggregate i.what ≡ false) is → Each (λ i. Each (IsSoundExpr s (is_plain_col columns kind)) (expr_of i.what)) is → list_all (is_sound_item columns kind) (bound_list s is) ≡ true
+plain_items : (s : Scope) (columns : ℕ) (kind : Shape) (is : List Item) → Each (λ i. is_aggregate i.what ≡ false) is → Each (λ i. Each (IsSoundExpr (bound_col s) (is_plain_col columns kind)) (expr_of i.what)) is → list_all (is_sound_item columns kind) (bound_list s is) ≡ true
 plain_items s columns kind is h k =
     all_pass (is_sound_item columns kind) (bound_list s is)
     (mapped (λ x. is_sound_item columns kind x ≡ true) (λ i. bound_item s i.what) is
-    (by_two (λ i. is_aggregate i.what ≡ false) (λ i. Each (IsSoundExpr s (is_plain_col columns kind)) (expr_of i.what)) (λ i. is_sound_item columns kind (bound_item s i.what) ≡ true) (λ i a b. plain_item s columns kind i.what a b) is h k))
+    (by_two (λ i. is_aggregate i.what ≡ false) (λ i. Each (IsSoundExpr (bound_col s) (is_plain_col columns kind)) (expr_of i.what)) (λ i. is_sound_item columns kind (bound_item s i.what) ≡ true) (λ i a b. plain_item s columns kind i.what a b) is h k))
 
-group_items : (s : Scope) (columns : ℕ) (keys : List BoundCol) (is : List Item) → Each (λ i. Each (IsSoundExpr s (has_col columns false)) (expr_of i.what)) is → Each (λ i. Each (λ c. is_plain_col columns (shape.Groups keys) (bound_col s c) ≡ true) (plain_columns i.what)) is → list_all (is_sound_item columns (shape.Groups keys)) (bound_list s is) ≡ true
+group_items : (s : Scope) (columns : ℕ) (keys : List BoundCol) (is : List Item) → Each (λ i. Each (IsSoundExpr (bound_col s) (has_col columns false)) (expr_of i.what)) is → Each (λ i. Each (λ c. is_plain_col columns (shape.Groups keys) (bound_col s c) ≡ true) (plain_columns i.what)) is → list_all (is_sound_item columns (shape.Groups keys)) (bound_list s is) ≡ true
 group_items s columns keys is h k =
     all_pass (is_sound_item columns (shape.Groups keys)) (bound_list s is)
     (mapped (λ x. is_sound_item columns (shape.Groups keys) x ≡ true) (λ i. bound_item s i.what) is
-    (by_two (λ i. Each (IsSoundExpr s (has_col columns false)) (expr_of i.what)) (λ i. Each (λ c. is_plain_col columns (shape.Groups keys) (bound_col s c) ≡ true) (plain_columns i.what)) (λ i. is_sound_item columns (shape.Groups keys) (bound_item s i.what) ≡ true) (λ i a b. group_item s columns keys i.what a b) is h k))
+    (by_two (λ i. Each (IsSoundExpr (bound_col s) (has_col columns false)) (expr_of i.what)) (λ i. Each (λ c. is_plain_col columns (shape.Groups keys) (bound_col s c) ≡ true) (plain_columns i.what)) (λ i. is_sound_item columns (shape.Groups keys) (bound_item s i.what) ≡ true) (λ i a b. group_item s columns keys i.what a b) is h k))
 
 mapped_none : {X Y : Type 0} (f : X → Y) (x : Option X) → option_map f x ≡ None → x ≡ None
 mapped_none f None h = refl
@@ -123,16 +123,16 @@ told_columns names q is none h =
     (flat_map (λ i. plain_columns i.what) is) (none_found (λ c. not (is_key q c)) (flat_map (λ i. plain_columns i.what) is) h))
 
 -- the expressions of the items, allowed what a query of this shape is
-item_facts : (names : List (List ℕ)) (q : Query) (b : Bool) → Faultless names q → is_some q.second ≡ b → Each (λ i. Each (IsSoundExpr (scope_of names q) (has_col (count names) b)) (expr_of i.what)) (items_of q.items)
+item_facts : (names : List (List ℕ)) (q : Query) (b : Bool) → Faultless names q → is_some q.second ≡ b → Each (λ i. Each (IsSoundExpr (object_columns names q) (has_col (count names) b)) (expr_of i.what)) (items_of q.items)
 item_facts names q b f j =
-    subst (λ x. Each (λ i. Each (IsSoundExpr (scope_of names q) (has_col (count names) x)) (expr_of i.what)) (items_of q.items)) j
-    (in_parts (IsSoundExpr (scope_of names q) (has_col (count names) (is_some q.second))) (λ i. expr_of i.what) (items_of q.items)
-    (front (IsSoundExpr (scope_of names q) (has_col (count names) (is_some q.second))) (item_exprs q) (exprs_in q.cond) (exprs_sound names q f)))
+    subst (λ x. Each (λ i. Each (IsSoundExpr (object_columns names q) (has_col (count names) x)) (expr_of i.what)) (items_of q.items)) j
+    (in_parts (IsSoundExpr (object_columns names q) (has_col (count names) (is_some q.second))) (λ i. expr_of i.what) (items_of q.items)
+    (front (IsSoundExpr (object_columns names q) (has_col (count names) (is_some q.second))) (item_exprs q) (exprs_in q.cond) (exprs_sound names q f)))
 
 no_aggregate : (q : Query) → is_grouped q ≡ false → Each (λ i. is_aggregate i.what ≡ false) (items_of q.items)
 no_aggregate q g = none_passes (λ i. is_aggregate i.what) (items_of q.items) (neither (list_any (λ i. is_aggregate i.what) (items_of q.items)) (has_keys q.group) g).0
 
-items_by : (names : List (List ℕ)) (q : Query) (sel : Selection) (j g : Bool) → is_join q ≡ j → (j ≡ true → is_grouped q ≡ false) → is_grouped q ≡ g → (j ≡ false → g ≡ true → ungrouped q sel ≡ None) → (is_grouped q ≡ false → Each (λ i. is_aggregate i.what ≡ false) (items_of sel)) → Each (λ i. Each (IsSoundExpr (scope_of names q) (has_col (count names) j)) (expr_of i.what)) (items_of sel) → list_all (is_sound_item (count names) (shape_by (scope_of names q) q j g)) (bound_items (scope_of names q) q sel) ≡ true
+items_by : (names : List (List ℕ)) (q : Query) (sel : Selection) (j g : Bool) → is_join q ≡ j → (j ≡ true → is_grouped q ≡ false) → is_grouped q ≡ g → (j ≡ false → g ≡ true → ungrouped q sel ≡ None) → (is_grouped q ≡ false → Each (λ i. is_aggregate i.what ≡ false) (items_of sel)) → Each (λ i. Each (IsSoundExpr (object_columns names q) (has_col (count names) j)) (expr_of i.what)) (items_of sel) → list_all (is_sound_item (count names) (shape_by (scope_of names q) q j g)) (bound_items (scope_of names q) q sel) ≡ true
 items_by names q (selection.Star span) true g j p e u n k =
     subst (λ b. list_all (is_sound_item (count names) (shape_by (scope_of names q) q true g)) (star_items names b) ≡ true) (sym j) (star_of_pairs names (first_or (pos 0) (flat_map chord_limit (top_tests q.cond))))
 items_by names q (selection.Star span) false true j p e u n k = absurd (star_untold (u refl refl))

@@ -23,7 +23,7 @@ use Rattle.sql_tree.specs.declared.expr.Expr.{Expr}
 use Rattle.sql_tree.specs.declared.name.Name.{Name}
 use Rattle.bind_rules.specs.Areas.{area_test}
 use Rattle.bind_rules.specs.BoundWhere.{is_chord}
-use Rattle.bind_rules.specs.Bounds.{Scope, bound_expr}
+use Rattle.bind_rules.specs.Bounds.{Meaning, expr_by}
 use Rattle.bind_rules.specs.Conjuncts.{conjunct}
 use Rattle.bind_rules.specs.Forms.{values_of, is_area_form}
 use Rattle.text_rules.specs.Readings.{joined}
@@ -86,28 +86,28 @@ rest_there tests whole (x ∷ xs) h t =
     before_there (whole x) (all_there (map whole xs)) (h.0 (front HasPlace (tests x) (joined (map tests xs)) t))
     (rest_there tests whole xs h.1 (back HasPlace (tests x) (joined (map tests xs)) t))
 
-whole_there : (s : Scope) (n : Neg) → Claim (from_neg within_pred n) (bound_cond s n)
-whole_there s = neg_induction
-    (λ p. Claim (from_pred within_pred p) (bound_pred s p))
-    (λ c. Claim (from_cond within_pred c) (bound_any s c))
-    (λ c. Claim (from_conj within_pred c) (bound_all s c))
-    (λ n. Claim (from_neg within_pred n) (bound_cond s n))
-    (λ c h. claim_as _ (from_cond within_pred c) _ (bracket (bound_any s c)) (fold_group within_pred (λ c. c.first ++ joined c.rest) (λ c. c.first ++ joined c.rest) (λ n. n.pred) c) (bound_group s c) (λ t. bracket_there (bound_any s c) (h t)))
-    (λ left op right. claim_as _ (within_pred (Pred-F.Compare left op right)) _ (Some (bound.Compare (bound_expr s left) op (bound_expr s right))) (fold_compare within_pred (λ c. c.first ++ joined c.rest) (λ c. c.first ++ joined c.rest) (λ n. n.pred) left op right) (bound_compare s left op right) (λ t. refl))
-    (λ without value low high. claim_as _ [] _ (Some (bound.Between without (bound_expr s value) (bound_expr s low) (bound_expr s high))) (fold_between within_pred (λ c. c.first ++ joined c.rest) (λ c. c.first ++ joined c.rest) (λ n. n.pred) without value low high) (bound_between s without value low high) (λ t. refl))
-    (λ without value list. claim_as _ (within_pred (Pred-F.Among without value list)) _ (Some (bound.Among without (bound_expr s value) (values_of list))) (fold_among within_pred (λ c. c.first ++ joined c.rest) (λ c. c.first ++ joined c.rest) (λ n. n.pred) without value list) (bound_among s without value list) (λ t. refl))
-    (λ without value. claim_as _ [] _ (Some (bound.IsNull without (bound_expr s value))) (fold_null within_pred (λ c. c.first ++ joined c.rest) (λ c. c.first ++ joined c.rest) (λ n. n.pred) without value) (bound_null s without value) (λ t. refl))
-    (λ kind span args. claim_as _ (Area kind span args ∷ []) _ (area_pred (area_test kind (values_of args))) (fold_area within_pred (λ c. c.first ++ joined c.rest) (λ c. c.first ++ joined c.rest) (λ n. n.pred) kind span args) (bound_area s kind span args) (λ t. area_there (area_test kind (values_of args)) t.0))
-    (λ left right strict n. claim_as _ (Chord left right strict n ∷ []) _ None (fold_chord within_pred (λ c. c.first ++ joined c.rest) (λ c. c.first ++ joined c.rest) (λ n. n.pred) left right strict n) (bound_chord s left right strict n) (λ t. t.0))
-    (λ x h. claim_as _ (from_pred within_pred x.pred) _ (neg_by x.not (bound_pred s x.pred)) (fold-roll-Neg Tests Tests Tests Tests within_pred (λ c. c.first ++ joined c.rest) (λ c. c.first ++ joined c.rest) (λ n. n.pred) x) (bound_neg_roll s x) (λ t. neg_there x.not (bound_pred s x.pred) (h t)))
-    (λ x h k. claim_as _ (from_neg within_pred x.first ++ joined (map (from_neg within_pred) x.rest)) _ (conj_by (bound_cond s x.first) (all_there (map (bound_cond s) x.rest))) (fold-roll-Conj Tests Tests Tests Tests within_pred (λ c. c.first ++ joined c.rest) (λ c. c.first ++ joined c.rest) (λ n. n.pred) x) (bound_conj_roll s x)
-    (λ t. conj_there (bound_cond s x.first) (all_there (map (bound_cond s) x.rest))
+whole_there : (means : Meaning) (n : Neg) → Claim (from_neg within_pred n) (bound_cond means n)
+whole_there means = neg_induction
+    (λ p. Claim (from_pred within_pred p) (bound_pred means p))
+    (λ c. Claim (from_cond within_pred c) (bound_any means c))
+    (λ c. Claim (from_conj within_pred c) (bound_all means c))
+    (λ n. Claim (from_neg within_pred n) (bound_cond means n))
+    (λ c h. claim_as _ (from_cond within_pred c) _ (bracket (bound_any means c)) (fold_group within_pred (λ c. c.first ++ joined c.rest) (λ c. c.first ++ joined c.rest) (λ n. n.pred) c) (bound_group means c) (λ t. bracket_there (bound_any means c) (h t)))
+    (λ left op right. claim_as _ (within_pred (Pred-F.Compare left op right)) _ (Some (bound.Compare (expr_by means left) op (expr_by means right))) (fold_compare within_pred (λ c. c.first ++ joined c.rest) (λ c. c.first ++ joined c.rest) (λ n. n.pred) left op right) (bound_compare means left op right) (λ t. refl))
+    (λ without value low high. claim_as _ [] _ (Some (bound.Between without (expr_by means value) (expr_by means low) (expr_by means high))) (fold_between within_pred (λ c. c.first ++ joined c.rest) (λ c. c.first ++ joined c.rest) (λ n. n.pred) without value low high) (bound_between means without value low high) (λ t. refl))
+    (λ without value list. claim_as _ (within_pred (Pred-F.Among without value list)) _ (Some (bound.Among without (expr_by means value) (values_of list))) (fold_among within_pred (λ c. c.first ++ joined c.rest) (λ c. c.first ++ joined c.rest) (λ n. n.pred) without value list) (bound_among means without value list) (λ t. refl))
+    (λ without value. claim_as _ [] _ (Some (bound.IsNull without (expr_by means value))) (fold_null within_pred (λ c. c.first ++ joined c.rest) (λ c. c.first ++ joined c.rest) (λ n. n.pred) without value) (bound_null means without value) (λ t. refl))
+    (λ kind span args. claim_as _ (Area kind span args ∷ []) _ (area_pred (area_test kind (values_of args))) (fold_area within_pred (λ c. c.first ++ joined c.rest) (λ c. c.first ++ joined c.rest) (λ n. n.pred) kind span args) (bound_area means kind span args) (λ t. area_there (area_test kind (values_of args)) t.0))
+    (λ left right strict n. claim_as _ (Chord left right strict n ∷ []) _ None (fold_chord within_pred (λ c. c.first ++ joined c.rest) (λ c. c.first ++ joined c.rest) (λ n. n.pred) left right strict n) (bound_chord means left right strict n) (λ t. t.0))
+    (λ x h. claim_as _ (from_pred within_pred x.pred) _ (neg_by x.not (bound_pred means x.pred)) (fold-roll-Neg Tests Tests Tests Tests within_pred (λ c. c.first ++ joined c.rest) (λ c. c.first ++ joined c.rest) (λ n. n.pred) x) (bound_neg_roll means x) (λ t. neg_there x.not (bound_pred means x.pred) (h t)))
+    (λ x h k. claim_as _ (from_neg within_pred x.first ++ joined (map (from_neg within_pred) x.rest)) _ (conj_by (bound_cond means x.first) (all_there (map (bound_cond means) x.rest))) (fold-roll-Conj Tests Tests Tests Tests within_pred (λ c. c.first ++ joined c.rest) (λ c. c.first ++ joined c.rest) (λ n. n.pred) x) (bound_conj_roll means x)
+    (λ t. conj_there (bound_cond means x.first) (all_there (map (bound_cond means) x.rest))
     (h (front HasPlace (from_neg within_pred x.first) (joined (map (from_neg within_pred) x.rest)) t))
-    (rest_there (from_neg within_pred) (bound_cond s) x.rest k (back HasPlace (from_neg within_pred x.first) (joined (map (from_neg within_pred) x.rest)) t))))
-    (λ x h k. claim_as _ (from_conj within_pred x.first ++ joined (map (from_conj within_pred) x.rest)) _ (any_by (bound_all s x.first) (all_there (map (bound_all s) x.rest))) (fold-roll-Cond Tests Tests Tests Tests within_pred (λ c. c.first ++ joined c.rest) (λ c. c.first ++ joined c.rest) (λ n. n.pred) x) (bound_cond_roll s x)
-    (λ t. any_there (bound_all s x.first) (all_there (map (bound_all s) x.rest))
+    (rest_there (from_neg within_pred) (bound_cond means) x.rest k (back HasPlace (from_neg within_pred x.first) (joined (map (from_neg within_pred) x.rest)) t))))
+    (λ x h k. claim_as _ (from_conj within_pred x.first ++ joined (map (from_conj within_pred) x.rest)) _ (any_by (bound_all means x.first) (all_there (map (bound_all means) x.rest))) (fold-roll-Cond Tests Tests Tests Tests within_pred (λ c. c.first ++ joined c.rest) (λ c. c.first ++ joined c.rest) (λ n. n.pred) x) (bound_cond_roll means x)
+    (λ t. any_there (bound_all means x.first) (all_there (map (bound_all means) x.rest))
     (h (front HasPlace (from_conj within_pred x.first) (joined (map (from_conj within_pred) x.rest)) t))
-    (rest_there (from_conj within_pred) (bound_all s) x.rest k (back HasPlace (from_conj within_pred x.first) (joined (map (from_conj within_pred) x.rest)) t))))
+    (rest_there (from_conj within_pred) (bound_all means) x.rest k (back HasPlace (from_conj within_pred x.first) (joined (map (from_conj within_pred) x.rest)) t))))
 
 -- ---- the tests of a query that binds
 
@@ -134,25 +134,25 @@ inner_places [] h = tt
 inner_places (t ∷ ts) h = (place_of t h.0.0 h.0.1, inner_places ts h.1)
 
 -- a conjunct whose tests are not at the top
-inner_there : (s : Scope) (n : Neg) → View n → (ts : Tests) → found_in n ≡ map (found_at false) ts → Each IsGood (found_in n) → is_some (bound_cond s n) ≡ true
+inner_there : (means : Meaning) (n : Neg) → View n → (ts : Tests) → found_in n ≡ map (found_at false) ts → Each IsGood (found_in n) → is_some (bound_cond means n) ≡ true
 unfolding within
-inner_there s n v ts is h =
-    whole_there s n (in_found HasPlace n v (subst (Each FoundPlace) (sym is) (inner_places ts (subst (Each IsGood) is h))))
+inner_there means n v ts is h =
+    whole_there means n (in_found HasPlace n v (subst (Each FoundPlace) (sym is) (inner_places ts (subst (Each IsGood) is h))))
 
 -- ---- what becomes of a conjunct
 
 -- A conjunct becomes a condition, or it is a chord test.
-pub data Kept (s : Scope) (n : Neg) : Type 0 where
-  AsCondition : (c : BoundCond) → bound_cond s n ≡ Some c → list_any is_chord (test_of n) ≡ false → Kept s n
-  AsLimit : (left right : Name) (strict : Bool) (n' : ℤ) → n ≡ conjunct (pred.Chord left right strict n') → Kept s n
+pub data Kept (means : Meaning) (n : Neg) : Type 0 where
+  AsCondition : (c : BoundCond) → bound_cond means n ≡ Some c → list_any is_chord (test_of n) ≡ false → Kept means n
+  AsLimit : (left right : Name) (strict : Bool) (n' : ℤ) → n ≡ conjunct (pred.Chord left right strict n') → Kept means n
 
-kept_by : (s : Scope) (n : Neg) (w : Option BoundCond) (ts : Tests) → bound_cond s n ≡ w → is_some w ≡ true → test_of n ≡ ts → list_any is_chord ts ≡ false → Kept s n
-kept_by s n None ts is h tests free = absurd cc
-kept_by s n (Some c) ts is h tests free = AsCondition c is (ap (list_any is_chord) tests ∙ free)
+kept_by : (means : Meaning) (n : Neg) (w : Option BoundCond) (ts : Tests) → bound_cond means n ≡ w → is_some w ≡ true → test_of n ≡ ts → list_any is_chord ts ≡ false → Kept means n
+kept_by means n None ts is h tests free = absurd cc
+kept_by means n (Some c) ts is h tests free = AsCondition c is (ap (list_any is_chord) tests ∙ free)
 
-leaf_kept : (s : Scope) (n : Neg) (x : Pred) (w : Option BoundPred) (ts : Tests) → n ≡ conjunct x → bound_pred s x ≡ w → is_some w ≡ true → test_of (conjunct x) ≡ ts → list_any is_chord ts ≡ false → Kept s n
-leaf_kept s n x w ts is as_bound h tests free =
-    kept_by s n (neg_by false w) ts (ap (bound_cond s) is ∙ bound_neg_roll s (record { not = false; pred = x }) ∙ ap (neg_by false) as_bound) (neg_there false w h) (ap test_of is ∙ tests) free
+leaf_kept : (means : Meaning) (n : Neg) (x : Pred) (w : Option BoundPred) (ts : Tests) → n ≡ conjunct x → bound_pred means x ≡ w → is_some w ≡ true → test_of (conjunct x) ≡ ts → list_any is_chord ts ≡ false → Kept means n
+leaf_kept means n x w ts is as_bound h tests free =
+    kept_by means n (neg_by false w) ts (ap (bound_cond means) is ∙ bound_neg_roll means (record { not = false; pred = x }) ∙ ap (neg_by false) as_bound) (neg_there false w h) (ap test_of is ∙ tests) free
 
 compare_free : (left right : Expr) (op : Cmp) → list_any is_chord (leaf_test (Pred-F.Compare left op right)) ≡ false
 compare_free left right cmp.Equal = refl
@@ -169,31 +169,31 @@ among_free false value list = refl
 area_form_of : (kind : AreaKind) (span : Span) (args : IntList) → Each IsGood (map (found_at true) (leaf_test (Pred-F.Area kind span args))) → is_area_form kind (values_of args) ≡ true
 area_form_of kind span args h = h.0.0
 
-pub conjunct_kept : (s : Scope) (n : Neg) → View n → Each IsGood (found_in n) → Kept s n
-conjunct_kept s n (Negated x is) h =
-    kept_by s n (bound_cond s n) [] refl (inner_there s n (Negated x is) (from_pred within_pred x) (ap found_in is ∙ found_negated x) h) (ap test_of is ∙ negated_test x) refl
-conjunct_kept s n (Either first second rest is) h =
-    kept_by s n (bound_cond s n) [] refl
-    (inner_there s n (Either first second rest is) (from_cond within_pred (roll-Cond (record { first = first; rest = second ∷ rest }))) (ap found_in is ∙ found_group (roll-Cond (record { first = first; rest = second ∷ rest }))) h)
+pub conjunct_kept : (means : Meaning) (n : Neg) → View n → Each IsGood (found_in n) → Kept means n
+conjunct_kept means n (Negated x is) h =
+    kept_by means n (bound_cond means n) [] refl (inner_there means n (Negated x is) (from_pred within_pred x) (ap found_in is ∙ found_negated x) h) (ap test_of is ∙ negated_test x) refl
+conjunct_kept means n (Either first second rest is) h =
+    kept_by means n (bound_cond means n) [] refl
+    (inner_there means n (Either first second rest is) (from_cond within_pred (roll-Cond (record { first = first; rest = second ∷ rest }))) (ap found_in is ∙ found_group (roll-Cond (record { first = first; rest = second ∷ rest }))) h)
     (ap test_of is ∙ group_test (roll-Cond (record { first = first; rest = second ∷ rest }))) refl
-conjunct_kept s n (Compared left op right is) h =
-    leaf_kept s n (pred.Compare left op right) (Some (bound.Compare (bound_expr s left) op (bound_expr s right))) (leaf_test (Pred-F.Compare left op right)) is (bound_compare s left op right) refl (compare_test left op right) (compare_free left right op)
-conjunct_kept s n (IsBetween without value low high is) h =
-    leaf_kept s n (pred.Between without value low high) (Some (bound.Between without (bound_expr s value) (bound_expr s low) (bound_expr s high))) [] is (bound_between s without value low high) refl (between_test without value low high) refl
-conjunct_kept s n (IsAmong without value list is) h =
-    leaf_kept s n (pred.Among without value list) (Some (bound.Among without (bound_expr s value) (values_of list))) (leaf_test (Pred-F.Among without value list)) is (bound_among s without value list) refl (among_test without value list) (among_free without value list)
-conjunct_kept s n (Null without value is) h =
-    leaf_kept s n (pred.IsNull without value) (Some (bound.IsNull without (bound_expr s value))) [] is (bound_null s without value) refl (null_test without value) refl
-conjunct_kept s n (InArea kind span args is) h =
-    leaf_kept s n (pred.Area kind span args) (area_pred (area_test kind (values_of args))) (Area kind span args ∷ []) is (bound_area s kind span args)
+conjunct_kept means n (Compared left op right is) h =
+    leaf_kept means n (pred.Compare left op right) (Some (bound.Compare (expr_by means left) op (expr_by means right))) (leaf_test (Pred-F.Compare left op right)) is (bound_compare means left op right) refl (compare_test left op right) (compare_free left right op)
+conjunct_kept means n (IsBetween without value low high is) h =
+    leaf_kept means n (pred.Between without value low high) (Some (bound.Between without (expr_by means value) (expr_by means low) (expr_by means high))) [] is (bound_between means without value low high) refl (between_test without value low high) refl
+conjunct_kept means n (IsAmong without value list is) h =
+    leaf_kept means n (pred.Among without value list) (Some (bound.Among without (expr_by means value) (values_of list))) (leaf_test (Pred-F.Among without value list)) is (bound_among means without value list) refl (among_test without value list) (among_free without value list)
+conjunct_kept means n (Null without value is) h =
+    leaf_kept means n (pred.IsNull without value) (Some (bound.IsNull without (expr_by means value))) [] is (bound_null means without value) refl (null_test without value) refl
+conjunct_kept means n (InArea kind span args is) h =
+    leaf_kept means n (pred.Area kind span args) (area_pred (area_test kind (values_of args))) (Area kind span args ∷ []) is (bound_area means kind span args)
     (area_there (area_test kind (values_of args)) (area_form_of kind span args (subst (Each IsGood) (ap found_in is ∙ found_area kind span args) h)))
     (area_test_of kind span args) refl
-conjunct_kept s n (OfChord left right strict n' is) h = AsLimit left right strict n' is
+conjunct_kept means n (OfChord left right strict n' is) h = AsLimit left right strict n' is
 
 -- a conjunct that is a chord test has no condition
-pub chord_is_left_out : (s : Scope) (n : Neg) (left right : Name) (strict : Bool) (n' : ℤ) → n ≡ conjunct (pred.Chord left right strict n') → bound_cond s n ≡ None
-chord_is_left_out s n left right strict n' is =
-    ap (bound_cond s) is ∙ bound_neg_roll s (record { not = false; pred = pred.Chord left right strict n' }) ∙ ap (neg_by false) (bound_chord s left right strict n')
+pub chord_is_left_out : (means : Meaning) (n : Neg) (left right : Name) (strict : Bool) (n' : ℤ) → n ≡ conjunct (pred.Chord left right strict n') → bound_cond means n ≡ None
+chord_is_left_out means n left right strict n' is =
+    ap (bound_cond means) is ∙ bound_neg_roll means (record { not = false; pred = pred.Chord left right strict n' }) ∙ ap (neg_by false) (bound_chord means left right strict n')
 
 pub chord_is_tested : (n : Neg) (left right : Name) (strict : Bool) (n' : ℤ) → n ≡ conjunct (pred.Chord left right strict n') → test_of n ≡ Chord left right strict n' ∷ []
 chord_is_tested n left right strict n' is = ap test_of is ∙ chord_test left right strict n'

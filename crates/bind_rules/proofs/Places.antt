@@ -20,9 +20,9 @@ use Rattle.value_rules.specs.Widths.{widest_at, most}
 use Rattle.bind_rules.specs.Bounds.{Scope, is_second, column_number, bound_col, bound_expr}
 use Rattle.bind_rules.specs.Columns.{is_same_column}
 use Rattle.bind_rules.specs.Mentions.{columns_of}
-use Rattle.bind_rules.specs.Widths.{width_of, is_too_wide}
+use Rattle.bind_rules.specs.Widths.{column_size, width_of, is_too_wide}
 use Rattle.bind_rules.proofs.Each.{mapped, weaker, all_pass}
-use Rattle.bind_rules.proofs.Exprs.{IsThere, expr_agrees}
+use Rattle.bind_rules.proofs.Exprs.{IsThere, expr_agrees, there_sized}
 
 -- how many columns the schema has
 abbrev pub count : List (List ℕ) → ℕ
@@ -54,19 +54,19 @@ has_there names None c h = both_true _ _ (there_below names c.name.text h) refl
 has_there names (Some t) c h = both_true _ _ (there_below names c.name.text h) (or_second (is_second (Some t) c.table))
 
 -- an expression whose columns are there and which is not too wide is sound
-pub expr_sound : (names : List (List ℕ)) (o : Option TableRef) (e : Expr) → Each (IsThere (record { names = names; second = o })) (columns_of e) → is_too_wide names e ≡ false → is_sound_at (has_col (count names) (is_some o)) (term_of (bound_expr (record { names = names; second = o }) e)) ≡ true
+pub expr_sound : (names : List (List ℕ)) (o : Option TableRef) (e : Expr) → Each (IsThere (record { names = names; second = o })) (columns_of e) → is_too_wide (column_size names) e ≡ false → is_sound_at (has_col (count names) (is_some o)) (term_of (bound_expr (record { names = names; second = o }) e)) ≡ true
 expr_sound names o e there narrow =
     let s : Scope = record { names = names; second = o } in
-    let agrees = expr_agrees s e in
+    let agrees = expr_agrees (bound_col s) (column_size s.names) (IsThere s) (there_sized s) e in
     let cols = mapped (λ x. has_col (count names) (is_some o) x ≡ true) (bound_col s) (columns_of e) (weaker (IsThere s) (λ c. has_col (count names) (is_some o) (bound_col s c) ≡ true) (has_there names o) (columns_of e) there) in
     let cols' = subst (λ xs. Each (λ x. has_col (count names) (is_some o) x ≡ true) xs) (sym agrees.0) cols in
-    let wide : nat_le (widest_at (term_of (bound_expr s e))) most ≡ true = subst (λ n. nat_le n most ≡ true) (sym (agrees.1 there).1) (up_to_true most (width_of names e).widest narrow) in
+    let wide : nat_le (widest_at (term_of (bound_expr s e))) most ≡ true = subst (λ n. nat_le n most ≡ true) (sym (agrees.1 there).1) (up_to_true most (width_of (column_size names) e).widest narrow) in
     both_true _ _ (all_pass (has_col (count names) (is_some o)) (columns_at (term_of (bound_expr s e))) cols') wide
 
 -- with other columns allowed, where it has those alone
 pub sound_of_cols : (s : Scope) (old new : BoundCol → Bool) (e : Expr) → is_sound_at old (term_of (bound_expr s e)) ≡ true → Each (λ c. new (bound_col s c) ≡ true) (columns_of e) → is_sound_at new (term_of (bound_expr s e)) ≡ true
 sound_of_cols s old new e h k =
-    let cols = subst (λ xs. Each (λ x. new x ≡ true) xs) (sym (expr_agrees s e).0) (mapped (λ x. new x ≡ true) (bound_col s) (columns_of e) k) in
+    let cols = subst (λ xs. Each (λ x. new x ≡ true) xs) (sym (expr_agrees (bound_col s) (column_size s.names) (IsThere s) (there_sized s) e).0) (mapped (λ x. new x ≡ true) (bound_col s) (columns_of e) k) in
     both_true _ _ (all_pass new (columns_at (term_of (bound_expr s e))) cols) (and_parts (list_all old (columns_at (term_of (bound_expr s e)))) _ h).1
 
 -- ---- the keys of a grouping

@@ -14,14 +14,14 @@ use Rattle.sql_tree.specs.declared.query.TableRef.{TableRef}
 use Rattle.bind_rules.specs.declared.fault.BindFault.TheVariants as fault
 use Rattle.value_rules.specs.Sound.{has_col, is_sound_shape}
 use Rattle.bind_rules.specs.Binding.{chord_limit, first_or}
-use Rattle.bind_rules.specs.Bounds.{Scope, bound_col}
+use Rattle.bind_rules.specs.Bounds.{object_columns, Scope, bound_col}
 use Rattle.bind_rules.specs.Columns.{is_join}
 use Rattle.bind_rules.specs.Forms.{chords_of, pairs_both, is_join_form, join_form}
 use Rattle.bind_rules.specs.Laws.{HasCounts, is_count}
 use Rattle.bind_rules.specs.Mentions.{columns_of, columns_in}
 use Rattle.bind_rules.specs.Names.{is_grouped, ungrouped, not_grouped}
 use Rattle.bind_rules.specs.Tops.{Test, Area, Chord, Equals, Listed, tests_in, top_tests}
-use Rattle.bind_rules.specs.Widths.{is_too_wide, all_exprs}
+use Rattle.bind_rules.specs.Widths.{column_size, is_too_wide, all_exprs}
 use Rattle.bind_rules.proofs.Conds.{IsSoundExpr}
 use Rattle.bind_rules.proofs.Each.{mapped, weaker, by_two, of_parts, passed, all_pass}
 use Rattle.bind_rules.proofs.Exprs.{IsThere}
@@ -32,9 +32,9 @@ use Rattle.bind_rules.proofs.Places.{count, has_there, expr_sound}
 -- ---- expressions
 
 -- each expression of a query without a fault is sound
-pub exprs_sound : (names : List (List ℕ)) (q : Query) → Faultless names q → Each (IsSoundExpr (scope_of names q) (has_col (count names) (is_some q.second))) (all_exprs q)
+pub exprs_sound : (names : List (List ℕ)) (q : Query) → Faultless names q → Each (IsSoundExpr (object_columns names q) (has_col (count names) (is_some q.second))) (all_exprs q)
 exprs_sound names q f =
-    by_two (λ e. Each (IsThere (scope_of names q)) (columns_of e)) (λ e. is_too_wide names e ≡ false) (IsSoundExpr (scope_of names q) (has_col (count names) (is_some q.second)))
+    by_two (λ e. Each (IsThere (scope_of names q)) (columns_of e)) (λ e. is_too_wide (column_size names) e ≡ false) (IsSoundExpr (object_columns names q) (has_col (count names) (is_some q.second)))
     (λ e there thin. expr_sound names q.second e there thin) (all_exprs q) (exprs_there names q f) (narrow names q f)
 
 -- ---- the shape

@@ -24,8 +24,8 @@ use Rattle.bind_rules.specs.declared.fault.BindFault.TheVariants as fault
 use Rattle.value_rules.specs.Sound.{has_col, is_paired, is_plain_col, is_sound_cond, is_sound_area, is_sound_order, is_sound_key, IsSound}
 use Rattle.bind_rules.specs.Areas.{area_test}
 use Rattle.bind_rules.specs.Binding.{bound_item, bound_items, bound_shape, key_by, bound_order, bound_query}
-use Rattle.bind_rules.specs.Bounds.{Scope, bound_col}
-use Rattle.bind_rules.specs.Checks.{alias_place, is_named, is_sortable, order_fault, order_name}
+use Rattle.bind_rules.specs.Bounds.{Meaning, Scope, bound_col, object_columns}
+use Rattle.bind_rules.specs.Checks.{alias_place, is_named, is_sortable, order_by, order_fault}
 use Rattle.bind_rules.specs.Columns.{tables, is_join, is_known, is_qualified_well}
 use Rattle.bind_rules.specs.Forms.{values_of}
 use Rattle.bind_rules.specs.IdTests.{areas_by}
@@ -57,20 +57,20 @@ use Rattle.bind_rules.proofs.Items.{items_sound}
 forms : (q : Query) → Each IsTopArea (tests_in q.cond) → Each FoundForm (tests_in q.cond)
 forms q h = weaker IsTopArea FoundForm (λ t k. k.0) (tests_in q.cond) h
 
-where_sound : (s : Scope) (allowed : BoundCol → Bool) (c : Option Cond) → Each (IsSoundExpr s allowed) (exprs_in c) → Each FoundForm (tests_in c) → list_all (is_sound_cond allowed) (conds_in s c) ≡ true
-where_sound s allowed None h k = refl
-where_sound s allowed (Some c) h k = all_pass (is_sound_cond allowed) (conds_in s (Some c)) (conjuncts_sound s allowed c h k)
+where_sound : (means : Meaning) (allowed : BoundCol → Bool) (c : Option Cond) → Each (IsSoundExpr means allowed) (exprs_in c) → Each FoundForm (tests_in c) → list_all (is_sound_cond allowed) (conds_in means c) ≡ true
+where_sound means allowed None h k = refl
+where_sound means allowed (Some c) h k = all_pass (is_sound_cond allowed) (conds_in means (Some c)) (conjuncts_sound means allowed c h k)
 
 over_pairs : (s : Scope) (q : Query) (j g : Bool) → is_paired (shape_by s q j g) ≡ j
 over_pairs s q true g = refl
 over_pairs s q false true = refl
 over_pairs s q false false = refl
 
-conds_sound : (names : List (List ℕ)) (q : Query) → Faultless names q → list_all (is_sound_cond (has_col (count names) (is_paired (bound_shape (scope_of names q) q)))) (conds_in (scope_of names q) q.cond) ≡ true
+conds_sound : (names : List (List ℕ)) (q : Query) → Faultless names q → list_all (is_sound_cond (has_col (count names) (is_paired (bound_shape (scope_of names q) q)))) (conds_in (object_columns names q) q.cond) ≡ true
 conds_sound names q f =
-    let exprs = back (IsSoundExpr (scope_of names q) (has_col (count names) (is_some q.second))) (item_exprs q) (exprs_in q.cond) (exprs_sound names q f) in
-    subst (λ b. list_all (is_sound_cond (has_col (count names) b)) (conds_in (scope_of names q) q.cond) ≡ true) (sym (over_pairs (scope_of names q) q (is_join q) (is_grouped q)))
-    (where_sound (scope_of names q) (has_col (count names) (is_some q.second)) q.cond exprs (forms q (good_areas names q f)))
+    let exprs = back (IsSoundExpr (object_columns names q) (has_col (count names) (is_some q.second))) (item_exprs q) (exprs_in q.cond) (exprs_sound names q f) in
+    subst (λ b. list_all (is_sound_cond (has_col (count names) b)) (conds_in (object_columns names q) q.cond) ≡ true) (sym (over_pairs (scope_of names q) q (is_join q) (is_grouped q)))
+    (where_sound (object_columns names q) (has_col (count names) (is_some q.second)) q.cond exprs (forms q (good_areas names q f)))
 
 listed_areas : (t : Option AreaTest) → IfThere IsSoundArea t → Each IsSoundArea (option_to_list t)
 listed_areas None h = tt
@@ -120,7 +120,7 @@ grouped_key true k e h = h
 grouped_key false k e h = absurd cc
 
 -- a column to order by may stand outside an aggregate
-sort_column : (names : List (List ℕ)) (q : Query) (c : Col) (j g : Bool) → is_join q ≡ j → is_grouped q ≡ g → is_sortable names q c ≡ true → is_plain_col (count names) (shape_by (scope_of names q) q j g) (bound_col (scope_of names q) c) ≡ true
+sort_column : (names : List (List ℕ)) (q : Query) (c : Col) (j g : Bool) → is_join q ≡ j → is_grouped q ≡ g → is_sortable (is_known names (tables q)) q c ≡ true → is_plain_col (count names) (shape_by (scope_of names q) q j g) (bound_col (scope_of names q) c) ≡ true
 sort_column names q c true g j e h =
     let two = and_parts (is_known names (tables q) c && (not (is_join q) || is_some c.table)) (not (is_grouped q) || is_key q c) h in
     let known = (and_parts (is_known names (tables q) c) _ two.0).0 in
@@ -133,17 +133,17 @@ sort_column names q c false false j e h =
     let known = (and_parts (is_known names (tables q) c) _ two.0).0 in
     single_has names q.second c j (known_there names q c known)
 
-key_sound : (names : List (List ℕ)) (q : Query) (c : Col) (p : Option ℕ) → alias_place q c ≡ p → (is_some p || is_sortable names q c) ≡ true → is_sound_key (count names) (bound_query (scope_of names q) q) (key_by (scope_of names q) c p) ≡ true
+key_sound : (names : List (List ℕ)) (q : Query) (c : Col) (p : Option ℕ) → alias_place q c ≡ p → (is_some p || is_sortable (is_known names (tables q)) q c) ≡ true → is_sound_key (count names) (bound_query (scope_of names q) q) (key_by (scope_of names q) c p) ≡ true
 unfolding bound_query
 key_sound names q c (Some place) e h = place_below (scope_of names q) q c q.items place e
 key_sound names q c None e h = sort_column names q c (is_join q) (is_grouped q) refl refl h
 
-order_sound : (names : List (List ℕ)) (q : Query) (o : Option OrderBy) → order_fault names q o ≡ None → is_sound_order (count names) (bound_query (scope_of names q) q) (option_map (bound_order (scope_of names q) q) o) ≡ true
+order_sound : (names : List (List ℕ)) (q : Query) (o : Option OrderBy) → order_fault (is_known names (tables q)) q o ≡ None → is_sound_order (count names) (bound_query (scope_of names q) q) (option_map (bound_order (scope_of names q) q) o) ≡ true
 order_sound names q None h = refl
-order_sound names q (Some o) h = key_sound names q o.key (alias_place q o.key) refl (if_no_fault (is_some (alias_place q o.key) || is_sortable names q o.key) (fault.OrderName (col_span o.key)) h)
+order_sound names q (Some o) h = key_sound names q o.key (alias_place q o.key) refl (if_no_fault (is_some (alias_place q o.key) || is_sortable (is_known names (tables q)) q o.key) (fault.OrderName (col_span o.key)) h)
 
 order_is_sound : (names : List (List ℕ)) (q : Query) → Faultless names q → is_sound_order (count names) (bound_query (scope_of names q) q) (option_map (bound_order (scope_of names q) q) q.order) ≡ true
-unfolding order_name
+unfolding order_by
 order_is_sound names q f = order_sound names q q.order f.order
 
 -- ---- the laws

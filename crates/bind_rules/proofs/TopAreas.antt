@@ -26,7 +26,7 @@ use Rattle.value_rules.specs.Formulas.{Formula, Or, negated_if, any_from, formul
 use Rattle.value_rules.proofs.Parts.{formula_bracket, formula_compare, formula_between, formula_among, formula_null, formula_area, formula_cond_roll, formula_any_roll}
 use Rattle.bind_rules.specs.Areas.{area_test}
 use Rattle.bind_rules.specs.Binding.{bound_query}
-use Rattle.bind_rules.specs.Bounds.{Scope, bound_expr}
+use Rattle.bind_rules.specs.Bounds.{object_columns, Meaning, expr_by}
 use Rattle.bind_rules.specs.Conjuncts.{conjunct, conjuncts}
 use Rattle.bind_rules.specs.Wholes.{area_pred, bracket, before, neg_by, any_by, all_there, bound_pred, bound_all, bound_conjunct, conds_in}
 use Rattle.bind_rules.specs.Forms.{values_of}
@@ -93,48 +93,48 @@ or_plain (Some c) (Some d) (Some ds) =
 -- ---- conjuncts
 
 -- the areas of a conjunct are those of the condition that it is bound to
-abbrev Same : Scope → Neg → Type 0
-Same s n = flat_map areas_by (test_of n) ≡ areas_in (bound_conjunct s n)
+abbrev Same : Meaning → Neg → Type 0
+Same means n = flat_map areas_by (test_of n) ≡ areas_in (bound_conjunct means n)
 
-same_as : (s : Scope) (n : Neg) (b : Bool) (x : Pred) (w : Option BoundPred) (ts : Tests) → n ≡ roll-Neg (record { not = b; pred = x }) → bound_pred s x ≡ w → test_of (roll-Neg (record { not = b; pred = x })) ≡ ts → flat_map areas_by ts ≡ areas_in (option_to_list (neg_by b w)) → Same s n
-same_as s n b x w ts is bound_as t h =
+same_as : (means : Meaning) (n : Neg) (b : Bool) (x : Pred) (w : Option BoundPred) (ts : Tests) → n ≡ roll-Neg (record { not = b; pred = x }) → bound_pred means x ≡ w → test_of (roll-Neg (record { not = b; pred = x })) ≡ ts → flat_map areas_by ts ≡ areas_in (option_to_list (neg_by b w)) → Same means n
+same_as means n b x w ts is bound_as t h =
     ap (flat_map areas_by) (ap test_of is ∙ t) ∙ h
-    ∙ ap areas_in (sym (ap (bound_conjunct s) is ∙ ap option_to_list (bound_neg_roll s (record { not = b; pred = x }) ∙ ap (neg_by b) bound_as)))
+    ∙ ap areas_in (sym (ap (bound_conjunct means) is ∙ ap option_to_list (bound_neg_roll means (record { not = b; pred = x }) ∙ ap (neg_by b) bound_as)))
 
-conjunct_same : (s : Scope) (n : Neg) → View n → Same s n
-conjunct_same s n (Negated x is) = same_as s n true x (bound_pred s x) [] is refl (negated_test x) (sym (no_area (bound_pred s x)))
-conjunct_same s n (Either first second rest is) =
-    same_as s n false _ _ [] is (bound_group s (roll-Cond (record { first = first; rest = second ∷ rest })) ∙ ap bracket (bound_cond_roll s (record { first = first; rest = second ∷ rest }))) (group_test _)
-    (sym (or_plain (bound_all s first) (bound_all s second) (all_there (map (bound_all s) rest))))
-conjunct_same s n (Compared left op right is) =
-    same_as s n false _ _ (leaf_test (Pred-F.Compare left op right)) is (bound_compare s left op right) (compare_test left op right)
-    (compare_none left right op ∙ sym (one_area (bound.Compare (bound_expr s left) op (bound_expr s right)) ∙ ap area_in (formula_compare (bound_expr s left) op (bound_expr s right))))
-conjunct_same s n (IsBetween without value low high is) =
-    same_as s n false _ _ [] is (bound_between s without value low high) (between_test without value low high)
-    (sym (one_area (bound.Between without (bound_expr s value) (bound_expr s low) (bound_expr s high)) ∙ ap area_in (formula_between without (bound_expr s value) (bound_expr s low) (bound_expr s high)) ∙ negated_none without _ refl))
-conjunct_same s n (IsAmong without value list is) =
-    same_as s n false _ _ (leaf_test (Pred-F.Among without value list)) is (bound_among s without value list) (among_test without value list)
-    (among_none without value list ∙ sym (one_area (bound.Among without (bound_expr s value) (values_of list)) ∙ ap area_in (formula_among without (bound_expr s value) (values_of list)) ∙ negated_none without _ refl))
-conjunct_same s n (Null without value is) =
-    same_as s n false _ _ [] is (bound_null s without value) (null_test without value)
-    (sym (one_area (bound.IsNull without (bound_expr s value)) ∙ ap area_in (formula_null without (bound_expr s value)) ∙ negated_none without _ refl))
-conjunct_same s n (InArea kind span args is) =
-    same_as s n false _ _ (Area kind span args ∷ []) is (bound_area s kind span args) (area_test_of kind span args) (area_same (area_test kind (values_of args)))
-conjunct_same s n (OfChord left right strict m is) =
-    same_as s n false _ _ (Chord left right strict m ∷ []) is (bound_chord s left right strict m) (chord_test left right strict m) refl
+conjunct_same : (means : Meaning) (n : Neg) → View n → Same means n
+conjunct_same means n (Negated x is) = same_as means n true x (bound_pred means x) [] is refl (negated_test x) (sym (no_area (bound_pred means x)))
+conjunct_same means n (Either first second rest is) =
+    same_as means n false _ _ [] is (bound_group means (roll-Cond (record { first = first; rest = second ∷ rest })) ∙ ap bracket (bound_cond_roll means (record { first = first; rest = second ∷ rest }))) (group_test _)
+    (sym (or_plain (bound_all means first) (bound_all means second) (all_there (map (bound_all means) rest))))
+conjunct_same means n (Compared left op right is) =
+    same_as means n false _ _ (leaf_test (Pred-F.Compare left op right)) is (bound_compare means left op right) (compare_test left op right)
+    (compare_none left right op ∙ sym (one_area (bound.Compare (expr_by means left) op (expr_by means right)) ∙ ap area_in (formula_compare (expr_by means left) op (expr_by means right))))
+conjunct_same means n (IsBetween without value low high is) =
+    same_as means n false _ _ [] is (bound_between means without value low high) (between_test without value low high)
+    (sym (one_area (bound.Between without (expr_by means value) (expr_by means low) (expr_by means high)) ∙ ap area_in (formula_between without (expr_by means value) (expr_by means low) (expr_by means high)) ∙ negated_none without _ refl))
+conjunct_same means n (IsAmong without value list is) =
+    same_as means n false _ _ (leaf_test (Pred-F.Among without value list)) is (bound_among means without value list) (among_test without value list)
+    (among_none without value list ∙ sym (one_area (bound.Among without (expr_by means value) (values_of list)) ∙ ap area_in (formula_among without (expr_by means value) (values_of list)) ∙ negated_none without _ refl))
+conjunct_same means n (Null without value is) =
+    same_as means n false _ _ [] is (bound_null means without value) (null_test without value)
+    (sym (one_area (bound.IsNull without (expr_by means value)) ∙ ap area_in (formula_null without (expr_by means value)) ∙ negated_none without _ refl))
+conjunct_same means n (InArea kind span args is) =
+    same_as means n false _ _ (Area kind span args ∷ []) is (bound_area means kind span args) (area_test_of kind span args) (area_same (area_test kind (values_of args)))
+conjunct_same means n (OfChord left right strict m is) =
+    same_as means n false _ _ (Chord left right strict m ∷ []) is (bound_chord means left right strict m) (chord_test left right strict m) refl
 
 -- ---- the law
 
-where_same : (s : Scope) (c : Option Cond) → flat_map areas_by (top_tests c) ≡ areas_in (conds_in s c)
-where_same s None = refl
-where_same s (Some c) =
+where_same : (means : Meaning) (c : Option Cond) → flat_map areas_by (top_tests c) ≡ areas_in (conds_in means c)
+where_same means None = refl
+where_same means (Some c) =
     flat_twice areas_by test_of (conjuncts c)
-    ∙ flat_same (λ n. flat_map areas_by (test_of n)) (λ n. areas_in (bound_conjunct s n)) (conjuncts c) (weaker View (Same s) (conjunct_same s) (conjuncts c) (views c))
-    ∙ sym (flat_twice (λ c. area_in (formula_of c)) (bound_conjunct s) (conjuncts c))
+    ∙ flat_same (λ n. flat_map areas_by (test_of n)) (λ n. areas_in (bound_conjunct means n)) (conjuncts c) (weaker View (Same means) (conjunct_same means) (conjuncts c) (views c))
+    ∙ sym (flat_twice (λ c. area_in (formula_of c)) (bound_conjunct means) (conjuncts c))
 
 query_areas : (names : List (List ℕ)) (q : Query) → (bound_query (scope_of names q) q).areas ≡ areas_in (bound_query (scope_of names q) q).conds
 unfolding bound_query
-query_areas names q = where_same (scope_of names q) q.cond
+query_areas names q = where_same (object_columns names q) q.cond
 
 pub areas_are_conjuncts : AreasAreConjuncts
 areas_are_conjuncts names q b h =

@@ -37,11 +37,11 @@ use Rattle.sql_tree.specs.declared.query.Query.{Query}
 use Rattle.sql_tree.specs.declared.cond.Cond.{Cond}
 use Rattle.bind_rules.specs.Areas.{area_test}
 use Rattle.bind_rules.specs.Binding.{bound_query}
-use Rattle.bind_rules.specs.Bounds.{Scope, bound_col, bound_atom_step, bound_expr_step, bound_factor_step, bound_prod_step, bound_signed_step, bound_expr}
+use Rattle.bind_rules.specs.Bounds.{object_columns, Meaning, atom_by, bound_expr_step, bound_factor_step, bound_prod_step, bound_signed_step, expr_by}
 use Rattle.bind_rules.specs.Conjuncts.{conjuncts}
 use Rattle.bind_rules.specs.Forms.{values_of}
 use Rattle.bind_rules.specs.IdLists.{OneBound, OneCol, OneInt, Single, single_first, single_at_atom, single_at_factor, single_of, is_id, ints_in, id_lists_at, id_lists}
-use Rattle.bind_rules.specs.IdTests.{Lone, LoneCol, LoneInt, Alone, first_alone, lone_at_atom, lone_at_factor, lone_of, is_first_id, int_of, ids_if, ids_by}
+use Rattle.bind_rules.specs.IdTests.{first_id, Lone, LoneCol, LoneInt, Alone, first_alone, lone_at_atom, lone_at_factor, lone_of, is_lone_column, int_of, ids_if, ids_by}
 use Rattle.bind_rules.specs.Laws.{IdsAreConjuncts}
 use Rattle.bind_rules.specs.Tops.{Tests, Area, Chord, Equals, Listed, test_of, top_tests}
 use Rattle.bind_rules.specs.Wholes.{area_pred, bracket, neg_by, bound_pred, bound_any, bound_conjunct, conds_in}
@@ -56,14 +56,14 @@ use Rattle.bind_rules.proofs.Wholes.{bound_group, bound_compare, bound_between, 
 -- ---- a bound expression is one column or one int where the written one is
 
 -- a written column or int, bound
-abbrev one_in : Scope → Lone → OneBound
-one_in s (LoneCol c) = OneCol (bound_col s c)
-one_in s (LoneInt n) = OneInt n
+abbrev one_in : Meaning → Lone → OneBound
+one_in means (LoneCol c) = OneCol (means c)
+one_in means (LoneInt n) = OneInt n
 
 -- the same, where there is one
-abbrev single_in : Scope → Alone → Single
-single_in s None = None
-single_in s (Some x) = Some (one_in s x)
+abbrev single_in : Meaning → Alone → Single
+single_in means None = None
+single_in means (Some x) = Some (one_in means x)
 
 abbrev lone_atom : Atom → Alone
 lone_atom = fold-Atom Alone Alone Alone Alone Alone lone_at_atom (λ e. first_alone e.first e.rest) lone_at_factor (λ p. first_alone p.first p.rest) (λ s. s.prod)
@@ -89,60 +89,60 @@ single_prod = fold-BoundProd Single Single Single Single Single single_at_atom (
 abbrev single_signed : BoundSigned → Single
 single_signed = fold-BoundSigned Single Single Single Single Single single_at_atom (λ e. single_first e.first e.rest) single_at_factor (λ p. single_first p.first p.rest) (λ s. s.prod)
 
-by_minus : (s : Scope) (m : Bool) (x : Single) (l : Alone) → x ≡ single_in s l → (if m then None else x) ≡ single_in s (if m then None else l)
-by_minus s true x l h = refl
-by_minus s false x l h = h
+by_minus : (means : Meaning) (m : Bool) (x : Single) (l : Alone) → x ≡ single_in means l → (if m then None else x) ≡ single_in means (if m then None else l)
+by_minus means true x l h = refl
+by_minus means false x l h = h
 
-by_rest : {A B : Type 0} (s : Scope) (x : Single) (l : Alone) (f : A → B) {C D : Type 0} (g : B → C) (k : A → D) (xs : List A) → x ≡ single_in s l → single_first x (map g (map f xs)) ≡ single_in s (first_alone l (map k xs))
-by_rest s x l f g k [] h = h
-by_rest s x l f g k (y ∷ ys) h = refl
+by_rest : {A B : Type 0} (means : Meaning) (x : Single) (l : Alone) (f : A → B) {C D : Type 0} (g : B → C) (k : A → D) (xs : List A) → x ≡ single_in means l → single_first x (map g (map f xs)) ≡ single_in means (first_alone l (map k xs))
+by_rest means x l f g k [] h = h
+by_rest means x l f g k (y ∷ ys) h = refl
 
-single_bound : (s : Scope) (e : Expr) → single_of (bound_expr s e) ≡ single_in s (lone_of e)
-unfolding lone_of bound_expr single_of
-single_bound s = expr_induction
-    (λ a. single_atom (atom_in s a) ≡ single_in s (lone_atom a))
-    (λ e. single_of (bound_expr s e) ≡ single_in s (lone_of e))
-    (λ f. single_factor (factor_in s f) ≡ single_in s (lone_factor f))
-    (λ p. single_prod (prod_in s p) ≡ single_in s (lone_prod p))
+single_bound : (means : Meaning) (e : Expr) → single_of (expr_by means e) ≡ single_in means (lone_of e)
+unfolding lone_of expr_by single_of
+single_bound means = expr_induction
+    (λ a. single_atom (atom_in means a) ≡ single_in means (lone_atom a))
+    (λ e. single_of (expr_by means e) ≡ single_in means (lone_of e))
+    (λ f. single_factor (factor_in means f) ≡ single_in means (lone_factor f))
+    (λ p. single_prod (prod_in means p) ≡ single_in means (lone_prod p))
     (λ g. Unit {0})
-    (λ n. ap single_atom (fold_int (bound_atom_step s) bound_expr_step bound_factor_step bound_prod_step bound_signed_step n ∙ sym (batom.rolls-Int n))
+    (λ n. ap single_atom (fold_int (atom_by means) bound_expr_step bound_factor_step bound_prod_step bound_signed_step n ∙ sym (batom.rolls-Int n))
     ∙ fold-roll-BoundAtom Single Single Single Single Single single_at_atom (λ e. single_first e.first e.rest) single_at_factor (λ p. single_first p.first p.rest) (λ s. s.prod) (BoundAtom-F.Int n)
-    ∙ ap (single_in s) (sym (fold_int lone_at_atom (λ e. first_alone e.first e.rest) lone_at_factor (λ p. first_alone p.first p.rest) (λ s. s.prod) n)))
-    (λ c. ap single_atom (fold_col (bound_atom_step s) bound_expr_step bound_factor_step bound_prod_step bound_signed_step c ∙ sym (batom.rolls-Col (bound_col s c)))
-    ∙ fold-roll-BoundAtom Single Single Single Single Single single_at_atom (λ e. single_first e.first e.rest) single_at_factor (λ p. single_first p.first p.rest) (λ s. s.prod) (BoundAtom-F.Col (bound_col s c))
-    ∙ ap (single_in s) (sym (fold_col lone_at_atom (λ e. first_alone e.first e.rest) lone_at_factor (λ p. first_alone p.first p.rest) (λ s. s.prod) c)))
-    (λ e h. ap single_atom (fold_bracket (bound_atom_step s) bound_expr_step bound_factor_step bound_prod_step bound_signed_step e ∙ sym (batom.rolls-Bracket (bound_expr s e)))
-    ∙ fold-roll-BoundAtom Single Single Single Single Single single_at_atom (λ e. single_first e.first e.rest) single_at_factor (λ p. single_first p.first p.rest) (λ s. s.prod) (BoundAtom-F.Bracket (bound_expr s e))
-    ∙ ap (single_in s) (sym (fold_bracket lone_at_atom (λ e. first_alone e.first e.rest) lone_at_factor (λ p. first_alone p.first p.rest) (λ s. s.prod) e)))
-    (λ x h. ap single_factor (fold-roll-Factor BoundAtom BoundExpr BoundFactor BoundProd BoundSigned (bound_atom_step s) bound_expr_step bound_factor_step bound_prod_step bound_signed_step x)
-    ∙ fold-roll-BoundFactor Single Single Single Single Single single_at_atom (λ e. single_first e.first e.rest) single_at_factor (λ p. single_first p.first p.rest) (λ s. s.prod) (record { minus = x.minus; atom = atom_in s x.atom })
-    ∙ by_minus s x.minus (single_atom (atom_in s x.atom)) (lone_atom x.atom) h
-    ∙ ap (single_in s) (sym (fold-roll-Factor Alone Alone Alone Alone Alone lone_at_atom (λ e. first_alone e.first e.rest) lone_at_factor (λ p. first_alone p.first p.rest) (λ s. s.prod) x)))
-    (λ x h k. ap single_prod (fold-roll-Prod BoundAtom BoundExpr BoundFactor BoundProd BoundSigned (bound_atom_step s) bound_expr_step bound_factor_step bound_prod_step bound_signed_step x)
-    ∙ fold-roll-BoundProd Single Single Single Single Single single_at_atom (λ e. single_first e.first e.rest) single_at_factor (λ p. single_first p.first p.rest) (λ s. s.prod) (record { first = factor_in s x.first; rest = map (factor_in s) x.rest })
-    ∙ by_rest s (single_factor (factor_in s x.first)) (lone_factor x.first) (factor_in s) single_factor lone_factor x.rest h
-    ∙ ap (single_in s) (sym (fold-roll-Prod Alone Alone Alone Alone Alone lone_at_atom (λ e. first_alone e.first e.rest) lone_at_factor (λ p. first_alone p.first p.rest) (λ s. s.prod) x)))
+    ∙ ap (single_in means) (sym (fold_int lone_at_atom (λ e. first_alone e.first e.rest) lone_at_factor (λ p. first_alone p.first p.rest) (λ s. s.prod) n)))
+    (λ c. ap single_atom (fold_col (atom_by means) bound_expr_step bound_factor_step bound_prod_step bound_signed_step c ∙ sym (batom.rolls-Col (means c)))
+    ∙ fold-roll-BoundAtom Single Single Single Single Single single_at_atom (λ e. single_first e.first e.rest) single_at_factor (λ p. single_first p.first p.rest) (λ s. s.prod) (BoundAtom-F.Col (means c))
+    ∙ ap (single_in means) (sym (fold_col lone_at_atom (λ e. first_alone e.first e.rest) lone_at_factor (λ p. first_alone p.first p.rest) (λ s. s.prod) c)))
+    (λ e h. ap single_atom (fold_bracket (atom_by means) bound_expr_step bound_factor_step bound_prod_step bound_signed_step e ∙ sym (batom.rolls-Bracket (expr_by means e)))
+    ∙ fold-roll-BoundAtom Single Single Single Single Single single_at_atom (λ e. single_first e.first e.rest) single_at_factor (λ p. single_first p.first p.rest) (λ s. s.prod) (BoundAtom-F.Bracket (expr_by means e))
+    ∙ ap (single_in means) (sym (fold_bracket lone_at_atom (λ e. first_alone e.first e.rest) lone_at_factor (λ p. first_alone p.first p.rest) (λ s. s.prod) e)))
+    (λ x h. ap single_factor (fold-roll-Factor BoundAtom BoundExpr BoundFactor BoundProd BoundSigned (atom_by means) bound_expr_step bound_factor_step bound_prod_step bound_signed_step x)
+    ∙ fold-roll-BoundFactor Single Single Single Single Single single_at_atom (λ e. single_first e.first e.rest) single_at_factor (λ p. single_first p.first p.rest) (λ s. s.prod) (record { minus = x.minus; atom = atom_in means x.atom })
+    ∙ by_minus means x.minus (single_atom (atom_in means x.atom)) (lone_atom x.atom) h
+    ∙ ap (single_in means) (sym (fold-roll-Factor Alone Alone Alone Alone Alone lone_at_atom (λ e. first_alone e.first e.rest) lone_at_factor (λ p. first_alone p.first p.rest) (λ s. s.prod) x)))
+    (λ x h k. ap single_prod (fold-roll-Prod BoundAtom BoundExpr BoundFactor BoundProd BoundSigned (atom_by means) bound_expr_step bound_factor_step bound_prod_step bound_signed_step x)
+    ∙ fold-roll-BoundProd Single Single Single Single Single single_at_atom (λ e. single_first e.first e.rest) single_at_factor (λ p. single_first p.first p.rest) (λ s. s.prod) (record { first = factor_in means x.first; rest = map (factor_in means) x.rest })
+    ∙ by_rest means (single_factor (factor_in means x.first)) (lone_factor x.first) (factor_in means) single_factor lone_factor x.rest h
+    ∙ ap (single_in means) (sym (fold-roll-Prod Alone Alone Alone Alone Alone lone_at_atom (λ e. first_alone e.first e.rest) lone_at_factor (λ p. first_alone p.first p.rest) (λ s. s.prod) x)))
     (λ x h. tt)
-    (λ x h k. ap single_of (fold-roll-Expr BoundAtom BoundExpr BoundFactor BoundProd BoundSigned (bound_atom_step s) bound_expr_step bound_factor_step bound_prod_step bound_signed_step x)
-    ∙ fold-roll-BoundExpr Single Single Single Single Single single_at_atom (λ e. single_first e.first e.rest) single_at_factor (λ p. single_first p.first p.rest) (λ s. s.prod) (record { first = prod_in s x.first; rest = map (signed_in s) x.rest })
-    ∙ by_rest s (single_prod (prod_in s x.first)) (lone_prod x.first) (signed_in s) single_signed lone_signed x.rest h
-    ∙ ap (single_in s) (sym (fold-roll-Expr Alone Alone Alone Alone Alone lone_at_atom (λ e. first_alone e.first e.rest) lone_at_factor (λ p. first_alone p.first p.rest) (λ s. s.prod) x)))
+    (λ x h k. ap single_of (fold-roll-Expr BoundAtom BoundExpr BoundFactor BoundProd BoundSigned (atom_by means) bound_expr_step bound_factor_step bound_prod_step bound_signed_step x)
+    ∙ fold-roll-BoundExpr Single Single Single Single Single single_at_atom (λ e. single_first e.first e.rest) single_at_factor (λ p. single_first p.first p.rest) (λ s. s.prod) (record { first = prod_in means x.first; rest = map (signed_in means) x.rest })
+    ∙ by_rest means (single_prod (prod_in means x.first)) (lone_prod x.first) (signed_in means) single_signed lone_signed x.rest h
+    ∙ ap (single_in means) (sym (fold-roll-Expr Alone Alone Alone Alone Alone lone_at_atom (λ e. first_alone e.first e.rest) lone_at_factor (λ p. first_alone p.first p.rest) (λ s. s.prod) x)))
 
-id_same : (s : Scope) (l : Alone) → is_id (single_in s l) ≡ is_first_id s l
-id_same s None = refl
-id_same s (Some (LoneCol c)) = refl
-id_same s (Some (LoneInt n)) = refl
+id_same : (means : Meaning) (l : Alone) → is_id (single_in means l) ≡ is_lone_column (first_id means) l
+id_same means None = refl
+id_same means (Some (LoneCol c)) = refl
+id_same means (Some (LoneInt n)) = refl
 
-ints_same : (s : Scope) (l : Alone) → ints_in (single_in s l) ≡ int_of l
-ints_same s None = refl
-ints_same s (Some (LoneCol c)) = refl
-ints_same s (Some (LoneInt n)) = refl
+ints_same : (means : Meaning) (l : Alone) → ints_in (single_in means l) ≡ int_of l
+ints_same means None = refl
+ints_same means (Some (LoneCol c)) = refl
+ints_same means (Some (LoneInt n)) = refl
 
-is_id_bound : (s : Scope) (e : Expr) → is_id (single_of (bound_expr s e)) ≡ is_first_id s (lone_of e)
-is_id_bound s e = ap is_id (single_bound s e) ∙ id_same s (lone_of e)
+is_id_bound : (means : Meaning) (e : Expr) → is_id (single_of (expr_by means e)) ≡ is_lone_column (first_id means) (lone_of e)
+is_id_bound means e = ap is_id (single_bound means e) ∙ id_same means (lone_of e)
 
-ints_bound : (s : Scope) (e : Expr) → ints_in (single_of (bound_expr s e)) ≡ int_of (lone_of e)
-ints_bound s e = ap ints_in (single_bound s e) ∙ ints_same s (lone_of e)
+ints_bound : (means : Meaning) (e : Expr) → ints_in (single_of (expr_by means e)) ≡ int_of (lone_of e)
+ints_bound means e = ap ints_in (single_bound means e) ∙ ints_same means (lone_of e)
 
 -- ---- conjuncts
 
@@ -190,24 +190,24 @@ compare_shown left op right = one_cond false (bound.Compare left op right) (Boun
 among_shown : (without : Bool) (value : BoundExpr) (list : List ℤ) → ids_in (roll-BoundCond (record { not = false; pred = bound.Among without value list }) ∷ []) ≡ shown_ids false (BoundPred-F.Among without value list)
 among_shown without value list = one_cond false (bound.Among without value list) (BoundPred-F.Among without value list) (ap out-BoundPred (sym (bound.rolls-Among without value list)) ∙ out-roll-BoundPred (BoundPred-F.Among without value list))
 
-compare_ids : (s : Scope) (left : Expr) (op : Cmp) (right : Expr) → flat_map (ids_by s) (leaf_test (Pred-F.Compare left op right)) ≡ ids_in (roll-BoundCond (record { not = false; pred = bound.Compare (bound_expr s left) op (bound_expr s right) }) ∷ [])
-compare_ids s left cmp.Equal right =
-    append-nil (ids_by s (Equals left right))
-    ∙ ap (λ b. ids_if b (int_of (lone_of right))) (sym (is_id_bound s left))
-    ∙ ap (ids_if (is_id (single_of (bound_expr s left)))) (sym (ints_bound s right))
-    ∙ sym (compare_shown (bound_expr s left) cmp.Equal (bound_expr s right))
-compare_ids s left cmp.Differs right = sym (compare_shown (bound_expr s left) cmp.Differs (bound_expr s right))
-compare_ids s left cmp.Less right = sym (compare_shown (bound_expr s left) cmp.Less (bound_expr s right))
-compare_ids s left cmp.AtMost right = sym (compare_shown (bound_expr s left) cmp.AtMost (bound_expr s right))
-compare_ids s left cmp.More right = sym (compare_shown (bound_expr s left) cmp.More (bound_expr s right))
-compare_ids s left cmp.AtLeast right = sym (compare_shown (bound_expr s left) cmp.AtLeast (bound_expr s right))
+compare_ids : (means : Meaning) (left : Expr) (op : Cmp) (right : Expr) → flat_map (ids_by (first_id means)) (leaf_test (Pred-F.Compare left op right)) ≡ ids_in (roll-BoundCond (record { not = false; pred = bound.Compare (expr_by means left) op (expr_by means right) }) ∷ [])
+compare_ids means left cmp.Equal right =
+    append-nil (ids_by (first_id means) (Equals left right))
+    ∙ ap (λ b. ids_if b (int_of (lone_of right))) (sym (is_id_bound means left))
+    ∙ ap (ids_if (is_id (single_of (expr_by means left)))) (sym (ints_bound means right))
+    ∙ sym (compare_shown (expr_by means left) cmp.Equal (expr_by means right))
+compare_ids means left cmp.Differs right = sym (compare_shown (expr_by means left) cmp.Differs (expr_by means right))
+compare_ids means left cmp.Less right = sym (compare_shown (expr_by means left) cmp.Less (expr_by means right))
+compare_ids means left cmp.AtMost right = sym (compare_shown (expr_by means left) cmp.AtMost (expr_by means right))
+compare_ids means left cmp.More right = sym (compare_shown (expr_by means left) cmp.More (expr_by means right))
+compare_ids means left cmp.AtLeast right = sym (compare_shown (expr_by means left) cmp.AtLeast (expr_by means right))
 
-among_ids : (s : Scope) (without : Bool) (value : Expr) (list : IntList) → flat_map (ids_by s) (leaf_test (Pred-F.Among without value list)) ≡ ids_in (roll-BoundCond (record { not = false; pred = bound.Among without (bound_expr s value) (values_of list) }) ∷ [])
-among_ids s true value list = sym (among_shown true (bound_expr s value) (values_of list))
-among_ids s false value list =
-    append-nil (ids_by s (Listed value list))
-    ∙ ap (λ b. ids_if b (values_of list)) (sym (is_id_bound s value))
-    ∙ sym (among_shown false (bound_expr s value) (values_of list))
+among_ids : (means : Meaning) (without : Bool) (value : Expr) (list : IntList) → flat_map (ids_by (first_id means)) (leaf_test (Pred-F.Among without value list)) ≡ ids_in (roll-BoundCond (record { not = false; pred = bound.Among without (expr_by means value) (values_of list) }) ∷ [])
+among_ids means true value list = sym (among_shown true (expr_by means value) (values_of list))
+among_ids means false value list =
+    append-nil (ids_by (first_id means) (Listed value list))
+    ∙ ap (λ b. ids_if b (values_of list)) (sym (is_id_bound means value))
+    ∙ sym (among_shown false (expr_by means value) (values_of list))
 
 between_ids : (without : Bool) (value low high : BoundExpr) → ids_in (roll-BoundCond (record { not = false; pred = bound.Between without value low high }) ∷ []) ≡ []
 between_ids without value low high = one_cond false (bound.Between without value low high) (BoundPred-F.Between without value low high) (ap out-BoundPred (sym (bound.rolls-Between without value low high)) ∙ out-roll-BoundPred (BoundPred-F.Between without value low high))
@@ -216,44 +216,44 @@ null_ids : (without : Bool) (value : BoundExpr) → ids_in (roll-BoundCond (reco
 null_ids without value = one_cond false (bound.IsNull without value) (BoundPred-F.IsNull without value) (ap out-BoundPred (sym (bound.rolls-IsNull without value)) ∙ out-roll-BoundPred (BoundPred-F.IsNull without value))
 
 -- the ids of a conjunct are those of the condition that it is bound to
-abbrev Same : Scope → Neg → Type 0
-Same s n = flat_map (ids_by s) (test_of n) ≡ ids_in (bound_conjunct s n)
+abbrev Same : Meaning → Neg → Type 0
+Same means n = flat_map (ids_by (first_id means)) (test_of n) ≡ ids_in (bound_conjunct means n)
 
-same_as : (s : Scope) (n : Neg) (b : Bool) (x : Pred) (w : Option BoundPred) (ts : Tests) → n ≡ roll-Neg (record { not = b; pred = x }) → bound_pred s x ≡ w → test_of (roll-Neg (record { not = b; pred = x })) ≡ ts → flat_map (ids_by s) ts ≡ ids_in (option_to_list (neg_by b w)) → Same s n
-same_as s n b x w ts is bound_as t h =
-    ap (flat_map (ids_by s)) (ap test_of is ∙ t) ∙ h
-    ∙ ap ids_in (sym (ap (bound_conjunct s) is ∙ ap option_to_list (bound_neg_roll s (record { not = b; pred = x }) ∙ ap (neg_by b) bound_as)))
+same_as : (means : Meaning) (n : Neg) (b : Bool) (x : Pred) (w : Option BoundPred) (ts : Tests) → n ≡ roll-Neg (record { not = b; pred = x }) → bound_pred means x ≡ w → test_of (roll-Neg (record { not = b; pred = x })) ≡ ts → flat_map (ids_by (first_id means)) ts ≡ ids_in (option_to_list (neg_by b w)) → Same means n
+same_as means n b x w ts is bound_as t h =
+    ap (flat_map (ids_by (first_id means))) (ap test_of is ∙ t) ∙ h
+    ∙ ap ids_in (sym (ap (bound_conjunct means) is ∙ ap option_to_list (bound_neg_roll means (record { not = b; pred = x }) ∙ ap (neg_by b) bound_as)))
 
-conjunct_same : (s : Scope) (n : Neg) → View n → Same s n
-conjunct_same s n (Negated x is) = same_as s n true x (bound_pred s x) [] is refl (negated_test x) (sym (no_ids (bound_pred s x)))
-conjunct_same s n (Either first second rest is) =
-    same_as s n false _ _ [] is (bound_group s (roll-Cond (record { first = first; rest = second ∷ rest }))) (group_test _)
-    (sym (group_none (bound_any s (roll-Cond (record { first = first; rest = second ∷ rest })))))
-conjunct_same s n (Compared left op right is) =
-    same_as s n false _ _ (leaf_test (Pred-F.Compare left op right)) is (bound_compare s left op right) (compare_test left op right) (compare_ids s left op right)
-conjunct_same s n (IsBetween without value low high is) =
-    same_as s n false _ _ [] is (bound_between s without value low high) (between_test without value low high) (sym (between_ids without (bound_expr s value) (bound_expr s low) (bound_expr s high)))
-conjunct_same s n (IsAmong without value list is) =
-    same_as s n false _ _ (leaf_test (Pred-F.Among without value list)) is (bound_among s without value list) (among_test without value list) (among_ids s without value list)
-conjunct_same s n (Null without value is) =
-    same_as s n false _ _ [] is (bound_null s without value) (null_test without value) (sym (null_ids without (bound_expr s value)))
-conjunct_same s n (InArea kind span args is) =
-    same_as s n false _ _ (Area kind span args ∷ []) is (bound_area s kind span args) (area_test_of kind span args) (sym (area_none (area_test kind (values_of args))))
-conjunct_same s n (OfChord left right strict m is) =
-    same_as s n false _ _ (Chord left right strict m ∷ []) is (bound_chord s left right strict m) (chord_test left right strict m) refl
+conjunct_same : (means : Meaning) (n : Neg) → View n → Same means n
+conjunct_same means n (Negated x is) = same_as means n true x (bound_pred means x) [] is refl (negated_test x) (sym (no_ids (bound_pred means x)))
+conjunct_same means n (Either first second rest is) =
+    same_as means n false _ _ [] is (bound_group means (roll-Cond (record { first = first; rest = second ∷ rest }))) (group_test _)
+    (sym (group_none (bound_any means (roll-Cond (record { first = first; rest = second ∷ rest })))))
+conjunct_same means n (Compared left op right is) =
+    same_as means n false _ _ (leaf_test (Pred-F.Compare left op right)) is (bound_compare means left op right) (compare_test left op right) (compare_ids means left op right)
+conjunct_same means n (IsBetween without value low high is) =
+    same_as means n false _ _ [] is (bound_between means without value low high) (between_test without value low high) (sym (between_ids without (expr_by means value) (expr_by means low) (expr_by means high)))
+conjunct_same means n (IsAmong without value list is) =
+    same_as means n false _ _ (leaf_test (Pred-F.Among without value list)) is (bound_among means without value list) (among_test without value list) (among_ids means without value list)
+conjunct_same means n (Null without value is) =
+    same_as means n false _ _ [] is (bound_null means without value) (null_test without value) (sym (null_ids without (expr_by means value)))
+conjunct_same means n (InArea kind span args is) =
+    same_as means n false _ _ (Area kind span args ∷ []) is (bound_area means kind span args) (area_test_of kind span args) (sym (area_none (area_test kind (values_of args))))
+conjunct_same means n (OfChord left right strict m is) =
+    same_as means n false _ _ (Chord left right strict m ∷ []) is (bound_chord means left right strict m) (chord_test left right strict m) refl
 
 -- ---- the law
 
-where_same : (s : Scope) (c : Option Cond) → flat_map (ids_by s) (top_tests c) ≡ ids_in (conds_in s c)
-where_same s None = refl
-where_same s (Some c) =
-    flat_twice (ids_by s) test_of (conjuncts c)
-    ∙ flat_same (λ n. flat_map (ids_by s) (test_of n)) (λ n. ids_in (bound_conjunct s n)) (conjuncts c) (weaker View (Same s) (conjunct_same s) (conjuncts c) (views c))
-    ∙ sym (flat_twice id_lists (bound_conjunct s) (conjuncts c))
+where_same : (means : Meaning) (c : Option Cond) → flat_map (ids_by (first_id means)) (top_tests c) ≡ ids_in (conds_in means c)
+where_same means None = refl
+where_same means (Some c) =
+    flat_twice (ids_by (first_id means)) test_of (conjuncts c)
+    ∙ flat_same (λ n. flat_map (ids_by (first_id means)) (test_of n)) (λ n. ids_in (bound_conjunct means n)) (conjuncts c) (weaker View (Same means) (conjunct_same means) (conjuncts c) (views c))
+    ∙ sym (flat_twice id_lists (bound_conjunct means) (conjuncts c))
 
 query_ids : (names : List (List ℕ)) (q : Query) → (bound_query (scope_of names q) q).ids ≡ ids_in (bound_query (scope_of names q) q).conds
 unfolding bound_query
-query_ids names q = where_same (scope_of names q) q.cond
+query_ids names q = where_same (object_columns names q) q.cond
 
 pub ids_are_conjuncts : IdsAreConjuncts
 ids_are_conjuncts names q b h =

@@ -23,7 +23,7 @@ use Rattle.value_rules.specs.Truth.{truth_and, truth_or, truth_at, truth_of, is_
 use Rattle.value_rules.specs.Values.{Pick, cell_of}
 use Rattle.value_rules.proofs.Parts.{formula_bracket, formula_compare, formula_between, formula_among, formula_null, formula_area, formula_cond_roll, formula_all_roll, formula_any_roll}
 use Rattle.bind_rules.specs.Areas.{area_test}
-use Rattle.bind_rules.specs.Bounds.{Scope, bound_expr}
+use Rattle.bind_rules.specs.Bounds.{Meaning, expr_by}
 use Rattle.bind_rules.specs.Conjuncts.{conjunct, conjuncts, conjuncts_of_conj, conjuncts_of_neg, conjuncts_of_pred, or_conjuncts, where_conjuncts}
 use Rattle.bind_rules.specs.Forms.{values_of}
 use Rattle.bind_rules.specs.Laws.{WhereIsItsConjuncts, BoundConjunctsSayTheSame}
@@ -35,35 +35,35 @@ use Rattle.bind_rules.proofs.Folds.{fold_group, fold_compare, fold_between, fold
 use Rattle.bind_rules.proofs.Inductions.{cond_induction, neg_induction}
 use Rattle.bind_rules.proofs.Wholes.{bound_group, bound_compare, bound_between, bound_among, bound_null, bound_area, bound_chord, bound_neg_roll, bound_conj_roll, bound_cond_roll}
 
-abbrev pred_truth : Scope → Pick → Pred → Option Bool
-pred_truth s p = fold-Pred (Option Bool) (Option Bool) (Option Bool) (Option Bool) (truth_at_pred s p) truth_at_cond truth_at_conj truth_at_neg
+abbrev pred_truth : Meaning → Pick → Pred → Option Bool
+pred_truth means p = fold-Pred (Option Bool) (Option Bool) (Option Bool) (Option Bool) (truth_at_pred means p) truth_at_cond truth_at_conj truth_at_neg
 
-abbrev conj_truth : Scope → Pick → Conj → Option Bool
-conj_truth s p = fold-Conj (Option Bool) (Option Bool) (Option Bool) (Option Bool) (truth_at_pred s p) truth_at_cond truth_at_conj truth_at_neg
+abbrev conj_truth : Meaning → Pick → Conj → Option Bool
+conj_truth means p = fold-Conj (Option Bool) (Option Bool) (Option Bool) (Option Bool) (truth_at_pred means p) truth_at_cond truth_at_conj truth_at_neg
 
 -- ---- parts
 
-neg_truth_roll : (s : Scope) (p : Pick) (x : Neg-F Pred Cond Conj Neg) → conjunct_truth s p (roll-Neg x) ≡ not_if x.not (pred_truth s p x.pred)
+neg_truth_roll : (means : Meaning) (p : Pick) (x : Neg-F Pred Cond Conj Neg) → conjunct_truth means p (roll-Neg x) ≡ not_if x.not (pred_truth means p x.pred)
 unfolding conjunct_truth
-neg_truth_roll s p x = fold-roll-Neg (Option Bool) (Option Bool) (Option Bool) (Option Bool) (truth_at_pred s p) truth_at_cond truth_at_conj truth_at_neg x
+neg_truth_roll means p x = fold-roll-Neg (Option Bool) (Option Bool) (Option Bool) (Option Bool) (truth_at_pred means p) truth_at_cond truth_at_conj truth_at_neg x
 
-conj_truth_roll : (s : Scope) (p : Pick) (x : Conj-F Pred Cond Conj Neg) → conj_truth s p (roll-Conj x) ≡ and_from (conjunct_truth s p x.first) (map (conjunct_truth s p) x.rest)
+conj_truth_roll : (means : Meaning) (p : Pick) (x : Conj-F Pred Cond Conj Neg) → conj_truth means p (roll-Conj x) ≡ and_from (conjunct_truth means p x.first) (map (conjunct_truth means p) x.rest)
 unfolding conjunct_truth
-conj_truth_roll s p x = fold-roll-Conj (Option Bool) (Option Bool) (Option Bool) (Option Bool) (truth_at_pred s p) truth_at_cond truth_at_conj truth_at_neg x
+conj_truth_roll means p x = fold-roll-Conj (Option Bool) (Option Bool) (Option Bool) (Option Bool) (truth_at_pred means p) truth_at_cond truth_at_conj truth_at_neg x
 
-cond_truth_roll : (s : Scope) (p : Pick) (x : Cond-F Pred Cond Conj Neg) → written_truth s p (roll-Cond x) ≡ or_from (conj_truth s p x.first) (map (conj_truth s p) x.rest)
+cond_truth_roll : (means : Meaning) (p : Pick) (x : Cond-F Pred Cond Conj Neg) → written_truth means p (roll-Cond x) ≡ or_from (conj_truth means p x.first) (map (conj_truth means p) x.rest)
 unfolding written_truth
-cond_truth_roll s p x = fold-roll-Cond (Option Bool) (Option Bool) (Option Bool) (Option Bool) (truth_at_pred s p) truth_at_cond truth_at_conj truth_at_neg x
+cond_truth_roll means p x = fold-roll-Cond (Option Bool) (Option Bool) (Option Bool) (Option Bool) (truth_at_pred means p) truth_at_cond truth_at_conj truth_at_neg x
 
-group_truth : (s : Scope) (p : Pick) (c : Cond) → pred_truth s p (pred.Bracket c) ≡ written_truth s p c
+group_truth : (means : Meaning) (p : Pick) (c : Cond) → pred_truth means p (pred.Bracket c) ≡ written_truth means p c
 unfolding written_truth
-group_truth s p c = fold_group (truth_at_pred s p) truth_at_cond truth_at_conj truth_at_neg c
+group_truth means p c = fold_group (truth_at_pred means p) truth_at_cond truth_at_conj truth_at_neg c
 
 -- a conjunct that is a chord test says what that says
-pub chord_conjunct : (s : Scope) (p : Pick) (left right : Name) (strict : Bool) (n : ℤ) → conjunct_truth s p (conjunct (pred.Chord left right strict n)) ≡ chord_truth p strict n
-chord_conjunct s p left right strict n =
-    neg_truth_roll s p (record { not = false; pred = pred.Chord left right strict n })
-    ∙ fold_chord (truth_at_pred s p) truth_at_cond truth_at_conj truth_at_neg left right strict n
+pub chord_conjunct : (means : Meaning) (p : Pick) (left right : Name) (strict : Bool) (n : ℤ) → conjunct_truth means p (conjunct (pred.Chord left right strict n)) ≡ chord_truth p strict n
+chord_conjunct means p left right strict n =
+    neg_truth_roll means p (record { not = false; pred = pred.Chord left right strict n })
+    ∙ fold_chord (truth_at_pred means p) truth_at_cond truth_at_conj truth_at_neg left right strict n
 
 -- ---- what is true of all
 
@@ -94,64 +94,64 @@ all_append q (x ∷ xs) ys = ap (λ b. q x && b) (all_append q xs ys) ∙ sym (a
 -- ---- a condition is true where its conjuncts are
 
 -- the conjunct is true
-abbrev Q : Scope → Pick → Neg → Bool
-Q s p n = is_true (conjunct_truth s p n)
+abbrev Q : Meaning → Pick → Neg → Bool
+Q means p n = is_true (conjunct_truth means p n)
 
 -- one conjunct
-one_true : (s : Scope) (p : Pick) (ns : List Neg) (n : Neg) → ns ≡ n ∷ [] → is_true (conjunct_truth s p n) ≡ list_all (Q s p) ns
-one_true s p ns n is = and_true (Q s p n) ∙ ap (list_all (Q s p)) (sym is)
+one_true : (means : Meaning) (p : Pick) (ns : List Neg) (n : Neg) → ns ≡ n ∷ [] → is_true (conjunct_truth means p n) ≡ list_all (Q means p) ns
+one_true means p ns n is = and_true (Q means p n) ∙ ap (list_all (Q means p)) (sym is)
 
-lone_true : (s : Scope) (p : Pick) (x : Pred) → conjuncts_of_pred x ≡ conjunct x ∷ [] → is_true (pred_truth s p x) ≡ list_all (Q s p) (conjuncts_of_pred x)
-lone_true s p x is = ap is_true (sym (neg_truth_roll s p (record { not = false; pred = x }))) ∙ one_true s p (conjuncts_of_pred x) (conjunct x) is
+lone_true : (means : Meaning) (p : Pick) (x : Pred) → conjuncts_of_pred x ≡ conjunct x ∷ [] → is_true (pred_truth means p x) ≡ list_all (Q means p) (conjuncts_of_pred x)
+lone_true means p x is = ap is_true (sym (neg_truth_roll means p (record { not = false; pred = x }))) ∙ one_true means p (conjuncts_of_pred x) (conjunct x) is
 
-neg_true : (s : Scope) (p : Pick) (x : Neg-F Pred Cond Conj Neg) (b : Bool) → x.not ≡ b → is_true (pred_truth s p x.pred) ≡ list_all (Q s p) (conjuncts_of_pred x.pred) → is_true (conjunct_truth s p (roll-Neg x)) ≡ list_all (Q s p) (conjuncts_of_neg (roll-Neg x))
-neg_true s p x true is h = one_true s p (conjuncts_of_neg (roll-Neg x)) (roll-Neg x) (neg_apart x ∙ ap (λ b. if b then roll-Neg x ∷ [] else conjuncts_of_pred x.pred) is)
-neg_true s p x false is h =
-    ap is_true (neg_truth_roll s p x ∙ ap (λ b. not_if b (pred_truth s p x.pred)) is) ∙ h
-    ∙ ap (list_all (Q s p)) (sym (neg_apart x ∙ ap (λ b. if b then roll-Neg x ∷ [] else conjuncts_of_pred x.pred) is))
+neg_true : (means : Meaning) (p : Pick) (x : Neg-F Pred Cond Conj Neg) (b : Bool) → x.not ≡ b → is_true (pred_truth means p x.pred) ≡ list_all (Q means p) (conjuncts_of_pred x.pred) → is_true (conjunct_truth means p (roll-Neg x)) ≡ list_all (Q means p) (conjuncts_of_neg (roll-Neg x))
+neg_true means p x true is h = one_true means p (conjuncts_of_neg (roll-Neg x)) (roll-Neg x) (neg_apart x ∙ ap (λ b. if b then roll-Neg x ∷ [] else conjuncts_of_pred x.pred) is)
+neg_true means p x false is h =
+    ap is_true (neg_truth_roll means p x ∙ ap (λ b. not_if b (pred_truth means p x.pred)) is) ∙ h
+    ∙ ap (list_all (Q means p)) (sym (neg_apart x ∙ ap (λ b. if b then roll-Neg x ∷ [] else conjuncts_of_pred x.pred) is))
 
-rest_true : (s : Scope) (p : Pick) (ns : List Neg) → Each (λ n. is_true (conjunct_truth s p n) ≡ list_all (Q s p) (conjuncts_of_neg n)) ns → list_all is_true (map (conjunct_truth s p) ns) ≡ list_all (Q s p) (flat_map conjuncts_of_neg ns)
-rest_true s p [] h = refl
-rest_true s p (n ∷ ns) h =
-    ap (λ b. b && list_all is_true (map (conjunct_truth s p) ns)) h.0 ∙ ap (λ b. list_all (Q s p) (conjuncts_of_neg n) && b) (rest_true s p ns h.1)
-    ∙ sym (all_append (Q s p) (conjuncts_of_neg n) (flat_map conjuncts_of_neg ns))
+rest_true : (means : Meaning) (p : Pick) (ns : List Neg) → Each (λ n. is_true (conjunct_truth means p n) ≡ list_all (Q means p) (conjuncts_of_neg n)) ns → list_all is_true (map (conjunct_truth means p) ns) ≡ list_all (Q means p) (flat_map conjuncts_of_neg ns)
+rest_true means p [] h = refl
+rest_true means p (n ∷ ns) h =
+    ap (λ b. b && list_all is_true (map (conjunct_truth means p) ns)) h.0 ∙ ap (λ b. list_all (Q means p) (conjuncts_of_neg n) && b) (rest_true means p ns h.1)
+    ∙ sym (all_append (Q means p) (conjuncts_of_neg n) (flat_map conjuncts_of_neg ns))
 
-conj_true : (s : Scope) (p : Pick) (x : Conj-F Pred Cond Conj Neg) → is_true (conjunct_truth s p x.first) ≡ list_all (Q s p) (conjuncts_of_neg x.first) → Each (λ n. is_true (conjunct_truth s p n) ≡ list_all (Q s p) (conjuncts_of_neg n)) x.rest → is_true (conj_truth s p (roll-Conj x)) ≡ list_all (Q s p) (conjuncts_of_conj (roll-Conj x))
-conj_true s p x h k =
-    ap is_true (conj_truth_roll s p x) ∙ all_true (conjunct_truth s p x.first) (map (conjunct_truth s p) x.rest)
-    ∙ ap (λ b. b && list_all is_true (map (conjunct_truth s p) x.rest)) h
-    ∙ ap (λ b. list_all (Q s p) (conjuncts_of_neg x.first) && b) (rest_true s p x.rest k)
-    ∙ sym (all_append (Q s p) (conjuncts_of_neg x.first) (flat_map conjuncts_of_neg x.rest))
-    ∙ ap (list_all (Q s p)) (sym (conj_apart x))
+conj_true : (means : Meaning) (p : Pick) (x : Conj-F Pred Cond Conj Neg) → is_true (conjunct_truth means p x.first) ≡ list_all (Q means p) (conjuncts_of_neg x.first) → Each (λ n. is_true (conjunct_truth means p n) ≡ list_all (Q means p) (conjuncts_of_neg n)) x.rest → is_true (conj_truth means p (roll-Conj x)) ≡ list_all (Q means p) (conjuncts_of_conj (roll-Conj x))
+conj_true means p x h k =
+    ap is_true (conj_truth_roll means p x) ∙ all_true (conjunct_truth means p x.first) (map (conjunct_truth means p) x.rest)
+    ∙ ap (λ b. b && list_all is_true (map (conjunct_truth means p) x.rest)) h
+    ∙ ap (λ b. list_all (Q means p) (conjuncts_of_neg x.first) && b) (rest_true means p x.rest k)
+    ∙ sym (all_append (Q means p) (conjuncts_of_neg x.first) (flat_map conjuncts_of_neg x.rest))
+    ∙ ap (list_all (Q means p)) (sym (conj_apart x))
 
-cond_true : (s : Scope) (p : Pick) (x : Cond-F Pred Cond Conj Neg) (rest : List Conj) → x.rest ≡ rest → is_true (conj_truth s p x.first) ≡ list_all (Q s p) (conjuncts_of_conj x.first) → is_true (written_truth s p (roll-Cond x)) ≡ list_all (Q s p) (conjuncts (roll-Cond x))
-cond_true s p x [] is h =
-    ap is_true (cond_truth_roll s p x ∙ ap (λ r. or_from (conj_truth s p x.first) (map (conj_truth s p) r)) is) ∙ h
-    ∙ ap (list_all (Q s p)) (sym (cond_apart x ∙ ap (or_conjuncts (roll-Cond x) (conjuncts_of_conj x.first)) is))
-cond_true s p x (c ∷ cs) is h =
-    ap is_true (sym (neg_truth_roll s p (record { not = false; pred = pred.Bracket (roll-Cond x) }) ∙ group_truth s p (roll-Cond x)))
-    ∙ one_true s p (conjuncts (roll-Cond x)) (conjunct (pred.Bracket (roll-Cond x))) (cond_apart x ∙ ap (or_conjuncts (roll-Cond x) (conjuncts_of_conj x.first)) is)
+cond_true : (means : Meaning) (p : Pick) (x : Cond-F Pred Cond Conj Neg) (rest : List Conj) → x.rest ≡ rest → is_true (conj_truth means p x.first) ≡ list_all (Q means p) (conjuncts_of_conj x.first) → is_true (written_truth means p (roll-Cond x)) ≡ list_all (Q means p) (conjuncts (roll-Cond x))
+cond_true means p x [] is h =
+    ap is_true (cond_truth_roll means p x ∙ ap (λ r. or_from (conj_truth means p x.first) (map (conj_truth means p) r)) is) ∙ h
+    ∙ ap (list_all (Q means p)) (sym (cond_apart x ∙ ap (or_conjuncts (roll-Cond x) (conjuncts_of_conj x.first)) is))
+cond_true means p x (c ∷ cs) is h =
+    ap is_true (sym (neg_truth_roll means p (record { not = false; pred = pred.Bracket (roll-Cond x) }) ∙ group_truth means p (roll-Cond x)))
+    ∙ one_true means p (conjuncts (roll-Cond x)) (conjunct (pred.Bracket (roll-Cond x))) (cond_apart x ∙ ap (or_conjuncts (roll-Cond x) (conjuncts_of_conj x.first)) is)
 
-conjuncts_true : (s : Scope) (p : Pick) (c : Cond) → is_true (written_truth s p c) ≡ list_all (Q s p) (conjuncts c)
-conjuncts_true s p = cond_induction
-    (λ x. is_true (pred_truth s p x) ≡ list_all (Q s p) (conjuncts_of_pred x))
-    (λ c. is_true (written_truth s p c) ≡ list_all (Q s p) (conjuncts c))
-    (λ c. is_true (conj_truth s p c) ≡ list_all (Q s p) (conjuncts_of_conj c))
-    (λ n. is_true (conjunct_truth s p n) ≡ list_all (Q s p) (conjuncts_of_neg n))
-    (λ c h. ap is_true (group_truth s p c) ∙ h ∙ ap (list_all (Q s p)) (sym (group_apart c)))
-    (λ left op right. lone_true s p _ (compare_apart left op right))
-    (λ without value low high. lone_true s p _ (between_apart without value low high))
-    (λ without value list. lone_true s p _ (among_apart without value list))
-    (λ without value. lone_true s p _ (null_apart without value))
-    (λ kind span args. lone_true s p _ (area_apart kind span args))
-    (λ left right strict n. lone_true s p _ (chord_apart left right strict n))
-    (λ x h. neg_true s p x x.not refl h)
-    (λ x h k. conj_true s p x h k)
-    (λ x h k. cond_true s p x x.rest refl h)
+conjuncts_true : (means : Meaning) (p : Pick) (c : Cond) → is_true (written_truth means p c) ≡ list_all (Q means p) (conjuncts c)
+conjuncts_true means p = cond_induction
+    (λ x. is_true (pred_truth means p x) ≡ list_all (Q means p) (conjuncts_of_pred x))
+    (λ c. is_true (written_truth means p c) ≡ list_all (Q means p) (conjuncts c))
+    (λ c. is_true (conj_truth means p c) ≡ list_all (Q means p) (conjuncts_of_conj c))
+    (λ n. is_true (conjunct_truth means p n) ≡ list_all (Q means p) (conjuncts_of_neg n))
+    (λ c h. ap is_true (group_truth means p c) ∙ h ∙ ap (list_all (Q means p)) (sym (group_apart c)))
+    (λ left op right. lone_true means p _ (compare_apart left op right))
+    (λ without value low high. lone_true means p _ (between_apart without value low high))
+    (λ without value list. lone_true means p _ (among_apart without value list))
+    (λ without value. lone_true means p _ (null_apart without value))
+    (λ kind span args. lone_true means p _ (area_apart kind span args))
+    (λ left right strict n. lone_true means p _ (chord_apart left right strict n))
+    (λ x h. neg_true means p x x.not refl h)
+    (λ x h k. conj_true means p x h k)
+    (λ x h k. cond_true means p x x.rest refl h)
 
 pub where_is_its_conjuncts : WhereIsItsConjuncts
-where_is_its_conjuncts s p None = refl
-where_is_its_conjuncts s p (Some c) = conjuncts_true s p c
+where_is_its_conjuncts means p None = refl
+where_is_its_conjuncts means p (Some c) = conjuncts_true means p c
 
 -- ---- a bound conjunct says what the written one says
 
@@ -217,32 +217,32 @@ cond_claim p (Some c) (Some cs) t ts h k =
     ap (at p) (formula_any_roll (record { first = c; rest = cs })) ∙ any_truth p (formula_of_all c) (map formula_of_all cs)
     ∙ ap (λ u. or_from u (map (at p) (map formula_of_all cs))) h ∙ ap (or_from t) k
 
-bound_truth : (s : Scope) (p : Pick) (n : Neg) → Claim p formula_of (bound_cond s n) (conjunct_truth s p n)
-bound_truth s p = neg_induction
-    (λ x. Claim p formula_of_pred (bound_pred s x) (pred_truth s p x))
-    (λ c. Claim p formula_of_any (bound_any s c) (written_truth s p c))
-    (λ c. Claim p formula_of_all (bound_all s c) (conj_truth s p c))
-    (λ n. Claim p formula_of (bound_cond s n) (conjunct_truth s p n))
-    (λ c h. claim_as p formula_of_pred _ (bracket (bound_any s c)) _ (written_truth s p c) (bound_group s c) (group_truth s p c) (bracket_claim p (bound_any s c) (written_truth s p c) h))
-    (λ left op right. claim_as p formula_of_pred _ (Some (bound.Compare (bound_expr s left) op (bound_expr s right))) _ (truth_at_pred s p (Pred-F.Compare left op right)) (bound_compare s left op right) (fold_compare (truth_at_pred s p) truth_at_cond truth_at_conj truth_at_neg left op right)
-    (ap (at p) (formula_compare (bound_expr s left) op (bound_expr s right))))
-    (λ without value low high. claim_as p formula_of_pred _ (Some (bound.Between without (bound_expr s value) (bound_expr s low) (bound_expr s high))) _ (truth_at_pred s p (Pred-F.Between without value low high)) (bound_between s without value low high) (fold_between (truth_at_pred s p) truth_at_cond truth_at_conj truth_at_neg without value low high)
-    (ap (at p) (formula_between without (bound_expr s value) (bound_expr s low) (bound_expr s high)) ∙ negated_truth p without _))
-    (λ without value list. claim_as p formula_of_pred _ (Some (bound.Among without (bound_expr s value) (values_of list))) _ (truth_at_pred s p (Pred-F.Among without value list)) (bound_among s without value list) (fold_among (truth_at_pred s p) truth_at_cond truth_at_conj truth_at_neg without value list)
-    (ap (at p) (formula_among without (bound_expr s value) (values_of list)) ∙ negated_truth p without _))
-    (λ without value. claim_as p formula_of_pred _ (Some (bound.IsNull without (bound_expr s value))) _ (truth_at_pred s p (Pred-F.IsNull without value)) (bound_null s without value) (fold_null (truth_at_pred s p) truth_at_cond truth_at_conj truth_at_neg without value)
-    (ap (at p) (formula_null without (bound_expr s value)) ∙ negated_truth p without _))
-    (λ kind span args. claim_as p formula_of_pred _ (area_pred (area_test kind (values_of args))) _ (truth_at_pred s p (Pred-F.Area kind span args)) (bound_area s kind span args) (fold_area (truth_at_pred s p) truth_at_cond truth_at_conj truth_at_neg kind span args)
+bound_truth : (means : Meaning) (p : Pick) (n : Neg) → Claim p formula_of (bound_cond means n) (conjunct_truth means p n)
+bound_truth means p = neg_induction
+    (λ x. Claim p formula_of_pred (bound_pred means x) (pred_truth means p x))
+    (λ c. Claim p formula_of_any (bound_any means c) (written_truth means p c))
+    (λ c. Claim p formula_of_all (bound_all means c) (conj_truth means p c))
+    (λ n. Claim p formula_of (bound_cond means n) (conjunct_truth means p n))
+    (λ c h. claim_as p formula_of_pred _ (bracket (bound_any means c)) _ (written_truth means p c) (bound_group means c) (group_truth means p c) (bracket_claim p (bound_any means c) (written_truth means p c) h))
+    (λ left op right. claim_as p formula_of_pred _ (Some (bound.Compare (expr_by means left) op (expr_by means right))) _ (truth_at_pred means p (Pred-F.Compare left op right)) (bound_compare means left op right) (fold_compare (truth_at_pred means p) truth_at_cond truth_at_conj truth_at_neg left op right)
+    (ap (at p) (formula_compare (expr_by means left) op (expr_by means right))))
+    (λ without value low high. claim_as p formula_of_pred _ (Some (bound.Between without (expr_by means value) (expr_by means low) (expr_by means high))) _ (truth_at_pred means p (Pred-F.Between without value low high)) (bound_between means without value low high) (fold_between (truth_at_pred means p) truth_at_cond truth_at_conj truth_at_neg without value low high)
+    (ap (at p) (formula_between without (expr_by means value) (expr_by means low) (expr_by means high)) ∙ negated_truth p without _))
+    (λ without value list. claim_as p formula_of_pred _ (Some (bound.Among without (expr_by means value) (values_of list))) _ (truth_at_pred means p (Pred-F.Among without value list)) (bound_among means without value list) (fold_among (truth_at_pred means p) truth_at_cond truth_at_conj truth_at_neg without value list)
+    (ap (at p) (formula_among without (expr_by means value) (values_of list)) ∙ negated_truth p without _))
+    (λ without value. claim_as p formula_of_pred _ (Some (bound.IsNull without (expr_by means value))) _ (truth_at_pred means p (Pred-F.IsNull without value)) (bound_null means without value) (fold_null (truth_at_pred means p) truth_at_cond truth_at_conj truth_at_neg without value)
+    (ap (at p) (formula_null without (expr_by means value)) ∙ negated_truth p without _))
+    (λ kind span args. claim_as p formula_of_pred _ (area_pred (area_test kind (values_of args))) _ (truth_at_pred means p (Pred-F.Area kind span args)) (bound_area means kind span args) (fold_area (truth_at_pred means p) truth_at_cond truth_at_conj truth_at_neg kind span args)
     (area_claim p (area_test kind (values_of args))))
-    (λ left right strict n. claim_as p formula_of_pred _ None _ (truth_at_pred s p (Pred-F.Chord left right strict n)) (bound_chord s left right strict n) (fold_chord (truth_at_pred s p) truth_at_cond truth_at_conj truth_at_neg left right strict n) tt)
-    (λ x h. claim_as p formula_of _ (neg_by x.not (bound_pred s x.pred)) _ (not_if x.not (pred_truth s p x.pred)) (bound_neg_roll s x) (neg_truth_roll s p x) (neg_claim p x.not (bound_pred s x.pred) (pred_truth s p x.pred) h))
-    (λ x h k. claim_as p formula_of_all _ (conj_by (bound_cond s x.first) (all_there (map (bound_cond s) x.rest))) _ (and_from (conjunct_truth s p x.first) (map (conjunct_truth s p) x.rest)) (bound_conj_roll s x) (conj_truth_roll s p x)
-    (conj_claim p (bound_cond s x.first) (all_there (map (bound_cond s) x.rest)) (conjunct_truth s p x.first) (map (conjunct_truth s p) x.rest) h (there_claim p formula_of (bound_cond s) (conjunct_truth s p) x.rest k)))
-    (λ x h k. claim_as p formula_of_any _ (any_by (bound_all s x.first) (all_there (map (bound_all s) x.rest))) _ (or_from (conj_truth s p x.first) (map (conj_truth s p) x.rest)) (bound_cond_roll s x) (cond_truth_roll s p x)
-    (cond_claim p (bound_all s x.first) (all_there (map (bound_all s) x.rest)) (conj_truth s p x.first) (map (conj_truth s p) x.rest) h (there_claim p formula_of_all (bound_all s) (conj_truth s p) x.rest k)))
+    (λ left right strict n. claim_as p formula_of_pred _ None _ (truth_at_pred means p (Pred-F.Chord left right strict n)) (bound_chord means left right strict n) (fold_chord (truth_at_pred means p) truth_at_cond truth_at_conj truth_at_neg left right strict n) tt)
+    (λ x h. claim_as p formula_of _ (neg_by x.not (bound_pred means x.pred)) _ (not_if x.not (pred_truth means p x.pred)) (bound_neg_roll means x) (neg_truth_roll means p x) (neg_claim p x.not (bound_pred means x.pred) (pred_truth means p x.pred) h))
+    (λ x h k. claim_as p formula_of_all _ (conj_by (bound_cond means x.first) (all_there (map (bound_cond means) x.rest))) _ (and_from (conjunct_truth means p x.first) (map (conjunct_truth means p) x.rest)) (bound_conj_roll means x) (conj_truth_roll means p x)
+    (conj_claim p (bound_cond means x.first) (all_there (map (bound_cond means) x.rest)) (conjunct_truth means p x.first) (map (conjunct_truth means p) x.rest) h (there_claim p formula_of (bound_cond means) (conjunct_truth means p) x.rest k)))
+    (λ x h k. claim_as p formula_of_any _ (any_by (bound_all means x.first) (all_there (map (bound_all means) x.rest))) _ (or_from (conj_truth means p x.first) (map (conj_truth means p) x.rest)) (bound_cond_roll means x) (cond_truth_roll means p x)
+    (cond_claim p (bound_all means x.first) (all_there (map (bound_all means) x.rest)) (conj_truth means p x.first) (map (conj_truth means p) x.rest) h (there_claim p formula_of_all (bound_all means) (conj_truth means p) x.rest k)))
 
 some_claim : (p : Pick) (w : Option BoundCond) (t : Option Bool) (c : BoundCond) → w ≡ Some c → Claim p formula_of w t → truth_of c p ≡ t
 some_claim p w t c is h = subst (λ x. Claim p formula_of x t) is h
 
 pub bound_conjuncts_say_the_same : BoundConjunctsSayTheSame
-bound_conjuncts_say_the_same s p n c is = some_claim p (bound_cond s n) (conjunct_truth s p n) c is (bound_truth s p n)
+bound_conjuncts_say_the_same means p n c is = some_claim p (bound_cond means n) (conjunct_truth means p n) c is (bound_truth means p n)

@@ -1,4 +1,5 @@
--- The binding of a query over a schema: the bound query, or its first fault.
+-- The binding of a query: the bound query, or its first fault. Items and orders are bound whatever their columns mean; a
+-- star, groups and the whole query are over the object table.
 use Rattle.std.specs.Prelude.{ℕ, ◌+◌, ℤ, pos, ◌-ℤ◌, Bool, true, false, if◌then◌else◌, List, [], ◌∷◌, ◌++◌, map}
 use Rattle.std.specs.Prelude.{Option, None, Some, Result, Ok, Err}
 use Rattle.std.specs.List.{flat_map}
@@ -23,13 +24,13 @@ use Rattle.sql_tree.specs.declared.query.Query.{Query}
 use Rattle.sql_tree.specs.declared.query.Selection.{Selection}
 use Rattle.sql_tree.specs.declared.query.Selection.TheVariants as selection
 use Rattle.bind_rules.specs.declared.fault.BindFault.{BindFault}
-use Rattle.bind_rules.specs.Bounds.{Scope, bound_col, bound_expr}
+use Rattle.bind_rules.specs.Bounds.{Meaning, Scope, bound_col, expr_by}
 use Rattle.bind_rules.specs.Checks.{alias_place, bind_fault}
 use Rattle.table_rules.specs.Names.{column_names}
 use Rattle.bind_rules.specs.Columns.{is_join}
 use Rattle.bind_rules.specs.Names.{is_grouped}
 use Rattle.bind_rules.specs.Tops.{Test, Chord, top_tests}
-use Rattle.bind_rules.specs.IdTests.{areas_by, ids_by}
+use Rattle.bind_rules.specs.IdTests.{areas_by, first_id, ids_by}
 use Rattle.bind_rules.specs.Wholes.{conds_in}
 
 -- ---- items
@@ -55,14 +56,18 @@ star_items names join =
     columns_from false 0 (column_names names) ++ (if join then columns_from true 0 (column_names names) else [])
 
 -- the bound item
+abbrev pub item_by : Meaning → ItemKind → BoundItem
+item_by means (what.Plain e) = item.Plain (expr_by means e)
+item_by means what.Count = item.Count
+item_by means (what.CountOf e) = item.CountOf (expr_by means e)
+item_by means (what.Sum e) = item.Sum (expr_by means e)
+item_by means (what.Min e) = item.Min (expr_by means e)
+item_by means (what.Max e) = item.Max (expr_by means e)
+item_by means (what.Avg e) = item.Avg (expr_by means e)
+
+-- the bound item over the object table
 abbrev pub bound_item : Scope → ItemKind → BoundItem
-bound_item s (what.Plain e) = item.Plain (bound_expr s e)
-bound_item s what.Count = item.Count
-bound_item s (what.CountOf e) = item.CountOf (bound_expr s e)
-bound_item s (what.Sum e) = item.Sum (bound_expr s e)
-bound_item s (what.Min e) = item.Min (bound_expr s e)
-bound_item s (what.Max e) = item.Max (bound_expr s e)
-bound_item s (what.Avg e) = item.Avg (bound_expr s e)
+bound_item s = item_by (bound_col s)
 
 -- the bound items
 abbrev pub bound_items : Scope → Query → Selection → List BoundItem
@@ -83,34 +88,50 @@ first_or z [] = z
 first_or z (n ∷ ns) = n
 
 -- the shape of the bound query: pairs up to the limit of the one chord test, groups, or rows
-abbrev pub bound_shape : Scope → Query → Shape
-bound_shape s q =
+abbrev pub shape_of : Meaning → Query → Shape
+shape_of means q =
     if is_join q then shape.Pairs (first_or (pos 0) (flat_map chord_limit (top_tests q.cond)))
-    else if is_grouped q then shape.Groups (map (bound_col s) q.group)
+    else if is_grouped q then shape.Groups (map means q.group)
     else shape.Rows
 
+-- the shape of a bound query over the object table
+abbrev pub bound_shape : Scope → Query → Shape
+bound_shape s = shape_of (bound_col s)
+
 -- the key of an order: the item with that alias if there is one, and else the column
-abbrev pub key_by : Scope → Col → Option ℕ → BoundKey
-key_by s c (Some place) = bkey.Item place
-key_by s c None = bkey.Column (bound_col s c)
+abbrev pub key_of : Meaning → Col → Option ℕ → BoundKey
+key_of means c (Some place) = bkey.Item place
+key_of means c None = bkey.Column (means c)
 
 -- the bound order
+abbrev pub order_of : Meaning → Query → OrderBy → BoundOrder
+order_of means q o = record { key = key_of means o.key (alias_place q o.key); down = o.down }
+
+-- the key of an order over the object table
+abbrev pub key_by : Scope → Col → Option ℕ → BoundKey
+key_by s = key_of (bound_col s)
+
+-- the bound order over the object table
 abbrev pub bound_order : Scope → Query → OrderBy → BoundOrder
-bound_order s q o = record { key = key_by s o.key (alias_place q o.key); down = o.down }
+bound_order s = order_of (bound_col s)
 
 -- ---- the query
 
--- the bound query of a query without a fault
-unfoldable pub bound_query : Scope → Query → Bound
-bound_query s q = record {
-  shape = bound_shape s q;
-  items = bound_items s q q.items;
-  conds = conds_in s q.cond;
+-- the bound query of this shape with these items, given which columns are the id of the first table
+abbrev pub query_by : Meaning → (Col → Bool) → Query → Shape → List BoundItem → Bound
+query_by means id q kind items = record {
+  shape = kind;
+  items = items;
+  conds = conds_in means q.cond;
   areas = flat_map areas_by (top_tests q.cond);
-  ids = flat_map (ids_by s) (top_tests q.cond);
-  order = option_map (bound_order s q) q.order;
+  ids = flat_map (ids_by id) (top_tests q.cond);
+  order = option_map (order_of means q) q.order;
   limit = q.limit;
 }
+
+-- the bound query of a query over the object table without a fault
+unfoldable pub bound_query : Scope → Query → Bound
+bound_query s q = query_by (bound_col s) (first_id (bound_col s)) q (bound_shape s q) (bound_items s q q.items)
 
 -- the fault, or else the query
 abbrev pub by_fault : Option BindFault → Bound → Result Bound BindFault

@@ -12,6 +12,7 @@ use Rattle.sql_tree.specs.declared.query.Query.{Query}
 use Rattle.value_rules.specs.Truth.{is_true, meets}
 use Rattle.value_rules.specs.Values.{Pick}
 use Rattle.bind_rules.specs.Binding.{bound_of}
+use Rattle.bind_rules.specs.Bounds.{object_columns}
 use Rattle.bind_rules.specs.Conjuncts.{where_conjuncts}
 use Rattle.bind_rules.specs.Tops.{Test, Chord, test_of}
 use Rattle.bind_rules.specs.Truths.{where_holds}
@@ -29,7 +30,7 @@ within_limit (shape.Groups keys) p = true
 abbrev pub WhereHoldsAsBound : Type 0
 WhereHoldsAsBound =
     (names : List (List ℕ)) (q : Query) (b : Bound) (p : Pick) → bound_of names q ≡ Ok b
-    → where_holds (record { names = names; second = q.second }) p q.cond ≡ (meets b.conds p && within_limit b.shape p)
+    → where_holds (object_columns names q) p q.cond ≡ (meets b.conds p && within_limit b.shape p)
 
 -- the test is of a chord
 abbrev pub is_chord : Test → Bool
@@ -45,4 +46,4 @@ abbrev pub ConjunctsAreBound : Type 0
 ConjunctsAreBound =
     (names : List (List ℕ)) (q : Query) (b : Bound) → bound_of names q ≡ Ok b
     → map Some b.conds
-    ≡ map (bound_cond (record { names = names; second = q.second })) (filter is_plain (where_conjuncts q.cond))
+    ≡ map (bound_cond (object_columns names q)) (filter is_plain (where_conjuncts q.cond))

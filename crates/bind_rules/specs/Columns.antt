@@ -1,5 +1,5 @@
 -- The tables and columns of a query, over the columns of a schema.
-use Rattle.std.specs.Prelude.{ℕ, Bool, true, ◌&&◌, List, ◌∷◌, Option, None, Some, option_to_list}
+use Rattle.std.specs.Prelude.{ℕ, Bool, true, ◌&&◌, List, ◌∷◌, codes, Option, None, Some, option_to_list}
 use Rattle.std.specs.List.{list_any}
 use Rattle.std.specs.Option.{is_some}
 use Rattle.std.specs.Str.{bytes_eq}
@@ -38,6 +38,10 @@ is_qualified_well ts (Some n) = is_qualifier ts n.text
 -- the column's qualifier is that of one of the tables, and its name is in the schema
 abbrev pub is_known : List (List ℕ) → List TableRef → Col → Bool
 is_known names ts c = is_qualified_well ts c.table && is_some (column_of names c.name.text)
+
+-- the name is that of the object table
+abbrev pub is_object_table : List ℕ → Bool
+is_object_table text = bytes_eq text (codes "Object")
 
 -- both are the same column of a query of one table
 abbrev pub is_same_column : Col → Col → Bool

@@ -7,7 +7,7 @@ use Rattle.sql_tree.specs.declared.expr.Atom.TheOpen.{Atom-F, Factor-F}
 use Rattle.sql_tree.specs.declared.expr.Expr.{Expr}
 use Rattle.sql_tree.specs.declared.name.Col.{Col}
 use Rattle.bind_rules.specs.Areas.{area_test}
-use Rattle.bind_rules.specs.Bounds.{Scope, bound_col}
+use Rattle.bind_rules.specs.Bounds.{Meaning}
 use Rattle.bind_rules.specs.Forms.{values_of}
 use Rattle.bind_rules.specs.Tops.{Test, Area, Equals, Listed}
 
@@ -45,10 +45,14 @@ lone_of =
 
 -- ---- id tests and area tests
 
--- the expression is the id of the first table
-abbrev pub is_first_id : Scope → Alone → Bool
-is_first_id s (Some (LoneCol c)) = not (bound_col s c).second && nat_eq (bound_col s c).col 0
-is_first_id s _ = false
+-- the column means the id of the first table
+abbrev pub first_id : Meaning → Col → Bool
+first_id means c = not (means c).second && nat_eq (means c).col 0
+
+-- the expression is a single column, and one of these
+abbrev pub is_lone_column : (Col → Bool) → Alone → Bool
+is_lone_column these (Some (LoneCol c)) = these c
+is_lone_column these _ = false
 
 -- the integer, if the expression is one
 abbrev pub int_of : Alone → List ℤ
@@ -60,11 +64,11 @@ abbrev pub ids_if : Bool → List ℤ → List (List ℤ)
 ids_if true (n ∷ ns) = (n ∷ ns) ∷ []
 ids_if _ _ = []
 
--- the ids of a test that is a conjunct
-abbrev pub ids_by : Scope → Test → List (List ℤ)
-ids_by s (Equals left right) = ids_if (is_first_id s (lone_of left)) (int_of (lone_of right))
-ids_by s (Listed value list) = ids_if (is_first_id s (lone_of value)) (values_of list)
-ids_by s _ = []
+-- the ids of a test that is a conjunct, given which columns are the id of the first table
+abbrev pub ids_by : (Col → Bool) → Test → List (List ℤ)
+ids_by id (Equals left right) = ids_if (is_lone_column id (lone_of left)) (int_of (lone_of right))
+ids_by id (Listed value list) = ids_if (is_lone_column id (lone_of value)) (values_of list)
+ids_by id _ = []
 
 -- the area test
 abbrev pub areas_by : Test → List AreaTest

@@ -20,7 +20,7 @@ use Rattle.value_rules.specs.Tested.{IsTested}
 use Rattle.value_rules.specs.Truth.{truth_of, is_true}
 use Rattle.value_rules.specs.Values.{Pick, row, pair}
 use Rattle.bind_rules.specs.Binding.{bound_of}
-use Rattle.bind_rules.specs.Bounds.{Scope}
+use Rattle.bind_rules.specs.Bounds.{Meaning}
 use Rattle.bind_rules.specs.Conjuncts.{conjunct, conjuncts, conjuncts_of_conj, conjuncts_of_neg, conjuncts_of_pred}
 use Rattle.bind_rules.specs.Conjuncts.{where_conjuncts}
 use Rattle.bind_rules.specs.IdLists.{id_lists}
@@ -108,10 +108,10 @@ OrStaysWhole =
 -- WHERE is true of a row or a pair exactly if each of its conjuncts is
 abbrev pub WhereIsItsConjuncts : Type 0
 WhereIsItsConjuncts =
-    (s : Scope) (p : Pick) (w : Option Cond)
-    → where_holds s p w ≡ list_all (λ n. is_true (conjunct_truth s p n)) (where_conjuncts w)
+    (means : Meaning) (p : Pick) (w : Option Cond)
+    → where_holds means p w ≡ list_all (λ n. is_true (conjunct_truth means p n)) (where_conjuncts w)
 
 -- a conjunct and the condition that it is bound to have the same truth
 abbrev pub BoundConjunctsSayTheSame : Type 0
 BoundConjunctsSayTheSame =
-    (s : Scope) (p : Pick) (n : Neg) (c : BoundCond) → bound_cond s n ≡ Some c → truth_of c p ≡ conjunct_truth s p n
+    (means : Meaning) (p : Pick) (n : Neg) (c : BoundCond) → bound_cond means n ≡ Some c → truth_of c p ≡ conjunct_truth means p n

@@ -1,9 +1,8 @@
 -- Unknown names, and columns of a grouped query that are not keys.
 use Rattle.std.specs.Prelude.{ℕ, Bool, true, false, ◌&&◌, ◌||◌, not, if◌then◌else◌}
-use Rattle.std.specs.Prelude.{List, [], ◌∷◌, Option, None, Some, codes}
+use Rattle.std.specs.Prelude.{List, [], ◌∷◌, Option, None, Some}
 use Rattle.std.specs.List.{list_any, find, flat_map}
 use Rattle.std.specs.Option.{option_map}
-use Rattle.std.specs.Str.{bytes_eq}
 use Rattle.sql_token.specs.declared.token.Span.{Span}
 use Rattle.sql_tree.specs.declared.name.Col.{Col}
 use Rattle.sql_tree.specs.declared.query.ItemKind.{ItemKind}
@@ -11,20 +10,33 @@ use Rattle.sql_tree.specs.declared.query.ItemKind.TheVariants as what
 use Rattle.sql_tree.specs.declared.query.Query.{Query}
 use Rattle.sql_tree.specs.declared.query.Selection.{Selection}
 use Rattle.sql_tree.specs.declared.query.Selection.TheVariants as selection
-use Rattle.sql_tree.specs.declared.query.TableRef.{TableRef}
 use Rattle.sql_tree.specs.Spans.{col_span}
 use Rattle.bind_rules.specs.declared.fault.BindFault.{BindFault}
 use Rattle.bind_rules.specs.declared.fault.BindFault.TheVariants as fault
-use Rattle.bind_rules.specs.Columns.{tables, is_join, is_qualifier, is_known, is_same_column}
+use Rattle.bind_rules.specs.Columns.{tables, is_join, is_object_table, is_qualifier, is_known, is_same_column}
 use Rattle.bind_rules.specs.Mentions.{Mention, Column, Table, Side, mentions_of, columns_of, items_of}
 
 -- ---- unknown names
 
+-- The columns, table names and qualifiers that a query may name.
+pub record Known : Type 0 where
+  pub column : Col → Bool
+  pub table : List ℕ → Bool
+  pub qualifier : List ℕ → Bool
+
+-- those of a query over the object table with these extra columns
+abbrev pub known_names : List (List ℕ) → Query → Known
+known_names names q = record {
+  column = is_known names (tables q);
+  table = is_object_table;
+  qualifier = is_qualifier (tables q);
+}
+
 -- nothing has the name of the mention
-abbrev pub is_unknown : List (List ℕ) → List TableRef → Mention → Bool
-is_unknown names ts (Column c) = not (is_known names ts c)
-is_unknown names ts (Table n) = not (bytes_eq n.text (codes "Object"))
-is_unknown names ts (Side n) = not (is_qualifier ts n.text)
+abbrev pub is_unknown : Known → Mention → Bool
+is_unknown known (Column c) = not (known.column c)
+is_unknown known (Table n) = not (known.table n.text)
+is_unknown known (Side n) = not (known.qualifier n.text)
 
 -- the span of a mention
 abbrev pub span_of : Mention → Span
@@ -33,9 +45,12 @@ span_of (Table n) = n.span
 span_of (Side n) = n.span
 
 -- the fault of the first unknown name
-unfoldable pub unknown_name : List (List ℕ) → Query → Option BindFault
-unknown_name names q =
-    option_map (λ m. fault.UnknownName (span_of m)) (find (is_unknown names (tables q)) (mentions_of q))
+unfoldable pub unknown_by : Known → Query → Option BindFault
+unknown_by known q = option_map (λ m. fault.UnknownName (span_of m)) (find (is_unknown known) (mentions_of q))
+
+-- the fault of the first unknown name over the object table
+abbrev pub unknown_name : List (List ℕ) → Query → Option BindFault
+unknown_name names q = unknown_by (known_names names q) q
 
 -- ---- grouped queries
 

@@ -12,7 +12,7 @@ use Rattle.value_rules.specs.Areas.{area_holds}
 use Rattle.value_rules.specs.Truth.{compared, among, truth_not, truth_and, truth_or, is_true}
 use Rattle.value_rules.specs.Values.{Pick, value_of}
 use Rattle.bind_rules.specs.Areas.{area_test}
-use Rattle.bind_rules.specs.Bounds.{Scope, bound_expr}
+use Rattle.bind_rules.specs.Bounds.{Meaning, expr_by}
 use Rattle.bind_rules.specs.Forms.{values_of}
 
 -- a truth, negated if there is a NOT
@@ -32,20 +32,20 @@ abbrev pub Truth-F : (Type 0 → Type 0 → Type 0 → Type 0 → Type 0) → Ty
 Truth-F F = F (Option Bool) (Option Bool) (Option Bool) (Option Bool)
 
 -- the truth of a predicate
-abbrev pub truth_at_pred : Scope → Pick → Truth-F Pred-F → Option Bool
-truth_at_pred s p (Pred-F.Bracket c) = c
-truth_at_pred s p (Pred-F.Compare left op right) =
-    compared op (value_of (bound_expr s left) p) (value_of (bound_expr s right) p)
-truth_at_pred s p (Pred-F.Between without value low high) =
+abbrev pub truth_at_pred : Meaning → Pick → Truth-F Pred-F → Option Bool
+truth_at_pred means p (Pred-F.Bracket c) = c
+truth_at_pred means p (Pred-F.Compare left op right) =
+    compared op (value_of (expr_by means left) p) (value_of (expr_by means right) p)
+truth_at_pred means p (Pred-F.Between without value low high) =
     not_if without (truth_and
-    (compared AtMost (value_of (bound_expr s low) p) (value_of (bound_expr s value) p))
-    (compared AtMost (value_of (bound_expr s value) p) (value_of (bound_expr s high) p)))
-truth_at_pred s p (Pred-F.Among without value list) =
-    not_if without (among (value_of (bound_expr s value) p) (values_of list))
-truth_at_pred s p (Pred-F.IsNull without value) = not_if without (Some (is_none (value_of (bound_expr s value) p)))
-truth_at_pred s p (Pred-F.Area kind span args) =
+    (compared AtMost (value_of (expr_by means low) p) (value_of (expr_by means value) p))
+    (compared AtMost (value_of (expr_by means value) p) (value_of (expr_by means high) p)))
+truth_at_pred means p (Pred-F.Among without value list) =
+    not_if without (among (value_of (expr_by means value) p) (values_of list))
+truth_at_pred means p (Pred-F.IsNull without value) = not_if without (Some (is_none (value_of (expr_by means value) p)))
+truth_at_pred means p (Pred-F.Area kind span args) =
     option_map (λ a. area_holds a p.first.at) (area_test kind (values_of args))
-truth_at_pred s p (Pred-F.Chord left right strict n) = chord_truth p strict n
+truth_at_pred means p (Pred-F.Chord left right strict n) = chord_truth p strict n
 
 -- the truth of a predicate with or without NOT
 abbrev pub truth_at_neg : Truth-F Neg-F → Option Bool
@@ -70,18 +70,18 @@ abbrev pub truth_at_cond : Truth-F Cond-F → Option Bool
 truth_at_cond c = or_from c.first c.rest
 
 -- the truth of a written condition
-unfoldable pub written_truth : Scope → Pick → Cond → Option Bool
-written_truth s p =
-    fold-Cond (Option Bool) (Option Bool) (Option Bool) (Option Bool) (truth_at_pred s p) truth_at_cond truth_at_conj
+unfoldable pub written_truth : Meaning → Pick → Cond → Option Bool
+written_truth means p =
+    fold-Cond (Option Bool) (Option Bool) (Option Bool) (Option Bool) (truth_at_pred means p) truth_at_cond truth_at_conj
     truth_at_neg
 
 -- the truth of a written conjunct
-unfoldable pub conjunct_truth : Scope → Pick → Neg → Option Bool
-conjunct_truth s p =
-    fold-Neg (Option Bool) (Option Bool) (Option Bool) (Option Bool) (truth_at_pred s p) truth_at_cond truth_at_conj
+unfoldable pub conjunct_truth : Meaning → Pick → Neg → Option Bool
+conjunct_truth means p =
+    fold-Neg (Option Bool) (Option Bool) (Option Bool) (Option Bool) (truth_at_pred means p) truth_at_cond truth_at_conj
     truth_at_neg
 
 -- WHERE is true, and not unknown; without a WHERE every row is accepted
-abbrev pub where_holds : Scope → Pick → Option Cond → Bool
-where_holds s p None = true
-where_holds s p (Some c) = is_true (written_truth s p c)
+abbrev pub where_holds : Meaning → Pick → Option Cond → Bool
+where_holds means p None = true
+where_holds means p (Some c) = is_true (written_truth means p c)

@@ -16,7 +16,7 @@ use Rattle.sql_tree.specs.declared.cond.Pred.TheFolds.{fold-Cond, fold-Conj, fol
 use Rattle.sql_tree.specs.declared.cond.Pred.TheOpen.{Cond-F, Conj-F, Neg-F, Pred-F}
 use Rattle.bind_rules.specs.Forms.{values_of}
 use Rattle.bind_rules.specs.Areas.{area_test}
-use Rattle.bind_rules.specs.Bounds.{Scope, bound_expr}
+use Rattle.bind_rules.specs.Bounds.{Meaning, expr_by}
 use Rattle.bind_rules.specs.Conjuncts.{where_conjuncts}
 
 -- an area test as a predicate
@@ -34,16 +34,16 @@ abbrev pub Bound-F : (Type 0 → Type 0 → Type 0 → Type 0 → Type 0) → Ty
 Bound-F F = F (Option BoundPred) (Option BoundAny) (Option BoundAll) (Option BoundCond)
 
 -- the bound predicate, given the bound condition inside it
-abbrev pub bound_at_pred : Scope → Bound-F Pred-F → Option BoundPred
-bound_at_pred s (Pred-F.Bracket c) = bracket c
-bound_at_pred s (Pred-F.Compare left op right) = Some (bound.Compare (bound_expr s left) op (bound_expr s right))
-bound_at_pred s (Pred-F.Between without value low high) =
-    Some (bound.Between without (bound_expr s value) (bound_expr s low) (bound_expr s high))
-bound_at_pred s (Pred-F.Among without value list) =
-    Some (bound.Among without (bound_expr s value) (values_of list))
-bound_at_pred s (Pred-F.IsNull without value) = Some (bound.IsNull without (bound_expr s value))
-bound_at_pred s (Pred-F.Area kind span args) = area_pred (area_test kind (values_of args))
-bound_at_pred s (Pred-F.Chord left right strict n) = None
+abbrev pub bound_at_pred : Meaning → Bound-F Pred-F → Option BoundPred
+bound_at_pred means (Pred-F.Bracket c) = bracket c
+bound_at_pred means (Pred-F.Compare left op right) = Some (bound.Compare (expr_by means left) op (expr_by means right))
+bound_at_pred means (Pred-F.Between without value low high) =
+    Some (bound.Between without (expr_by means value) (expr_by means low) (expr_by means high))
+bound_at_pred means (Pred-F.Among without value list) =
+    Some (bound.Among without (expr_by means value) (values_of list))
+bound_at_pred means (Pred-F.IsNull without value) = Some (bound.IsNull without (expr_by means value))
+bound_at_pred means (Pred-F.Area kind span args) = area_pred (area_test kind (values_of args))
+bound_at_pred means (Pred-F.Chord left right strict n) = None
 
 -- the first and the others as one list, if all are there
 abbrev pub before : {A : Type 0} → Option A → Option (List A) → Option (List A)
@@ -83,33 +83,33 @@ abbrev pub bound_at_cond : Bound-F Cond-F → Option BoundAny
 bound_at_cond c = any_by c.first (all_there c.rest)
 
 -- the bound predicate
-unfoldable pub bound_pred : Scope → Pred → Option BoundPred
-bound_pred s =
-    fold-Pred (Option BoundPred) (Option BoundAny) (Option BoundAll) (Option BoundCond) (bound_at_pred s) bound_at_cond
+unfoldable pub bound_pred : Meaning → Pred → Option BoundPred
+bound_pred means =
+    fold-Pred (Option BoundPred) (Option BoundAny) (Option BoundAll) (Option BoundCond) (bound_at_pred means) bound_at_cond
     bound_at_conj bound_at_neg
 
 -- the bound condition
-unfoldable pub bound_any : Scope → Cond → Option BoundAny
-bound_any s =
-    fold-Cond (Option BoundPred) (Option BoundAny) (Option BoundAll) (Option BoundCond) (bound_at_pred s) bound_at_cond
+unfoldable pub bound_any : Meaning → Cond → Option BoundAny
+bound_any means =
+    fold-Cond (Option BoundPred) (Option BoundAny) (Option BoundAll) (Option BoundCond) (bound_at_pred means) bound_at_cond
     bound_at_conj bound_at_neg
 
 -- the bound conjunction
-unfoldable pub bound_all : Scope → Conj → Option BoundAll
-bound_all s =
-    fold-Conj (Option BoundPred) (Option BoundAny) (Option BoundAll) (Option BoundCond) (bound_at_pred s) bound_at_cond
+unfoldable pub bound_all : Meaning → Conj → Option BoundAll
+bound_all means =
+    fold-Conj (Option BoundPred) (Option BoundAny) (Option BoundAll) (Option BoundCond) (bound_at_pred means) bound_at_cond
     bound_at_conj bound_at_neg
 
 -- the bound predicate with or without NOT
-unfoldable pub bound_cond : Scope → Neg → Option BoundCond
-bound_cond s =
-    fold-Neg (Option BoundPred) (Option BoundAny) (Option BoundAll) (Option BoundCond) (bound_at_pred s) bound_at_cond
+unfoldable pub bound_cond : Meaning → Neg → Option BoundCond
+bound_cond means =
+    fold-Neg (Option BoundPred) (Option BoundAny) (Option BoundAll) (Option BoundCond) (bound_at_pred means) bound_at_cond
     bound_at_conj bound_at_neg
 
 -- the bound conjunct, if it can be part of a bound condition
-abbrev pub bound_conjunct : Scope → Neg → List BoundCond
-bound_conjunct s n = option_to_list (bound_cond s n)
+abbrev pub bound_conjunct : Meaning → Neg → List BoundCond
+bound_conjunct means n = option_to_list (bound_cond means n)
 
 -- the bound conjuncts of WHERE, without the chord test
-abbrev pub conds_in : Scope → Option Cond → List BoundCond
-conds_in s w = flat_map (bound_conjunct s) (where_conjuncts w)
+abbrev pub conds_in : Meaning → Option Cond → List BoundCond
+conds_in means w = flat_map (bound_conjunct means) (where_conjuncts w)

@@ -1,4 +1,4 @@
--- Bounds on the numbers of a written expression.
+-- Bounds on the numbers of a written expression, given the largest size of a value of each column.
 use Rattle.std.specs.Prelude.{ℕ, ◌+◌, ◌*◌, max, nat_abs, nat_lt, Bool, List, [], ◌∷◌, ◌++◌, Option, None, Some}
 use Rattle.sky_vector.specs.declared.limits.TheConstants.{NUMBER_MOST}
 use Rattle.table_rules.specs.Objects.{column_bound}
@@ -8,6 +8,7 @@ use Rattle.sql_tree.specs.declared.cond.Pred.TheOpen.{Pred-F}
 use Rattle.sql_tree.specs.declared.expr.Atom.TheFolds.{fold-Expr}
 use Rattle.sql_tree.specs.declared.expr.Atom.TheOpen.{Atom-F, Expr-F, Factor-F, Prod-F, Signed-F}
 use Rattle.sql_tree.specs.declared.expr.Expr.{Expr}
+use Rattle.sql_tree.specs.declared.name.Col.{Col}
 use Rattle.sql_tree.specs.declared.query.Query.{Query}
 use Rattle.table_rules.specs.Names.{column_of}
 use Rattle.text_rules.specs.Readings.{joined}
@@ -40,11 +41,15 @@ abbrev pub taken_from_left : (ℕ → ℕ → ℕ) → Width → List Width → 
 taken_from_left op w [] = w
 taken_from_left op w (x ∷ xs) = taken_from_left op (and_then op w x) xs
 
+-- the largest size of a value of a column of the object table, and 0 if it has no such column
+abbrev pub column_size : List (List ℕ) → Col → ℕ
+column_size names c = bound_by (column_of names c.name.text)
+
 -- the width of an atom
-abbrev pub width_at_atom : List (List ℕ) → Atom-F Width Width Width Width Width → Width
-width_at_atom names (Atom-F.Int n) = just (nat_abs n)
-width_at_atom names (Atom-F.Col c) = just (bound_by (column_of names c.name.text))
-width_at_atom names (Atom-F.Bracket e) = e
+abbrev pub width_at_atom : (Col → ℕ) → Atom-F Width Width Width Width Width → Width
+width_at_atom size (Atom-F.Int n) = just (nat_abs n)
+width_at_atom size (Atom-F.Col c) = just (size c)
+width_at_atom size (Atom-F.Bracket e) = e
 
 -- the width of a sum
 abbrev pub width_at_expr : Expr-F Width Width Width Width Width → Width
@@ -63,14 +68,14 @@ abbrev pub width_at_signed : Signed-F Width Width Width Width Width → Width
 width_at_signed s = s.prod
 
 -- the width of an expression
-unfoldable pub width_of : List (List ℕ) → Expr → Width
-width_of names =
-    fold-Expr Width Width Width Width Width (width_at_atom names) width_at_expr width_at_factor width_at_prod
+unfoldable pub width_of : (Col → ℕ) → Expr → Width
+width_of size =
+    fold-Expr Width Width Width Width Width (width_at_atom size) width_at_expr width_at_factor width_at_prod
     width_at_signed
 
 -- some number of the expression may be above 2^100 in size
-abbrev pub is_too_wide : List (List ℕ) → Expr → Bool
-is_too_wide names e = nat_lt NUMBER_MOST (width_of names e).widest
+abbrev pub is_too_wide : (Col → ℕ) → Expr → Bool
+is_too_wide size e = nat_lt NUMBER_MOST (width_of size e).widest
 
 -- expressions
 abbrev pub Exprs : Type 0

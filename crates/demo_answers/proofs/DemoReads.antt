@@ -13,10 +13,10 @@ use Rattle.sql_rules.specs.ReadQueries.{group_at, way_at, sorted_at, order_at, l
 use Rattle.sql_rules.specs.Trees.{from_at, front_at, query_at, query_of, tree_of}
 use Rattle.bind_rules.specs.Mentions.{columns_of, mentions_of_cond}
 use Rattle.bind_rules.specs.Widths.{width_of, exprs_of}
-use Rattle.bind_rules.specs.Names.{unknown_name, not_grouped}
+use Rattle.bind_rules.specs.Names.{unknown_by, not_grouped}
 use Rattle.bind_rules.specs.Forms.{join_form, area_form}
-use Rattle.bind_rules.specs.Checks.{too_wide, order_name, bind_fault}
-use Rattle.bind_rules.specs.Bounds.{bound_expr}
+use Rattle.bind_rules.specs.Checks.{too_wide_by, order_by, fault_by}
+use Rattle.bind_rules.specs.Bounds.{expr_by}
 use Rattle.bind_rules.specs.IdTests.{lone_of}
 use Rattle.bind_rules.specs.Binding.{bound_query, bound_of}
 use Rattle.sql_bound.specs.Trees.{factor, product, sum, cond_of}
@@ -56,7 +56,7 @@ unfolding keyword_of tokens_from too_deep many col_at bracket_with atom_with fac
 read_totals = refl
 
 pub bound_totals : bound_of demo_names tree_totals ≡ Ok demo_totals
-unfolding columns_of width_of unknown_name not_grouped join_form area_form too_wide order_name bind_fault bound_expr
+unfolding columns_of width_of unknown_by not_grouped join_form area_form too_wide_by order_by fault_by expr_by
     bound_query bound_of factor product sum
 bound_totals = simp columns
 
@@ -83,8 +83,8 @@ unfolding keyword_of tokens_from too_deep many col_at bracket_with atom_with fac
 read_kinds = refl
 
 pub bound_kinds : bound_of demo_names tree_kinds ≡ Ok demo_kinds
-unfolding columns_of mentions_of_cond width_of exprs_of unknown_name not_grouped join_form area_form too_wide
-    order_name bind_fault bound_expr lone_of bound_query bound_of factor product sum cond_of
+unfolding columns_of mentions_of_cond width_of exprs_of unknown_by not_grouped join_form area_form too_wide_by
+    order_by fault_by expr_by lone_of bound_query bound_of factor product sum cond_of
 bound_kinds = simp (columns, sums, conditions, by_compare)
 
 -- ---- the brightest of a band
@@ -111,8 +111,8 @@ unfolding keyword_of tokens_from too_deep many col_at bracket_with atom_with fac
 read_belt = refl
 
 pub bound_belt : bound_of demo_names tree_belt ≡ Ok demo_belt
-unfolding columns_of mentions_of_cond width_of exprs_of unknown_name not_grouped join_form area_form too_wide
-    order_name bind_fault bound_expr lone_of bound_query bound_of factor product sum cond_of
+unfolding columns_of mentions_of_cond width_of exprs_of unknown_by not_grouped join_form area_form too_wide_by
+    order_by fault_by expr_by lone_of bound_query bound_of factor product sum cond_of
 bound_belt = simp (columns, conditions, by_area)
 
 -- ---- five near pairs
@@ -143,6 +143,6 @@ unfolding keyword_of tokens_from too_deep many col_at bracket_with atom_with fac
 read_pairs = refl
 
 pub bound_pairs : bound_of demo_names tree_pairs ≡ Ok demo_pairs
-unfolding columns_of mentions_of_cond width_of exprs_of unknown_name not_grouped join_form area_form too_wide
-    order_name bind_fault bound_expr lone_of bound_query bound_of factor product sum cond_of
+unfolding columns_of mentions_of_cond width_of exprs_of unknown_by not_grouped join_form area_form too_wide_by
+    order_by fault_by expr_by lone_of bound_query bound_of factor product sum cond_of
 bound_pairs = simp (columns, conditions, by_compare, by_chord)

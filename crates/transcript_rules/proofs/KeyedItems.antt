@@ -25,7 +25,7 @@ use Rattle.sql_rules.proofs.Opened.{nest_expr_roll}
 use Rattle.sql_rules.proofs.Opened.{atom_cases, factor_cases, prod_cases, signed_cases, expr_cases}
 use Rattle.sql_rules.specs.PrintedExprs.{Bytes, text_if, behind_each, in_brackets, print_expr_step, print_factor_step}
 use Rattle.sql_rules.specs.PrintedExprs.{print_prod_step, print_signed_step}
-use Rattle.bind_rules.specs.Bounds.{Scope, bound_col, bound_expr, bound_atom_step, bound_expr_step, bound_factor_step}
+use Rattle.bind_rules.specs.Bounds.{Scope, bound_col, bound_atom_step, bound_expr_step, bound_factor_step, expr_by}
 use Rattle.bind_rules.specs.Bounds.{bound_prod_step, bound_signed_step}
 use Rattle.bind_rules.proofs.Folds.{fold_int, fold_col, fold_bracket}
 use Rattle.transcript_rules.specs.MergeLines.{key_atom, sum_text, factor_text, product_text, signed_text, key_expr_text}
@@ -191,5 +191,5 @@ below_alike s keys (suc n) e deep = sum_alike s keys n (below_alike s keys n) e 
 
 -- a plain item is written as it is printed, with its keys' columns
 pub plain_items_by_keys : PlainItemsByKeys
-unfolding bound_expr key_expr_text keyed_text
+unfolding expr_by key_expr_text keyed_text
 plain_items_by_keys s keys e = below_alike s keys (suc (nest_expr e)) e (omega arith)

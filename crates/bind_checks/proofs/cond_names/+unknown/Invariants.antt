@@ -5,13 +5,13 @@ use Rattle.bind_checks.specs.Unknowns.{unknown_at}
 use Rattle.bind_checks.proofs.cond_names.+unknown.Given as goal
 
 abbrev pub invariant-unknown_in_conjs-loop-conj : goal.invariant-unknown_in_conjs-loop-conj
-invariant-unknown_in_conjs-loop-conj l = record {
-  ahead : unknown_at l.schema l.query (joined (map conj_mentions l.rest))
-      ≡ unknown_at l.schema l.query (joined (map conj_mentions (drop l.conj-index l.rest)));
+invariant-unknown_in_conjs-loop-conj g l = record {
+  ahead : unknown_at (g.C.Columns.known l.columns) (joined (map conj_mentions l.rest))
+      ≡ unknown_at (g.C.Columns.known l.columns) (joined (map conj_mentions (drop l.conj-index l.rest)));
 }
 
 abbrev pub invariant-unknown_in_negs-loop-neg : goal.invariant-unknown_in_negs-loop-neg
-invariant-unknown_in_negs-loop-neg l = record {
-  ahead : unknown_at l.schema l.query (joined (map neg_mentions l.rest))
-      ≡ unknown_at l.schema l.query (joined (map neg_mentions (drop l.neg-index l.rest)));
+invariant-unknown_in_negs-loop-neg g l = record {
+  ahead : unknown_at (g.C.Columns.known l.columns) (joined (map neg_mentions l.rest))
+      ≡ unknown_at (g.C.Columns.known l.columns) (joined (map neg_mentions (drop l.neg-index l.rest)));
 }

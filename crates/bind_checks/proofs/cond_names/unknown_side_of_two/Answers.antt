@@ -4,10 +4,9 @@ use Rattle.bind_rules.specs.Mentions.{Side}
 use Rattle.bind_checks.proofs.cond_names.unknown_side_of_two.Goals as goal
 
 pub returns-in-Some : goal.returns-in-Some
-returns-in-Some c =
-    λ names. first_here _ _ (Side c.args.left.now ∷ []) (Side c.args.right.now ∷ []) _ (c.in-Some.ensures names)
+returns-in-Some g c = first_here _ _ (Side c.args.left.now ∷ []) (Side c.args.right.now ∷ []) _ c.in-Some.ensures
 
 pub returns-in-None : goal.returns-in-None
-returns-in-None c =
-    λ names. c.unknown_side-in-None.ensures names ∙ sym
-    (first_later _ _ (Side c.args.left.now ∷ []) (Side c.args.right.now ∷ []) (c.in-None.ensures names))
+returns-in-None g c =
+    c.unknown_side-in-None.ensures ∙ sym
+    (first_later _ _ (Side c.args.left.now ∷ []) (Side c.args.right.now ∷ []) c.in-None.ensures)

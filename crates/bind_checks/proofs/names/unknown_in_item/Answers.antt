@@ -2,4 +2,4 @@ use Rattle.bind_checks.proofs.Firsts.{first_of_none}
 use Rattle.bind_checks.proofs.names.unknown_in_item.Goals as goal
 
 pub returns-in-None : goal.returns-in-None
-returns-in-None c = rw (← c.in-None.ensures) (first_of_none _ _)
+returns-in-None g c = rw (← c.in-None.ensures) (first_of_none _ _)

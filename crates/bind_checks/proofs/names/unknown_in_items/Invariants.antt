@@ -5,7 +5,7 @@ use Rattle.bind_checks.specs.Unknowns.{unknown_at}
 use Rattle.bind_checks.proofs.names.unknown_in_items.Given as goal
 
 abbrev pub invariant-loop-item : goal.invariant-loop-item
-invariant-loop-item l = record {
-  ahead : unknown_at l.schema l.query (flat_map item_mentions l.items)
-      ≡ unknown_at l.schema l.query (flat_map item_mentions (drop l.item-index l.items));
+invariant-loop-item g l = record {
+  ahead : unknown_at (g.C.Columns.known l.columns) (flat_map item_mentions l.items)
+      ≡ unknown_at (g.C.Columns.known l.columns) (flat_map item_mentions (drop l.item-index l.items));
 }

@@ -5,15 +5,15 @@ use Rattle.bind_checks.proofs.Firsts.{first_here, first_later, first_of_none}
 use Rattle.bind_checks.proofs.names.unknown_in_selection.Goals as goal
 
 pub returns-in-Star : goal.returns-in-Star
-returns-in-Star c = rw c.in-Star.is (first_of_none _ _)
+returns-in-Star g c = rw c.in-Star.is (first_of_none _ _)
 
 pub returns-in-Some : goal.returns-in-Some
-returns-in-Some c =
+returns-in-Some g c =
     rw c.in-List.is (first_here _ _ (item_mentions c.in-List.list.first) (flat_map item_mentions c.in-List.list.rest)
     _ c.in-Some.ensures)
 
 pub returns-in-None : goal.returns-in-None
-returns-in-None c =
+returns-in-None g c =
     rw c.in-List.is ((rw c.as_slice.ensures at c.unknown_in_items.ensures) ∙ sym
     (first_later _ _ (item_mentions c.in-List.list.first) (flat_map item_mentions c.in-List.list.rest)
     c.in-None.ensures))

@@ -11,9 +11,9 @@ use Rattle.sql_rules.specs.ReadQueries.{group_at, way_at, sorted_at, order_at, l
 use Rattle.sql_rules.specs.Trees.{from_at, front_at, query_at, query_of, tree_of}
 use Rattle.bind_rules.specs.Mentions.{columns_of, mentions_of_cond}
 use Rattle.bind_rules.specs.Widths.{width_of, exprs_of}
-use Rattle.bind_rules.specs.Names.{unknown_name, not_grouped}
+use Rattle.bind_rules.specs.Names.{unknown_by, not_grouped}
 use Rattle.bind_rules.specs.Forms.{join_form, area_form}
-use Rattle.bind_rules.specs.Checks.{too_wide, order_name, bind_fault}
+use Rattle.bind_rules.specs.Checks.{too_wide_by, order_by, fault_by}
 use Rattle.bind_rules.proofs.Worked.{written}
 use Rattle.bind_rules.proofs.first_faults.keys_with_a_qualifier.Goals as goal
 
@@ -23,7 +23,7 @@ unfolding keyword_of tokens_from too_deep many col_at bracket_with atom_with fac
     area_with group_with other_with pred_with neg_with conj_with any_with cond_at argument_at counted_at plain_at
     high_at kind_at as_at item_at item_list_at items_at alias_at table_at second_at where_at cols_at group_at way_at
     sorted_at order_at limit_at from_at front_at query_at query_of tree_of columns_of mentions_of_cond
-    width_of exprs_of unknown_name not_grouped join_form area_form too_wide order_name bind_fault
+    width_of exprs_of unknown_by not_grouped join_form area_form too_wide_by order_by fault_by
 returns-clause-bare c = simp written
 
 pub returns-clause-alias : goal.returns-clause-alias
@@ -32,5 +32,5 @@ unfolding keyword_of tokens_from too_deep many col_at bracket_with atom_with fac
     area_with group_with other_with pred_with neg_with conj_with any_with cond_at argument_at counted_at plain_at
     high_at kind_at as_at item_at item_list_at items_at alias_at table_at second_at where_at cols_at group_at way_at
     sorted_at order_at limit_at from_at front_at query_at query_of tree_of columns_of mentions_of_cond
-    width_of exprs_of unknown_name not_grouped join_form area_form too_wide order_name bind_fault
+    width_of exprs_of unknown_by not_grouped join_form area_form too_wide_by order_by fault_by
 returns-clause-alias c = simp written
