@@ -27,7 +27,7 @@ pub ends_in_states : {V : Type 0} {workers : ℕ} {g : Partition} {c : Catalogue
     → (items : V → List End) (r : Result V Memory) → plans ≡ same → ends ≡ given
     → IfOk r (λ v. AreEnded same given (items v)) → IfOk r (λ v. AreEndsIn seen (map kind_of (items v)))
 ends_in_states {V} {workers} {g} {c} {steps} {plans} {same} {of_board} {seen} {ends} {given} by items (Ok v) is are ended =
-    session_ends_in by
+    session_ends_in (items v) by
     (subst (λ (l : List Plan). AreEnded l ends (items v)) (sym is)
     (subst (λ (l : List (BoardEnd PieceView)). AreEnded same l (items v)) (sym are) ended))
 ends_in_states {V} {workers} {g} {c} {steps} {plans} {same} {of_board} {seen} {ends} {given} by items (Err m) is are ended = tt

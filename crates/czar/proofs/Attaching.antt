@@ -1,7 +1,7 @@
 -- The root of a session's pieces, from the plans of its queries.
 use denote.Ref.{Bor}
 use Rattle.std.proofs.Common.{◌≡◌, ◌∙◌, sym, ap, subst, ℕ, zero, suc, ◌+◌, ◌<◌, ◌≤◌, arith, List, [], ◌∷◌, ◌++◌, All}
-use Rattle.std.proofs.Common.{AllPairs, IfSome, length, map, take, get_or, None, Some, Option, option_map, refl, slice_get}
+use Rattle.std.proofs.Common.{AllPairs, IfSome, length, map, take, get_or, Some, Option, option_map, refl, slice_get}
 use Rattle.std.proofs.lemmas.List.{length-map, length-take, map-append, take_more}
 use Rattle.std.proofs.lemmas.Option.{slice_get-map}
 use Rattle.table_rules.specs.Objects.{Catalogue, IsCatalogue}

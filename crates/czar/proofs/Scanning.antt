@@ -4,7 +4,7 @@ use mathlib.Core.Logic.{◌⊎◌, inl, inr}
 use lib.Dec.{ltb}
 use Rattle.std.proofs.Common.{◌≡◌, ◌∙◌, sym, ap, refl, subst, ℕ, zero, suc, ◌+◌, ◌<◌, ◌≤◌, ◌==◌, arith}
 use Rattle.std.proofs.Common.{Bool, true, false, cond, List, [], ◌∷◌, AllPairs, length, get_or, eqb-true, ne_eqb, find}
-use Rattle.std.proofs.Common.{Ok, Err, Result, IfOk, Option, option_map, Some, None, is_some}
+use Rattle.std.proofs.Common.{Ok, Err, Result, IfOk, option_map, Some, is_some}
 use Rattle.std.specs.List.Sorted.{IsPartitionedBy, IsPartitionPoint}
 use Rattle.std.proofs.lemmas.Bool.{cases_lt, ltb-true, ltb-false}
 use Rattle.std.proofs.lemmas.List.Sorted.{IsPartitionedBy-ltb}

@@ -161,9 +161,9 @@ unplanned_state workers ring steps of_board S plans n p d at none =
 
 -- the ends of a session's queries are in the states of the journals of their boards
 pub session_ends_in : {workers : ℕ} {g : Partition} {c : Catalogue} {steps : List Step} {plans : List Plan} {of_board : ℕ → Plans}
-    {seen : ℕ → Journal} {ends : List (BoardEnd PieceView)} {query_ends : List End} → IsDrivenBy workers g c steps plans of_board seen ends
+    {seen : ℕ → Journal} {ends : List (BoardEnd PieceView)} (query_ends : List End) → IsDrivenBy workers g c steps plans of_board seen ends
     → AreEnded plans ends query_ends → AreEndsIn seen (map kind_of query_ends)
-session_ends_in {workers} {g} {c} {steps} {plans} {of_board} {seen} {ends} {query_ends} d ended = λ i end there.
+session_ends_in {workers} {g} {c} {steps} {plans} {of_board} {seen} {ends} query_ends d ended = λ i end there.
     let on : 1 + i ≡ i + 1 = omega arith in
     subst (λ n. IsEndIn (state_of (seen n) n) end) on
     (ends_in g c seen 1 plans ends query_ends i end
@@ -183,7 +183,7 @@ session_traces workers g c s plans ends qs seen journal are d ended is =
       right = d.driven.run 0;
       drove = subst (λ (p : Plans). Drove workers p s.steps seen) (same_plans g c (query_lines s) plans are) (d.driven.drove 0);
       closed = omega (arith, closed_once seen (d.driven.run 0), some_counted closes seen (d.driven.drove 0).closed);
-      states = session_ends_in d ended;
+      states = session_ends_in qs d ended;
     })
 
 -- so under any names of the plans, the ends at the board and the lines that were seen

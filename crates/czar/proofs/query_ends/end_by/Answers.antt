@@ -1,4 +1,4 @@
-use Rattle.std.proofs.Common.{◌≡◌, sym, subst}
+use Rattle.std.proofs.Common.{sym, subst}
 use Rattle.std.specs.Result.{IfOk}
 use Rattle.czar.specs.Ended.{IsEnded}
 use Rattle.czar.specs.declared.plan.Plan.{Plan}
