@@ -1,5 +1,5 @@
 -- Of the filled chunks, those that pass the area tests and have an id of each id test are the plan.
-use Rattle.std.proofs.Common.{◌≡◌, ℕ, ℤ, Bool, true, false, ◌&&◌, List, [], filter, refl, sym, ap, ◌∙◌}
+use Rattle.std.proofs.Common.{◌≡◌, ℕ, ℤ, Bool, true, false, ◌&&◌, List, filter, refl, ap, ◌∙◌}
 use Rattle.std.specs.List.{list_all}
 use Rattle.std.specs.Prelude.{Result, Ok, Err, IfOk}
 use Rattle.table_rules.specs.Objects.{Obj}
@@ -10,7 +10,7 @@ use Rattle.sql_bound.specs.declared.query.Bound.{Bound}
 use Rattle.sky_rules.specs.Chunks.{all_chunks}
 use Rattle.chunk_rules.specs.Filled.{filled_chunks, is_filled}
 use Rattle.answer_rules.specs.Plans.{area_meets, holds_id, is_needed, plan_of}
-use Rattle.area_analyser.proofs.Filters.{filter_all, filter_same, filter_twice}
+use Rattle.area_analyser.proofs.Filters.{filter_same, filter_twice}
 
 -- the chunk passes the query's area tests
 abbrev in_areas : Partition → Bound → ℕ → Bool
@@ -39,16 +39,6 @@ pub plan_from : (g : Partition) (table : List Obj) (q : Bound) (filled kept chun
 plan_from g table q filled kept chunks areas ids a i k e full =
     e ∙ ap (λ (tests : List (List ℤ)). filter (λ c. list_all (holds_id g table c) tests) kept) i
     ∙ ap (filter (has_ids g table q)) (k ∙ ap (λ (tests : List AreaTest). filter (λ c. list_all (area_meets (bounds_of g c)) tests) filled) a ∙ ap (filter (in_areas g q)) full)
-    ∙ chosen g table q
-
--- and of a query without id tests
-pub plan_without_ids : (g : Partition) (table : List Obj) (q : Bound) (filled kept : List ℕ) (areas : List AreaTest)
-    → areas ≡ q.areas → q.ids ≡ [] → kept ≡ filter (λ c. list_all (area_meets (bounds_of g c)) areas) filled
-    → filled ≡ filled_chunks g table → kept ≡ plan_of g table q
-plan_without_ids g table q filled kept areas a none k full =
-    k ∙ ap (λ (tests : List AreaTest). filter (λ c. list_all (area_meets (bounds_of g c)) tests) filled) a ∙ ap (filter (in_areas g q)) full
-    ∙ sym (filter_all (filter (in_areas g q) (filled_chunks g table)))
-    ∙ ap (λ (ids : List (List ℤ)). filter (λ c. list_all (holds_id g table c) ids) (filter (in_areas g q) (filled_chunks g table))) (sym none)
     ∙ chosen g table q
 
 -- what follows from what holds of an answer holds of it

@@ -1,8 +1,7 @@
 //! The choice of the chunks that a query needs, among those that have rows.
 
-ghost use Rattle.std.specs.Prelude.{◌≡◌, ◌<◌, [], All, AllPairs, IfOk, List, filter};
+ghost use Rattle.std.specs.Prelude.{◌≡◌, ◌<◌, All, AllPairs, IfOk, filter};
 ghost use Rattle.std.specs.List.{list_all};
-ghost use Rattle.table_rules.specs.Objects.{Obj};
 ghost use Rattle.sky_rules.specs.Partition.{chunk_count};
 ghost use Rattle.sky_rules.specs.Bounds.{bounds_of};
 ghost use Rattle.chunk_rules.specs.Filled.{filled_chunks};
@@ -37,24 +36,6 @@ pub fn plan(
 {
     let chunks = in_areas(alloc, sky, bound.areas.as_slice(), filled)?;
     with_ids(alloc, index, bound.ids.as_slice(), chunks)
-}
-
-/// Returns the chunks that a query without id tests needs, among those that have rows; it needs no index. Allocates
-/// memory for the chunks.
-pub fn plan_by_areas(
-    alloc: Global,
-    bound: &Bound,
-    sky: &SkyPlan,
-    filled: &[u32],
-) -> Result<ChunkSet, Memory>
-    requires none { bound.now.ids ≡ [] }
-    requires there { All (λ c. c < chunk_count sky.now) filled.now }
-    requires ascend { AllPairs (λ a b. a < b) filled.now }
-    ensures plan { IfOk result (λ chunks. (rows : List Obj)
-        → filled.now ≡ filled_chunks sky.now rows → chunks ≡ plan_of sky.now rows bound.now) }
-    ensures there { IfOk result (λ chunks. All (λ c. c < chunk_count sky.now) chunks) }
-{
-    in_areas(alloc, sky, bound.areas.as_slice(), filled)
 }
 
 /// Returns those of the chunks in which each of the areas may have a point.

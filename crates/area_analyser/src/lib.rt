@@ -16,5 +16,5 @@ mod push;
 mod radius;
 
 pub use answer_rules::Radius;
-pub use choice::{plan, plan_by_areas};
+pub use choice::plan;
 pub use radius::radius_ok;
