@@ -4,15 +4,18 @@ ghost use Rattle.csv.specs.Records.{fields_of};
 ghost use Rattle.sky_io.specs.Stops.{IfBad};
 ghost use Rattle.table_rules.specs.Objects.{IsTable};
 ghost use Rattle.table_rules.specs.Records.{row_of};
-ghost use Rattle.catalogue_load.specs.Judged.{faults_alone};
-ghost use Rattle.catalogue_load.specs.Parts.{first_of};
-ghost use Rattle.catalogue_load.specs.Repeats.{IsFirstFault, IsRepeat, ids_in};
+ghost use Rattle.record_rules.specs.Objects.{object_form};
+ghost use Rattle.record_rules.specs.Repeats.{IsFirstFault, IsRepeat};
+ghost use Rattle.record_text.specs.Faults.{first_of};
+ghost use Rattle.record_text.specs.Judged.{faults_alone};
+ghost use Rattle.catalogue_load.specs.Parts.{ids_in};
 ghost use Rattle.text_rules.specs.declared.limits.TheConstants.{TEXT_MOST};
 ghost use Rattle.table_rules.specs.declared.limits.TheConstants.{COLUMNS_MOST, FIRST_COLUMNS, ROWS_MOST};
 
-use crate::order::{first_fault, in_order};
+use crate::order::in_order;
 use crate::row::read_row;
 use csv::ByteRecord;
+use id_order::first_fault;
 use sky_io::{Memory, Stop};
 use sky_row::{Columns, Row, Rows, Schema};
 use std::alloc::Global;
@@ -22,7 +25,7 @@ use table_rules::LoadFault;
 use table_rules::limits::ROWS_MOST;
 
 /// Returns the row of the record after `count` rows. Whether its id repeats is not checked.
-#[tactic(auto, using(crate::proofs::RowFaults::row_full))]
+#[tactic(auto, using(record_text::proofs::RowFaults::row_full))]
 fn next_row(
     cells: &mut Vec<Option<i64>>,
     width: usize,
@@ -33,11 +36,11 @@ fn next_row(
     requires few { width ≤ COLUMNS_MOST }
     requires small { length (fields_of fields.now) ≤ TEXT_MOST + 1 }
     ensures room { OnOk result (count < ROWS_MOST) }
-    ensures none { OnOk result (faults_alone width count (fields_of fields.now) ≡ []) }
+    ensures none { OnOk result (faults_alone object_form width count (fields_of fields.now) ≡ []) }
     ensures ok { IfOk result (λ row. row ≡ row_of (fields_of fields.now)) }
     ensures wide { IfOk result (λ row. FIRST_COLUMNS + length row.further ≡ width) }
     ensures bad { IfErr result (λ stop. IfBad stop (λ fault.
-        first_of (faults_alone width count (fields_of fields.now)) ≡ Some fault)) }
+        first_of (faults_alone object_form width count (fields_of fields.now)) ≡ Some fault)) }
 {
     if count >= ROWS_MOST {
         return Err(Stop::Bad(LoadFault::TooManyRows));
@@ -79,11 +82,11 @@ impl Gathered {
         requires small { length (fields_of fields.now) ≤ TEXT_MOST + 1 }
         ensures names { self.new.names ≡ self.old.names }
         ensures none { OnOk result (
-            faults_alone (FIRST_COLUMNS + length self.old.names) (length self.old.objects) (fields_of fields.now) ≡ []) }
+            faults_alone object_form (FIRST_COLUMNS + length self.old.names) (length self.old.objects) (fields_of fields.now) ≡ []) }
         ensures ok { OnOk result (self.new.objects
             ≡ self.old.objects ++ row_of (fields_of fields.now) ∷ []) }
         ensures same { OnErr result (self.new.objects ≡ self.old.objects) }
-        ensures bad { IfErr result (λ stop. IfBad stop (λ fault. first_of (faults_alone
+        ensures bad { IfErr result (λ stop. IfBad stop (λ fault. first_of (faults_alone object_form
             (FIRST_COLUMNS + length self.old.names) (length self.old.objects) (fields_of fields.now)) ≡ Some fault)) }
     {
         let row = next_row(
@@ -124,8 +127,9 @@ impl Gathered {
     /// Returns the first fault of the rows and of the record after them, which has the fault `behind`; or an allocation
     /// failure.
     pub(crate) fn first_fault(&self, alloc: Global, behind: LoadFault) -> Stop<LoadFault>
-        ensures { IfBad result (λ fault. IsFirstFault self.now.objects behind fault) }
+        ensures { IfBad result (λ fault. IsFirstFault (ids_in self.now.objects) behind fault) }
     {
-        first_fault(alloc, &self.columns, behind)
+        let _count = self.columns.len();
+        first_fault(alloc, self.columns.ids(), behind)
     }
 }

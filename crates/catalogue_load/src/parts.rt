@@ -12,7 +12,8 @@ ghost use Rattle.csv.specs.Records.{fields_of};
 ghost use Rattle.sky_io.specs.Stops.{IfBad};
 ghost use Rattle.catalogue_load.specs.Catalogue.{catalogue_of};
 ghost use Rattle.catalogue_load.specs.InParts.{AreParts, IsReadUnder, IsReadWhole};
-ghost use Rattle.catalogue_load.specs.Judged.{Read};
+ghost use Rattle.record_rules.specs.Objects.{object_form};
+ghost use Rattle.record_text.specs.Judged.{Read};
 ghost use Rattle.text_rules.specs.declared.limits.TheConstants.{TEXT_MOST};
 ghost use Rattle.table_rules.specs.declared.limits.TheConstants.{FIRST_COLUMNS, ROWS_MOST};
 
@@ -20,9 +21,9 @@ use crate::cut::{cut, has_quote, may_have_mark};
 use crate::gathered::Gathered;
 use crate::header::read_header;
 use crate::order::in_order;
-use crate::reading::{read_next, reader_of};
 use crate::text::{load_alone, read_rest};
 use csv::ByteRecord;
+use record_text::{read_next, reader_of};
 use sky_io::Stop;
 use sky_row::{Columns, Rows, Schema};
 use std::alloc::Global;
@@ -46,7 +47,7 @@ fn rows_under(alloc: Global, schema: Schema, part: &[u8]) -> Option<Columns>
     requires plain { strip_bom part.now ≡ part.now }
     ensures names { IfSome result (λ rows. rows.names ≡ schema) }
     ensures read { IfSome result (λ rows.
-        Read (FIRST_COLUMNS + length schema) rows.objects None (records default_config part.now)) }
+        Read object_form (FIRST_COLUMNS + length schema) rows.objects None (records default_config part.now)) }
 {
     let reader = reader_of(alloc, part);
     let Ok(mut gathered) = Gathered::new(alloc, schema) else {

@@ -2,17 +2,18 @@
 ghost use Rattle.std.specs.Prelude.{◌≡◌, ◌+◌, ◌≤◌, ◌^◌, ℕ, List, [], length, IfErr, IfOk, OnOk, Ok, Err, None, Some};
 ghost use Rattle.sky_io.specs.Stops.{IfBad};
 ghost use Rattle.text_rules.specs.Readings.{judged};
-ghost use Rattle.table_rules.specs.Records.{data_faults};
-ghost use Rattle.catalogue_load.specs.Catalogue.{catalogue_of, catalogue_with};
-ghost use Rattle.catalogue_load.specs.Judged.{HasRead};
-ghost use Rattle.catalogue_load.specs.Standing.{HasLeft, StillGives};
+ghost use Rattle.record_rules.specs.Objects.{catalogue_with, object_form};
+ghost use Rattle.record_rules.specs.Records.{faults_of_rows, table_under};
+ghost use Rattle.record_text.specs.Judged.{HasRead};
+ghost use Rattle.record_text.specs.Standing.{HasLeft, StillGives};
+ghost use Rattle.catalogue_load.specs.Catalogue.{catalogue_of};
 ghost use Rattle.text_rules.specs.declared.limits.TheConstants.{TEXT_MOST};
 ghost use Rattle.table_rules.specs.declared.limits.TheConstants.{FIRST_COLUMNS, FURTHER_COLUMNS_MOST};
 
 use crate::gathered::Gathered;
 use crate::header::read_header;
-use crate::reading::{read_next, reader_of};
 use csv::{ByteRecord, Reader};
+use record_text::{read_next, reader_of};
 use sky_io::Stop;
 use sky_row::{Rows, Schema};
 use std::alloc::Global;
@@ -30,9 +31,9 @@ pub(crate) fn read_rest(
     requires gives { HasLeft reader }
     ensures names { gathered.new.names ≡ gathered.old.names }
     ensures ok { OnOk result (
-        HasRead (FIRST_COLUMNS + length gathered.old.names) reader.entry gathered.new.objects None) }
+        HasRead object_form (FIRST_COLUMNS + length gathered.old.names) reader.entry gathered.new.objects None) }
     ensures bad { IfErr result (λ stop. IfBad stop (λ fault.
-        HasRead (FIRST_COLUMNS + length gathered.old.names) reader.entry gathered.new.objects (Some fault))) }
+        HasRead object_form (FIRST_COLUMNS + length gathered.old.names) reader.entry gathered.new.objects (Some fault))) }
 {
     for turn in 0..u64::MAX {
         let Ok(found) = read_next(&mut reader, &mut fields) else {
@@ -60,10 +61,10 @@ fn rows_under<R: Threads + Sync>(
     requires few { length schema ≤ FURTHER_COLUMNS_MOST }
     requires gives { HasLeft reader }
     ensures ok { IfOk result (λ rows. (rest : List (List (List ℕ))) → StillGives reader.entry rest
-        → judged (data_faults (FIRST_COLUMNS + length schema) rest) (catalogue_with schema rest) ≡ Ok rows) }
+        → judged (faults_of_rows object_form (FIRST_COLUMNS + length schema) rest) (table_under object_form catalogue_with schema rest) ≡ Ok rows) }
     ensures bad { IfErr result (λ stop. IfBad stop (λ fault.
         (rest : List (List (List ℕ))) → StillGives reader.entry rest
-        → judged (data_faults (FIRST_COLUMNS + length schema) rest) (catalogue_with schema rest) ≡ Err fault)) }
+        → judged (faults_of_rows object_form (FIRST_COLUMNS + length schema) rest) (table_under object_form catalogue_with schema rest) ≡ Err fault)) }
 {
     let Ok(mut gathered) = Gathered::new(alloc, schema) else {
         return Err(Stop::Memory);

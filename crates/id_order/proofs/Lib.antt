@@ -1,0 +1,4 @@
+pub mod SortedKeys
+pub mod LeastSecond
+pub mod Dealing
+pub mod Ascending

@@ -1,0 +1,3 @@
+pub mod Order
+pub mod Accepted
+pub mod Objects

@@ -1,0 +1,9 @@
+pub mod Shortens
+pub mod FieldAt
+pub mod Signed
+pub mod Firsts
+pub mod Judgements
+pub mod HeaderFaults
+pub mod RowFaults
+pub mod Alone
+pub mod Steps

@@ -1,0 +1,4 @@
+pub mod Standing
+pub mod Signs
+pub mod Faults
+pub mod Judged
