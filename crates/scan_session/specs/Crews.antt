@@ -1,4 +1,4 @@
--- What the czar leaves when it has closed the board, and what is known once the workers' participants are joined.
+-- What the czar leaves when it has closed each board, and what is known once the workers' participants are joined.
 use Rattle.std.specs.Prelude.{◌≡◌, ℕ, ◌<◌, ◌≤◌, List, [], ◌∷◌, ◌++◌, Bool, true, Contains, Option, Some}
 use Rattle.std.specs.List.{list_all}
 use mathlib.Core.List.{IsPrefix}
@@ -26,7 +26,8 @@ pub record Closed (Room : Type 0) (plan : Plans) (steps : List Step) (seen : Jou
   pub own : of_seat 0 seen ≡ of_seat 0 (before ++ Close 0 ∷ [])
   pub drives : Driving Room plan steps before ends
 
--- what the czar's part leaves on the lines that were seen of each board
+-- What the czar's part leaves on the lines that were seen of each board, by how it ended. If it went, it ran all steps and
+-- closed each board, if no other participant did what only it does.
 abbrev pub Leaves : {R L : Type 0} → (L → ℕ → Bool) → Plans → List Step → (L → BoardSeat R) → (ℕ → Option QueryState) → Outcome → Type 0
 Leaves {R} {L} has plan steps seats ends Went = AreClean seats
     → (p : L) → Closed (AllRunAtOnce plan) (only (has p) plan) steps (seats p).seen (only (has p) ends)
