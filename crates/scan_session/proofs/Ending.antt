@@ -1,11 +1,10 @@
 -- What a session promises in the end, from what its crew leaves.
-use Rattle.std.proofs.Common.{◌≡◌, ℕ, ◌+◌, List, [], length, Bool, true, Option, sym, ◌∙◌, subst, arith}
+use Rattle.std.proofs.Common.{◌≡◌, ℕ, List, [], length, Bool, true, Option, sym, ◌∙◌, subst, arith}
 use Rattle.scan_rules.specs.Queries.{wanted}
 use Rattle.session_script.specs.declared.step.Step.{Step}
 use Rattle.session_script.specs.Laws.{NumberedFrom}
 use Rattle.session_script.specs.Scripts.{query_count}
 use Rattle.scan_board.specs.Calls.{BoardSeat}
-use Rattle.scan_session.specs.Plans.{Plans}
 use Rattle.scan_session.specs.Drove.{AreEnds}
 use Rattle.scan_session.specs.Places.{only, over_root, seen_of, AllStand}
 use Rattle.scan_session.specs.Goes.{IsScript}

@@ -31,10 +31,10 @@ join-other-requires-after_bounds g t c κs bounds =
     } in
     let some : 1 ≤ c.args.workers = search rules in
     let split : (p : _) → MaySplit (c.args.workers - 1) (seat p) = λ p. split_less asks c.args.workers (old p) (seat p) some (kept p) (c.requires.split p) in
-    let shared : (x : g.row.R.Denot) → (b : ℕ) → (o : ℕ) → (κ : Lft) → Keyless (g.row.R.shr_at x b o κ) = c.requires-raw.1.1.1.1.1.1.1.1.1.1.0.shared in
-    let boards_shared : (x : g.row.B.Denot) → (b : ℕ) → (o : ℕ) → (κ : Lft) → Keyless (g.row.B.shr_at x b o κ) = c.requires-raw.1.1.1.1.1.1.1.1.1.1.1.0.shared in
-    let engines : (x : g.row.E.Denot) → (b : ℕ) → (o : ℕ) → (κ : Lft) → Keyless (g.row.E.shr_at x b o κ) = c.requires-raw.1.1.1.1.1.1.1.1.1.1.1.1.0.shared in
-    let gates : (x : g.row.G.Denot) → (b : ℕ) → (o : ℕ) → (κ : Lft) → Keyless (g.row.G.shr_at x b o κ) = c.requires-raw.1.1.1.1.1.1.1.1.1.1.1.1.1.0.shared in
+    let shared : (x : g.row.R.Denot) → (b : ℕ) → (o : ℕ) → (κ : Lft) → Keyless (g.row.R.shr_at x b o κ) = c.requires-raw.1.1.1.1.1.1.1.1.1.1.1.1.1.1.1.0.shared in
+    let boards_shared : (x : g.row.B.Denot) → (b : ℕ) → (o : ℕ) → (κ : Lft) → Keyless (g.row.B.shr_at x b o κ) = c.requires-raw.1.1.1.1.1.1.1.1.1.1.1.1.1.1.1.1.0.shared in
+    let engines : (x : g.row.E.Denot) → (b : ℕ) → (o : ℕ) → (κ : Lft) → Keyless (g.row.E.shr_at x b o κ) = c.requires-raw.1.1.1.1.1.1.1.1.1.1.1.1.1.1.1.1.1.0.shared in
+    let gates : (x : g.row.G.Denot) → (b : ℕ) → (o : ℕ) → (κ : Lft) → Keyless (g.row.G.shr_at x b o κ) = c.requires-raw.1.1.1.1.1.1.1.1.1.1.1.1.1.1.1.1.1.1.0.shared in
     ((record { shared = shared }, workers), (search rules, ((λ a m. m), ((λ a m. m), ((λ a m. m), ((λ a m. m), ((λ a m. m), ((λ a m. m), ((λ a m. m), ((λ a m. m), ((λ a m. m), (record { shared = shared }, (may, (some, (split, (search rules, search rules, search rules, search rules, search rules, record { shared = shared }, record { shared = boards_shared }, record { shared = engines }, record { shared = gates }))))))))))))))))
 
 pub returns-clause-manned : goal.returns-clause-manned

@@ -1,5 +1,5 @@
 use Rattle.std.proofs.Common.{◌≡◌, arith, drop, length, sym, subst, rules, List, Option}
-use Rattle.scan_session.specs.Czars.{MayRun, Ran}
+use Rattle.scan_session.specs.Czars.{Ran}
 use Rattle.scan_session.specs.declared.end.End.{End}
 use Rattle.scan_session.specs.declared.end.Planned.{Planned}
 use Rattle.scan_session.proofs.Manning.{take_seam, manned_alone}
