@@ -19,6 +19,7 @@ use Rattle.scan_session.specs.Seats.{Stays}
 use Rattle.scan_session.specs.Goes.{Goes}
 use Rattle.scan_session.specs.Places.{only, over_root, seen_of, DrivingAll, GoingAll, AllStand, AllFit}
 use Rattle.scan_session.specs.KnownEnds.{at_query, state_by, known_in, with_end, StandsWhole, IsCollected, PiecesStand, PlansFit, Ready, Marks, MoreKnown}
+use Rattle.scan_session.specs.Czars.{Learns}
 use Rattle.scan_session.specs.declared.end.Planned.{Planned}
 use Rattle.scan_session.specs.declared.end.End.{End}
 use Rattle.scan_session.specs.declared.end.End.TheVariants.{Answered, Refused, Cancelled, Spent}
@@ -160,6 +161,19 @@ module _ {P : Type 0} where
   pub whole_on : {R L : Type 0} (asks : R → ℕ → ℕ → Type 0) (stands : R → ℕ → List ℕ → P → Type 0) (home : ℕ → L) (old new : L → BoardSeat R) (ends : List (Option (End P)))
       → ((p : L) → Stays asks (old p) (new p)) → AllStand stands home old ends → AllStand stands home new ends
   whole_on asks stands home old new ends s = pieces_on stands home old new ends (λ p. (s p).later) (λ p. (s p).root) (λ p. (s p).czar.lawful.run.run)
+
+  pub learns_here : {R L : Type 0} {stands : R → ℕ → List ℕ → P → Type 0} {home : ℕ → L} {seats : L → BoardSeat R} (ends : List (Option (End P))) → Learns stands home seats seats ends ends
+  learns_here ends = record { more = more_here ends; whole = λ w. w }
+
+  -- where no end was learned
+  pub learns_none : {R L : Type 0} (asks : R → ℕ → ℕ → Type 0) (stands : R → ℕ → List ℕ → P → Type 0) (home : ℕ → L) (old new : L → BoardSeat R) (ends : List (Option (End P)))
+      → ((p : L) → Stays asks (old p) (new p)) → Learns stands home old new ends ends
+  learns_none asks stands home old new ends s = record { more = more_here ends; whole = whole_on asks stands home old new ends s }
+
+  -- ends that were learned, and then more of them
+  pub learns_on : {R L : Type 0} {stands : R → ℕ → List ℕ → P → Type 0} {home : ℕ → L} {old mid new : L → BoardSeat R} {a b c : List (Option (End P))}
+      → Learns stands home old mid a b → Learns stands home mid new b c → Learns stands home old new a c
+  learns_on s t = record { more = more_on _ _ _ s.more t.more; whole = λ w. t.whole (s.whole w) }
 
   pub whole_set : (stands : ℕ → List ℕ → P → Type 0) (S : ℕ → Journal) (ends : List (Option (End P))) (q : ℕ) (end : End P) → 1 ≤ q → q ≤ length ends → IsCollected stands (S q) q end → PiecesStand stands S ends → PiecesStand stands S (slice_set ends (q - 1) (Some end))
   whole_set stands S ends q end h low c w = record {

@@ -1,5 +1,5 @@
 -- The joins of the workers' seats: what the czar's seat knows of theirs.
-use Rattle.std.proofs.Common.{◌≡◌, ℕ, ◌+◌, ◌-◌, ◌≤◌, nat_lt, List, [], ◌∷◌, ◌++◌, length, take, Bool, true, Option, ◌⊎◌, ⊎_elim, refl, sym, ◌∙◌, ap, subst, arith, append_assoc, append-nil, Contains}
+use Rattle.std.proofs.Common.{◌≡◌, ℕ, ◌+◌, ◌-◌, ◌<◌, ◌≤◌, nat_lt, List, [], ◌∷◌, ◌++◌, length, take, Bool, true, Option, ◌⊎◌, ⊎_elim, refl, sym, ◌∙◌, ap, subst, arith, append_assoc, append-nil, Contains}
 use Rattle.std.specs.List.{list_all}
 use Rattle.std.proofs.lemmas.Bool.{cases_Bool, cond-true, cond-false, false≢true}
 use Rattle.std.proofs.lemmas.List.Elements.{Contains-append_left, Contains-append_right}
@@ -19,7 +19,7 @@ use Rattle.scan_session.specs.Driven.{Going}
 use Rattle.scan_session.specs.Seats.{of_seat, IsCzar, Stays}
 use Rattle.scan_session.specs.KnownEnds.{PlansFit}
 use Rattle.scan_session.specs.Places.{only, AreCzars, GoingAll, HasRoom, AllStand, AllFit}
-use Rattle.scan_session.specs.Crews.{Closed, Leaves, KeepsWork, Manned}
+use Rattle.scan_session.specs.Crews.{Closed, Leaves, KeepsWork, Manned, MaySplit}
 use Rattle.scan_session.specs.declared.end.End.{End}
 use Rattle.scan_session.specs.declared.end.Planned.{Planned}
 use Rattle.scan_session.specs.declared.end.Outcome.{Outcome}
@@ -141,6 +141,13 @@ module _ {R : Type 0} (asks : R → ℕ → ℕ → Type 0) where
       let same : new.made ≡ mid.made = ap (λ (s : BoardSeat R). s.made) e in
       let split : mid.made ≡ (old.made + 1) + (workers - 1) = made in
       omega (arith, same, split, some)
+
+  -- one seat fewer can be made, when one was
+  pub split_less : (workers : ℕ) (old new : BoardSeat R) → 1 ≤ workers → new ≡ one_more_made old → MaySplit workers old → MaySplit (workers - 1) new
+  split_less workers old new some e m =
+      let made : new.made ≡ old.made + 1 = ap (λ (s : BoardSeat R). s.made) e in
+      let room : old.made + workers < 4294967295 = m.room in
+      record { from_1 = omega (arith, made); room = omega (arith, made, some, room) }
 
   pub split_delivered : (old other : BoardSeat R) → other ≡ next_seat old → AllDelivered other.mine
   split_delivered old other e = subst AllDelivered (sym (ap (λ (s : BoardSeat R). s.mine) e)) nothing_delivered

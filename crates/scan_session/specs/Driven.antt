@@ -46,7 +46,7 @@ pub record Settled (S : Journal) (q : ℕ) (later : List Step) : Type 0 where
   pub before : RestsBefore S q later
 
 -- What holds of the lines seen once these steps of the script are done, and these ends are known. The last field holds if
--- all planned queries have room at once.
+-- the czar works alone and there is room: all planned queries can run at once.
 pub record Driven (Room : Type 0) (plan : Plans) (done : List Step) (S : Journal) (ends : ℕ → Option QueryState) : Type 0 where
   pub attached : attached_in S ≡ planned plan done
   pub open_still : is_closed S ≡ false
@@ -57,11 +57,11 @@ pub record Driven (Room : Type 0) (plan : Plans) (done : List Step) (S : Journal
       → done ≡ a ++ step ∷ b → settles q step ≡ true → is_some (plan q) ≡ true → Settled S q b
   pub pinned : is_alone S ≡ true → Room → Pinned plan done S
 
--- the lines are driven by these steps, if no other participant than the czar attaches, cancels, collects or closes
+-- the lines are driven by these steps, if no participant other than the czar attached, cancelled, collected or closed
 abbrev pub Driving : Type 0 → Plans → List Step → Journal → (ℕ → Option QueryState) → Type 0
 Driving Room plan done S ends = has_foreign S ≡ false → Driven Room plan done S ends
 
--- the lines are driven between two steps: a czar that works alone has worked only for a wait line
+-- the lines are driven between two steps: a czar that works alone, and has room, has worked only for a wait line
 pub record Going (Room : Type 0) (plan : Plans) (done : List Step) (S : Journal) (ends : ℕ → Option QueryState) : Type 0 where
   pub drives : Driving Room plan done S ends
   pub calm : is_alone S ≡ true → Room → Untouched plan done S

@@ -30,7 +30,8 @@ ShowsKind S q (Some chunks) j Refused = (state_of S q ≡ Done) × (is_refused j
 ShowsKind S q (Some chunks) j Cancelled = state_of S q ≡ CancelledState
 ShowsKind S q (Some chunks) j Spent = state_of S q ≡ SpentState
 
--- Each query has the journal of its board, and the plans of the queries of that board, of which it is one.
+-- Each query has the journal of its board, which is a run and shows the session, and the plans of the queries of that board,
+-- of which it is one.
 pub record AreDriven (workers : ℕ) (plan : Plans) (steps : List Step) (ring : ℕ) (plans : ℕ → Plans) (S : ℕ → Journal) : Type 0 where
   pub run : (q : ℕ) → IsRun ring (S q)
   pub drove : (q : ℕ) → Drove workers (plans q) steps (S q)

@@ -7,4 +7,5 @@ pub mod KnownEnds
 pub mod Places
 pub mod Goes
 pub mod Crews
+pub mod Czars
 pub mod Laws

@@ -21,15 +21,15 @@ pub record AreCzars {R L : Type 0} (asks : R → ℕ → ℕ → Type 0) (locks 
   pub czar : (p : L) → IsCzar asks (seats p)
   pub engine : (p : L) → root ≡ (seats p).root.root
 
--- at no board another participant than the czar attached, cancelled, collected or closed
+-- at no board did a participant other than the czar attach, cancel, collect or close
 pub record AreClean {R L : Type 0} (seats : L → BoardSeat R) : Type 0 where
   pub each : (p : L) → has_foreign (seats p).seen ≡ false
 
--- at some board another participant did
+-- at some board one did
 abbrev pub SomeForeign : {R L : Type 0} → (L → BoardSeat R) → Type 0
 SomeForeign {R} {L} seats = (p : L) × (has_foreign (seats p).seen ≡ true)
 
--- all planned queries can run at once, if no other participant attaches
+-- all planned queries can run at once, and no participant other than the czar did what only the czar does
 pub record HasRoom {R L : Type 0} (plan : Plans) (seats : L → BoardSeat R) : Type 0 where
   pub low : AllRunAtOnce plan
   pub clean : AreClean seats

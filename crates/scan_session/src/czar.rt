@@ -1,16 +1,16 @@
 //! The czar alone: the script, the ends of all queries, and the close, on every path.
-ghost use Rattle.std.specs.Prelude.{◌≡◌, ℕ, ◌≤◌, [], List, Option, true, length};
+ghost use Rattle.std.specs.Prelude.{◌≡◌, ℕ, [], List, Option, true};
 ghost use Rattle.session_script.specs.declared.step.Step.{Step};
-ghost use Rattle.scan_rules.specs.declared.limits.TheConstants.{QUERY_MOST};
 ghost use Rattle.scan_rules.specs.Lines.{seat_of};
 ghost use Rattle.scan_rules.specs.Queries.{is_closed, QueryState};
 ghost use Rattle.turn_lock.specs.Seats.{Knows};
 ghost use Rattle.scan_session.specs.Plans.{Plans};
 ghost use Rattle.scan_session.specs.Seats.{Stays};
-ghost use Rattle.scan_session.specs.Places.{AreCzars, DrivingAll, GoingAll, AllStand, AllFit};
-ghost use Rattle.scan_session.specs.KnownEnds.{known_in, AllKnown, Marks, MoreKnown, Ready};
-ghost use Rattle.scan_session.specs.Goes.{Goes, IsScript};
+ghost use Rattle.scan_session.specs.Places.{AreCzars, DrivingAll, GoingAll};
+ghost use Rattle.scan_session.specs.KnownEnds.{known_in, AllKnown, Marks, Ready};
+ghost use Rattle.scan_session.specs.Goes.{Goes};
 ghost use Rattle.scan_session.specs.Crews.{Leaves};
+ghost use Rattle.scan_session.specs.Czars.{Learns, MayRun, Ran};
 ghost use Rattle.scan_session.specs.declared.end.Outcome.{Outcome};
 
 use crate::end::{End, Outcome, Planned};
@@ -32,20 +32,15 @@ fn whole<R: Wait, P: Work, B: Boards<P>, E: Engine<P>, G: Gate>(
     ends: &mut [Option<End<P>>],
     steps: &[Step],
 ) -> (Outcome, B::Seat)
-    requires seats { AreCzars P.asks (B.turn scan.now.boards.now) (E.root scan.now.engine.now)
-        (B.at seat) }
-    requires script { IsScript (length ends.old) steps.now }
-    requires len { length plans.old ≡ length ends.old }
-    requires few { length ends.old ≤ QUERY_MOST }
-    requires fit { AllFit P.stands P.asks (B.suits scan.now.boards.now) (B.at seat) plans.old }
+    requires { MayRun P.asks P.stands (B.turn scan.now.boards.now) (B.suits scan.now.boards.now)
+        (E.root scan.now.engine.now) (B.at seat) plans.old ends.old steps.now }
     ensures goes { (plan : Plans) → Marks plan ends.old → Ready plan [] plans.old
         → GoingAll (B.has scan.now.boards.now) plan [] (B.at seat) (known_in ends.old)
         → Goes (DrivingAll (B.has scan.now.boards.now) plan steps.now (B.at result.1)
         (known_in ends.new)) (B.at result.1) result.0 }
     ensures known { result.0 ≡ Outcome.Went → AllKnown ends.new }
-    ensures more { MoreKnown ends.old ends.new }
-    ensures whole { AllStand P.stands (B.home scan.now.boards.now) (B.at seat) ends.old
-        → AllStand P.stands (B.home scan.now.boards.now) (B.at result.1) ends.new }
+    ensures learns { Learns P.stands (B.home scan.now.boards.now) (B.at seat) (B.at result.1)
+        ends.old ends.new }
     ensures stays { (p : B.Place) → Stays P.asks (B.at seat p) (B.at result.1 p) }
 {
     let (outcome, seat) = all_lines(scan, desk, seat, plans, ends, steps);
@@ -84,19 +79,10 @@ pub fn czar<R: Wait, P: Work, B: Boards<P>, E: Engine<P>, G: Gate>(
     ends: &mut [Option<End<P>>],
     steps: &[Step],
 ) -> (Outcome, B::Seat)
-    requires seats { AreCzars P.asks (B.turn scan.now.boards.now) (E.root scan.now.engine.now)
-        (B.at seat) }
-    requires script { IsScript (length ends.old) steps.now }
-    requires len { length plans.old ≡ length ends.old }
-    requires few { length ends.old ≤ QUERY_MOST }
-    requires fit { AllFit P.stands P.asks (B.suits scan.now.boards.now) (B.at seat) plans.old }
-    ensures leaves { (plan : Plans) → Marks plan ends.old → Ready plan [] plans.old
-        → GoingAll (B.has scan.now.boards.now) plan [] (B.at seat) (known_in ends.old)
-        → Leaves (B.has scan.now.boards.now) plan steps.now (B.at result.1) (known_in ends.new) result.0 }
-    ensures known { result.0 ≡ Outcome.Went → AllKnown ends.new }
-    ensures more { MoreKnown ends.old ends.new }
-    ensures whole { AllStand P.stands (B.home scan.now.boards.now) (B.at seat) ends.old
-        → AllStand P.stands (B.home scan.now.boards.now) (B.at result.1) ends.new }
+    requires { MayRun P.asks P.stands (B.turn scan.now.boards.now) (B.suits scan.now.boards.now)
+        (E.root scan.now.engine.now) (B.at seat) plans.old ends.old steps.now }
+    ensures ran { Ran P.stands (B.has scan.now.boards.now) (B.home scan.now.boards.now) (B.at seat)
+        (B.at result.1) plans.old ends.old ends.new steps.now result.0 }
     ensures closed { (p : B.Place) → is_closed (B.at result.1 p).seen ≡ true }
     ensures knows { (p : B.Place) → Knows seat_of (B.at result.1 p) }
     ensures stays { (p : B.Place) → Stays P.asks (B.at seat p) (B.at result.1 p) }

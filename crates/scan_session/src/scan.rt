@@ -1,4 +1,4 @@
-//! What all parts of a session use.
+//! The context of a session: its boards, and the means to run it.
 use std::alloc::Global;
 
 /// The boards of a session, and what runs it: it stays the same during the session.

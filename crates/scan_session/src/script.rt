@@ -9,9 +9,10 @@ ghost use Rattle.scan_rules.specs.declared.limits.TheConstants.{QUERY_MOST};
 ghost use Rattle.scan_rules.specs.Queries.{QueryState};
 ghost use Rattle.scan_session.specs.Plans.{Plans};
 ghost use Rattle.scan_session.specs.Seats.{Stays};
-ghost use Rattle.scan_session.specs.Places.{AreCzars, DrivingAll, GoingAll, AllStand, AllFit};
-ghost use Rattle.scan_session.specs.KnownEnds.{at_query, known_in, AllKnown, Marks, MoreKnown, Ready};
-ghost use Rattle.scan_session.specs.Goes.{Goes, IsNext, IsScript, number_of};
+ghost use Rattle.scan_session.specs.Places.{AreCzars, DrivingAll, GoingAll, AllFit};
+ghost use Rattle.scan_session.specs.KnownEnds.{at_query, known_in, AllKnown, Marks, Ready};
+ghost use Rattle.scan_session.specs.Goes.{Goes, IsNext, number_of};
+ghost use Rattle.scan_session.specs.Czars.{Learns, MayRun};
 
 use crate::end::{End, Outcome, Planned};
 use crate::scan::Scan;
@@ -41,9 +42,8 @@ pub fn await_end<R: Wait, P: Work, B: Boards<P>, E: Engine<P>, G: Gate>(
         → Goes (DrivingAll (B.has scan.now.boards.now) plan done (B.at result.1) (known_in ends.new))
         (B.at result.1) result.0 }
     ensures known { result.0 ≡ Outcome.Went → is_some (at_query ends.new q) ≡ true }
-    ensures more { MoreKnown ends.old ends.new }
-    ensures whole { AllStand P.stands (B.home scan.now.boards.now) (B.at seat) ends.old
-        → AllStand P.stands (B.home scan.now.boards.now) (B.at result.1) ends.new }
+    ensures learns { Learns P.stands (B.home scan.now.boards.now) (B.at seat) (B.at result.1)
+        ends.old ends.new }
     ensures stays { (p : B.Place) → Stays P.asks (B.at seat p) (B.at result.1 p) }
 {
     let place = (q - 1) as usize;
@@ -142,9 +142,8 @@ fn line<R: Wait, P: Work, B: Boards<P>, E: Engine<P>, G: Gate>(
         → Ready plan done plans.old → Ready plan (done ++ step ∷ []) plans.new }
     ensures fit { AllFit P.stands P.asks (B.suits scan.now.boards.now) (B.at result.1) plans.new }
     ensures len { length plans.new ≡ length plans.old }
-    ensures more { MoreKnown ends.old ends.new }
-    ensures whole { AllStand P.stands (B.home scan.now.boards.now) (B.at seat) ends.old
-        → AllStand P.stands (B.home scan.now.boards.now) (B.at result.1) ends.new }
+    ensures learns { Learns P.stands (B.home scan.now.boards.now) (B.at seat) (B.at result.1)
+        ends.old ends.new }
     ensures stays { (p : B.Place) → Stays P.asks (B.at seat p) (B.at result.1 p) }
 {
     match step {
@@ -163,19 +162,14 @@ pub fn all_lines<R: Wait, P: Work, B: Boards<P>, E: Engine<P>, G: Gate>(
     ends: &mut [Option<End<P>>],
     steps: &[Step],
 ) -> (Outcome, B::Seat)
-    requires seats { AreCzars P.asks (B.turn scan.now.boards.now) (E.root scan.now.engine.now)
-        (B.at seat) }
-    requires script { IsScript (length ends.old) steps.now }
-    requires len { length plans.old ≡ length ends.old }
-    requires few { length ends.old ≤ QUERY_MOST }
-    requires fit { AllFit P.stands P.asks (B.suits scan.now.boards.now) (B.at seat) plans.old }
+    requires { MayRun P.asks P.stands (B.turn scan.now.boards.now) (B.suits scan.now.boards.now)
+        (E.root scan.now.engine.now) (B.at seat) plans.old ends.old steps.now }
     ensures goes { (plan : Plans) → Marks plan ends.old → Ready plan [] plans.old
         → GoingAll (B.has scan.now.boards.now) plan [] (B.at seat) (known_in ends.old)
         → Goes (DrivingAll (B.has scan.now.boards.now) plan steps.now (B.at result.1)
         (known_in ends.new)) (B.at result.1) result.0 }
-    ensures more { MoreKnown ends.old ends.new }
-    ensures whole { AllStand P.stands (B.home scan.now.boards.now) (B.at seat) ends.old
-        → AllStand P.stands (B.home scan.now.boards.now) (B.at result.1) ends.new }
+    ensures learns { Learns P.stands (B.home scan.now.boards.now) (B.at seat) (B.at result.1)
+        ends.old ends.new }
     ensures stays { (p : B.Place) → Stays P.asks (B.at seat p) (B.at result.1 p) }
 {
     let mut seat = seat;
@@ -207,9 +201,8 @@ pub fn all_ends<R: Wait, P: Work, B: Boards<P>, E: Engine<P>, G: Gate>(
         → Goes (DrivingAll (B.has scan.now.boards.now) plan done (B.at result.1) (known_in ends.new))
         (B.at result.1) result.0 }
     ensures known { result.0 ≡ Outcome.Went → AllKnown ends.new }
-    ensures more { MoreKnown ends.old ends.new }
-    ensures whole { AllStand P.stands (B.home scan.now.boards.now) (B.at seat) ends.old
-        → AllStand P.stands (B.home scan.now.boards.now) (B.at result.1) ends.new }
+    ensures learns { Learns P.stands (B.home scan.now.boards.now) (B.at seat) (B.at result.1)
+        ends.old ends.new }
     ensures stays { (p : B.Place) → Stays P.asks (B.at seat p) (B.at result.1 p) }
 {
     let mut seat = seat;

@@ -2,23 +2,32 @@ use Rattle.std.proofs.Common.{◌≤◌, ◌+◌, arith, length, rules}
 use Rattle.scan_session.specs.KnownEnds.{known_in}
 use Rattle.scan_session.specs.Places.{DrivingAll}
 use Rattle.scan_session.specs.declared.end.Outcome.TheVariants.{Went, Odd}
+use Rattle.scan_session.proofs.Calling.{stays_here}
 use Rattle.scan_session.proofs.Placing.{all_stay, czars_on}
-use Rattle.scan_session.proofs.Listing.{more_on, marks_on}
+use Rattle.scan_session.proofs.Listing.{learns_here, learns_on, marks_on}
 use Rattle.scan_session.proofs.Looping.{goes_is, known_next}
 use Rattle.scan_session.proofs.script.all_ends.Goals as goal
 
-pub returns-in-Memory-clause-more : goal.returns-in-Memory-clause-more
-returns-in-Memory-clause-more g c = more_on c.args.ends.now c.loop-place.ends c.await_end-outcome.new.ends c.loop-place.invariant.more c.await_end-outcome.ensures.more
+pub returns-in-Memory-clause-learns : goal.returns-in-Memory-clause-learns
+returns-in-Memory-clause-learns g c = learns_on c.loop-place.invariant.learns c.await_end-outcome.ensures.learns
 
-pub returns-in-Odd-clause-more : goal.returns-in-Odd-clause-more
-returns-in-Odd-clause-more g c = more_on c.args.ends.now c.loop-place.ends c.await_end-outcome.new.ends c.loop-place.invariant.more c.await_end-outcome.ensures.more
+pub returns-in-Odd-clause-learns : goal.returns-in-Odd-clause-learns
+returns-in-Odd-clause-learns g c = learns_on c.loop-place.invariant.learns c.await_end-outcome.ensures.learns
 
 pub returns-in-Odd-clause-goes : goal.returns-in-Odd-clause-goes
 returns-in-Odd-clause-goes g c plan done marks started d =
     let i = c.loop-place.invariant in
     let low : c.loop-place.place + 1 ≤ length c.args.ends.now = search rules in
     goes_is (DrivingAll (g.B.Boards.has c.args.scan.now.boards.now) plan done (g.B.Tasks.at c.await_end-outcome.result.1) (known_in c.await_end-outcome.new.ends)) (g.B.Tasks.at c.await_end-outcome.result.1) c.await_end-outcome.result.0 Odd c.in-Odd.is
-    (c.await_end-outcome.ensures.goes plan done (marks_on plan c.args.ends.now c.loop-place.ends i.more marks) (started (c.loop-place.place + 1) (omega arith) low) (i.drives plan done marks started d))
+    (c.await_end-outcome.ensures.goes plan done (marks_on plan c.args.ends.now c.loop-place.ends i.learns.more marks) (started (c.loop-place.place + 1) (omega arith) low) (i.drives plan done marks started d))
+
+pub loop-place-init : goal.loop-place-init
+loop-place-init g c = record {
+  stays = λ p. stays_here g.P.Work.asks (g.B.Tasks.at c.args.seat p) (c.requires.seats.czar p);
+  learns = learns_here c.args.ends.now;
+  known = λ q h low. absurd (omega (arith, h, low));
+  drives = λ plan done marks started d. d;
+}
 
 pub loop-place-preserved : goal.loop-place-preserved
 loop-place-preserved g c =
@@ -26,11 +35,10 @@ loop-place-preserved g c =
     let low : c.loop-place.place + 1 ≤ length c.args.ends.now = search rules in
     record {
       stays = all_stay g.P.Work.asks (g.B.Tasks.at c.args.seat) (g.B.Tasks.at c.loop-place.seat) (g.B.Tasks.at c.await_end-outcome.result.1) i.stays c.await_end-outcome.ensures.stays;
-      more = more_on c.args.ends.now c.loop-place.ends c.await_end-outcome.new.ends i.more c.await_end-outcome.ensures.more;
-      known = known_next c.loop-place.ends c.await_end-outcome.new.ends c.loop-place.place c.await_end-outcome.ensures.more i.known (c.await_end-outcome.ensures.known c.in-Went.is);
-      whole = λ w. c.await_end-outcome.ensures.whole (i.whole w);
+      learns = learns_on i.learns c.await_end-outcome.ensures.learns;
+      known = known_next c.loop-place.ends c.await_end-outcome.new.ends c.loop-place.place c.await_end-outcome.ensures.learns.more i.known (c.await_end-outcome.ensures.known c.in-Went.is);
       drives = λ plan done marks started d. goes_is (DrivingAll (g.B.Boards.has c.args.scan.now.boards.now) plan done (g.B.Tasks.at c.await_end-outcome.result.1) (known_in c.await_end-outcome.new.ends)) (g.B.Tasks.at c.await_end-outcome.result.1) c.await_end-outcome.result.0 Went c.in-Went.is
-          (c.await_end-outcome.ensures.goes plan done (marks_on plan c.args.ends.now c.loop-place.ends i.more marks) (started (c.loop-place.place + 1) (omega arith) low) (i.drives plan done marks started d));
+          (c.await_end-outcome.ensures.goes plan done (marks_on plan c.args.ends.now c.loop-place.ends i.learns.more marks) (started (c.loop-place.place + 1) (omega arith) low) (i.drives plan done marks started d));
     }
 
 pub returns-clause-known : goal.returns-clause-known
@@ -43,11 +51,5 @@ await_end-outcome-requires-clause-seats g c =
 pub returns-in-Memory-clause-stays : goal.returns-in-Memory-clause-stays
 returns-in-Memory-clause-stays g c = all_stay g.P.Work.asks (g.B.Tasks.at c.args.seat) (g.B.Tasks.at c.loop-place.seat) (g.B.Tasks.at c.await_end-outcome.result.1) c.loop-place.invariant.stays c.await_end-outcome.ensures.stays
 
-pub returns-in-Memory-clause-whole : goal.returns-in-Memory-clause-whole
-returns-in-Memory-clause-whole g c w = c.await_end-outcome.ensures.whole (c.loop-place.invariant.whole w)
-
 pub returns-in-Odd-clause-stays : goal.returns-in-Odd-clause-stays
 returns-in-Odd-clause-stays g c = all_stay g.P.Work.asks (g.B.Tasks.at c.args.seat) (g.B.Tasks.at c.loop-place.seat) (g.B.Tasks.at c.await_end-outcome.result.1) c.loop-place.invariant.stays c.await_end-outcome.ensures.stays
-
-pub returns-in-Odd-clause-whole : goal.returns-in-Odd-clause-whole
-returns-in-Odd-clause-whole g c w = c.await_end-outcome.ensures.whole (c.loop-place.invariant.whole w)

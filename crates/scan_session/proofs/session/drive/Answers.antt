@@ -1,4 +1,4 @@
-use Rattle.std.proofs.Common.{◌≡◌, ◌+◌, ℕ, length, vec_len, subst, rules, arith, ◌∙◌, ap}
+use Rattle.std.proofs.Common.{◌≡◌, ◌+◌, ◌≤◌, ℕ, length, sym, subst, rules, arith, ◌∙◌, ap}
 use Rattle.session_script.specs.Scripts.{query_count}
 use Rattle.scan_session.specs.KnownEnds.{plan_in, known_in, MarksPlans}
 use Rattle.scan_session.specs.Crews.{Promises}
@@ -14,35 +14,39 @@ close-requires g c = first_czars g.P.Work.asks (g.B.Tasks.turn c.args.scan.now.b
 pub close-requires-in_default-first_ends : goal.close-requires-in_default-first_ends
 close-requires-in_default-first_ends g c = first_czars g.P.Work.asks (g.B.Tasks.turn c.args.scan.now.boards.now) (g.E.Engine.root c.args.scan.now.engine.now) (g.B.Tasks.at c.args.seat) c.requires.own c.requires.first c.requires.ring c.requires.engine
 
-pub teamed-outcome-requires-clause-seats : goal.teamed-outcome-requires-clause-seats
-teamed-outcome-requires-clause-seats g c κs within = first_czars g.P.Work.asks (g.B.Tasks.turn c.args.scan.now.boards.now) (g.E.Engine.root c.args.scan.now.engine.now) (g.B.Tasks.at c.args.seat) c.requires.own c.requires.first c.requires.ring c.requires.engine
+pub teamed-outcome-requires-clause-may : goal.teamed-outcome-requires-clause-may
+teamed-outcome-requires-clause-may g c κs within =
+    let plans = c.args.plans.items in
+    let ends = c.in-Ok-first_ends.ends.items in
+    let len : length ends ≡ length plans = search rules in
+    let each : length plans ≡ query_count c.args.steps.now = search rules in
+    let few : length plans ≤ 255 = search rules in
+    record {
+      seats = first_czars g.P.Work.asks (g.B.Tasks.turn c.args.scan.now.boards.now) (g.E.Engine.root c.args.scan.now.engine.now) (g.B.Tasks.at c.args.seat) c.requires.own c.requires.first c.requires.ring c.requires.engine;
+      script = script_of (length ends) c.args.steps.now c.requires.numbered (len ∙ each);
+      len = sym len;
+      few = omega (arith, len, few);
+      fit = record { fit = c.requires.fit; suit = c.requires.suits };
+    }
 
-pub teamed-outcome-requires-clause-fit : goal.teamed-outcome-requires-clause-fit
-teamed-outcome-requires-clause-fit g c κs within = record { fit = c.requires.fit; suit = c.requires.suits }
-
-pub teamed-outcome-requires-clause-from_1 : goal.teamed-outcome-requires-clause-from_1
-teamed-outcome-requires-clause-from_1 g c κs within p = omega (arith, (c.requires.first p).3)
-
-pub teamed-outcome-requires-clause-room : goal.teamed-outcome-requires-clause-room
-teamed-outcome-requires-clause-room g c κs within p = omega (arith, (c.requires.first p).3, c.requires.workers)
-
-pub teamed-outcome-requires-clause-script : goal.teamed-outcome-requires-clause-script
-teamed-outcome-requires-clause-script g c κs within =
-    let len : vec_len c.in-Ok-first_ends.ends ≡ vec_len c.args.plans = search rules in
-    script_of (vec_len c.in-Ok-first_ends.ends) c.args.steps.now c.requires.numbered (len ∙ c.requires.each)
+pub teamed-outcome-requires-clause-split : goal.teamed-outcome-requires-clause-split
+teamed-outcome-requires-clause-split g c κs within p =
+    record { from_1 = omega (arith, (c.requires.first p).3); room = omega (arith, (c.requires.first p).3, c.requires.workers) }
 
 pub returns-in-Went-clause-drove : goal.returns-in-Went-clause-drove
 returns-in-Went-clause-drove g c place =
     let first = c.in-Ok-first_ends.ends.items in
     let plans = c.args.plans.items in
-    let has = g.B.Boards.has c.args.scan.now.boards.now in
+    let boards = c.args.scan.now.boards.now in
+    let has = g.B.Boards.has boards in
+    let home = g.B.Boards.home boards in
     let new = g.B.Tasks.at c.teamed-outcome.result.2 in
     let marks : MarksPlans plans first = search rules in
     let each : length plans ≡ query_count c.args.steps.now = search rules in
     let len : length first ≡ length plans = search rules in
     let m = c.teamed-outcome in
-    let p = session_promises g.P.Work.asks c.args.workers has (g.B.Tasks.at c.args.seat) new plans first m.result.1.items c.args.steps.now c.requires.numbered each len marks m.ensures.more m.result.0
-    (λ p. (c.requires.first p).3) (λ p. (c.requires.first p).1) m.ensures.manned m.ensures.made m.ensures.known m.ensures.leaves in
+    let p = session_promises g.P.Work.asks g.P.Work.stands c.args.workers has home (g.B.Tasks.at c.args.seat) new plans first m.result.1.items c.args.steps.now m.result.0 c.requires.numbered each len marks m.ensures.manned m.ensures.ran
+    (λ p. (c.requires.first p).3) (λ p. (c.requires.first p).1) in
     (subst (λ (r : Outcome). Promises c.args.workers has (plan_in plans) c.args.steps.now new (known_in m.result.1.items) r) c.in-Went.is p place).0
 
 pub returns-in-Went-clause-ends : goal.returns-in-Went-clause-ends
@@ -51,39 +55,42 @@ returns-in-Went-clause-ends g c =
     let first = c.in-Ok-first_ends.ends.items in
     let plans = c.args.plans.items in
     let has = g.B.Boards.has boards in
+    let home = g.B.Boards.home boards in
     let new = g.B.Tasks.at c.teamed-outcome.result.2 in
     let marks : MarksPlans plans first = search rules in
     let each : length plans ≡ query_count c.args.steps.now = search rules in
     let len : length first ≡ length plans = search rules in
     let m = c.teamed-outcome in
-    let p = session_promises g.P.Work.asks c.args.workers has (g.B.Tasks.at c.args.seat) new plans first m.result.1.items c.args.steps.now c.requires.numbered each len marks m.ensures.more m.result.0
-    (λ p. (c.requires.first p).3) (λ p. (c.requires.first p).1) m.ensures.manned m.ensures.made m.ensures.known m.ensures.leaves in
-    session_ends g.P.Work.asks c.args.workers has (g.B.Tasks.at c.args.seat) new plans first m.result.1.items c.args.steps.now c.requires.numbered each len marks m.ensures.more
-    g.P.Work.stands (g.B.Boards.home boards) c.known_ends.result.items ((g.met.B.Boards g.world.𝓛 g.world.𝓜 g.world.𝓡 ((λ s x. x), (λ x. x), (λ x. x), λ x. x)).housed boards) m.ensures.manned
-    (subst (λ (r : Outcome). Promises c.args.workers has (plan_in plans) c.args.steps.now new (known_in m.result.1.items) r) c.in-Went.is p) m.ensures.whole c.known_ends.ensures
+    let p = session_promises g.P.Work.asks g.P.Work.stands c.args.workers has home (g.B.Tasks.at c.args.seat) new plans first m.result.1.items c.args.steps.now m.result.0 c.requires.numbered each len marks m.ensures.manned m.ensures.ran
+    (λ p. (c.requires.first p).3) (λ p. (c.requires.first p).1) in
+    session_ends g.P.Work.asks g.P.Work.stands c.args.workers has home (g.B.Tasks.at c.args.seat) new plans first m.result.1.items c.args.steps.now m.result.0 c.requires.numbered each len marks m.ensures.manned m.ensures.ran
+    c.known_ends.result.items ((g.met.B.Boards g.world.𝓛 g.world.𝓜 g.world.𝓡 ((λ s x. x), (λ x. x), (λ x. x), λ x. x)).housed boards)
+    (subst (λ (r : Outcome). Promises c.args.workers has (plan_in plans) c.args.steps.now new (known_in m.result.1.items) r) c.in-Went.is p) c.known_ends.ensures
 
 pub unreachable-requires : goal.unreachable-requires
 unreachable-requires g c =
     let first = c.in-Ok-first_ends.ends.items in
     let plans = c.args.plans.items in
-    let has = g.B.Boards.has c.args.scan.now.boards.now in
+    let boards = c.args.scan.now.boards.now in
+    let has = g.B.Boards.has boards in
+    let home = g.B.Boards.home boards in
     let new = g.B.Tasks.at c.teamed-outcome.result.2 in
     let marks : MarksPlans plans first = search rules in
     let each : length plans ≡ query_count c.args.steps.now = search rules in
     let len : length first ≡ length plans = search rules in
     let m = c.teamed-outcome in
-    let p = session_promises g.P.Work.asks c.args.workers has (g.B.Tasks.at c.args.seat) new plans first m.result.1.items c.args.steps.now c.requires.numbered each len marks m.ensures.more m.result.0
-    (λ p. (c.requires.first p).3) (λ p. (c.requires.first p).1) m.ensures.manned m.ensures.made m.ensures.known m.ensures.leaves in
+    let p = session_promises g.P.Work.asks g.P.Work.stands c.args.workers has home (g.B.Tasks.at c.args.seat) new plans first m.result.1.items c.args.steps.now m.result.0 c.requires.numbered each len marks m.ensures.manned m.ensures.ran
+    (λ p. (c.requires.first p).3) (λ p. (c.requires.first p).1) in
     subst (λ (r : Outcome). Promises c.args.workers has (plan_in plans) c.args.steps.now new (known_in m.result.1.items) r) c.in-Odd.is p
 
 pub returns-in-Went-clause-made : goal.returns-in-Went-clause-made
-returns-in-Went-clause-made g c p = c.teamed-outcome.ensures.made p ∙ ap (λ (n : ℕ). n + c.args.workers) (c.requires.first p).3
+returns-in-Went-clause-made g c p = (c.teamed-outcome.ensures.manned p).made ∙ ap (λ (n : ℕ). n + c.args.workers) (c.requires.first p).3
 
 pub returns-in-Went-clause-manned : goal.returns-in-Went-clause-manned
-returns-in-Went-clause-manned g c = c.teamed-outcome.ensures.manned
+returns-in-Went-clause-manned g c p = (c.teamed-outcome.ensures.manned p).manned
 
 pub returns-in-Memory-clause-manned : goal.returns-in-Memory-clause-manned
-returns-in-Memory-clause-manned g c = c.teamed-outcome.ensures.manned
+returns-in-Memory-clause-manned g c p = (c.teamed-outcome.ensures.manned p).manned
 
 pub returns-in_default-clause-manned : goal.returns-in_default-clause-manned
 returns-in_default-clause-manned g c p = manned_alone g.P.Work.asks (g.B.Tasks.at c.args.seat p) (g.B.Tasks.at c.close.result p) (c.close.ensures.stays p) (c.close.ensures.closed p) (c.close.ensures.known p)
