@@ -29,7 +29,7 @@ use Rattle.bind_rules.specs.declared.fault.BindFault.TheVariants as fault
 use Rattle.bind_rules.specs.Binding.{columns_from, star_items, bound_item, bound_items, bound_order, key_by}
 use Rattle.bind_rules.specs.Binding.{bound_query, bound_of, by_fault, chord_limit, first_or}
 use Rattle.bind_rules.specs.Bounds.{Scope, bound_col}
-use Rattle.bind_rules.specs.Checks.{alias_place, is_named, bind_fault}
+use Rattle.bind_rules.specs.Checks.{alias_place, is_named, bind_fault, fault_by}
 use Rattle.bind_rules.specs.Columns.{is_join, qualifier}
 use Rattle.bind_rules.specs.Forms.{is_join_form, join_form}
 use Rattle.bind_rules.specs.Mentions.{items_of}
@@ -322,7 +322,7 @@ no_fault None b h = (refl, h)
 
 -- a query without a fault has the form of its tables
 no_join_fault : (names : List Bytes) (q : Query) → bind_fault names q ≡ None → join_form q ≡ None
-unfolding bind_fault
+unfolding fault_by
 no_join_fault names q h = (no_fault _ _ (no_fault _ _ (no_fault _ _ h).1).1).0
 
 -- what is bound has no fault
