@@ -13,34 +13,34 @@ use Rattle.sql_tree.specs.declared.expr.Factor.{Factor, out-Factor}
 use Rattle.sql_tree.specs.declared.expr.Prod.{Prod, out-Prod}
 use Rattle.sql_tree.specs.declared.expr.Signed.{Signed, out-Signed}
 use Rattle.sql_tree.specs.declared.name.Col.{Col}
-use Rattle.bind_rules.specs.Bounds.{Scope, bound_col, bound_expr, bound_atom_step, bound_expr_step, bound_factor_step, bound_prod_step, bound_signed_step}
+use Rattle.bind_rules.specs.Bounds.{Meaning, atom_by, expr_by, bound_expr_step, bound_factor_step, bound_prod_step, bound_signed_step}
 use Rattle.bind_rules.proofs.Folds.{fold_int, fold_col, fold_bracket}
 use Rattle.sql_bind.specs.Layers.{bound_atom, bound_factor, bound_prod, bound_signed}
 
-pub expr_parts : (s : Scope) (e : Expr) → bound_expr s e ≡ roll-BoundExpr (record { first = bound_prod s (out-Expr e).first; rest = map (bound_signed s) (out-Expr e).rest })
-unfolding bound_expr bound_prod bound_signed
-expr_parts s e = fold_out-Expr BoundAtom BoundExpr BoundFactor BoundProd BoundSigned (bound_atom_step s) bound_expr_step bound_factor_step bound_prod_step bound_signed_step e
+pub expr_parts : (means : Meaning) (e : Expr) → expr_by means e ≡ roll-BoundExpr (record { first = bound_prod means (out-Expr e).first; rest = map (bound_signed means) (out-Expr e).rest })
+unfolding expr_by bound_prod bound_signed
+expr_parts means e = fold_out-Expr BoundAtom BoundExpr BoundFactor BoundProd BoundSigned (atom_by means) bound_expr_step bound_factor_step bound_prod_step bound_signed_step e
 
-pub prod_parts : (s : Scope) (p : Prod) → bound_prod s p ≡ roll-BoundProd (record { first = bound_factor s (out-Prod p).first; rest = map (bound_factor s) (out-Prod p).rest })
+pub prod_parts : (means : Meaning) (p : Prod) → bound_prod means p ≡ roll-BoundProd (record { first = bound_factor means (out-Prod p).first; rest = map (bound_factor means) (out-Prod p).rest })
 unfolding bound_prod bound_factor
-prod_parts s p = fold_out-Prod BoundAtom BoundExpr BoundFactor BoundProd BoundSigned (bound_atom_step s) bound_expr_step bound_factor_step bound_prod_step bound_signed_step p
+prod_parts means p = fold_out-Prod BoundAtom BoundExpr BoundFactor BoundProd BoundSigned (atom_by means) bound_expr_step bound_factor_step bound_prod_step bound_signed_step p
 
-pub signed_parts : (s : Scope) (p : Signed) → bound_signed s p ≡ roll-BoundSigned (record { minus = (out-Signed p).minus; prod = bound_prod s (out-Signed p).prod })
+pub signed_parts : (means : Meaning) (p : Signed) → bound_signed means p ≡ roll-BoundSigned (record { minus = (out-Signed p).minus; prod = bound_prod means (out-Signed p).prod })
 unfolding bound_signed bound_prod
-signed_parts s p = fold_out-Signed BoundAtom BoundExpr BoundFactor BoundProd BoundSigned (bound_atom_step s) bound_expr_step bound_factor_step bound_prod_step bound_signed_step p
+signed_parts means p = fold_out-Signed BoundAtom BoundExpr BoundFactor BoundProd BoundSigned (atom_by means) bound_expr_step bound_factor_step bound_prod_step bound_signed_step p
 
-pub factor_parts : (s : Scope) (f : Factor) → bound_factor s f ≡ roll-BoundFactor (record { minus = (out-Factor f).minus; atom = bound_atom s (out-Factor f).atom })
+pub factor_parts : (means : Meaning) (f : Factor) → bound_factor means f ≡ roll-BoundFactor (record { minus = (out-Factor f).minus; atom = bound_atom means (out-Factor f).atom })
 unfolding bound_factor bound_atom
-factor_parts s f = fold_out-Factor BoundAtom BoundExpr BoundFactor BoundProd BoundSigned (bound_atom_step s) bound_expr_step bound_factor_step bound_prod_step bound_signed_step f
+factor_parts means f = fold_out-Factor BoundAtom BoundExpr BoundFactor BoundProd BoundSigned (atom_by means) bound_expr_step bound_factor_step bound_prod_step bound_signed_step f
 
-pub int_atom : (s : Scope) (n : ℤ) → bound_atom s (atom.Int n) ≡ batom.Int n
+pub int_atom : (means : Meaning) (n : ℤ) → bound_atom means (atom.Int n) ≡ batom.Int n
 unfolding bound_atom
-int_atom s n = fold_int (bound_atom_step s) bound_expr_step bound_factor_step bound_prod_step bound_signed_step n
+int_atom means n = fold_int (atom_by means) bound_expr_step bound_factor_step bound_prod_step bound_signed_step n
 
-pub col_atom : (s : Scope) (c : Col) → bound_atom s (atom.Col c) ≡ batom.Col (bound_col s c)
+pub col_atom : (means : Meaning) (c : Col) → bound_atom means (atom.Col c) ≡ batom.Col (means c)
 unfolding bound_atom
-col_atom s c = fold_col (bound_atom_step s) bound_expr_step bound_factor_step bound_prod_step bound_signed_step c
+col_atom means c = fold_col (atom_by means) bound_expr_step bound_factor_step bound_prod_step bound_signed_step c
 
-pub bracket_atom : (s : Scope) (e : Expr) → bound_atom s (atom.Bracket e) ≡ batom.Bracket (bound_expr s e)
-unfolding bound_atom bound_expr
-bracket_atom s e = fold_bracket (bound_atom_step s) bound_expr_step bound_factor_step bound_prod_step bound_signed_step e
+pub bracket_atom : (means : Meaning) (e : Expr) → bound_atom means (atom.Bracket e) ≡ batom.Bracket (expr_by means e)
+unfolding bound_atom expr_by
+bracket_atom means e = fold_bracket (atom_by means) bound_expr_step bound_factor_step bound_prod_step bound_signed_step e

@@ -3,7 +3,7 @@ use Rattle.std.specs.Prelude.{false, List, Option, option_to_list}
 use Rattle.std.specs.List.{flat_map}
 use Rattle.sql_bound.specs.declared.query.BoundItem.{BoundItem}
 use Rattle.sql_tree.specs.declared.query.Item.{Item}
-use Rattle.bind_rules.specs.Binding.{bound_item}
+use Rattle.bind_rules.specs.Binding.{item_by}
 use Rattle.sql_bound.specs.declared.expr.BoundAtom.{BoundAtom}
 use Rattle.sql_bound.specs.declared.expr.BoundExpr.{BoundExpr}
 use Rattle.sql_bound.specs.declared.expr.BoundFactor.{BoundFactor}
@@ -22,30 +22,30 @@ use Rattle.sql_tree.specs.declared.expr.Atom.TheFolds.{fold-Atom, fold-Factor, f
 use Rattle.sql_tree.specs.declared.expr.Factor.{Factor}
 use Rattle.sql_tree.specs.declared.expr.Prod.{Prod}
 use Rattle.sql_tree.specs.declared.expr.Signed.{Signed}
-use Rattle.bind_rules.specs.Bounds.{Scope, bound_atom_step, bound_expr_step, bound_factor_step, bound_prod_step, bound_signed_step}
+use Rattle.bind_rules.specs.Bounds.{Meaning, atom_by, bound_expr_step, bound_factor_step, bound_prod_step, bound_signed_step}
 
 -- the bound atom
-unfoldable pub bound_atom : Scope → Atom → BoundAtom
-bound_atom s =
-    fold-Atom BoundAtom BoundExpr BoundFactor BoundProd BoundSigned (bound_atom_step s) bound_expr_step
+unfoldable pub bound_atom : Meaning → Atom → BoundAtom
+bound_atom means =
+    fold-Atom BoundAtom BoundExpr BoundFactor BoundProd BoundSigned (atom_by means) bound_expr_step
     bound_factor_step bound_prod_step bound_signed_step
 
 -- the bound factor
-unfoldable pub bound_factor : Scope → Factor → BoundFactor
-bound_factor s =
-    fold-Factor BoundAtom BoundExpr BoundFactor BoundProd BoundSigned (bound_atom_step s) bound_expr_step
+unfoldable pub bound_factor : Meaning → Factor → BoundFactor
+bound_factor means =
+    fold-Factor BoundAtom BoundExpr BoundFactor BoundProd BoundSigned (atom_by means) bound_expr_step
     bound_factor_step bound_prod_step bound_signed_step
 
 -- the bound product
-unfoldable pub bound_prod : Scope → Prod → BoundProd
-bound_prod s =
-    fold-Prod BoundAtom BoundExpr BoundFactor BoundProd BoundSigned (bound_atom_step s) bound_expr_step
+unfoldable pub bound_prod : Meaning → Prod → BoundProd
+bound_prod means =
+    fold-Prod BoundAtom BoundExpr BoundFactor BoundProd BoundSigned (atom_by means) bound_expr_step
     bound_factor_step bound_prod_step bound_signed_step
 
 -- the bound product with its sign
-unfoldable pub bound_signed : Scope → Signed → BoundSigned
-bound_signed s =
-    fold-Signed BoundAtom BoundExpr BoundFactor BoundProd BoundSigned (bound_atom_step s) bound_expr_step
+unfoldable pub bound_signed : Meaning → Signed → BoundSigned
+bound_signed means =
+    fold-Signed BoundAtom BoundExpr BoundFactor BoundProd BoundSigned (atom_by means) bound_expr_step
     bound_factor_step bound_prod_step bound_signed_step
 
 -- a bound predicate as a condition
@@ -53,21 +53,21 @@ abbrev pub as_cond : Option BoundPred → List BoundCond
 as_cond p = option_to_list (neg_by false p)
 
 -- the bound conjuncts of a condition
-abbrev pub conds_of_cond : Scope → Cond → List BoundCond
-conds_of_cond s c = flat_map (bound_conjunct s) (conjuncts c)
+abbrev pub conds_of_cond : Meaning → Cond → List BoundCond
+conds_of_cond means c = flat_map (bound_conjunct means) (conjuncts c)
 
 -- the bound conjuncts of a conjunction
-abbrev pub conds_of_conj : Scope → Conj → List BoundCond
-conds_of_conj s c = flat_map (bound_conjunct s) (conjuncts_of_conj c)
+abbrev pub conds_of_conj : Meaning → Conj → List BoundCond
+conds_of_conj means c = flat_map (bound_conjunct means) (conjuncts_of_conj c)
 
 -- the bound conjuncts of a predicate with or without NOT
-abbrev pub conds_of_neg : Scope → Neg → List BoundCond
-conds_of_neg s n = flat_map (bound_conjunct s) (conjuncts_of_neg n)
+abbrev pub conds_of_neg : Meaning → Neg → List BoundCond
+conds_of_neg means n = flat_map (bound_conjunct means) (conjuncts_of_neg n)
 
 -- the bound conjuncts of a predicate
-abbrev pub conds_of_pred : Scope → Pred → List BoundCond
-conds_of_pred s p = flat_map (bound_conjunct s) (conjuncts_of_pred p)
+abbrev pub conds_of_pred : Meaning → Pred → List BoundCond
+conds_of_pred means p = flat_map (bound_conjunct means) (conjuncts_of_pred p)
 
 -- the bound item, without its alias
-abbrev pub item_in : Scope → Item → BoundItem
-item_in s i = bound_item s i.what
+abbrev pub item_in : Meaning → Item → BoundItem
+item_in means i = item_by means i.what

@@ -1,11 +1,8 @@
--- The parts of an expression that is a single column or int, and the scope of a query.
-use Rattle.std.specs.Prelude.{ℕ, List}
+-- The parts of an expression that is a single column or int.
 use Rattle.sql_tree.specs.declared.expr.Atom.{Atom}
 use Rattle.sql_tree.specs.declared.expr.Atom.TheFolds.{fold-Atom, fold-Factor, fold-Prod}
 use Rattle.sql_tree.specs.declared.expr.Factor.{Factor}
 use Rattle.sql_tree.specs.declared.expr.Prod.{Prod}
-use Rattle.sql_tree.specs.declared.query.Query.{Query}
-use Rattle.bind_rules.specs.Bounds.{Scope}
 use Rattle.bind_rules.specs.IdTests.{Alone, first_alone, lone_at_atom, lone_at_factor}
 
 -- the column or the int, if the atom is one
@@ -25,7 +22,3 @@ unfoldable pub lone_of_prod : Prod → Alone
 lone_of_prod =
     fold-Prod Alone Alone Alone Alone Alone lone_at_atom (λ e. first_alone e.first e.rest) lone_at_factor
     (λ p. first_alone p.first p.rest) (λ s. s.prod)
-
--- the scope of a query
-abbrev pub scope_of : List (List ℕ) → Query → Scope
-scope_of names q = record { names = names; second = q.second }

@@ -2,8 +2,10 @@
 ghost use Rattle.std.specs.Prelude.{◌≡◌, IfOk, IfErr, Ok, Err};
 ghost use Rattle.sky_io.specs.Stops.{IfBad};
 ghost use Rattle.bind_rules.specs.Binding.{bound_of};
+ghost use Rattle.bind_rules.specs.Checks.{bind_fault};
 
 use crate::query::bound_query;
+use crate::scope::Scope;
 use bind_checks::first_fault;
 use bind_rules::BindFault;
 use sky_io::Stop;
@@ -11,6 +13,13 @@ use sky_row::Schema;
 use sql_bound::Bound;
 use sql_tree::Query;
 use std::alloc::Global;
+
+// Returns the first fault of a query over a schema.
+fn object_fault(query: &Query, schema: &Schema) -> Option<BindFault>
+    ensures { result ≡ bind_fault schema.now query.now }
+{
+    first_fault(query, &Scope { schema, query })
+}
 
 /// Returns the bound query of a query over a schema, or its first fault. An allocation failure may be returned in place
 /// of a bound query, but not in place of a fault. Allocates memory for the bound query. Neither the query nor the
@@ -23,7 +32,7 @@ pub fn bind(alloc: Global, query: &Query, schema: &Schema) -> Result<Bound, Stop
     ensures judged { (fault : BindFault) → bound_of schema.now query.now ≡ Err fault
         → result ≡ Err (Stop.Bad fault) }
 {
-    match first_fault(query, schema) {
+    match object_fault(query, schema) {
         Some(fault) => Err(Stop::Bad(fault)),
         None => Ok(bound_query(alloc, query, schema)?),
     }

@@ -6,24 +6,24 @@ ghost use Rattle.bind_rules.specs.Wholes.{bound_any, bound_cond, bound_pred, bra
 ghost use Rattle.sql_bind.specs.Layers.{as_cond, conds_of_cond, conds_of_conj, conds_of_neg, conds_of_pred};
 
 use crate::conds::{whole_cond, whole_neg, whole_pred};
-use crate::scope::Scope;
+use bind_checks::Columns;
 use sql_bound::{BoundCond, BoundConds, BoundPred};
 use sql_tree::{Cond, Conj, Neg, Pred};
 use sqlite_items::{Boxed, Items};
 use std::alloc::{AllocError, Global};
 
 /// Returns the conjuncts of WHERE. Allocates memory for them.
-pub(crate) fn conjuncts(
+pub(crate) fn conjuncts<C: Columns>(
     alloc: Global,
-    scope: &Scope<'_>,
+    columns: &C,
     cond: &Option<Cond>,
 ) -> Result<BoundConds, AllocError>
-    ensures { IfOk result (λ conds. conds ≡ conds_in scope.now cond.now) }
+    ensures { IfOk result (λ conds. conds ≡ conds_in (C.means columns.now) cond.now) }
 {
     let mut found = Items::new(alloc);
     match cond {
         Some(cond) => {
-            add_cond(alloc, scope, cond, &mut found)?;
+            add_cond(alloc, columns, cond, &mut found)?;
             Ok(found)
         }
         None => Ok(found),
@@ -33,32 +33,32 @@ pub(crate) fn conjuncts(
 // Adds the conjuncts of the only part, or the whole condition if it has more than one part.
 #[cycle(top)]
 #[tactic(auto, using(crate::proofs::CondLayers::cond_one, crate::proofs::CondLayers::cond_more))]
-fn add_cond(
+fn add_cond<C: Columns>(
     alloc: Global,
-    scope: &Scope<'_>,
+    columns: &C,
     cond: &Cond,
     found: &mut BoundConds,
 ) -> Result<(), AllocError>
-    ensures { OnOk result (found.new ≡ found.old ++ conds_of_cond scope.now cond.now) }
+    ensures { OnOk result (found.new ≡ found.old ++ conds_of_cond (C.means columns.now) cond.now) }
 {
     if cond.rest.is_empty() {
-        add_conj(alloc, scope, &cond.first, found)
+        add_conj(alloc, columns, &cond.first, found)
     } else {
-        add_bracket(alloc, scope, cond, found)
+        add_bracket(alloc, columns, cond, found)
     }
 }
 
 // Adds a condition in brackets, if it neither is a chord test nor contains one.
-fn add_bracket(
+fn add_bracket<C: Columns>(
     alloc: Global,
-    scope: &Scope<'_>,
+    columns: &C,
     cond: &Cond,
     found: &mut BoundConds,
 ) -> Result<(), AllocError>
     ensures { OnOk result (found.new
-        ≡ found.old ++ as_cond (bracket (bound_any scope.now cond.now))) }
+        ≡ found.old ++ as_cond (bracket (bound_any (C.means columns.now) cond.now))) }
 {
-    match whole_cond(alloc, scope, cond)? {
+    match whole_cond(alloc, columns, cond)? {
         Some(inner) => add_plain(found, BoundPred::Bracket(Boxed::new(alloc, inner)?)),
         None => Ok(()),
     }
@@ -75,32 +75,32 @@ fn add_plain(found: &mut BoundConds, pred: BoundPred) -> Result<(), AllocError>
 // Adds the conjuncts of each part.
 #[cycle(top)]
 #[tactic(auto, using(crate::proofs::CondLayers::conj_conjuncts, bind_checks::proofs::Loops::then_rest))]
-fn add_conj(
+fn add_conj<C: Columns>(
     alloc: Global,
-    scope: &Scope<'_>,
+    columns: &C,
     conj: &Conj,
     found: &mut BoundConds,
 ) -> Result<(), AllocError>
-    ensures { OnOk result (found.new ≡ found.old ++ conds_of_conj scope.now conj.now) }
+    ensures { OnOk result (found.new ≡ found.old ++ conds_of_conj (C.means columns.now) conj.now) }
 {
-    add_neg(alloc, scope, &conj.first, found)?;
-    add_negs(alloc, scope, conj.rest.as_slice(), found)
+    add_neg(alloc, columns, &conj.first, found)?;
+    add_negs(alloc, columns, conj.rest.as_slice(), found)
 }
 
 // Adds the conjuncts of the parts after the first.
 #[cycle(top)]
 #[tactic(auto, using(bind_checks::proofs::Loops::flat_more))]
-fn add_negs(
+fn add_negs<C: Columns>(
     alloc: Global,
-    scope: &Scope<'_>,
+    columns: &C,
     rest: &[Neg],
     found: &mut BoundConds,
 ) -> Result<(), AllocError>
     ensures { OnOk result (found.new
-        ≡ found.old ++ flat_map (conds_of_neg scope.now) rest.now) }
+        ≡ found.old ++ flat_map (conds_of_neg (C.means columns.now)) rest.now) }
 {
     for neg in rest {
-        add_neg(alloc, scope, neg, found)?;
+        add_neg(alloc, columns, neg, found)?;
     }
     Ok(())
 }
@@ -108,32 +108,32 @@ fn add_negs(
 // Adds a negation as it is, or else the conjuncts of the predicate.
 #[cycle(top)]
 #[tactic(auto, using(crate::proofs::CondLayers::neg_with, crate::proofs::CondLayers::neg_without))]
-fn add_neg(
+fn add_neg<C: Columns>(
     alloc: Global,
-    scope: &Scope<'_>,
+    columns: &C,
     neg: &Neg,
     found: &mut BoundConds,
 ) -> Result<(), AllocError>
-    ensures { OnOk result (found.new ≡ found.old ++ conds_of_neg scope.now neg.now) }
+    ensures { OnOk result (found.new ≡ found.old ++ conds_of_neg (C.means columns.now) neg.now) }
 {
     if neg.not {
-        add_whole_neg(alloc, scope, neg, found)
+        add_whole_neg(alloc, columns, neg, found)
     } else {
-        add_pred(alloc, scope, &neg.pred, found)
+        add_pred(alloc, columns, &neg.pred, found)
     }
 }
 
 // Adds a negation, if it contains no chord test.
-fn add_whole_neg(
+fn add_whole_neg<C: Columns>(
     alloc: Global,
-    scope: &Scope<'_>,
+    columns: &C,
     neg: &Neg,
     found: &mut BoundConds,
 ) -> Result<(), AllocError>
     ensures { OnOk result (found.new
-        ≡ found.old ++ option_to_list (bound_cond scope.now neg.now)) }
+        ≡ found.old ++ option_to_list (bound_cond (C.means columns.now) neg.now)) }
 {
-    match whole_neg(alloc, scope, neg)? {
+    match whole_neg(alloc, columns, neg)? {
         Some(cond) => {
             found.push(cond)?;
             Ok(())
@@ -145,36 +145,36 @@ fn add_whole_neg(
 // Adds the conjuncts of a condition in brackets, or another predicate as it is.
 #[cycle(top)]
 #[tactic(auto, using(crate::proofs::CondLayers::group_conjuncts, crate::proofs::CondLayers::compare_lone, crate::proofs::CondLayers::between_lone, crate::proofs::CondLayers::among_lone, crate::proofs::CondLayers::null_lone, crate::proofs::CondLayers::area_lone, crate::proofs::CondLayers::chord_lone))]
-fn add_pred(
+fn add_pred<C: Columns>(
     alloc: Global,
-    scope: &Scope<'_>,
+    columns: &C,
     pred: &Pred,
     found: &mut BoundConds,
 ) -> Result<(), AllocError>
-    ensures { OnOk result (found.new ≡ found.old ++ conds_of_pred scope.now pred.now) }
+    ensures { OnOk result (found.new ≡ found.old ++ conds_of_pred (C.means columns.now) pred.now) }
 {
     match pred {
-        Pred::Bracket(cond) => add_cond(alloc, scope, cond.get(), found),
-        Pred::Compare { .. } => add_lone(alloc, scope, pred, found),
-        Pred::Between { .. } => add_lone(alloc, scope, pred, found),
-        Pred::Among { .. } => add_lone(alloc, scope, pred, found),
-        Pred::IsNull { .. } => add_lone(alloc, scope, pred, found),
-        Pred::Area { .. } => add_lone(alloc, scope, pred, found),
-        Pred::Chord { .. } => add_lone(alloc, scope, pred, found),
+        Pred::Bracket(cond) => add_cond(alloc, columns, cond.get(), found),
+        Pred::Compare { .. } => add_lone(alloc, columns, pred, found),
+        Pred::Between { .. } => add_lone(alloc, columns, pred, found),
+        Pred::Among { .. } => add_lone(alloc, columns, pred, found),
+        Pred::IsNull { .. } => add_lone(alloc, columns, pred, found),
+        Pred::Area { .. } => add_lone(alloc, columns, pred, found),
+        Pred::Chord { .. } => add_lone(alloc, columns, pred, found),
     }
 }
 
 // Adds a predicate, if it neither is a chord test nor contains one.
-fn add_lone(
+fn add_lone<C: Columns>(
     alloc: Global,
-    scope: &Scope<'_>,
+    columns: &C,
     pred: &Pred,
     found: &mut BoundConds,
 ) -> Result<(), AllocError>
     ensures { OnOk result (found.new
-        ≡ found.old ++ as_cond (bound_pred scope.now pred.now)) }
+        ≡ found.old ++ as_cond (bound_pred (C.means columns.now) pred.now)) }
 {
-    match whole_pred(alloc, scope, pred)? {
+    match whole_pred(alloc, columns, pred)? {
         Some(pred) => add_plain(found, pred),
         None => Ok(()),
     }

@@ -1,9 +1,9 @@
 //! Bound expressions, with columns in place of names. Each function binds one level of the tree.
 ghost use Rattle.std.specs.Prelude.{◌≡◌, map, IfOk};
-ghost use Rattle.bind_rules.specs.Bounds.{bound_expr};
+ghost use Rattle.bind_rules.specs.Bounds.{expr_by};
 ghost use Rattle.sql_bind.specs.Layers.{bound_atom, bound_factor, bound_prod, bound_signed};
 
-use crate::scope::Scope;
+use bind_checks::Columns;
 use sql_bound::{BoundAtom, BoundExpr, BoundFactor, BoundProd, BoundSigned};
 use sql_tree::{Atom, Expr, Factor, Prod, Signed};
 use sqlite_items::{Boxed, Items};
@@ -12,31 +12,31 @@ use std::alloc::{AllocError, Global};
 /// Binds an expression. Allocates memory for it.
 #[cycle(bind)]
 #[tactic(auto, using(crate::proofs::ExprLayers::expr_parts))]
-pub(crate) fn bound_expr(
+pub(crate) fn bound_expr<C: Columns>(
     alloc: Global,
-    scope: &Scope<'_>,
+    columns: &C,
     expr: &Expr,
 ) -> Result<BoundExpr, AllocError>
-    ensures { IfOk result (λ bound. bound ≡ bound_expr scope.now expr.now) }
+    ensures { IfOk result (λ bound. bound ≡ expr_by (C.means columns.now) expr.now) }
 {
-    let first = bound_prod(alloc, scope, &expr.first)?;
-    let rest = bound_signeds(alloc, scope, expr.rest.as_slice())?;
+    let first = bound_prod(alloc, columns, &expr.first)?;
+    let rest = bound_signeds(alloc, columns, expr.rest.as_slice())?;
     Ok(BoundExpr { first, rest })
 }
 
 // Binds the products of a sum after the first.
 #[cycle(bind)]
 #[tactic(auto, using(bind_checks::proofs::Loops::map_more))]
-fn bound_signeds(
+fn bound_signeds<C: Columns>(
     alloc: Global,
-    scope: &Scope<'_>,
+    columns: &C,
     rest: &[Signed],
 ) -> Result<Items<BoundSigned>, AllocError>
-    ensures { IfOk result (λ bound. bound ≡ map (bound_signed scope.now) rest.now) }
+    ensures { IfOk result (λ bound. bound ≡ map (bound_signed (C.means columns.now)) rest.now) }
 {
     let mut found = Items::new(alloc);
     for signed in rest {
-        found.push(bound_signed(alloc, scope, signed)?)?;
+        found.push(bound_signed(alloc, columns, signed)?)?;
     }
     Ok(found)
 }
@@ -44,14 +44,14 @@ fn bound_signeds(
 // Binds one such product.
 #[cycle(bind)]
 #[tactic(auto, using(crate::proofs::ExprLayers::signed_parts))]
-fn bound_signed(
+fn bound_signed<C: Columns>(
     alloc: Global,
-    scope: &Scope<'_>,
+    columns: &C,
     signed: &Signed,
 ) -> Result<BoundSigned, AllocError>
-    ensures { IfOk result (λ bound. bound ≡ bound_signed scope.now signed.now) }
+    ensures { IfOk result (λ bound. bound ≡ bound_signed (C.means columns.now) signed.now) }
 {
-    let prod = bound_prod(alloc, scope, &signed.prod)?;
+    let prod = bound_prod(alloc, columns, &signed.prod)?;
     Ok(BoundSigned {
         minus: signed.minus,
         prod,
@@ -61,27 +61,27 @@ fn bound_signed(
 // Binds a product.
 #[cycle(bind)]
 #[tactic(auto, using(crate::proofs::ExprLayers::prod_parts))]
-fn bound_prod(alloc: Global, scope: &Scope<'_>, prod: &Prod) -> Result<BoundProd, AllocError>
-    ensures { IfOk result (λ bound. bound ≡ bound_prod scope.now prod.now) }
+fn bound_prod<C: Columns>(alloc: Global, columns: &C, prod: &Prod) -> Result<BoundProd, AllocError>
+    ensures { IfOk result (λ bound. bound ≡ bound_prod (C.means columns.now) prod.now) }
 {
-    let first = bound_factor(alloc, scope, &prod.first)?;
-    let rest = bound_factors(alloc, scope, prod.rest.as_slice())?;
+    let first = bound_factor(alloc, columns, &prod.first)?;
+    let rest = bound_factors(alloc, columns, prod.rest.as_slice())?;
     Ok(BoundProd { first, rest })
 }
 
 // Binds the factors of a product after the first.
 #[cycle(bind)]
 #[tactic(auto, using(bind_checks::proofs::Loops::map_more))]
-fn bound_factors(
+fn bound_factors<C: Columns>(
     alloc: Global,
-    scope: &Scope<'_>,
+    columns: &C,
     rest: &[Factor],
 ) -> Result<Items<BoundFactor>, AllocError>
-    ensures { IfOk result (λ bound. bound ≡ map (bound_factor scope.now) rest.now) }
+    ensures { IfOk result (λ bound. bound ≡ map (bound_factor (C.means columns.now)) rest.now) }
 {
     let mut found = Items::new(alloc);
     for factor in rest {
-        found.push(bound_factor(alloc, scope, factor)?)?;
+        found.push(bound_factor(alloc, columns, factor)?)?;
     }
     Ok(found)
 }
@@ -89,14 +89,14 @@ fn bound_factors(
 // Binds a factor.
 #[cycle(bind)]
 #[tactic(auto, using(crate::proofs::ExprLayers::factor_parts))]
-fn bound_factor(
+fn bound_factor<C: Columns>(
     alloc: Global,
-    scope: &Scope<'_>,
+    columns: &C,
     factor: &Factor,
 ) -> Result<BoundFactor, AllocError>
-    ensures { IfOk result (λ bound. bound ≡ bound_factor scope.now factor.now) }
+    ensures { IfOk result (λ bound. bound ≡ bound_factor (C.means columns.now) factor.now) }
 {
-    let atom = bound_atom(alloc, scope, &factor.atom)?;
+    let atom = bound_atom(alloc, columns, &factor.atom)?;
     Ok(BoundFactor {
         minus: factor.minus,
         atom,
@@ -106,22 +106,22 @@ fn bound_factor(
 // Binds an atom.
 #[cycle(bind)]
 #[tactic(auto, using(crate::proofs::ExprLayers::int_atom, crate::proofs::ExprLayers::col_atom, crate::proofs::ExprLayers::bracket_atom))]
-fn bound_atom(alloc: Global, scope: &Scope<'_>, atom: &Atom) -> Result<BoundAtom, AllocError>
-    ensures { IfOk result (λ bound. bound ≡ bound_atom scope.now atom.now) }
+fn bound_atom<C: Columns>(alloc: Global, columns: &C, atom: &Atom) -> Result<BoundAtom, AllocError>
+    ensures { IfOk result (λ bound. bound ≡ bound_atom (C.means columns.now) atom.now) }
 {
     match atom {
         Atom::Int(n) => Ok(BoundAtom::Int(*n)),
-        Atom::Col(col) => Ok(BoundAtom::Col(scope.column(col))),
-        Atom::Bracket(e) => bound_bracket(alloc, scope, e.get()),
+        Atom::Col(col) => Ok(BoundAtom::Col(columns.column(col))),
+        Atom::Bracket(e) => bound_bracket(alloc, columns, e.get()),
     }
 }
 
 // Binds an expression in brackets.
 #[cycle(bind)]
 #[tactic(auto, using(crate::proofs::ExprLayers::bracket_atom))]
-fn bound_bracket(alloc: Global, scope: &Scope<'_>, e: &Expr) -> Result<BoundAtom, AllocError>
-    ensures { IfOk result (λ bound. bound ≡ bound_atom scope.now (Atom.Bracket e.now)) }
+fn bound_bracket<C: Columns>(alloc: Global, columns: &C, e: &Expr) -> Result<BoundAtom, AllocError>
+    ensures { IfOk result (λ bound. bound ≡ bound_atom (C.means columns.now) (Atom.Bracket e.now)) }
 {
-    let inner = bound_expr(alloc, scope, e)?;
+    let inner = bound_expr(alloc, columns, e)?;
     Ok(BoundAtom::Bracket(Boxed::new(alloc, inner)?))
 }

@@ -1,28 +1,23 @@
-//! The scope of a query: the columns to which its names refer.
+//! What the names of a query over the object table refer to.
 ghost use Rattle.std.specs.Prelude.{◌≡◌};
 ghost use Rattle.std.specs.Str.{bytes_eq};
-ghost use Rattle.bind_rules.specs.Bounds.{bound_col, column_number, is_second};
-ghost use Rattle.bind_rules.specs.Columns.{qualifier};
+ghost use Rattle.table_rules.specs.Names.{column_of};
+ghost use Rattle.bind_rules.specs.Bounds.{column_number, is_second, object_columns};
+ghost use Rattle.bind_rules.specs.Columns.{is_qualified_well, qualifier, tables};
+ghost use Rattle.bind_rules.specs.IdTests.{first_id};
+ghost use Rattle.bind_rules.specs.Names.{known_names};
+ghost use Rattle.bind_rules.specs.Widths.{bound_by, column_size};
 
-use bind_checks::qualifier;
+use bind_checks::{ColumnTest, Columns, is_qualifier, qualifier};
 use sky_row::Schema;
 use sql_bound::BoundCol;
 use sql_tree::{Col, Name, Query, TableRef};
-use std::marker::Model;
 
-/// The columns of a schema, and the second table of a join.
+/// The columns of a schema, and the query whose names refer to them.
 #[derive(Drop)]
 pub(crate) struct Scope<'a> {
-    schema: &'a Schema,
-    second: &'a Option<TableRef>,
-}
-
-impl<'a> Model for Scope<'a> {
-    ghost use Rattle.bind_rules.specs.Bounds.{Scope};
-
-    ghost Value = { Scope };
-
-    ghost view = { λ s. record { names = s.schema.now; second = s.second.now } };
+    pub(crate) schema: &'a Schema,
+    pub(crate) query: &'a Query,
 }
 
 // Returns whether the name is the qualifier of the table.
@@ -49,32 +44,71 @@ fn column_number(schema: &Schema, name: &[u8]) -> u32
     schema.column(name).unwrap_or(schema.width())
 }
 
-impl<'a> Scope<'a> {
-    /// Creates the scope of a query over a schema.
-    pub(crate) fn new(query: &'a Query, schema: &'a Schema) -> Scope<'a>
-        ensures { result ≡ record { names = schema.now; second = query.now.second } }
-    {
-        Scope {
-            schema,
-            second: &query.second,
-        }
+// Returns whether a qualifier, if one is written, is that of one of the query's tables.
+fn is_qualified_well(query: &Query, table: &Option<Name>) -> bool
+    ensures { result ≡ is_qualified_well (tables query.now) table.now }
+{
+    match table {
+        Some(name) => is_qualifier(query, name.text.as_slice()),
+        None => true,
+    }
+}
+
+// Returns the largest size of a value in the column, and 0 if there is no column of that name.
+fn bound_of(schema: &Schema, name: &[u8]) -> u128
+    ensures { result ≡ bound_by (column_of schema.now name.now) }
+{
+    match schema.column(name) {
+        Some(col) => schema.bound(col).unsigned_abs(),
+        None => 0,
+    }
+}
+
+impl<'a> Columns for Scope<'a> {
+    ghost known = { λ s. known_names s.schema.now s.query.now };
+
+    ghost size = { λ s. column_size s.schema.now };
+
+    ghost means = { λ s. object_columns s.schema.now s.query.now };
+
+    fn is_known(&self, col: &Col) -> bool {
+        is_qualified_well(self.query, &col.table)
+            && self.schema.column(col.name.text.as_slice()).is_some()
     }
 
-    /// Returns the columns of a table.
-    pub(crate) fn schema(&self) -> &Schema
-        ensures { result.now ≡ self.now.names }
-    {
-        self.schema
+    fn is_table(&self, name: &[u8]) -> bool {
+        name == b"Object".as_slice()
     }
 
-    /// Returns the column to which a name refers; for a name that the schema does not have, it has the number past the
-    /// last column. Does not allocate.
-    pub(crate) fn column(&self, col: &Col) -> BoundCol
-        ensures { result ≡ bound_col self.now col.now }
-    {
+    fn is_qualifier(&self, text: &[u8]) -> bool {
+        is_qualifier(self.query, text)
+    }
+
+    fn size(&self, col: &Col) -> u128 {
+        bound_of(self.schema, col.name.text.as_slice())
+    }
+
+    // A name that the schema does not have gets the number past the last column.
+    fn column(&self, col: &Col) -> BoundCol {
         BoundCol {
-            second: is_second(self.second, &col.table),
+            second: is_second(&self.query.second, &col.table),
             col: column_number(self.schema, col.name.text.as_slice()),
         }
+    }
+}
+
+/// The test of a column that it is the id of the first table.
+#[derive(Drop)]
+pub(crate) struct FirstId<'a> {
+    pub(crate) scope: &'a Scope<'a>,
+}
+
+impl<'a> ColumnTest for FirstId<'a> {
+    ghost passes = { λ t.
+        first_id (object_columns t.scope.now.schema.now t.scope.now.query.now) };
+
+    fn passes(&self, col: &Col) -> bool {
+        let bound = self.scope.column(col);
+        !bound.second && bound.col == 0
     }
 }

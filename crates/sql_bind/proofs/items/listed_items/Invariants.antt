@@ -3,4 +3,4 @@ use Rattle.sql_bind.specs.Layers.{item_in}
 use Rattle.sql_bind.proofs.items.listed_items.Given as goal
 
 abbrev pub invariant-loop-item : goal.invariant-loop-item
-invariant-loop-item l = map (item_in l.scope) (l.list.first ∷ l.list.rest) ≡ l.found ++ map (item_in l.scope) (drop l.item-index l.list.rest)
+invariant-loop-item g l = map (item_in (g.C.Columns.means l.columns)) (l.list.first ∷ l.list.rest) ≡ l.found ++ map (item_in (g.C.Columns.means l.columns)) (drop l.item-index l.list.rest)
