@@ -6,14 +6,14 @@ use Rattle.class_session.proofs.FirstPairs.{first_if}
 use Rattle.class_session.proofs.boards.paired.Goals as goal
 
 pub new-requires : goal.new-requires
-new-requires g c = record {
+new-requires c = record {
   root = ap (λ b. b.root) c.requires.long ∙ sym (ap (λ b. b.root) c.requires.short);
   ring = ap (λ b. b.ring) c.requires.long ∙ sym (ap (λ b. b.ring) c.requires.short);
   empty = (ap (λ b. b.past) c.requires.short, ap (λ b. b.past) c.requires.long);
 }
 
 pub returns : goal.returns
-returns g c =
+returns c =
     let w = c.args.world.now in
     first_if w.plan w.rows c.args.plans.now (record { root = c.args.short.root; ring = c.args.short.ring }) (λ r. r.0) (λ r. r.1) c.new.result
     (ap (λ b. record { root = b.root; ring = b.ring }) c.requires.short
