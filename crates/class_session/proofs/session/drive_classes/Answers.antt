@@ -1,11 +1,17 @@
-use Rattle.std.proofs.Common.{◌≡◌, ◌∙◌, subst, sym, rules, List, Result, IfOk, Ok, Err}
-use Rattle.scan_classes.specs.declared.class.Class.{Class}
-use Rattle.scan_classes.specs.declared.class.Class.TheVariants.{Short, Long}
-use Rattle.czar.specs.declared.plan.Plan.{Plan}
+use Rattle.std.proofs.Common.{rules}
+use Rattle.scan_classes.specs.declared.class.Class.TheVariants.{Short}
 use Rattle.czar.proofs.Driving.{driven, of_value}
 use Rattle.class_session.proofs.ClassEnds.{ends_in_states, if_ok}
 use Rattle.class_session.proofs.FirstPairs.{pairs_ended}
 use Rattle.class_session.proofs.session.drive_classes.Goals as goal
+
+pub each_query_is_of_its_class_once_all_pairs_have_ended-requires-clause-first : goal.each_query_is_of_its_class_once_all_pairs_have_ended-requires-clause-first
+each_query_is_of_its_class_once_all_pairs_have_ended-requires-clause-first g c = (c.driven-ends.ensures.manned Short).first
+
+pub each_query_is_of_its_class_once_all_pairs_have_ended-requires-clause-ended : goal.each_query_is_of_its_class_once_all_pairs_have_ended-requires-clause-ended
+each_query_is_of_its_class_once_all_pairs_have_ended-requires-clause-ended g c =
+    let w = c.args.session.now.world.now in
+    pairs_ended w.plan w.rows c.args.plans.items c.args.classes.now c.args.pair c.requires.first c.driven-ends.result.1 c.driven-ends.ensures.manned
 
 pub query_ends-requires-clause-driven : goal.query_ends-requires-clause-driven
 query_ends-requires-clause-driven g c =
@@ -13,6 +19,12 @@ query_ends-requires-clause-driven g c =
 
 pub returns-in-Ok-clause-drove : goal.returns-in-Ok-clause-drove
 returns-in-Ok-clause-drove g c = if_ok c.query_ends.result (of_value _ c.in-Ok.is c.driven-ends.ensures.drove)
+
+pub returns-in-Ok-clause-manned : goal.returns-in-Ok-clause-manned
+returns-in-Ok-clause-manned g c = c.driven-ends.ensures.manned
+
+pub returns-in-Err-clause-manned : goal.returns-in-Err-clause-manned
+returns-in-Err-clause-manned g c = c.driven-ends.ensures.manned
 
 pub returns-in-Ok-clause-states : goal.returns-in-Ok-clause-states
 returns-in-Ok-clause-states g c =

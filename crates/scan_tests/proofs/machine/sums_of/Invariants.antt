@@ -1,4 +1,4 @@
-use Rattle.std.proofs.Common.{◌≡◌, ℕ, ◌+◌, ◌*◌, length, sum_by, List}
+use Rattle.std.proofs.Common.{◌≡◌, ◌+◌, ◌*◌, length, sum_by}
 use Rattle.scan_core.specs.Delivering.{PiecesFit}
 use Rattle.scan_tests.specs.declared.machine.Sum.{Sum}
 use Rattle.scan_tests.proofs.machine.sums_of.Given as goal

@@ -1,4 +1,4 @@
-use Rattle.std.proofs.Common.{◌≡◌, ℕ, ◌+◌, ◌∷◌, List, length, arith}
+use Rattle.std.proofs.Common.{◌≡◌, ◌∷◌, length, arith}
 use Rattle.std.proofs.lemmas.List.Sorted.{length_permutation}
 use Rattle.scan_tests.proofs.boards.CountWork.absorb.Goals as goal
 

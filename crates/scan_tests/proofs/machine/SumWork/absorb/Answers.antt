@@ -1,4 +1,4 @@
-use Rattle.std.proofs.Common.{◌≡◌, ℕ, ◌+◌, ◌*◌, ◌∷◌, sum_by, arith}
+use Rattle.std.proofs.Common.{◌+◌, ◌*◌, ◌∷◌, arith}
 use Rattle.std.proofs.lemmas.List.Sorted.{sum_by-IsPermutation}
 use Rattle.std.proofs.lemmas.List.Sums.{sum_by-cons}
 use Rattle.scan_tests.proofs.machine.SumWork.absorb.Goals as goal
