@@ -2,8 +2,8 @@
 //!
 //! `qserv_serve` is generic over the outside. Its contract (`specs/Meanings.antt`) defines what each outcome means, and
 //! `specs/Answers.antt` which answers a script may have. Below: `request_loop` reads requests and sends lines,
-//! `top_call` loads, `czar` runs the queries of a script and writes their results. Nothing of a script is kept after
-//! its reply.
+//! `top_call` loads, `czar` runs the queries of a script and writes their results, and `reply_rules` has which lines of a
+//! text begin with `+`. Nothing of a script is kept after its reply.
 #![tactic(auto)]
 
 mod answer;

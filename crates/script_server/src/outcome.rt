@@ -13,7 +13,7 @@ use top_call::{Outcome, put_outcome, status};
 pub enum ServeOutcome {
     /// The arguments are no `SKY CSV WORKERS`.
     Usage,
-    /// The survey was not loaded, and no request was read.
+    /// The survey was not loaded, or an allocation failed before the first request. No request was read.
     Stopped { outcome: Outcome },
     /// The session has ended.
     Ended { session: Session },
