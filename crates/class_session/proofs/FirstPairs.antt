@@ -1,10 +1,12 @@
 -- The czar's pair, before a session and after it.
-use Rattle.std.proofs.Common.{◌≡◌, sym, ap, ◌≤◌, true, arith, List}
+use Rattle.std.proofs.Common.{◌≡◌, ◌∙◌, sym, ap, ◌≤◌, true, arith, List, Ok, Err, Result, IfOk}
 use Rattle.table_rules.specs.Objects.{Catalogue}
+use Rattle.sky_io.specs.declared.Memory.{Memory}
 use Rattle.sky_rules.specs.Partition.{Partition, chunk_count}
 use Rattle.answer_rules.specs.Bases.{Asks, Base}
 use Rattle.turn_lock.specs.Ends.{AllHaveEnded}
 use Rattle.turn_lock.specs.Seats.{first_seat}
+use Rattle.scan_core.specs.declared.board_root.BoardRoot.{BoardRoot}
 use Rattle.scan_board.specs.Calls.{AnswersClose, Called}
 use Rattle.scan_session.specs.Crews.{Manned}
 use Rattle.scan_session.specs.Places.{AreCzars}
@@ -19,6 +21,15 @@ use Rattle.czar.specs.Attached.{base_of}
 use Rattle.czar.specs.declared.plan.Plan.{Plan}
 use Rattle.class_session.specs.ClassPlans.{IsFirstPair}
 
+-- two boards that were put under locks
+pub first_if : {V : Type 0} (g : Partition) (c : Catalogue) (plans : List Plan) (root : BoardRoot Base) (turns : V → ClassTurns)
+    (pair : V → PairSeat Base) (r : Result V Memory) → root ≡ record { root = base_of g c plans; ring = chunk_count g }
+    → IfOk r (λ v. (pair v).short ≡ first_seat (turns v).short root) → IfOk r (λ v. (pair v).long ≡ first_seat (turns v).long root)
+    → IfOk r (λ v. IsFirstPair g c plans (turns v) (pair v))
+first_if g c plans root turns pair (Ok v) is short long =
+    record { short = short ∙ ap (first_seat (turns v).short) is; long = long ∙ ap (first_seat (turns v).long) is }
+first_if g c plans root turns pair (Err m) is short long = tt
+
 module _ (g : Partition) (c : Catalogue) (plans : List Plan) (turns : ClassTurns) (old : PairSeat Base) (first : IsFirstPair g c plans turns old) where
   -- the participant of the board of each class
   pub first_at : (p : Class) → seat_at old p ≡ first_seat (turn_at turns p) (record { root = base_of g c plans; ring = chunk_count g })
@@ -28,7 +39,7 @@ module _ (g : Partition) (c : Catalogue) (plans : List Plan) (turns : ClassTurns
   czars : ((p : Class) → (seat_at old p).root.ring ≤ 16384) → AreCzars Asks (turn_at turns) (base_of g c plans) (seat_at old)
   czars small = first_czars Asks (turn_at turns) (base_of g c plans) (seat_at old)
       (λ p. ap (λ s. s.turn) (first_at p))
-      (λ p. let f = first_at p in (ap (λ s. s.number) f, (ap (λ s. s.seen) f, (ap (λ s. s.mine) f, ap (λ s. s.made) f))))
+      (λ p. let f = first_at p in (ap (λ s. s.number) f, ap (λ s. s.seen) f, ap (λ s. s.mine) f, ap (λ s. s.made) f))
       small
       (λ p. sym (ap (λ s. s.root.root) (first_at p)))
 

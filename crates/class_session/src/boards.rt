@@ -1,11 +1,16 @@
 //! The boards of both classes for a script, and the class of each of its queries.
-ghost use Rattle.std.specs.Prelude.{◌≡◌, IfOk};
+ghost use Rattle.std.specs.Prelude.{◌≡◌, [], IfOk, map};
+ghost use Rattle.sky_rules.specs.Partition.{chunk_count};
+ghost use Rattle.session_rules.specs.Numbers.{numbered_from};
 ghost use Rattle.session_script.specs.Views.{query_lines};
+ghost use Rattle.czar.specs.Attached.{base_over, chunk_query, numbered};
 ghost use Rattle.czar.specs.Plans.{ArePlans};
 ghost use Rattle.class_session.specs.ClassPlans.{IsFirstPair, class_for, classes_for};
 
-use czar::{Plan, Session, board_over, chunk_queries, know};
+use answer_rules::ChunkQuery;
+use czar::{Plan, Session, World, board_over, chunk_queries, know};
 use partial_merge::Piece;
+use scan_board::Board;
 use scan_classes::{Class, Classes, Pair};
 use sky_io::{Gate, Memory};
 use std::alloc::Global;
@@ -50,5 +55,39 @@ pub(crate) fn two_boards<'s, R: Threads + Wait + Sync, G: Gate + Sync>(
     let asked = chunk_queries(session.alloc, plans)?;
     let short = board_over(session.alloc, session.world, asked.as_slice())?;
     let long = board_over(session.alloc, session.world, asked.as_slice())?;
-    Classes::new(session.alloc, short, long)
+    paired(
+        session.alloc,
+        session.world,
+        plans,
+        asked.as_slice(),
+        short,
+        long,
+    )
+}
+
+/// Puts two boards for these chunk queries, which are those of the plans, under locks. Allocates memory. The plans and the
+/// queries are read by contracts alone.
+fn paired<'s>(
+    alloc: Global,
+    world: &World<'s>,
+    plans: &[Plan],
+    queries: &[(u32, &ChunkQuery)],
+    short: Board<Piece<'s>>,
+    long: Board<Piece<'s>>,
+) -> Result<(Classes<Piece<'s>>, Pair<Piece<'s>>), Memory>
+    requires queries { numbered queries.now ≡ numbered_from 1 (map chunk_query plans.now) }
+    requires short { short ≡ record {
+      root = base_over world.now.plan world.now.rows queries.now;
+      ring = chunk_count world.now.plan;
+      past = [];
+    } }
+    requires long { long ≡ record {
+      root = base_over world.now.plan world.now.rows queries.now;
+      ring = chunk_count world.now.plan;
+      past = [];
+    } }
+    ensures { IfOk result (λ r.
+        IsFirstPair world.now.plan world.now.rows plans.now r.0 r.1) }
+{
+    Classes::new(alloc, short, long)
 }

@@ -83,7 +83,8 @@ pub fn drive_classes<'s, R: Threads + Wait + Sync, G: Gate + Sync>(
         (of_class class (chunks_planned plans.items)) session.now.script.now.steps
         (seat_at result.1 class).seen) }
     ensures classes { EachIsOfItsClass result.1 }
-    ensures manned { (class : Class) → Manned Asks (seat_at pair.entry class) (seat_at result.1 class) }
+    ensures manned { (class : Class) →
+        Manned Asks (seat_at pair.entry class) (seat_at result.1 class) }
     ensures states { IfOk result.0 (λ ends. AreEndsIn
         (seen_of (class_at (chunks_planned plans.items)) (seat_at result.1))
         (map kind_of ends.items)) }
@@ -122,7 +123,8 @@ fn driven<'s, R: Threads + Wait + Sync, G: Gate + Sync>(
         session.now.world.now.plan session.now.world.now.rows session.now.script.now.steps
         plans.now (λ q. of_class (class_at (chunks_planned plans.now) q) (chunks_planned plans.now))
         (seen_of (class_at (chunks_planned plans.now)) (seat_at result.1)) ends.items) }
-    ensures manned { (class : Class) → Manned Asks (seat_at pair.entry class) (seat_at result.1 class) }
+    ensures manned { (class : Class) →
+        Manned Asks (seat_at pair.entry class) (seat_at result.1 class) }
 {
     let _ = session.script.queries();
     match parts(session.alloc, plans) {
@@ -180,7 +182,8 @@ fn driven_at<'s, R: Threads + Wait + Sync, G: Gate + Sync>(
         session.now.world.now.plan session.now.world.now.rows session.now.script.now.steps
         plans.now (λ q. of_class (class_at (chunks_planned plans.now) q) (chunks_planned plans.now))
         (seen_of (class_at (chunks_planned plans.now)) (seat_at result.1)) ends.items) }
-    ensures manned { (class : Class) → Manned Asks (seat_at pair.entry class) (seat_at result.1 class) }
+    ensures manned { (class : Class) →
+        Manned Asks (seat_at pair.entry class) (seat_at result.1 class) }
 {
     know(session.world);
     let _ = session.script.queries();

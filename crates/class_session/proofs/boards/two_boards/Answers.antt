@@ -23,8 +23,8 @@ board_over-requires g c =
           (sound_plans s.world.now.plan s.world.now.rows (query_lines s.script.now) c.args.plans.now c.requires.plans) (search rules);
     }
 
-pub board_over-2-requires : goal.board_over-2-requires
-board_over-2-requires g c =
+pub board_over-requires-2 : goal.board_over-requires-2
+board_over-requires-2 g c =
     let s = c.args.session.now in
     let few : length c.args.plans.now ≤ QUERY_MOST =
     omega (arith, a_plan_each s.world.now.plan s.world.now.rows s.script.now c.args.plans.now c.requires.plans, c.queries.ensures.count, c.queries.ensures.few) in

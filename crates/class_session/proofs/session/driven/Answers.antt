@@ -16,10 +16,10 @@ parts-requires g c =
     }
 
 pub driven_at-requires-clause-classes : goal.driven_at-requires-clause-classes
-driven_at-requires-clause-classes g c = c.new-boards.ensures.classes ∙ c.in-Ok.ensures.classes
+driven_at-requires-clause-classes g c = λ κs within. c.new-boards.ensures.classes ∙ c.in-Ok.ensures.classes
 
 pub driven_at-requires-clause-first : goal.driven_at-requires-clause-first
-driven_at-requires-clause-first g c =
+driven_at-requires-clause-first g c = λ κs within.
     let w = c.args.session.now.world.now in
     subst (λ (turns : ClassTurns). IsFirstPair w.plan w.rows c.args.plans.now turns c.args.pair) (sym c.new-boards.ensures.turns) c.requires.first
 

@@ -34,7 +34,7 @@ pub drive-requires-clause-first : goal.drive-requires-clause-first
 drive-requires-clause-first g c = λ κs lives p.
     let w = c.args.session.now.world.now in
     let first = first_at w.plan w.rows c.args.plans.now c.args.boards.now.turns c.args.pair c.requires.first p in
-    (ap (λ s. s.number) first, (ap (λ s. s.seen) first, (ap (λ s. s.mine) first, ap (λ s. s.made) first)))
+    (ap (λ s. s.number) first, ap (λ s. s.seen) first, ap (λ s. s.mine) first, ap (λ s. s.made) first)
 
 pub drive-requires-clause-ring : goal.drive-requires-clause-ring
 drive-requires-clause-ring g c = λ κs lives p.
