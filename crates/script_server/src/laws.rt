@@ -5,7 +5,6 @@ ghost use Rattle.script_server.specs.Laws.{AnswersEndAtPlus, EachReplyIsFound, R
 /// Each answer ends at its one line that begins with `+`: to a script that is accepted, and to one with a fault. So does
 /// each reply. So a client that reads lines up to such a line has exactly one reply, and it finds the reply to each
 /// request, one after another.
-#[tactic(auto, using(crate::proofs::AtPlus::answers_end_at_plus, crate::proofs::AtPlus::replies_end_at_plus, crate::proofs::AtPlus::each_reply_is_found))]
 pub fn replies_end_at_plus()
     ensures answers { AnswersEndAtPlus }
     ensures replies { RepliesEndAtPlus }
