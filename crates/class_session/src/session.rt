@@ -1,4 +1,4 @@
-//! The session of a script over two boards: its short queries do not wait for the chunks of long ones.
+//! The session of a script over two boards: a take asks the board of the short queries first.
 ghost use Rattle.std.specs.Prelude.{◌≡◌, ◌≤◌, IfOk, length, map};
 ghost use Rattle.answer_rules.specs.Bases.{Asks};
 ghost use Rattle.scan_rules.specs.declared.limits.TheConstants.{QUERY_MOST};

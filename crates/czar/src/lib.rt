@@ -6,7 +6,8 @@
 //! `IsTraceOf` (`specs/Traces.antt`). Below: `sql_reader` and `sql_bind` for the meaning of a query, `area_analyser`
 //! over an `object_index` for its chunks, `chunk_rewriter` for its two parts, `scan_session` for the session over a
 //! shared board, `chunk_scan` and `near_join` for a chunk's work, `partial_merge` for the merge, and `answer_text` for
-//! its text. No file: texts are slices that the caller holds. Threads come from the caller.
+//! its text. `World` is a store with the index of its ids. The parts of a session are public for `class_session`. No
+//! file: texts are slices that the caller holds. Threads come from the caller.
 #![tactic(auto)]
 
 pub mod attach;

@@ -37,8 +37,7 @@ pub fn report<K: Sink>(alloc: Global, store: Store, sink: &mut K) -> Outcome
     outcome
 }
 
-/// Executes the task on a script, which is read, over a store. Allocates memory for the index of the store's ids too,
-/// and waits.
+/// Reads a script and executes the task on it, over a store and the index of its ids. Allocates memory, and waits.
 pub fn do_task<R: Threads + Wait + Sync, K: Sink, G: Gate + Sync>(
     alloc: Global,
     rt: &R,
@@ -160,8 +159,8 @@ fn write_report<K: Sink>(alloc: Global, store: &Store, sink: &mut K) -> Outcome
     }
 }
 
-// Writes the transcript of a script whose session returned these ends, if it did, and sends it. What is written is the
-// transcript for any number of workers with which they may end so.
+// Writes the transcript of a script with the ends that its session returned, and sends it; without ends an allocation
+// failed. What is written is the transcript for any number of workers with which they may end so.
 fn write_ends<K: Sink>(
     alloc: Global,
     world: &World<'_>,
