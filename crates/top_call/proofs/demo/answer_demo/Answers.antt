@@ -5,6 +5,7 @@ use Rattle.top_call.proofs.demo.answer_demo.Goals as goal
 
 pub do_task-requires-clause-short : goal.do_task-requires-clause-short
 do_task-requires-clause-short g c =
+    λ κs outlives.
     subst (λ t. length t ≤ SCRIPT_TEXT_MOST) (sym c.demo_script.ensures) c.demo_script_is_accepted.ensures.short
 
 pub returns : goal.returns
