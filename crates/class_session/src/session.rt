@@ -1,5 +1,5 @@
 //! The session of a script over two boards: a take asks the board of the short queries first.
-ghost use Rattle.std.specs.Prelude.{◌≡◌, ◌≤◌, IfOk, length, map};
+ghost use Rattle.std.specs.Prelude.{◌≡◌, ◌+◌, ◌≤◌, IfOk, length, map};
 ghost use Rattle.answer_rules.specs.Bases.{Asks};
 ghost use Rattle.scan_rules.specs.declared.limits.TheConstants.{QUERY_MOST};
 ghost use Rattle.session_rules.specs.declared.limits.TheConstants.{WORKERS_MOST};
@@ -83,6 +83,8 @@ pub fn drive_classes<'s, R: Threads + Wait + Sync, G: Gate + Sync>(
         (of_class class (chunks_planned plans.items)) session.now.script.now.steps
         (seat_at result.1 class).seen) }
     ensures classes { EachIsOfItsClass result.1 }
+    ensures made { IfOk result.0 (λ ends. (class : Class) →
+        (seat_at result.1 class).made ≡ 1 + session.now.workers) }
     ensures manned { (class : Class) →
         Manned Asks (seat_at pair.entry class) (seat_at result.1 class) }
     ensures states { IfOk result.0 (λ ends. AreEndsIn
@@ -123,6 +125,8 @@ fn driven<'s, R: Threads + Wait + Sync, G: Gate + Sync>(
         session.now.world.now.plan session.now.world.now.rows session.now.script.now.steps
         plans.now (λ q. of_class (class_at (chunks_planned plans.now) q) (chunks_planned plans.now))
         (seen_of (class_at (chunks_planned plans.now)) (seat_at result.1)) ends.items) }
+    ensures made { IfOk result.0 (λ ends. (class : Class) →
+        (seat_at result.1 class).made ≡ 1 + session.now.workers) }
     ensures manned { (class : Class) →
         Manned Asks (seat_at pair.entry class) (seat_at result.1 class) }
 {
@@ -182,6 +186,8 @@ fn driven_at<'s, R: Threads + Wait + Sync, G: Gate + Sync>(
         session.now.world.now.plan session.now.world.now.rows session.now.script.now.steps
         plans.now (λ q. of_class (class_at (chunks_planned plans.now) q) (chunks_planned plans.now))
         (seen_of (class_at (chunks_planned plans.now)) (seat_at result.1)) ends.items) }
+    ensures made { IfOk result.0 (λ ends. (class : Class) →
+        (seat_at result.1 class).made ≡ 1 + session.now.workers) }
     ensures manned { (class : Class) →
         Manned Asks (seat_at pair.entry class) (seat_at result.1 class) }
 {

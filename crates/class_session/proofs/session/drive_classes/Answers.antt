@@ -44,3 +44,6 @@ returns-in-Ok-clause-states g c =
     let is : c.as_slice.result.now ≡ c.args.plans.items = search rules in
     subst (λ (ps : List Plan). IfOk c.query_ends.result (λ v. AreEndsIn (seen_of (class_at (chunks_planned ps)) (seat_at c.driven-ends.result.1)) (map kind_of v.items)))
     is (ends_in_states (of_value _ c.in-Ok.is c.driven-ends.ensures.driven) (λ v. v.items) c.query_ends.result (search rules) (search rules) c.query_ends.ensures.ended)
+
+pub returns-in-Ok-clause-made : goal.returns-in-Ok-clause-made
+returns-in-Ok-clause-made g c = if_ok c.query_ends.result (of_value _ c.in-Ok.is c.driven-ends.ensures.made)

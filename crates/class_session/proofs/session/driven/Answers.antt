@@ -39,3 +39,6 @@ returns-in-Err-clause-manned g c =
     let new = c.close.result in
     closed_manned w.plan w.rows c.args.plans.now c.args.classes.now old c.requires.first new
     (by_class (λ p. Called Asks (AnswersClose (seat_at old p).number) (seat_at old p) (seat_at new p)) c.close.ensures.short c.close.ensures.long)
+
+pub returns-in-Ok-clause-made : goal.returns-in-Ok-clause-made
+returns-in-Ok-clause-made g c = c.driven_at.ensures.made

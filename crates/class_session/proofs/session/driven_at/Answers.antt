@@ -96,3 +96,6 @@ returns-clause-driven g c =
     (λ class q. same_class class (class_in boards q)) (class_in boards) (seat_at c.args.pair) new c.drive.result.0
     c.steps.ensures.steps c.requires.planned (λ p. ap (λ s. s.root) (first_at w.plan w.rows c.args.plans.now boards.turns c.args.pair c.requires.first p))
     (housed boards) c.drive.ensures.manned c.drive.ensures.drove c.drive.ensures.len c.drive.ensures.ends)
+
+pub returns-clause-made : goal.returns-clause-made
+returns-clause-made g c = c.drive.ensures.made
