@@ -10,7 +10,6 @@ use Rattle.scan_board.specs.Calls.{BoardSeat}
 use Rattle.scan_session.specs.Drove.{Drove}
 use Rattle.scan_session.specs.KnownEnds.{at_query}
 use Rattle.scan_session.specs.Places.{AllSuit, only, seen_of}
-use Rattle.scan_session.specs.Plans.{Plans}
 use Rattle.scan_session.specs.declared.end.End.{End as BoardEnd}
 use Rattle.scan_session.specs.declared.end.Planned.{Planned as Attachable}
 use Rattle.scan_classes.specs.declared.class.Class.{Class}

@@ -1,4 +1,4 @@
-use Rattle.std.proofs.Common.{◌≡◌, ◌∙◌, sym, subst, arith}
+use Rattle.std.proofs.Common.{◌∙◌, sym, subst, arith}
 use Rattle.answer_rules.specs.Bases.{Asks}
 use Rattle.scan_board.specs.Calls.{AnswersClose, Called}
 use Rattle.scan_classes.specs.Pairs.{ClassTurns, seat_at}

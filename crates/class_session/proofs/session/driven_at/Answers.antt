@@ -1,4 +1,4 @@
-use Rattle.std.proofs.Common.{◌≡◌, ◌∙◌, sym, ap, subst, ℕ, ◌≤◌, arith, length, vec_len}
+use Rattle.std.proofs.Common.{◌∙◌, sym, ap, subst, ℕ, ◌≤◌, arith, length}
 use Rattle.std.proofs.lemmas.List.{length-map}
 use Rattle.scan_rules.specs.declared.limits.TheConstants.{QUERY_MOST, RING_MOST}
 use Rattle.session_script.specs.Scripts.{query_count}
