@@ -268,6 +268,8 @@ SCRIPTS = [
     ("0", "q\n" * 255, "".join(f"query {number}\nrefused: not a query\n" for number in range(1, 256))),
     # a cancel after a wait for its query is too late
     ("0 4", THREE + "wait 2\ncancel 2\nwait 2\n", COUNTED),
+    # one more query than can run at once
+    ("0 4", COUNT * 65, "".join(f"query {number}\nCOUNT(*)\n6\n1 rows, 3 chunks\n" for number in range(1, 66))),
 ]
 STEPS = [
     done([*words, workers], *outs, script=text)
