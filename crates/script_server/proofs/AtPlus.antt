@@ -5,7 +5,6 @@ use Rattle.sky_io.specs.Shelves.{named_text}
 use Rattle.session_script.specs.Scripts.{script_of}
 use Rattle.session_script.specs.declared.fault.ScriptFault.{ScriptFault}
 use Rattle.session_script.specs.declared.fault.ScriptFault.TheVariants.{UnknownQuery, LineTooLong, TooManyQueries}
-use Rattle.request_loop.specs.Replies.{IsReply}
 use Rattle.reply_rules.specs.Lines.{EndsAtPlus}
 use Rattle.reply_rules.specs.Laws.{IsNamed}
 use Rattle.reply_rules.proofs.Bytes.{decimal_high, flat, flat_both, high_flat}
