@@ -77,8 +77,8 @@ fn empty_lists(alloc: Global, count: u32) -> Result<Vec<Vec<u32>>, Memory>
 }
 
 impl Lists {
-    /// Creates the given number of empty lists, at most 16,384.
-    pub(crate) fn empty(alloc: Global, count: u32) -> Result<Lists, Memory>
+    /// Creates the given number of empty lists, at most 16,384. Allocates memory for them.
+    pub fn empty(alloc: Global, count: u32) -> Result<Lists, Memory>
         requires { count ≤ CHUNKS_MOST }
         ensures { IfOk result (λ lists. lists ≡ replicate count []) }
     {
@@ -102,8 +102,8 @@ impl Lists {
         self.lists[chunk as usize].as_slice()
     }
 
-    /// Appends the row number to a chunk's list.
-    pub(crate) fn push(&mut self, chunk: u32, place: u32) -> Result<(), Memory>
+    /// Appends the row number to the list of a chunk.
+    pub fn push(&mut self, chunk: u32, place: u32) -> Result<(), Memory>
         requires { chunk < length self.old }
         ensures { OnOk result (Pushed (chunk ∷ []) place self.old self.new) }
     {

@@ -21,45 +21,42 @@ pub fn keep_near(xs: &[i32], ys: &[i32], zs: &[i32], centre: &Pos, n: u64, mask:
     ensures each { IsKeptBy (λ k. is_near (point centre.now) (pos n)
         (get_or xs.now k (pos 0)) (get_or ys.now k (pos 0)) (get_or zs.now k (pos 0))) mask.old mask.new }
 {
-    keep_in(
-        xs,
-        ys,
-        zs,
-        narrow(centre.x),
-        narrow(centre.y),
-        narrow(centre.z),
-        limit_of(n),
-        mask,
-    );
+    let cap = Cap {
+        a: narrow(centre.x),
+        b: narrow(centre.y),
+        c: narrow(centre.z),
+        limit: limit_of(n),
+    };
+    keep_in(xs, ys, zs, cap, mask);
 }
 
-/// Clears the mask at each row whose squared chord to the point (a, b, c) is above the limit.
-#[inline(always)]
-fn keep_in(
-    xs: &[i32],
-    ys: &[i32],
-    zs: &[i32],
+/// A cap: the components of its centre, and the largest squared chord of a position in it to the centre.
+#[derive(Clone, Copy)]
+struct Cap {
     a: i32,
     b: i32,
     c: i32,
     limit: i64,
-    mask: &mut [bool],
-)
+}
+
+/// Clears the mask at each row whose position is outside of the cap.
+#[inline(always)]
+fn keep_in(xs: &[i32], ys: &[i32], zs: &[i32], cap: Cap, mask: &mut [bool])
     requires of_x { length xs.now ≡ length mask.old }
     requires of_y { length ys.now ≡ length mask.old }
     requires of_z { length zs.now ≡ length mask.old }
     requires x { All IsWithin xs.now }
     requires y { All IsWithin ys.now }
     requires z { All IsWithin zs.now }
-    requires a { IsWithin a }
-    requires b { IsWithin b }
-    requires c { IsWithin c }
+    requires a { IsWithin cap.a }
+    requires b { IsWithin cap.b }
+    requires c { IsWithin cap.c }
     ensures len { length mask.new ≡ length mask.old }
-    ensures each { IsKeptBy (λ k. is_near (record { x = a; y = b; z = c }) limit
+    ensures each { IsKeptBy (λ k. is_near (record { x = cap.a; y = cap.b; z = cap.c }) cap.limit
         (get_or xs.now k (pos 0)) (get_or ys.now k (pos 0)) (get_or zs.now k (pos 0))) mask.old mask.new }
 {
     for i in 0..xs.len() {
-        mask[i] = mask[i] & is_in(xs[i], ys[i], zs[i], a, b, c, limit);
+        mask[i] = mask[i] & is_in(xs[i], ys[i], zs[i], cap);
     }
 }
 
@@ -84,19 +81,19 @@ fn narrow(part: i64) -> i32
     part as i32
 }
 
-/// Returns whether the squared chord from a position to the point (a, b, c) is at most the limit.
+/// Returns whether a position is in the cap.
 #[inline(always)]
 #[tactic(auto, unfolding(crate::specs::Tests::is_near))]
-fn is_in(x: i32, y: i32, z: i32, a: i32, b: i32, c: i32, limit: i64) -> bool
+fn is_in(x: i32, y: i32, z: i32, cap: Cap) -> bool
     requires x { IsWithin x }
     requires y { IsWithin y }
     requires z { IsWithin z }
-    requires a { IsWithin a }
-    requires b { IsWithin b }
-    requires c { IsWithin c }
-    ensures { result ≡ is_near (record { x = a; y = b; z = c }) limit x y z }
+    requires a { IsWithin cap.a }
+    requires b { IsWithin cap.b }
+    requires c { IsWithin cap.c }
+    ensures { result ≡ is_near (record { x = cap.a; y = cap.b; z = cap.c }) cap.limit x y z }
 {
-    chord(x, y, z, a, b, c) <= limit
+    chord(x, y, z, cap.a, cap.b, cap.c) <= cap.limit
 }
 
 /// Returns the squared chord between two positions.

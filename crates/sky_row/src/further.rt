@@ -28,8 +28,8 @@ pub(crate) fn cells_at(columns: &[Column], i: usize) -> Cells
     cells
 }
 
-/// Returns the columns of the rows with these numbers.
-pub(crate) fn columns_at(
+/// Returns the columns of the rows with these numbers, which are counted from 0, in their order. Allocates memory for them.
+pub fn columns_at(
     alloc: Global,
     columns: &[Column],
     places: &[u32],
@@ -89,9 +89,9 @@ pub(crate) fn fill_columns(
     Ok(())
 }
 
-/// Creates `width` columns without rows, each with room for `room` rows.
+/// Creates `width` columns without rows, each with room for `room` rows. Allocates memory for them.
 #[tactic(auto, using(crate::proofs::Gathering::replicate_more))]
-pub(crate) fn empty_columns(alloc: Global, width: u32, room: usize) -> Result<Vec<Column>, Memory>
+pub fn empty_columns(alloc: Global, width: u32, room: usize) -> Result<Vec<Column>, Memory>
     ensures { IfOk result (λ columns. columns.items ≡ replicate width []) }
 {
     let mut columns = Vec::new(alloc);

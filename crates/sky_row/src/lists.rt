@@ -146,17 +146,7 @@ impl Lists {
         if threads < 2 {
             return self.at(alloc, places);
         }
-        let found = gather_all(
-            rt,
-            alloc,
-            threads,
-            self.ids.as_slice(),
-            self.xs.as_slice(),
-            self.ys.as_slice(),
-            self.zs.as_slice(),
-            self.further.as_slice(),
-            places,
-        )?;
+        let found = gather_all(rt, alloc, threads, self, places)?;
         let ((ids, xs, ys, zs), further) = found;
         Ok(Lists {
             ids,
@@ -235,6 +225,13 @@ impl Lists {
         ensures { result.now ≡ self.now.zs }
     {
         self.zs.as_slice()
+    }
+
+    /// Returns the extra columns. Does not allocate.
+    pub(crate) fn extra(&self) -> &[Column]
+        ensures { result.now ≡ self.now.further }
+    {
+        self.further.as_slice()
     }
 
     /// Returns the extra column with this index, from 0. Does not allocate.

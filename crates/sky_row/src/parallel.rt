@@ -5,6 +5,7 @@ ghost use Rattle.sky_row.specs.Columns.{IsGathered};
 
 use crate::column::Column;
 use crate::further::columns_at;
+use crate::lists::Lists;
 use crate::places::gather;
 use sky_io::Memory;
 use std::alloc::Global;
@@ -42,21 +43,20 @@ fn firsts_by<R: Threads + Sync>(
     rt: &R,
     alloc: Global,
     threads: u32,
-    ids: &[i64],
-    xs: &[i32],
-    ys: &[i32],
-    zs: &[i32],
+    lists: &Lists,
     places: &[u32],
 ) -> Result<(Vec<i64>, Vec<i32>, Vec<i32>, Vec<i32>), Memory>
-    requires ids { All (λ place. place < length ids.now) places.now }
-    requires xs { All (λ place. place < length xs.now) places.now }
-    requires ys { All (λ place. place < length ys.now) places.now }
-    requires zs { All (λ place. place < length zs.now) places.now }
-    ensures ids { IfOk result (λ found. IsGathered ids.now places.now found.0.items) }
-    ensures xs { IfOk result (λ found. IsGathered xs.now places.now found.1.items) }
-    ensures ys { IfOk result (λ found. IsGathered ys.now places.now found.2.items) }
-    ensures zs { IfOk result (λ found. IsGathered zs.now places.now found.3.items) }
+    requires ids { All (λ place. place < length lists.now.ids) places.now }
+    requires xs { All (λ place. place < length lists.now.xs) places.now }
+    requires ys { All (λ place. place < length lists.now.ys) places.now }
+    requires zs { All (λ place. place < length lists.now.zs) places.now }
+    ensures ids { IfOk result (λ found. IsGathered lists.now.ids places.now found.0.items) }
+    ensures xs { IfOk result (λ found. IsGathered lists.now.xs places.now found.1.items) }
+    ensures ys { IfOk result (λ found. IsGathered lists.now.ys places.now found.2.items) }
+    ensures zs { IfOk result (λ found. IsGathered lists.now.zs places.now found.3.items) }
 {
+    let (ids, xs) = (lists.ids(), lists.xs());
+    let (ys, zs) = (lists.ys(), lists.zs());
     if threads < 2 {
         let (ids, xs) = two_at(alloc, ids, xs, places)?;
         let (ys, zs) = two_at(alloc, ys, zs, places)?;
@@ -155,38 +155,35 @@ pub(crate) fn gather_all<R: Threads + Sync>(
     rt: &R,
     alloc: Global,
     threads: u32,
-    ids: &[i64],
-    xs: &[i32],
-    ys: &[i32],
-    zs: &[i32],
-    further: &[Column],
+    lists: &Lists,
     places: &[u32],
 ) -> Result<((Vec<i64>, Vec<i32>, Vec<i32>, Vec<i32>), Vec<Column>), Memory>
-    requires ids { All (λ place. place < length ids.now) places.now }
-    requires xs { All (λ place. place < length xs.now) places.now }
-    requires ys { All (λ place. place < length ys.now) places.now }
-    requires zs { All (λ place. place < length zs.now) places.now }
-    requires further { All (λ column. All (λ place. place < length column) places.now) further.now }
-    ensures ids { IfOk result (λ found. IsGathered ids.now places.now found.0.0.items) }
-    ensures xs { IfOk result (λ found. IsGathered xs.now places.now found.0.1.items) }
-    ensures ys { IfOk result (λ found. IsGathered ys.now places.now found.0.2.items) }
-    ensures zs { IfOk result (λ found. IsGathered zs.now places.now found.0.3.items) }
+    requires ids { All (λ place. place < length lists.now.ids) places.now }
+    requires xs { All (λ place. place < length lists.now.xs) places.now }
+    requires ys { All (λ place. place < length lists.now.ys) places.now }
+    requires zs { All (λ place. place < length lists.now.zs) places.now }
+    requires further { All (λ column. All (λ place. place < length column) places.now) lists.now.further }
+    ensures ids { IfOk result (λ found. IsGathered lists.now.ids places.now found.0.0.items) }
+    ensures xs { IfOk result (λ found. IsGathered lists.now.xs places.now found.0.1.items) }
+    ensures ys { IfOk result (λ found. IsGathered lists.now.ys places.now found.0.2.items) }
+    ensures zs { IfOk result (λ found. IsGathered lists.now.zs places.now found.0.3.items) }
     ensures further { IfOk result (λ found. found.1.items
-        ≡ map (λ column. map (λ place. get_or column place None) places.now) further.now) }
+        ≡ map (λ column. map (λ place. get_or column place None) places.now) lists.now.further) }
 {
+    let further = lists.extra();
     let (low, high) = shares(threads, further.len());
     let (first, second) = join(
         rt,
         || -> Result<(Vec<i64>, Vec<i32>, Vec<i32>, Vec<i32>), Memory>
-            requires { IsSync R.row × All (λ place. place < length ids.now) places.now
-                × All (λ place. place < length xs.now) places.now
-                × All (λ place. place < length ys.now) places.now
-                × All (λ place. place < length zs.now) places.now }
-            ensures { IfOk result (λ found. IsGathered ids.entry.now places.entry.now found.0.items
-                × IsGathered xs.entry.now places.entry.now found.1.items
-                × IsGathered ys.entry.now places.entry.now found.2.items
-                × IsGathered zs.entry.now places.entry.now found.3.items) }
-        { firsts_by(rt, alloc, low, ids, xs, ys, zs, places) },
+            requires { IsSync R.row × All (λ place. place < length lists.now.ids) places.now
+                × All (λ place. place < length lists.now.xs) places.now
+                × All (λ place. place < length lists.now.ys) places.now
+                × All (λ place. place < length lists.now.zs) places.now }
+            ensures { IfOk result (λ found. IsGathered lists.entry.now.ids places.entry.now found.0.items
+                × IsGathered lists.entry.now.xs places.entry.now found.1.items
+                × IsGathered lists.entry.now.ys places.entry.now found.2.items
+                × IsGathered lists.entry.now.zs places.entry.now found.3.items) }
+        { firsts_by(rt, alloc, low, lists, places) },
         || -> Result<Vec<Column>, Memory>
             requires { IsSync R.row
                 × All (λ column. All (λ place. place < length column) places.now) further.now }
