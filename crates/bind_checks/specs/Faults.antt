@@ -13,12 +13,12 @@ unfoldable pub from_widths : Known → (Col → ℕ) → Query → Option BindFa
 from_widths known size q = option_or (too_wide_by size q) (order_by known q)
 
 -- the first fault from the area tests on
-unfoldable pub from_areas : Known → (Col → ℕ) → Query → Option BindFault
-from_areas known size q = option_or (area_form q) (from_widths known size q)
+unfoldable pub fault_after_join : Known → (Col → ℕ) → Query → Option BindFault
+fault_after_join known size q = option_or (area_form q) (from_widths known size q)
 
 -- the first fault from the join form on
 unfoldable pub from_join : Known → (Col → ℕ) → Query → Option BindFault
-from_join known size q = option_or (join_form q) (from_areas known size q)
+from_join known size q = option_or (join_form q) (fault_after_join known size q)
 
 -- the first fault from the grouping on
 unfoldable pub from_grouping : Known → (Col → ℕ) → Query → Option BindFault

@@ -1,7 +1,7 @@
 //! The six checks of a query in their order. Each function makes one check, and those after it.
 ghost use Rattle.std.specs.Prelude.{◌≡◌};
 ghost use Rattle.bind_rules.specs.Checks.{fault_by, order_by};
-ghost use Rattle.bind_checks.specs.Faults.{from_areas, from_grouping, from_join, from_widths};
+ghost use Rattle.bind_checks.specs.Faults.{fault_after_join, from_grouping, from_join, from_widths};
 
 use crate::area_forms::first_bad_area;
 use crate::columns::Columns;
@@ -36,9 +36,9 @@ fn from_widths<C: Columns>(query: &Query, columns: &C) -> Option<BindFault>
 }
 
 /// Returns the first fault of the area tests, the widths and the order key. Does not allocate.
-#[tactic(auto, unfolding(crate::specs::Faults::from_areas))]
-pub fn from_areas<C: Columns>(query: &Query, columns: &C) -> Option<BindFault>
-    ensures { result ≡ from_areas (C.known columns.now) (C.size columns.now) query.now }
+#[tactic(auto, unfolding(crate::specs::Faults::fault_after_join))]
+pub fn fault_after_join<C: Columns>(query: &Query, columns: &C) -> Option<BindFault>
+    ensures { result ≡ fault_after_join (C.known columns.now) (C.size columns.now) query.now }
 {
     match first_bad_area(query) {
         Some(span) => Some(BindFault::AreaForm { span }),
@@ -52,7 +52,7 @@ fn from_join<C: Columns>(query: &Query, columns: &C) -> Option<BindFault>
     ensures { result ≡ from_join (C.known columns.now) (C.size columns.now) query.now }
 {
     if has_join_form(query) {
-        from_areas(query, columns)
+        fault_after_join(query, columns)
     } else {
         Some(BindFault::JoinForm)
     }
@@ -70,7 +70,7 @@ fn from_grouping<C: Columns>(query: &Query, columns: &C) -> Option<BindFault>
 }
 
 /// Returns the first fault of a query, given what its names refer to. Does not allocate.
-#[tactic(auto, unfolding(bind_rules::specs::Checks::fault_by, crate::specs::Faults::from_grouping, crate::specs::Faults::from_join, crate::specs::Faults::from_areas, crate::specs::Faults::from_widths))]
+#[tactic(auto, unfolding(bind_rules::specs::Checks::fault_by, crate::specs::Faults::from_grouping, crate::specs::Faults::from_join, crate::specs::Faults::fault_after_join, crate::specs::Faults::from_widths))]
 pub fn first_fault<C: Columns>(query: &Query, columns: &C) -> Option<BindFault>
     ensures { result ≡
         fault_by (C.known columns.now) (C.size columns.now) query.now }

@@ -15,7 +15,7 @@ pub trait Columns {
     /// The columns, table names and qualifiers that the query may name.
     ghost known: { Self → Known };
 
-    /// The largest size of a value of a column; 0 if it is unknown.
+    /// The largest size of a value of a column; of an unknown one it is any number.
     ghost size: { Self → Col → ℕ };
 
     /// The column that a written one refers to; for an unknown one it is any column.
@@ -33,7 +33,7 @@ pub trait Columns {
     fn is_qualifier(&self, text: &[u8]) -> bool
         ensures { result ≡ (known self.now).qualifier text.now };
 
-    /// Returns the largest size of a value of the column, and 0 for an unknown column.
+    /// Returns the largest size of a value of the column; of an unknown one, any number.
     fn size(&self, col: &Col) -> u128
         ensures { result ≡ size self.now col.now };
 

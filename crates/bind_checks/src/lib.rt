@@ -28,7 +28,7 @@ mod unknown;
 mod widths;
 
 pub use arguments::{area_test, int_value};
-pub use checks::{first_fault, from_areas};
+pub use checks::{fault_after_join, first_fault};
 pub use column_search::ColumnTest;
 pub use columns::{Columns, is_join, is_qualifier, qualifier};
 pub use forms::has_no_chord;

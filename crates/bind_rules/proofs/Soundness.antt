@@ -42,7 +42,7 @@ use Rattle.bind_rules.proofs.Exprs.{IsThere}
 use Rattle.bind_rules.proofs.Found.{tops_found}
 use Rattle.bind_rules.proofs.Faultless.{Faultless, scope_of, binds, good_areas, IsTopArea}
 use Rattle.bind_rules.proofs.Places.{count, has_there, key_there}
-use Rattle.table_rules.proofs.Accepted.{accepted_is_catalogue}
+use Rattle.table_rules.proofs.Catalogues.{accepted_is_catalogue}
 use Rattle.table_rules.specs.Objects.{Obj, IsRow}
 use Rattle.value_rules.specs.Ranges.{IsInRange}
 use Rattle.value_rules.specs.Values.{Pick, row, pair}

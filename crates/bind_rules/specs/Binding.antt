@@ -1,5 +1,5 @@
--- The binding of a query: the bound query, or its first fault. Items and orders are bound whatever their columns mean; a
--- star, groups and the whole query are over the object table.
+-- The binding of a query: the bound query, or its first fault. Items, groups, orders and the whole query are bound
+-- whatever their columns mean; only a star is the object table's alone.
 use Rattle.std.specs.Prelude.{ℕ, ◌+◌, ℤ, pos, ◌-ℤ◌, Bool, true, false, if◌then◌else◌, List, [], ◌∷◌, ◌++◌, map}
 use Rattle.std.specs.Prelude.{Option, None, Some, Result, Ok, Err}
 use Rattle.std.specs.List.{flat_map}

@@ -11,19 +11,15 @@ use Rattle.std.proofs.lemmas.Option.{none-some}
 use Rattle.std.proofs.lemmas.List.Elements.{All-append}
 use Rattle.std.proofs.lemmas.List.{length-append, length-map, map-append}
 use Rattle.text_rules.specs.Numbers.{int_of}
-use Rattle.table_rules.specs.Objects.{Obj, Catalogue}
+use Rattle.table_rules.specs.Objects.{Catalogue, IsTable, Obj}
 use Rattle.table_rules.specs.declared.fault.LoadFault.{LoadFault}
 use Rattle.table_rules.specs.declared.fault.LoadFault.TheVariants as fault
-use Rattle.table_rules.specs.Records.{field_in, row_of, unless}
-use Rattle.record_rules.specs.Objects.{catalogue_with, object_form}
-use Rattle.record_rules.specs.Records.{faults_by_itself, faults_of_field, faults_of_number, in_range, null_in, table_of}
-use Rattle.record_rules.specs.Repeats.{IsRepeat}
-use Rattle.record_rules.proofs.Objects.{objects_are_a_form}
+use Rattle.table_rules.specs.Records.{catalogue_with, faults_by_itself, faults_of_field, faults_of_number, field_in, in_range, null_in, object_form, row_of, table_of, unless}
+use Rattle.table_rules.specs.Repeats.{IsRepeat}
 use Rattle.table_rules.specs.declared.limits.TheConstants.{ROWS_MOST}
 use Rattle.table_rules.proofs.Faults.{none_of_both}
 use Rattle.csv.specs.Reading.{default_config, records, strip_bom}
 use Rattle.record_parts.proofs.Apart.{first_lines_stand_apart, lines_stand_apart}
-use Rattle.table_rules.specs.Objects.{IsTable}
 use Rattle.catalogue_load.specs.Catalogue.{catalogue_of}
 use Rattle.catalogue_load.specs.Parts.{ids_in}
 use Rattle.catalogue_load.specs.InParts.{AreParts, IsReadUnder, IsReadWhole}
@@ -190,18 +186,16 @@ one_record a b first second all true false e1 e2 took next = took.split ∙ ap (
 -- no id repeats
 pub whole_read : (text : List ℕ) (c made : Catalogue) → IsReadWhole c text → made.names ≡ c.names → IsTable c.objects made.objects → catalogue_of text ≡ Ok made
 whole_read text c made is named table =
-    objects_are_a_form (records default_config (strip_bom text))
-    ∙ (ap (table_of object_form catalogue_with) is.split
+    ap (table_of object_form catalogue_with) is.split
     ∙ under_header object_form catalogue_with is.header c.names is.rest (Ok made) is.right is.four is.names
-    (read_ok object_form catalogue_with (λ k. k.names) (λ k. k.objects) (λ k. refl) _ c.names is.rest c.objects made is.read named (table_in_order c.objects made.objects table)))
+    (read_ok object_form catalogue_with (λ k. k.names) (λ k. k.objects) (λ k. refl) _ c.names is.rest c.objects made is.read named (table_in_order c.objects made.objects table))
 
 -- an id repeats
 pub whole_again : (text : List ℕ) (c : Catalogue) (f : LoadFault) → IsReadWhole c text → IsRepeat (ids_in c.objects) f → catalogue_of text ≡ Err f
 whole_again text c f is again =
-    objects_are_a_form (records default_config (strip_bom text))
-    ∙ (ap (table_of object_form catalogue_with) is.split
+    ap (table_of object_form catalogue_with) is.split
     ∙ under_header object_form catalogue_with is.header c.names is.rest (Err f) is.right is.four is.names
-    (read_again object_form catalogue_with _ c.names is.rest c.objects None f is.read again))
+    (read_again object_form catalogue_with _ c.names is.rest c.objects None f is.read again)
 
 -- the answer is the catalogue or its first fault
 pub whole_ok : (r : Result Catalogue (Stop LoadFault)) (text : List ℕ) (c : Catalogue) → IsReadWhole c text → IfOk r (λ all. all.names ≡ c.names)

@@ -2,8 +2,7 @@
 use Rattle.std.specs.Prelude.{◌≡◌, ◌≢◌, ℕ, ◌+◌, ◌-◌, ◌≤◌, List, [], ◌∷◌, ◌++◌, length, drop, get_or, All, None}
 use Rattle.csv.specs.Reading.{default_config, records, strip_bom}
 use Rattle.table_rules.specs.Objects.{Catalogue}
-use Rattle.record_rules.specs.Objects.{object_form}
-use Rattle.record_rules.specs.Records.{faults_of_header}
+use Rattle.table_rules.specs.Records.{faults_of_header, object_form}
 use Rattle.table_rules.specs.declared.limits.TheConstants.{FIRST_COLUMNS}
 use Rattle.record_text.specs.Judged.{Read}
 

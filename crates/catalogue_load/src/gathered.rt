@@ -3,9 +3,8 @@ ghost use Rattle.std.specs.Prelude.{◌≡◌, ◌+◌, ◌≤◌, ◌<◌, ◌^
 ghost use Rattle.csv.specs.Records.{fields_of};
 ghost use Rattle.sky_io.specs.Stops.{IfBad};
 ghost use Rattle.table_rules.specs.Objects.{IsTable};
-ghost use Rattle.table_rules.specs.Records.{row_of};
-ghost use Rattle.record_rules.specs.Objects.{object_form};
-ghost use Rattle.record_rules.specs.Repeats.{IsFirstFault, IsRepeat};
+ghost use Rattle.table_rules.specs.Records.{object_form, row_of};
+ghost use Rattle.table_rules.specs.Repeats.{IsFirstFault, IsRepeat};
 ghost use Rattle.record_text.specs.Faults.{first_of};
 ghost use Rattle.record_text.specs.Judged.{faults_alone};
 ghost use Rattle.catalogue_load.specs.Parts.{ids_in};

@@ -12,7 +12,7 @@ ghost use Rattle.csv.specs.Records.{fields_of};
 ghost use Rattle.sky_io.specs.Stops.{IfBad};
 ghost use Rattle.catalogue_load.specs.Catalogue.{catalogue_of};
 ghost use Rattle.catalogue_load.specs.InParts.{AreParts, IsReadUnder, IsReadWhole};
-ghost use Rattle.record_rules.specs.Objects.{object_form};
+ghost use Rattle.table_rules.specs.Records.{object_form};
 ghost use Rattle.record_text.specs.Judged.{Read};
 ghost use Rattle.text_rules.specs.declared.limits.TheConstants.{TEXT_MOST};
 ghost use Rattle.table_rules.specs.declared.limits.TheConstants.{FIRST_COLUMNS, ROWS_MOST};

@@ -2,8 +2,7 @@
 ghost use Rattle.std.specs.Prelude.{◌≡◌, ◌+◌, ◌≤◌, ◌^◌, ℕ, List, [], length, IfErr, IfOk, OnOk, Ok, Err, None, Some};
 ghost use Rattle.sky_io.specs.Stops.{IfBad};
 ghost use Rattle.text_rules.specs.Readings.{judged};
-ghost use Rattle.record_rules.specs.Objects.{catalogue_with, object_form};
-ghost use Rattle.record_rules.specs.Records.{faults_of_rows, table_under};
+ghost use Rattle.table_rules.specs.Records.{catalogue_with, faults_of_rows, object_form, table_under};
 ghost use Rattle.record_text.specs.Judged.{HasRead};
 ghost use Rattle.record_text.specs.Standing.{HasLeft, StillGives};
 ghost use Rattle.catalogue_load.specs.Catalogue.{catalogue_of};

@@ -4,7 +4,7 @@ use Rattle.std.specs.List.{IsDistinct}
 use Rattle.std.specs.Ordering.{int_eq}
 use Rattle.std.proofs.lemmas.List.Sorted.{IsPermutation-refl}
 use Rattle.sky_row.specs.Columns.{AreAscending}
-use Rattle.record_rules.proofs.Order.{distinct_by_table}
+use Rattle.table_rules.proofs.Order.{distinct_by_table}
 
 same_ids : (ids : List ℤ) → map (λ z. z) ids ≡ ids
 same_ids [] = refl

@@ -18,7 +18,7 @@ use Rattle.std.proofs.lemmas.Int.{ints, to_z-of_z}
 use Rattle.std.proofs.lemmas.Map.Keys.{IsDistinct-from_apart, IsDistinct-IsPermutation}
 use Rattle.std.proofs.lemmas.Map.Keys.{IsStrictlyIncreasing-from_distinct}
 use Rattle.std.proofs.lemmas.Nat.{shr_high, mod_low}
-use Rattle.record_rules.specs.Repeats.{IsFirstRepeat}
+use Rattle.table_rules.specs.Repeats.{IsFirstRepeat}
 use Rattle.id_order.specs.Keys.{IsFollowed, IsLeast, IsLeastSecond}
 use Rattle.sky_row.specs.Keys.{AreKeys, AreSortedKeys, id_bits, key, place_in}
 use Rattle.sky_row.proofs.Keys.{IsKeyOf, bits_of_key, own_key, place_at, place_of_key}

@@ -3,7 +3,7 @@ ghost use Rattle.std.specs.Prelude.{◌≤◌, length, IfNone, IfOk, IfSome};
 ghost use Rattle.std.specs.List.{IsDistinct};
 ghost use Rattle.std.specs.Ordering.{int_eq};
 ghost use Rattle.sky_io.specs.Stops.{IfBad};
-ghost use Rattle.record_rules.specs.Repeats.{IsFirstFault, IsRepeat};
+ghost use Rattle.table_rules.specs.Repeats.{IsFirstFault, IsRepeat};
 ghost use Rattle.table_rules.specs.declared.limits.TheConstants.{ROWS_MOST};
 
 use crate::repeats::first_repeat;

@@ -2,7 +2,7 @@
 //!
 //! Callers see ids as a list of numbers in the order of a text. The row numbers in the order of the ids are found by radix
 //! partition into buckets (`deal`), and the first id that an earlier one equals by sorting (`repeats`), which is the fault
-//! of a table (`faults`). Below: `sky_row` for ids packed with their row numbers, `record_rules` for what a repeat is.
+//! of a table (`faults`). Below: `sky_row` for ids packed with their row numbers, `table_rules` for what a repeat is.
 //! Above: the readers of the object table and of the source table. No rows: ids alone.
 #![tactic(auto)]
 

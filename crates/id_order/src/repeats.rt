@@ -7,7 +7,7 @@
 ghost use Rattle.std.specs.Prelude.{◌≡◌, ◌≢◌, ◌≤◌, ◌^◌, Some, length, IfNone, IfOk, IfSome};
 ghost use Rattle.std.specs.List.{IsDistinct};
 ghost use Rattle.std.specs.Ordering.{int_eq};
-ghost use Rattle.record_rules.specs.Repeats.{IsFirstRepeat};
+ghost use Rattle.table_rules.specs.Repeats.{IsFirstRepeat};
 ghost use Rattle.id_order.specs.Keys.{IsLeast, least_of};
 ghost use Rattle.sky_row.specs.Keys.{id_bits, place_in};
 ghost use Rattle.table_rules.specs.declared.limits.TheConstants.{ROWS_MOST};

@@ -8,10 +8,10 @@ use Rattle.std.proofs.Math.Nat.{eq-or-lt_of_le}
 use Rattle.std.proofs.Math.Seq.{append_snoc, get_or-append_seam, take-append-add, take-append_seam}
 use Rattle.table_rules.specs.declared.fault.LoadFault.{LoadFault}
 use Rattle.table_rules.specs.declared.fault.LoadFault.TheVariants.{Repeated}
-use Rattle.record_rules.specs.Forms.{Form}
-use Rattle.record_rules.specs.IdOrder.{HaveDistinctIds, has_this_id}
-use Rattle.record_rules.specs.Records.{faults_after}
-use Rattle.record_rules.specs.Repeats.{IsFirstRepeat, IsRepeat}
+use Rattle.table_rules.specs.Forms.{Form}
+use Rattle.table_rules.specs.IdOrder.{HaveDistinctIds, has_this_id}
+use Rattle.table_rules.specs.Records.{faults_after}
+use Rattle.table_rules.specs.Repeats.{IsFirstRepeat, IsRepeat}
 use Rattle.record_text.specs.Faults.{first_of}
 use Rattle.record_text.specs.Judged.{and_then, fault_alone, faults_alone, first_or, if_right, rows_alone, rows_behind}
 use Rattle.record_text.proofs.Judgements.{judged_first, judged_none}

@@ -12,10 +12,9 @@ use Rattle.sky_io.specs.declared.Stop.TheVariants as stop
 use Rattle.text_rules.specs.Numbers.{int_of}
 use Rattle.table_rules.specs.declared.fault.LoadFault.{LoadFault}
 use Rattle.table_rules.specs.declared.limits.TheConstants.{FURTHER_MOST}
-use Rattle.table_rules.specs.Records.{field_in}
+use Rattle.table_rules.specs.Records.{faults_of_field, field_in}
 use Rattle.table_rules.specs.Objects.{is_further}
-use Rattle.record_rules.specs.Forms.{Form}
-use Rattle.record_rules.specs.Records.{faults_of_field}
+use Rattle.table_rules.specs.Forms.{Form}
 use Rattle.record_text.specs.Faults.{cell_faults, faults_from, first_of}
 
 abbrev Faults : Type 0

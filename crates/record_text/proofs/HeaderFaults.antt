@@ -2,9 +2,8 @@
 use Rattle.std.proofs.Common.{◌≡◌, ◌∙◌, sym, ap, ℕ, ◌+◌, ◌-◌, ◌<◌, ◌≤◌, arith, true, false, List, [], ◌∷◌, ◌++◌, length, take, nat_lt, Some}
 use Rattle.std.proofs.lemmas.List.{take_more}
 use Rattle.table_rules.specs.declared.fault.LoadFault.TheVariants.{Header}
-use Rattle.table_rules.specs.Records.{unless, field_in}
-use Rattle.record_rules.specs.Forms.{Form, may_follow}
-use Rattle.record_rules.specs.Records.{right_in}
+use Rattle.table_rules.specs.Records.{field_in, right_in, unless}
+use Rattle.table_rules.specs.Forms.{Form, may_follow}
 use Rattle.record_text.specs.Faults.{first_of, header_fault, header_faults_from}
 use Rattle.record_text.proofs.Firsts.{one_more}
 

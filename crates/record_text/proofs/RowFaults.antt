@@ -3,10 +3,9 @@ use Rattle.std.proofs.Common.{◌≡◌, refl, ℕ, ◌+◌, ◌<◌, ◌≤◌,
 use Rattle.table_rules.specs.declared.fault.LoadFault.{LoadFault}
 use Rattle.table_rules.specs.declared.fault.LoadFault.TheVariants.{Repeated, TooManyRows}
 use Rattle.table_rules.specs.declared.limits.TheConstants.{ROWS_MOST}
-use Rattle.table_rules.specs.Records.{unless}
-use Rattle.record_rules.specs.Forms.{Form}
-use Rattle.record_rules.specs.IdOrder.{has_this_id}
-use Rattle.record_rules.specs.Records.{faults_after, faults_by_itself}
+use Rattle.table_rules.specs.Records.{faults_after, faults_by_itself, unless}
+use Rattle.table_rules.specs.Forms.{Form}
+use Rattle.table_rules.specs.IdOrder.{has_this_id}
 use Rattle.record_text.specs.Faults.{first_of}
 use Rattle.record_text.specs.Judged.{faults_alone}
 use Rattle.record_text.proofs.Firsts.{first_front, first_behind, none_of_two}

@@ -14,11 +14,11 @@ use Rattle.text_rules.specs.declared.limits.TheConstants.{TEXT_MOST}
 use Rattle.table_rules.specs.declared.fault.LoadFault.{LoadFault}
 use Rattle.table_rules.specs.declared.fault.LoadFault.TheVariants as fault
 use Rattle.table_rules.proofs.Faults.{judged_ok}
-use Rattle.record_rules.specs.Forms.{Form}
-use Rattle.record_rules.specs.IdOrder.{IsInOrder, in_id_order}
-use Rattle.record_rules.specs.Records.{faults_after, faults_of_header, faults_of_rows, table_of, table_under}
-use Rattle.record_rules.specs.Repeats.{IsFirstFault, IsRepeat}
-use Rattle.record_rules.proofs.Order.{distinct_by_table, one_order}
+use Rattle.table_rules.specs.Forms.{Form}
+use Rattle.table_rules.specs.IdOrder.{IsInOrder, in_id_order}
+use Rattle.table_rules.specs.Records.{faults_after, faults_of_header, faults_of_rows, table_of, table_under}
+use Rattle.table_rules.specs.Repeats.{IsFirstFault, IsRepeat}
+use Rattle.table_rules.proofs.Order.{distinct_by_table, one_order}
 use Rattle.record_text.specs.Faults.{first_of}
 use Rattle.record_text.specs.Judged.{HasRead, Judged, Left, Read, and_then, fault_alone, faults_alone, rows_alone, rows_behind}
 use Rattle.record_text.specs.Standing.{HasLeft, StillGives, TookFirst}

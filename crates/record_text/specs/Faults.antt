@@ -5,9 +5,8 @@ use Rattle.text_rules.specs.Numbers.{int_of}
 use Rattle.table_rules.specs.declared.fault.LoadFault.{LoadFault}
 use Rattle.table_rules.specs.declared.fault.LoadFault.TheVariants.{Header}
 use Rattle.table_rules.specs.declared.limits.TheConstants.{FURTHER_MOST, ID_MOST}
-use Rattle.table_rules.specs.Records.{unless, field_in}
-use Rattle.record_rules.specs.Forms.{Form}
-use Rattle.record_rules.specs.Records.{faults_between, right_in}
+use Rattle.table_rules.specs.Records.{faults_between, field_in, right_in, unless}
+use Rattle.table_rules.specs.Forms.{Form}
 
 -- the first of these faults
 abbrev pub first_of : List LoadFault → Option LoadFault

@@ -3,12 +3,11 @@ use Rattle.std.specs.Prelude.{◌≡◌, ℕ, ◌+◌, nat_lt, List, [], ◌∷�
 use Rattle.std.specs.Borrow.{Bor}
 use Rattle.csv.specs.declared.reader.Reader.{Reader}
 use Rattle.text_rules.specs.Readings.{judged}
-use Rattle.table_rules.specs.Records.{unless}
+use Rattle.table_rules.specs.Records.{faults_after, faults_by_itself, unless}
 use Rattle.table_rules.specs.declared.fault.LoadFault.{LoadFault}
 use Rattle.table_rules.specs.declared.fault.LoadFault.TheVariants.{TooManyRows}
 use Rattle.table_rules.specs.declared.limits.TheConstants.{ROWS_MOST}
-use Rattle.record_rules.specs.Forms.{Form}
-use Rattle.record_rules.specs.Records.{faults_after, faults_by_itself}
+use Rattle.table_rules.specs.Forms.{Form}
 use Rattle.record_text.specs.Standing.{StillGives}
 
 -- the result of the next step, if there is no fault

@@ -8,10 +8,9 @@ ghost use Rattle.sky_io.specs.Stops.{IfBad};
 ghost use Rattle.text_rules.specs.Numbers.{int_of};
 ghost use Rattle.text_rules.specs.Readings.{judged};
 ghost use Rattle.table_rules.specs.Objects.{is_further};
-ghost use Rattle.table_rules.specs.Records.{field_in, number_in, unless};
+ghost use Rattle.table_rules.specs.Records.{faults_between, field_in, is_between, number_in, unless};
 ghost use Rattle.table_rules.specs.declared.fault.LoadFault.TheVariants.{Range};
 ghost use Rattle.table_rules.specs.declared.limits.TheConstants.{COLUMNS_MOST, ID_MOST};
-ghost use Rattle.record_rules.specs.Records.{faults_between, is_between};
 ghost use Rattle.record_text.specs.Faults.{cell_faults, faults_from, first_of, id_faults};
 
 use crate::number::read_short;

@@ -2,7 +2,7 @@
 //!
 //! Callers see a reader as the records that it has yet to return (`specs/Standing.antt`). They see rows that were read as
 //! those of the records before the first fault other than a repeated id (`specs/Judged.antt`), whatever the form of their
-//! table. Below: the kit's `csv` splits a text into records, `sky_text` reads numbers, `record_rules` defines what records
+//! table. Below: the kit's `csv` splits a text into records, `sky_text` reads numbers, `table_rules` defines what records
 //! mean. Above: the readers of the object table and of the source table. No rows are stored here.
 #![tactic(auto)]
 

@@ -7,7 +7,7 @@ use Rattle.std.specs.Str.{bytes_eq}
 use Rattle.text_rules.specs.Words.{continues_word}
 use Rattle.table_rules.specs.Names.{begins_as_a_name, can_follow, first_names, is_name}
 use Rattle.table_rules.specs.Objects.{Catalogue}
-use Rattle.table_rules.specs.Records.{catalogue_under, data_faults, field_in, header_faults, is_right, unless}
+use Rattle.table_rules.specs.Records.{catalogue_with, faults_of_header, faults_of_rows, field_in, object_form, right_in, table_under, unless}
 use Rattle.table_rules.specs.declared.fault.LoadFault.TheVariants.{Header}
 use Rattle.table_rules.specs.declared.limits.TheConstants.{COLUMNS_MOST, FIRST_COLUMNS, NAME_MOST}
 use Rattle.table_rules.proofs.Faults.{judged_ok, none_in, none_of_both, right_unless}
@@ -45,7 +45,7 @@ named_by [] each = refl
 named_by (n ∷ ns) each = rw (each 0 (omega arith), named_by ns (λ i low. each (suc i) (omega arith))) refl
 
 -- a later field of a header that is right is a name
-later_is_name : (header : List (List ℕ)) (col : ℕ) → 4 ≤ col → is_right header col ≡ true → is_name (field_in header col) ≡ true
+later_is_name : (header : List (List ℕ)) (col : ℕ) → 4 ≤ col → right_in object_form header col ≡ true → is_name (field_in header col) ≡ true
 later_is_name header col late right =
     let past : nat_lt col 4 ≡ false = grind (arith, late) in
     let follows : can_follow (take col header) (field_in header col) ≡ true =
@@ -55,16 +55,16 @@ later_is_name header col late right =
     (split_and room (is_name (field_in header col)) whole.0).1
 
 -- the fields of a header without a fault
-header_named : (header : List (List ℕ)) → header_faults header ≡ [] → list_all is_name (drop FIRST_COLUMNS header) ≡ true
+header_named : (header : List (List ℕ)) → faults_of_header object_form header ≡ [] → list_all is_name (drop FIRST_COLUMNS header) ≡ true
 header_named header none = named_by (drop FIRST_COLUMNS header) (λ i low.
     let within : 4 + i < max FIRST_COLUMNS (length header) = omega (arith, low, length-drop FIRST_COLUMNS header) in
-    let fault = none_in (λ col. unless (is_right header col) (Header (col + 1))) (max FIRST_COLUMNS (length header)) (4 + i) none within in
-    let right : is_right header (4 + i) ≡ true = right_unless (is_right header (4 + i)) (Header (4 + i + 1)) fault in
+    let fault = none_in (λ col. unless (right_in object_form header col) (Header (col + 1))) (max FIRST_COLUMNS (length header)) (4 + i) none within in
+    let right : right_in object_form header (4 + i) ≡ true = right_unless (right_in object_form header (4 + i)) (Header (4 + i + 1)) fault in
     ap is_name (get_or-drop FIRST_COLUMNS header i []) ∙ later_is_name header (4 + i) (omega arith) right)
 
 pub accepted_is_named : AcceptedIsNamed
 accepted_is_named [] c e = absurd (cc e)
 accepted_is_named (header ∷ rows) c e =
-    let ok = judged_ok (header_faults header ++ data_faults (length header) rows) (catalogue_under header rows) c e in
-    let faults = none_of_both (header_faults header) (data_faults (length header) rows) ok.0 in
+    let ok = judged_ok (faults_of_header object_form header ++ faults_of_rows object_form (length header) rows) (table_under object_form catalogue_with (drop FIRST_COLUMNS header) rows) c e in
+    let faults = none_of_both (faults_of_header object_form header) (faults_of_rows object_form (length header) rows) ok.0 in
     subst (λ (x : Catalogue). list_all is_name x.names ≡ true) ok.1 (header_named header faults.0)

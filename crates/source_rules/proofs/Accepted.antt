@@ -9,11 +9,10 @@ use Rattle.std.proofs.lemmas.List.Sorted.{All-permutation, length_permutation}
 use Rattle.text_rules.specs.Numbers.{int_of}
 use Rattle.table_rules.specs.declared.limits.TheConstants.{FURTHER_MOST, ID_MOST}
 use Rattle.table_rules.specs.Objects.{is_further}
-use Rattle.table_rules.specs.Records.{field_in, number_in}
-use Rattle.record_rules.specs.Records.{faults_of_field, faults_of_header, faults_of_rows, in_range, null_in}
-use Rattle.record_rules.specs.IdOrder.{in_id_order}
-use Rattle.record_rules.proofs.Accepted.{IsRight, distinct_rows, each_row, few_fields, few_rows, further_right, no_fault, number_by}
-use Rattle.record_rules.proofs.Order.{distinct_in_order, same_in_order}
+use Rattle.table_rules.specs.Records.{faults_of_field, faults_of_header, faults_of_rows, field_in, in_range, null_in, number_in}
+use Rattle.table_rules.specs.IdOrder.{in_id_order}
+use Rattle.table_rules.proofs.Accepted.{IsRight, distinct_rows, each_row, few_fields, few_rows, further_right, no_fault, number_by}
+use Rattle.table_rules.proofs.Order.{distinct_in_order, same_in_order}
 use Rattle.source_rules.specs.Sources.{Source, SourceTable, IsSource, IsSourceTable, source_bound}
 use Rattle.source_rules.specs.SourceRecords.{id_of_source, source_form, source_least, source_of, sources_of_records, with_sources}
 use Rattle.source_rules.specs.declared.limits.TheConstants.{SOURCE_COLUMNS_MOST}

@@ -3,11 +3,10 @@
 -- fault from 1.
 use Rattle.std.specs.Prelude.{ℕ, ℤ, pos, neg_ℤ, nat_le, if◌then◌else◌, List, [], map, drop, Result}
 use Rattle.text_rules.specs.Numbers.{int_of}
-use Rattle.table_rules.specs.Records.{number_in}
+use Rattle.table_rules.specs.Records.{number_in, table_of}
 use Rattle.table_rules.specs.declared.limits.TheConstants.{FURTHER_MOST}
 use Rattle.table_rules.specs.declared.fault.LoadFault.{LoadFault}
-use Rattle.record_rules.specs.Forms.{Form}
-use Rattle.record_rules.specs.Records.{table_of}
+use Rattle.table_rules.specs.Forms.{Form}
 use Rattle.source_rules.specs.Sources.{Source, SourceTable, source_bound}
 use Rattle.source_rules.specs.SourceNames.{first_source_names}
 use Rattle.source_rules.specs.declared.limits.TheConstants.{SOURCE_FIRST_COLUMNS}

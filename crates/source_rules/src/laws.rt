@@ -1,6 +1,6 @@
 //! Lemmas about accepted source tables, stated as functions that do nothing: a caller obtains what they ensure.
 
-ghost use Rattle.record_rules.specs.Laws.{DistinctAreInOrder, OneOrder};
+ghost use Rattle.table_rules.specs.Laws.{DistinctAreInOrder, OneOrder};
 ghost use Rattle.source_rules.specs.SourceLaws.{AcceptedIsASourceTable, SourcesAreTheRecords};
 ghost use Rattle.source_rules.specs.SourceRecords.{id_of_source};
 

@@ -1,6 +1,9 @@
 pub mod Objects
 pub mod Names
+pub mod Forms
+pub mod IdOrder
 pub mod Ordered
 pub mod Records
+pub mod Repeats
 pub mod Laws
 pub mod Examples

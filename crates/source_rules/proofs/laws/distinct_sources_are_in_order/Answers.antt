@@ -1,4 +1,4 @@
-use Rattle.record_rules.proofs.Order.{distinct_in_order, one_order}
+use Rattle.table_rules.proofs.Order.{distinct_in_order, one_order}
 use Rattle.source_rules.specs.SourceRecords.{id_of_source}
 use Rattle.source_rules.proofs.laws.distinct_sources_are_in_order.Goals as goal
 

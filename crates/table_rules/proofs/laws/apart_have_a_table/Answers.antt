@@ -1,4 +1,4 @@
-use Rattle.table_rules.proofs.Tables.{apart_have_a_table}
+use Rattle.table_rules.proofs.Catalogues.{apart_have_a_table}
 use Rattle.table_rules.proofs.laws.apart_have_a_table.Goals as goal
 
 pub returns : goal.returns

@@ -10,7 +10,7 @@ use Rattle.std.proofs.lemmas.List.Elements.{All-from_recursion, recursion_from_A
 use Rattle.std.proofs.lemmas.List.Kept.{AllPairs-cons}
 use Rattle.std.proofs.lemmas.List.Sorted.{IsPermutation-refl, IsPermutation-sym, IsPermutation-trans, IsPermutation-cons, IsPermutation-middle, IsPermutation-map, Contains-permutation}
 use Rattle.std.proofs.lemmas.Map.Keys.{IsDistinct-IsPermutation}
-use Rattle.record_rules.specs.IdOrder.{HaveDistinctIds, IsInOrder, in_id_order, with_one}
+use Rattle.table_rules.specs.IdOrder.{HaveDistinctIds, IsInOrder, in_id_order, with_one}
 
 below_both : (x y z : ℤ) → x <ℤ y → y <ℤ z → x <ℤ z
 below_both x y z a b = omega (arith, ints)
