@@ -8,7 +8,7 @@ ghost use Rattle.czar.specs.Plans.{ArePlans};
 ghost use Rattle.class_session.specs.ClassPlans.{IsFirstPair, class_for, classes_for};
 
 use answer_rules::ChunkQuery;
-use czar::{Plan, Session, World, board_over, chunk_queries, know};
+use czar::{Plan, SessionContext, World, board_over, chunk_queries, within_limits};
 use partial_merge::Piece;
 use scan_board::Board;
 use scan_classes::{Class, Classes, Pair};
@@ -42,7 +42,7 @@ pub(crate) fn classes_of(alloc: Global, plans: &[Plan]) -> Result<Vec<Class>, Me
 /// Creates the two boards for the queries with these plans, over the chunks of the world, and the czar's pair. Allocates
 /// memory.
 pub(crate) fn two_boards<'s, R: Threads + Wait + Sync, G: Gate + Sync>(
-    session: &Session<'s, '_, R, G>,
+    session: &SessionContext<'s, '_, R, G>,
     plans: &[Plan],
 ) -> Result<(Classes<Piece<'s>>, Pair<Piece<'s>>), Memory>
     requires plans { ArePlans session.now.world.now.plan session.now.world.now.rows
@@ -50,7 +50,7 @@ pub(crate) fn two_boards<'s, R: Threads + Wait + Sync, G: Gate + Sync>(
     ensures { IfOk result (λ r.
         IsFirstPair session.now.world.now.plan session.now.world.now.rows plans.now r.0 r.1) }
 {
-    know(session.world);
+    within_limits(session.world);
     let _ = session.script.queries();
     let asked = chunk_queries(session.alloc, plans)?;
     let short = board_over(session.alloc, session.world, asked.as_slice())?;

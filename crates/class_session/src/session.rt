@@ -21,7 +21,10 @@ ghost use Rattle.class_session.specs.ClassPlans.{IsFirstPair, class_at, classes_
 
 use crate::boards::{classes_of, two_boards};
 use answer_rules::ChunkQuery;
-use czar::{ChunkEngine, End, Plan, Session, World, all_attached, chunk_queries, explain, know};
+use czar::{
+    ChunkEngine, End, Plan, SessionContext, World, all_attached, chunk_queries, explain,
+    within_limits,
+};
 use partial_merge::Piece;
 use scan_classes::lemmas::each_query_is_of_its_class_once_all_pairs_have_ended;
 use scan_classes::{Class, ClassBoards, Classes, Pair};
@@ -50,7 +53,7 @@ pub fn run_classes<R: Threads + Wait + Sync, G: Gate + Sync>(
     ensures shown { IfOk result (λ ends.
         EndsShow world.now.plan world.now.rows (query_lines script.now) ends.items) }
 {
-    let session = Session {
+    let session = SessionContext {
         alloc,
         rt,
         world,
@@ -69,7 +72,7 @@ pub fn run_classes<R: Threads + Wait + Sync, G: Gate + Sync>(
 /// each query, in their order. Allocates memory, and waits. On Memory, too, both boards are closed and the workers are
 /// joined.
 pub fn drive_classes<'s, R: Threads + Wait + Sync, G: Gate + Sync>(
-    session: &Session<'s, '_, R, G>,
+    session: &SessionContext<'s, '_, R, G>,
     plans: Vec<Plan>,
     classes: &Classes<Piece<'s>>,
     pair: Pair<Piece<'s>>,
@@ -108,7 +111,7 @@ pub fn drive_classes<'s, R: Threads + Wait + Sync, G: Gate + Sync>(
 
 /// Drives the queries with these plans over the board of its class each, and returns the end of each at its board.
 fn driven<'s, R: Threads + Wait + Sync, G: Gate + Sync>(
-    session: &Session<'s, '_, R, G>,
+    session: &SessionContext<'s, '_, R, G>,
     plans: &[Plan],
     classes: &Classes<Piece<'s>>,
     pair: Pair<Piece<'s>>,
@@ -164,7 +167,7 @@ fn parts<'p, 's>(alloc: Global, plans: &'p [Plan]) -> Result<Parts<'p, 's>, Memo
 /// Drives what is attached for the queries with these plans over both boards, from the czar's first pair. The plans are
 /// read by contracts alone.
 fn driven_at<'s, R: Threads + Wait + Sync, G: Gate + Sync>(
-    session: &Session<'s, '_, R, G>,
+    session: &SessionContext<'s, '_, R, G>,
     plans: &[Plan],
     queries: &[(u32, &ChunkQuery)],
     planned: Vec<Option<Planned<Piece<'s>>>>,
@@ -191,7 +194,7 @@ fn driven_at<'s, R: Threads + Wait + Sync, G: Gate + Sync>(
     ensures manned { (class : Class) →
         Manned Asks (seat_at pair.entry class) (seat_at result.1 class) }
 {
-    know(session.world);
+    within_limits(session.world);
     let _ = session.script.queries();
     let engine = ChunkEngine {
         alloc: session.alloc,

@@ -26,6 +26,6 @@ pub use chunk_engine::ChunkEngine;
 pub use end::End;
 pub use explained::put_explained;
 pub use plan::{Plan, explain};
-pub use session::{Session, know, run_session, run_traced};
+pub use session::{SessionContext, run_session, run_traced, within_limits};
 pub use transcript::put_transcript;
 pub use world::World;

@@ -52,7 +52,7 @@ pub fn run_session<R: Threads + Wait + Sync, G: Gate + Sync>(
     ensures shown { IfOk result (λ ends.
         EndsShow world.now.plan world.now.rows (query_lines script.now) ends.items) }
 {
-    let session = Session {
+    let session = SessionContext {
         alloc,
         rt,
         world,
@@ -88,7 +88,7 @@ pub fn run_traced<R: Threads + Wait + Sync, G: Gate + Sync>(
     ensures trace { IfOk result (λ r. IsTraceOf workers
         world.now.plan world.now.rows script.now (map kind_of r.0.items) r.1) }
 {
-    let session = Session {
+    let session = SessionContext {
         alloc,
         rt,
         world,
@@ -110,7 +110,7 @@ pub fn run_traced<R: Threads + Wait + Sync, G: Gate + Sync>(
 /// What a session is run over, and the means to run it: it stays the same during the session. A session may be over one
 /// board, or over several (`class_session`).
 #[derive(Drop)]
-pub struct Session<'s, 't, R, G> {
+pub struct SessionContext<'s, 't, R, G> {
     pub alloc: Global,
     pub rt: &'s R,
     pub world: &'s World<'s>,
@@ -128,7 +128,7 @@ struct Driven<'s> {
     ends: Vec<BoardEnd<Piece<'s>>>,
 }
 
-impl<'s, 't, R: Threads + Wait + Sync, G: Gate + Sync> Session<'s, 't, R, G> {
+impl<'s, 't, R: Threads + Wait + Sync, G: Gate + Sync> SessionContext<'s, 't, R, G> {
     /// Plans the queries of the script, and drives them.
     fn plan_and_drive(&self) -> Result<(Vec<Plan>, Driven<'s>), Memory>
         requires few { self.now.workers ≤ WORKERS_MOST }
@@ -184,7 +184,7 @@ impl<'s, 't, R: Threads + Wait + Sync, G: Gate + Sync> Session<'s, 't, R, G> {
         ensures ended { IfOk result (λ query_ends.
             AreEnded plans.items ends.entry.items query_ends.items) }
     {
-        know(self.world);
+        within_limits(self.world);
         let _ = self.script.steps();
         all_query_ends(self.alloc, plans, ends)
     }
@@ -199,7 +199,7 @@ impl<'s, 't, R: Threads + Wait + Sync, G: Gate + Sync> Session<'s, 't, R, G> {
             self.now.world.now.rows self.now.script.now.steps plans.now r.seat r.ends.items) }
     {
         let _ = self.script.queries();
-        know(self.world);
+        within_limits(self.world);
         let asked = chunk_queries(self.alloc, plans)?;
         let planned = all_attached(self.alloc, plans)?;
         match seated(self.alloc, self.world, asked.as_slice()) {
@@ -234,7 +234,7 @@ impl<'s, 't, R: Threads + Wait + Sync, G: Gate + Sync> Session<'s, 't, R, G> {
         ensures over { IfOk result (λ r. IsOver self.now.workers self.now.world.now.plan
             self.now.world.now.rows self.now.script.now.steps plans.now r.seat r.ends.items) }
     {
-        know(self.world);
+        within_limits(self.world);
         let _ = self.script.queries();
         let engine = ChunkEngine {
             alloc: self.alloc,
@@ -260,7 +260,7 @@ impl<'s, 't, R: Threads + Wait + Sync, G: Gate + Sync> Session<'s, 't, R, G> {
 }
 
 /// States of a world that its plan and its rows are within the limits. Does not allocate.
-pub fn know(world: &World<'_>)
+pub fn within_limits(world: &World<'_>)
     ensures sky { IsSky world.now.plan }
     ensures rows { IsCatalogue world.now.rows }
 {

@@ -29,11 +29,7 @@ pub(crate) fn cells_at(columns: &[Column], i: usize) -> Cells
 }
 
 /// Returns the columns of the rows with these numbers, which are counted from 0, in their order. Allocates memory for them.
-pub fn columns_at(
-    alloc: Global,
-    columns: &[Column],
-    places: &[u32],
-) -> Result<Vec<Column>, Memory>
+pub fn columns_at(alloc: Global, columns: &[Column], places: &[u32]) -> Result<Vec<Column>, Memory>
     requires { All (λ column. All (λ place. place < length column) places.now) columns.now }
     ensures { IfOk result (λ found. found.items
         ≡ map (λ column. map (λ place. get_or column place None) places.now) columns.now) }

@@ -74,7 +74,7 @@ fn task_over<R: Threads + Wait + Sync, K: Sink, G: Gate + Sync>(
 {
     match World::new(alloc, store) {
         Ok(world) => {
-            let outcome = do_text(alloc, rt, task, &world, text, sink, gate);
+            let outcome = task_on_text(alloc, rt, task, &world, text, sink, gate);
             drop(world);
             outcome
         }
@@ -83,7 +83,7 @@ fn task_over<R: Threads + Wait + Sync, K: Sink, G: Gate + Sync>(
 }
 
 // Reads a script and executes the task on it.
-fn do_text<R: Threads + Wait + Sync, K: Sink, G: Gate + Sync>(
+fn task_on_text<R: Threads + Wait + Sync, K: Sink, G: Gate + Sync>(
     alloc: Global,
     rt: &R,
     task: Task,

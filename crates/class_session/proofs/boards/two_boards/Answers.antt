@@ -19,7 +19,7 @@ board_over-requires g c =
     let few : length c.args.plans.now ≤ QUERY_MOST =
     omega (arith, a_plan_each s.world.now.plan s.world.now.rows s.script.now c.args.plans.now c.requires.plans, c.queries.ensures.count, c.queries.ensures.few) in
     record {
-      base = is_base_over s.world.now.plan s.world.now.rows c.args.plans.now _ c.know.ensures.sky c.know.ensures.rows few
+      base = is_base_over s.world.now.plan s.world.now.rows c.args.plans.now _ c.within_limits.ensures.sky c.within_limits.ensures.rows few
           (sound_plans s.world.now.plan s.world.now.rows (query_lines s.script.now) c.args.plans.now c.requires.plans) (search rules);
     }
 
@@ -29,6 +29,6 @@ board_over-requires-2 g c =
     let few : length c.args.plans.now ≤ QUERY_MOST =
     omega (arith, a_plan_each s.world.now.plan s.world.now.rows s.script.now c.args.plans.now c.requires.plans, c.queries.ensures.count, c.queries.ensures.few) in
     record {
-      base = is_base_over s.world.now.plan s.world.now.rows c.args.plans.now _ c.know.ensures.sky c.know.ensures.rows few
+      base = is_base_over s.world.now.plan s.world.now.rows c.args.plans.now _ c.within_limits.ensures.sky c.within_limits.ensures.rows few
           (sound_plans s.world.now.plan s.world.now.rows (query_lines s.script.now) c.args.plans.now c.requires.plans) (search rules);
     }

@@ -40,7 +40,7 @@ pub drive-requires-clause-ring : goal.drive-requires-clause-ring
 drive-requires-clause-ring g c = λ κs lives p.
     let w = c.args.session.now.world.now in
     let first = first_at w.plan w.rows c.args.plans.now c.args.boards.now.turns c.args.pair c.requires.first p in
-    subst (λ (n : ℕ). n ≤ RING_MOST) (sym (ap (λ s. s.root.ring) first)) c.know.ensures.sky.few_chunks
+    subst (λ (n : ℕ). n ≤ RING_MOST) (sym (ap (λ s. s.root.ring) first)) c.within_limits.ensures.sky.few_chunks
 
 pub drive-requires-clause-engine : goal.drive-requires-clause-engine
 drive-requires-clause-engine g c = λ κs lives p.
@@ -68,7 +68,7 @@ drive-requires-clause-fit g c = λ κs lives p.
     let few : length c.args.plans.now ≤ QUERY_MOST =
     omega (arith, a_plan_each s.world.now.plan s.world.now.rows s.script.now c.args.plans.now c.requires.plans, c.queries.ensures.count, c.queries.ensures.few) in
     subst (λ seat. PlansFit StandsFor Asks seat.root.ring seat.root.root c.args.planned.items) (sym first)
-    (all_fit s.world.now.plan s.world.now.rows (query_lines s.script.now) c.args.plans.now c.args.planned.items c.know.ensures.sky c.know.ensures.rows few c.requires.plans c.requires.planned)
+    (all_fit s.world.now.plan s.world.now.rows (query_lines s.script.now) c.args.plans.now c.args.planned.items c.within_limits.ensures.sky c.within_limits.ensures.rows few c.requires.plans c.requires.planned)
 
 pub drive-requires-clause-suits : goal.drive-requires-clause-suits
 drive-requires-clause-suits g c = λ κs lives. all_suit c.args.plans.now c.args.boards.now c.args.planned.items c.requires.classes c.requires.planned

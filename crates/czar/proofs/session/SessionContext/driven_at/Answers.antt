@@ -13,7 +13,7 @@ use Rattle.czar.proofs.Crossing.{crossing, engine_crossing}
 use Rattle.czar.proofs.Driving.{of_value, over}
 use Rattle.czar.proofs.Fitting.{all_fit}
 use Rattle.czar.proofs.PlanBlocks.{a_plan_each}
-use Rattle.czar.proofs.session.Session.driven_at.Goals as goal
+use Rattle.czar.proofs.session.SessionContext.driven_at.Goals as goal
 
 pub drive-ends-requires-send-P-Root : goal.drive-ends-requires-send-P-Root
 drive-ends-requires-send-P-Root g c = λ κs lives. search crossing depth 60 fits 20000
@@ -23,7 +23,7 @@ drive-ends-requires-sync-E g c = λ κs lives. search engine_crossing depth 60 f
 
 pub drive-ends-requires-clause-ring : goal.drive-ends-requires-clause-ring
 drive-ends-requires-clause-ring g c = λ κs lives p.
-    subst (λ (n : ℕ). n ≤ RING_MOST) (sym (ap (λ s. s.root.ring) c.requires.seat)) c.know.ensures.sky.few_chunks
+    subst (λ (n : ℕ). n ≤ RING_MOST) (sym (ap (λ s. s.root.ring) c.requires.seat)) c.within_limits.ensures.sky.few_chunks
 
 pub drive-ends-requires-clause-engine : goal.drive-ends-requires-clause-engine
 drive-ends-requires-clause-engine g c = λ κs lives p.
@@ -48,7 +48,7 @@ drive-ends-requires-clause-fit g c = λ κs lives p.
     subst (λ seat. PlansFit StandsFor Asks seat.root.ring seat.root.root c.args.planned.items) (sym c.requires.seat)
     (subst (λ (b : Base). PlansFit StandsFor Asks (chunk_count s.world.now.plan) b c.args.planned.items)
     (sym (same_base s.world.now.plan s.world.now.rows c.args.plans.now c.args.queries.now c.requires.queries))
-    (all_fit s.world.now.plan s.world.now.rows (query_lines s.script.now) c.args.plans.now c.args.planned.items c.know.ensures.sky c.know.ensures.rows few c.requires.plans c.requires.planned))
+    (all_fit s.world.now.plan s.world.now.rows (query_lines s.script.now) c.args.plans.now c.args.planned.items c.within_limits.ensures.sky c.within_limits.ensures.rows few c.requires.plans c.requires.planned))
 
 pub returns-in-Ok-clause-own : goal.returns-in-Ok-clause-own
 returns-in-Ok-clause-own g c = (c.drive-ends.ensures.manned tt).turn ∙ ap (λ s. s.turn) c.requires.seat

@@ -2,7 +2,7 @@ use Rattle.std.proofs.Common.{◌≡◌, ℕ, IfOk, subst}
 use Rattle.answer_rules.specs.Bases.{Asks}
 use Rattle.scan_rules.specs.declared.journal.Journal.{Journal}
 use Rattle.scan_board.proofs.Ends.{reads_what_was_seen}
-use Rattle.czar.proofs.session.Session.journal.Goals as goal
+use Rattle.czar.proofs.session.SessionContext.journal.Goals as goal
 
 pub returns : goal.returns
 returns g c =
