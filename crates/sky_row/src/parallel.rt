@@ -162,7 +162,8 @@ pub(crate) fn gather_all<R: Threads + Sync>(
     requires xs { All (λ place. place < length lists.now.xs) places.now }
     requires ys { All (λ place. place < length lists.now.ys) places.now }
     requires zs { All (λ place. place < length lists.now.zs) places.now }
-    requires further { All (λ column. All (λ place. place < length column) places.now) lists.now.further }
+    requires further { All (λ column. All (λ place. place < length column) places.now)
+        lists.now.further }
     ensures ids { IfOk result (λ found. IsGathered lists.now.ids places.now found.0.0.items) }
     ensures xs { IfOk result (λ found. IsGathered lists.now.xs places.now found.0.1.items) }
     ensures ys { IfOk result (λ found. IsGathered lists.now.ys places.now found.0.2.items) }
@@ -179,7 +180,8 @@ pub(crate) fn gather_all<R: Threads + Sync>(
                 × All (λ place. place < length lists.now.xs) places.now
                 × All (λ place. place < length lists.now.ys) places.now
                 × All (λ place. place < length lists.now.zs) places.now }
-            ensures { IfOk result (λ found. IsGathered lists.entry.now.ids places.entry.now found.0.items
+            ensures { IfOk result (λ found.
+                IsGathered lists.entry.now.ids places.entry.now found.0.items
                 × IsGathered lists.entry.now.xs places.entry.now found.1.items
                 × IsGathered lists.entry.now.ys places.entry.now found.2.items
                 × IsGathered lists.entry.now.zs places.entry.now found.3.items) }
