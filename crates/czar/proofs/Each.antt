@@ -28,7 +28,7 @@ pub lines_count : (s : ScriptView) → length (query_lines s) ≡ query_count s.
 lines_count s = mapped_length (λ span. part_of s.text (Some span)) (query_spans s.steps)
 
 -- the lines of one query more
-lines_more : LinesAreTexts → (s : ScriptView) (k : ℕ) → k < query_count s.steps
+pub lines_more : LinesAreTexts → (s : ScriptView) (k : ℕ) → k < query_count s.steps
     → take (k + 1) (query_lines s) ≡ take k (query_lines s) ++ query_text s.steps s.text (k + 1) ∷ []
 lines_more law s k within =
     let next : k + 1 ≡ suc k = omega arith in

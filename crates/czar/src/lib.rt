@@ -25,7 +25,7 @@ pub use attach::{all_attached, board_over, chunk_queries};
 pub use chunk_engine::ChunkEngine;
 pub use end::End;
 pub use explained::put_explained;
-pub use plan::{Plan, explain};
+pub use plan::{Plan, chunks_of, explain};
 pub use session::{SessionContext, run_session, run_traced, within_limits};
 pub use transcript::put_transcript;
 pub use world::World;

@@ -115,8 +115,8 @@ fn plan_known(alloc: Global, world: &World<'_>, tree: Query, bound: &Bound) -> R
     }
 }
 
-/// Returns the chunks that the query needs.
-fn chunks_of(alloc: Global, world: &World<'_>, bound: &Bound) -> Result<ChunkSet, Memory>
+/// Returns the chunks that the query needs. Allocates memory.
+pub fn chunks_of(alloc: Global, world: &World<'_>, bound: &Bound) -> Result<ChunkSet, Memory>
     ensures plan { IfOk result (λ chunks.
         chunks ≡ plan_of world.now.plan world.now.rows.objects bound.now) }
     ensures there { IfOk result (λ chunks. All (λ c. c < chunk_count world.now.plan) chunks) }

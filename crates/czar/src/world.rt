@@ -48,8 +48,8 @@ impl<'w> World<'w> {
         self.store
     }
 
-    /// Returns the index of the ids.
-    pub(crate) fn index(&self) -> &Index<'w>
+    /// Returns the index of the ids. Does not allocate.
+    pub fn index(&self) -> &Index<'w>
         ensures { result.now ≡ record { plan = self.now.plan; rows = self.now.rows.objects } }
     {
         &self.index
