@@ -32,7 +32,7 @@ pub kept_stands : KeptStands
 kept_stands g table cq B pushed rows kept k h = kept_by cq.shape g table cq B pushed rows kept k h
 
 -- what is kept of rows that are apart is apart
-apart_kept : (limit : Option ℕ) (full kept : List OutRow) → AreApart row_order full → KeepsFirst row_order limit full kept → AreApart row_order kept
+pub apart_kept : (limit : Option ℕ) (full kept : List OutRow) → AreApart row_order full → KeepsFirst row_order limit full kept → AreApart row_order kept
 apart_kept limit full kept a k x =
     omega (arith, a x, count-permutation (λ y. is_eq (row_order x y)) full (k.left_out ++ kept) k.all, count-append (λ y. is_eq (row_order x y)) k.left_out kept)
 

@@ -22,7 +22,7 @@ use Rattle.bind_rules.specs.BoundWhere.{within_limit, is_chord, is_plain, WhereH
 use Rattle.bind_rules.specs.Bounds.{Meaning, Scope, object_columns}
 use Rattle.bind_rules.specs.Columns.{is_join}
 use Rattle.bind_rules.specs.Conjuncts.{conjuncts, where_conjuncts}
-use Rattle.bind_rules.specs.Forms.{ChordAt, chord_by, chords_of, names_both, pairs_both, is_join_form, join_form}
+use Rattle.bind_rules.specs.Forms.{ChordAt, area_form, chord_by, chords_of, names_both, pairs_both, is_join_form, join_form}
 use Rattle.bind_rules.specs.Mentions.{columns_in}
 use Rattle.bind_rules.specs.Names.{is_grouped}
 use Rattle.bind_rules.specs.Tops.{Test, Tests, Area, Chord, Equals, Listed, Found, found_at, found_by, found_in, test_of, within, tests_in, top_tests}
@@ -81,11 +81,14 @@ top_chord (Listed value list) top h = tt
 abbrev HasTopChord : Found → Type 0
 HasTopChord f = IsTopChord f.test f.top
 
-good_tests : (names : List (List ℕ)) (q : Query) → Faultless names q → Each IsGood (tests_in q.cond)
-good_tests names q f =
-    by_two IsTopArea HasTopChord IsGood (λ t a c. (a.0, c)) (tests_in q.cond) (good_areas names q f)
+tests_good : (q : Query) → area_form q ≡ None → Each IsTop (chords_of q) → Each IsGood (tests_in q.cond)
+tests_good q areas chords =
+    by_two IsTopArea HasTopChord IsGood (λ t a c. (a.0, c)) (tests_in q.cond) (good_areas q areas)
     (weaker (λ t. Each IsTop (chord_at t)) HasTopChord (λ t h. top_chord t.test t.top h) (tests_in q.cond)
-    (in_parts IsTop chord_at (tests_in q.cond) (faultless_chords names q f).1))
+    (in_parts IsTop chord_at (tests_in q.cond) chords))
+
+good_tests : (names : List (List ℕ)) (q : Query) → Faultless names q → Each IsGood (tests_in q.cond)
+good_tests names q f = tests_good q f.area (faultless_chords names q f).1
 
 -- each conjunct becomes a condition, or is a chord test
 all_kept : (means : Meaning) (w : Option Cond) → Each IsGood (tests_in w) → Each (Kept means) (where_conjuncts w)
@@ -227,9 +230,11 @@ where_limits w h =
     (weaker (λ n. Each IsGood (found_in n)) (λ n. flat_map limit_at (found_in n) ≡ flat_map chord_limit (test_of n)) (λ n k. found_limits (test_of n) (within n) k) (where_conjuncts w) (in_parts IsGood found_in (where_conjuncts w) h))
     ∙ sym (flat_twice chord_limit test_of (where_conjuncts w))
 
+as_many_limits : (q : Query) → Each IsGood (tests_in q.cond) → length (flat_map chord_limit (top_tests q.cond)) ≡ length (chords_of q)
+as_many_limits q h = ap (λ zs. length zs) (sym (where_limits q.cond h)) ∙ sym (same_length (tests_in q.cond))
+
 limits_asked : (names : List (List ℕ)) (q : Query) → Faultless names q → length (flat_map chord_limit (top_tests q.cond)) ≡ chords_asked (is_join q)
-limits_asked names q f =
-    ap (λ zs. length zs) (sym (where_limits q.cond (good_tests names q f))) ∙ sym (same_length (tests_in q.cond)) ∙ (faultless_chords names q f).0
+limits_asked names q f = as_many_limits q (good_tests names q f) ∙ (faultless_chords names q f).0
 
 none_near : (p : Pick) (zs : List ℤ) → length zs ≡ 0 → list_all (near p) zs ≡ true
 none_near p [] h = refl
@@ -247,12 +252,27 @@ limit_said s q p false false h = none_near p (flat_map chord_limit (top_tests q.
 
 -- ---- the law
 
+-- WHERE is true exactly if its conditions hold and each chord is within its limit
+where_said : (means : Meaning) (w : Option Cond) (p : Pick) → Each IsGood (tests_in w) → where_holds means p w ≡ (meets (conds_in means w) p && list_all (near p) (flat_map chord_limit (top_tests w)))
+where_said means w p h =
+    where_is_its_conjuncts means p w
+    ∙ all_said means p (where_conjuncts w) (weaker (Kept means) (Said means p) (said means p) (where_conjuncts w) (all_kept means w h))
+    ∙ ap (λ b. (meets (conds_in means w) p && b)) (all_near p (top_tests w))
+
+-- of a query without chord tests
+pub where_without_chords : (means : Meaning) (q : Query) (p : Pick) → area_form q ≡ None → list_all (λ c. false) (chords_of q) ≡ true → where_holds means p q.cond ≡ meets (conds_in means q.cond) p
+where_without_chords means q p areas chords =
+    let none = no_chords (chords_of q) chords in
+    let good = tests_good q areas none.1 in
+    where_said means q.cond p good
+    ∙ ap (λ b. (meets (conds_in means q.cond) p && b)) (none_near p (flat_map chord_limit (top_tests q.cond)) (as_many_limits q good ∙ none.0))
+    ∙ sym (and_true (meets (conds_in means q.cond) p))
+
 query_holds : (names : List (List ℕ)) (q : Query) (p : Pick) → Faultless names q → where_holds (object_columns names q) p q.cond ≡ (meets (bound_query (scope_of names q) q).conds p && within_limit (bound_query (scope_of names q) q).shape p)
 unfolding bound_query
 query_holds names q p f =
-    where_is_its_conjuncts (object_columns names q) p q.cond
-    ∙ all_said (object_columns names q) p (where_conjuncts q.cond) (weaker (Kept (object_columns names q)) (Said (object_columns names q) p) (said (object_columns names q) p) (where_conjuncts q.cond) (all_kept (object_columns names q) q.cond (good_tests names q f)))
-    ∙ ap (λ b. (meets (conds_in (object_columns names q) q.cond) p && b)) (all_near p (top_tests q.cond) ∙ limit_said (scope_of names q) q p (is_join q) (is_grouped q) (limits_asked names q f))
+    where_said (object_columns names q) q.cond p (good_tests names q f)
+    ∙ ap (λ b. (meets (conds_in (object_columns names q) q.cond) p && b)) (limit_said (scope_of names q) q p (is_join q) (is_grouped q) (limits_asked names q f))
 
 pub where_holds_as_bound : WhereHoldsAsBound
 where_holds_as_bound names q b p h =

@@ -16,12 +16,12 @@ use Rattle.table_rules.specs.Names.{column_of}
 use Rattle.bind_rules.specs.Binding.{by_fault, bound_query, bound_of}
 use Rattle.bind_rules.specs.Bounds.{Scope}
 use Rattle.bind_rules.specs.Checks.{too_wide, too_wide_by, order_name, bind_fault, fault_by}
-use Rattle.bind_rules.specs.Columns.{tables, is_known, is_qualified_well}
+use Rattle.bind_rules.specs.Columns.{tables, is_qualified_well}
 use Rattle.bind_rules.specs.Forms.{join_form, area_form, bad_area, first_of, is_area_form, values_of}
 use Rattle.bind_rules.specs.Mentions.{Mention, Column, Table, Mentions, columns_of, mentioned, item_exprs, mentions_of_where, mentions_of}
-use Rattle.bind_rules.specs.Names.{known_names, is_unknown, span_of, unknown_by, unknown_name, not_grouped}
+use Rattle.bind_rules.specs.Names.{Known, known_names, is_unknown, span_of, unknown_by, unknown_name, not_grouped}
 use Rattle.bind_rules.specs.Tops.{Test, Area, Chord, Equals, Listed, Found, tests_in}
-use Rattle.bind_rules.specs.Widths.{column_size, is_too_wide, exprs_in, all_exprs}
+use Rattle.bind_rules.specs.Widths.{is_too_wide, exprs_in, all_exprs}
 use Rattle.bind_rules.proofs.Conds.{HasForm}
 use Rattle.bind_rules.proofs.Each.{front, back, both, weaker, in_parts, unmapped, none_found, none_passes}
 use Rattle.bind_rules.proofs.Exprs.{IsThere}
@@ -40,7 +40,7 @@ pub record Faultless (names : List (List ℕ)) (q : Query) : Type 0 where
 abbrev pub scope_of : List (List ℕ) → Query → Scope
 scope_of names q = record { names = names; second = q.second }
 
-or_none : (a b : Option BindFault) → option_or a b ≡ None → (a ≡ None) × (b ≡ None)
+pub or_none : (a b : Option BindFault) → option_or a b ≡ None → (a ≡ None) × (b ≡ None)
 or_none None b h = (refl, h)
 or_none (Some f) b h = absurd cc
 
@@ -54,7 +54,7 @@ faultless names q h =
     let e = or_none (too_wide names q) _ d.1 in
     record { unknown = a.0; grouped = b.0; join = c.0; area = d.0; wide = e.0; order = e.1 }
 
-ok_parts : (f : Option BindFault) (x b : Bound) → by_fault f x ≡ Ok b → (f ≡ None) × (x ≡ b)
+pub ok_parts : (f : Option BindFault) (x b : Bound) → by_fault f x ≡ Ok b → (f ≡ None) × (x ≡ b)
 ok_parts None x b h = (refl, cc)
 ok_parts (Some f) x b h = absurd cc
 
@@ -70,29 +70,29 @@ mapped_none f (Some x) h = absurd cc
 
 -- ---- names
 
-abbrev pub IsKnown : List (List ℕ) → Query → Mention → Type 0
-IsKnown names q m = is_unknown (known_names names q) m ≡ false
+abbrev pub IsKnown : Known → Mention → Type 0
+IsKnown known m = is_unknown known m ≡ false
 
-pub known : (names : List (List ℕ)) (q : Query) → Faultless names q → Each (IsKnown names q) (mentions_of q)
+abbrev pub IsKnownColumn : Known → Col → Type 0
+IsKnownColumn known c = known.column c ≡ true
+
+mentions_known : (known : Known) (q : Query) → unknown_by known q ≡ None → Each (IsKnown known) (mentions_of q)
 unfolding unknown_by
-known names q f = none_found (is_unknown (known_names names q)) (mentions_of q) (mapped_none (λ m. fault.UnknownName (span_of m)) (find (is_unknown (known_names names q)) (mentions_of q)) f.unknown)
+mentions_known known q h = none_found (is_unknown known) (mentions_of q) (mapped_none (λ m. fault.UnknownName (span_of m)) (find (is_unknown known) (mentions_of q)) h)
 
 not_false : (b : Bool) → not b ≡ false → b ≡ true
 not_false true h = refl
 not_false false h = absurd cc
 
-pub column_there : (names : List (List ℕ)) (q : Query) (c : Col) → IsKnown names q (Column c) → IsThere (scope_of names q) c
-column_there names q c h = (and_parts (is_qualified_well (tables q) c.table) (is_some (column_of names c.name.text)) (not_false (is_known names (tables q) c) h)).1
+columns_known : (known : Known) (cs : List Col) → Each (IsKnown known) (map Column cs) → Each (IsKnownColumn known) cs
+columns_known known cs h = weaker (λ c. IsKnown known (Column c)) (IsKnownColumn known) (λ c k. not_false (known.column c) k) cs (unmapped (IsKnown known) Column cs h)
 
-columns_there : (names : List (List ℕ)) (q : Query) (cs : List Col) → Each (IsKnown names q) (map Column cs) → Each (IsThere (scope_of names q)) cs
-columns_there names q cs h = weaker (λ c. IsKnown names q (Column c)) (IsThere (scope_of names q)) (column_there names q) cs (unmapped (IsKnown names q) Column cs h)
+expr_known : (known : Known) (e : Expr) → Each (IsKnown known) (mentioned e) → Each (IsKnownColumn known) (columns_of e)
+expr_known known e h = columns_known known (columns_of e) h
 
-expr_there : (names : List (List ℕ)) (q : Query) (e : Expr) → Each (IsKnown names q) (mentioned e) → Each (IsThere (scope_of names q)) (columns_of e)
-expr_there names q e h = columns_there names q (columns_of e) h
-
-where_there : (names : List (List ℕ)) (q : Query) (c : Option Cond) → Each (IsKnown names q) (mentions_of_where c) → Each (λ e. Each (IsKnown names q) (mentioned e)) (exprs_in c)
-where_there names q None h = tt
-where_there names q (Some c) h = of_exprs (IsKnown names q) c h
+where_known : (known : Known) (c : Option Cond) → Each (IsKnown known) (mentions_of_where c) → Each (λ e. Each (IsKnown known) (mentioned e)) (exprs_in c)
+where_known known None h = tt
+where_known known (Some c) h = of_exprs (IsKnown known) c h
 
 -- the parts of what a query mentions
 abbrev by_items : Query → Mentions
@@ -104,19 +104,34 @@ by_tables q = map (λ t. Table t.name) (tables q)
 abbrev by_where : Query → Mentions
 by_where q = mentions_of_where q.cond
 
+-- if no name is unknown, each column of each expression is known
+pub exprs_known : (known : Known) (q : Query) → unknown_by known q ≡ None → Each (λ e. Each (IsKnownColumn known) (columns_of e)) (all_exprs q)
+exprs_known known q h =
+    let first = front (IsKnown known) ((by_items q ++ by_tables q) ++ by_where q) (map Column q.group) (mentions_known known q h) in
+    let items = in_parts (IsKnown known) mentioned (item_exprs q) (front (IsKnown known) (by_items q) (by_tables q) (front (IsKnown known) (by_items q ++ by_tables q) (by_where q) first)) in
+    let tests = where_known known q.cond (back (IsKnown known) (by_items q ++ by_tables q) (by_where q) first) in
+    weaker (λ e. Each (IsKnown known) (mentioned e)) (λ e. Each (IsKnownColumn known) (columns_of e)) (expr_known known) (all_exprs q)
+    (both (λ e. Each (IsKnown known) (mentioned e)) (item_exprs q) (exprs_in q.cond) items tests)
+
+-- and each column of GROUP BY
+keys_known : (known : Known) (q : Query) → unknown_by known q ≡ None → Each (IsKnownColumn known) q.group
+keys_known known q h = columns_known known q.group (back (IsKnown known) ((by_items q ++ by_tables q) ++ by_where q) (map Column q.group) (mentions_known known q h))
+
+-- a known column of the object table is in its schema
+column_there : (names : List (List ℕ)) (q : Query) (c : Col) → IsKnownColumn (known_names names q) c → IsThere (scope_of names q) c
+column_there names q c h = (and_parts (is_qualified_well (tables q) c.table) (is_some (column_of names c.name.text)) h).1
+
+columns_there : (names : List (List ℕ)) (q : Query) (cs : List Col) → Each (IsKnownColumn (known_names names q)) cs → Each (IsThere (scope_of names q)) cs
+columns_there names q cs h = weaker (IsKnownColumn (known_names names q)) (IsThere (scope_of names q)) (column_there names q) cs h
+
 -- the schema has each column of each expression
 pub exprs_there : (names : List (List ℕ)) (q : Query) → Faultless names q → Each (λ e. Each (IsThere (scope_of names q)) (columns_of e)) (all_exprs q)
 exprs_there names q f =
-    let first = front (IsKnown names q) ((by_items q ++ by_tables q) ++ by_where q) (map Column q.group) (known names q f) in
-    let items = in_parts (IsKnown names q) mentioned (item_exprs q) (front (IsKnown names q) (by_items q) (by_tables q) (front (IsKnown names q) (by_items q ++ by_tables q) (by_where q) first)) in
-    let tests = where_there names q q.cond (back (IsKnown names q) (by_items q ++ by_tables q) (by_where q) first) in
-    weaker (λ e. Each (IsKnown names q) (mentioned e)) (λ e. Each (IsThere (scope_of names q)) (columns_of e)) (expr_there names q) (all_exprs q)
-    (both (λ e. Each (IsKnown names q) (mentioned e)) (item_exprs q) (exprs_in q.cond) items tests)
+    weaker (λ e. Each (IsKnownColumn (known_names names q)) (columns_of e)) (λ e. Each (IsThere (scope_of names q)) (columns_of e)) (λ e h. columns_there names q (columns_of e) h) (all_exprs q) (exprs_known (known_names names q) q f.unknown)
 
 -- and each column of GROUP BY
 pub keys_there : (names : List (List ℕ)) (q : Query) → Faultless names q → Each (IsThere (scope_of names q)) q.group
-keys_there names q f =
-    columns_there names q q.group (back (IsKnown names q) ((by_items q ++ by_tables q) ++ by_where q) (map Column q.group) (known names q f))
+keys_there names q f = columns_there names q q.group (keys_known (known_names names q) q f.unknown)
 
 -- ---- widths
 
@@ -125,9 +140,9 @@ if_none true x h = absurd cc
 if_none false x h = refl
 
 -- no expression is too wide
-pub narrow : (names : List (List ℕ)) (q : Query) → Faultless names q → Each (λ e. is_too_wide (column_size names) e ≡ false) (all_exprs q)
+pub narrow : (size : Col → ℕ) (q : Query) → too_wide_by size q ≡ None → Each (λ e. is_too_wide size e ≡ false) (all_exprs q)
 unfolding too_wide_by
-narrow names q f = none_passes (is_too_wide (column_size names)) (all_exprs q) (if_none (list_any (is_too_wide (column_size names)) (all_exprs q)) fault.TooWide f.wide)
+narrow size q h = none_passes (is_too_wide size) (all_exprs q) (if_none (list_any (is_too_wide size) (all_exprs q)) fault.TooWide h)
 
 -- ---- area tests
 
@@ -162,8 +177,8 @@ good_area (Chord left right strict n) top h = (tt, tt)
 good_area (Equals left right) top h = (tt, tt)
 good_area (Listed value list) top h = (tt, tt)
 
-pub good_areas : (names : List (List ℕ)) (q : Query) → Faultless names q → Each IsTopArea (tests_in q.cond)
+pub good_areas : (q : Query) → area_form q ≡ None → Each IsTopArea (tests_in q.cond)
 unfolding area_form
-good_areas names q f =
+good_areas q h =
     weaker (λ t. bad_area t.test t.top ≡ []) IsTopArea (λ t h. good_area t.test t.top h) (tests_in q.cond)
-    (all_empty (λ t. bad_area t.test t.top) (tests_in q.cond) (nothing_first fault.AreaForm (flat_map (λ t. bad_area t.test t.top) (tests_in q.cond)) f.area))
+    (all_empty (λ t. bad_area t.test t.top) (tests_in q.cond) (nothing_first fault.AreaForm (flat_map (λ t. bad_area t.test t.top) (tests_in q.cond)) h))

@@ -17,18 +17,18 @@ use Rattle.table_rules.specs.Names.{column_names, column_of}
 use Rattle.value_rules.specs.Sound.{columns_at, same_col, has_col, is_sound_at}
 use Rattle.value_rules.specs.Terms.{Column, term_of}
 use Rattle.value_rules.specs.Widths.{widest_at, most}
-use Rattle.bind_rules.specs.Bounds.{Scope, is_second, column_number, bound_col, bound_expr}
+use Rattle.bind_rules.specs.Bounds.{Meaning, Scope, is_second, column_number, bound_col, bound_expr, expr_by}
 use Rattle.bind_rules.specs.Columns.{is_same_column}
 use Rattle.bind_rules.specs.Mentions.{columns_of}
 use Rattle.bind_rules.specs.Widths.{column_size, width_of, is_too_wide}
 use Rattle.bind_rules.proofs.Each.{mapped, weaker, all_pass}
-use Rattle.bind_rules.proofs.Exprs.{IsThere, expr_agrees, there_sized}
+use Rattle.bind_rules.proofs.Exprs.{AreSized, IsThere, expr_agrees, there_sized}
 
 -- how many columns the schema has
 abbrev pub count : List (List ℕ) → ℕ
 count names = length (column_names names)
 
-below_true : (a b : ℕ) → a < b → nat_lt a b ≡ true
+pub below_true : (a b : ℕ) → a < b → nat_lt a b ≡ true
 below_true a b h = grind (arith, h)
 
 pub up_to_true : (a b : ℕ) → nat_lt a b ≡ false → nat_le b a ≡ true
@@ -41,7 +41,7 @@ position_below p xs d past (Some i) e h = below_true i (length xs) (position-Som
 pub there_below : (names : List (List ℕ)) (text : List ℕ) → is_some (column_of names text) ≡ true → nat_lt (column_number names text) (count names) ≡ true
 there_below names text h = position_below (bytes_eq text) (column_names names) [] _ (column_of names text) refl h
 
-or_second : (second : Bool) → (not second || true) ≡ true
+pub or_second : (second : Bool) → (not second || true) ≡ true
 or_second true = refl
 or_second false = refl
 
@@ -54,14 +54,19 @@ has_there names None c h = both_true _ _ (there_below names c.name.text h) refl
 has_there names (Some t) c h = both_true _ _ (there_below names c.name.text h) (or_second (is_second (Some t) c.table))
 
 -- an expression whose columns are there and which is not too wide is sound
+pub expr_sound_by : (means : Meaning) (size : Col → ℕ) (there : Col → Type 0) (allowed : BoundCol → Bool) → AreSized means size there → ((c : Col) → there c → allowed (means c) ≡ true) → (e : Expr) → Each there (columns_of e) → is_too_wide size e ≡ false → is_sound_at allowed (term_of (expr_by means e)) ≡ true
+expr_sound_by means size there allowed sized has e known narrow =
+    let agrees = expr_agrees means size there sized e in
+    let cols = mapped (λ x. allowed x ≡ true) means (columns_of e) (weaker there (λ c. allowed (means c) ≡ true) has (columns_of e) known) in
+    let cols' = subst (λ xs. Each (λ x. allowed x ≡ true) xs) (sym agrees.0) cols in
+    let wide : nat_le (widest_at (term_of (expr_by means e))) most ≡ true = subst (λ n. nat_le n most ≡ true) (sym (agrees.1 known).1) (up_to_true most (width_of size e).widest narrow) in
+    both_true _ _ (all_pass allowed (columns_at (term_of (expr_by means e))) cols') wide
+
+-- over the object table
 pub expr_sound : (names : List (List ℕ)) (o : Option TableRef) (e : Expr) → Each (IsThere (record { names = names; second = o })) (columns_of e) → is_too_wide (column_size names) e ≡ false → is_sound_at (has_col (count names) (is_some o)) (term_of (bound_expr (record { names = names; second = o }) e)) ≡ true
 expr_sound names o e there narrow =
     let s : Scope = record { names = names; second = o } in
-    let agrees = expr_agrees (bound_col s) (column_size s.names) (IsThere s) (there_sized s) e in
-    let cols = mapped (λ x. has_col (count names) (is_some o) x ≡ true) (bound_col s) (columns_of e) (weaker (IsThere s) (λ c. has_col (count names) (is_some o) (bound_col s c) ≡ true) (has_there names o) (columns_of e) there) in
-    let cols' = subst (λ xs. Each (λ x. has_col (count names) (is_some o) x ≡ true) xs) (sym agrees.0) cols in
-    let wide : nat_le (widest_at (term_of (bound_expr s e))) most ≡ true = subst (λ n. nat_le n most ≡ true) (sym (agrees.1 there).1) (up_to_true most (width_of (column_size names) e).widest narrow) in
-    both_true _ _ (all_pass (has_col (count names) (is_some o)) (columns_at (term_of (bound_expr s e))) cols') wide
+    expr_sound_by (bound_col s) (column_size names) (IsThere s) (has_col (count names) (is_some o)) (there_sized s) (has_there names o) e there narrow
 
 -- with other columns allowed, where it has those alone
 pub sound_of_cols : (s : Scope) (old new : BoundCol → Bool) (e : Expr) → is_sound_at old (term_of (bound_expr s e)) ≡ true → Each (λ c. new (bound_col s c) ≡ true) (columns_of e) → is_sound_at new (term_of (bound_expr s e)) ≡ true

@@ -35,7 +35,7 @@ use Rattle.bind_rules.proofs.Places.{count, has_there, expr_sound}
 pub exprs_sound : (names : List (List ℕ)) (q : Query) → Faultless names q → Each (IsSoundExpr (object_columns names q) (has_col (count names) (is_some q.second))) (all_exprs q)
 exprs_sound names q f =
     by_two (λ e. Each (IsThere (scope_of names q)) (columns_of e)) (λ e. is_too_wide (column_size names) e ≡ false) (IsSoundExpr (object_columns names q) (has_col (count names) (is_some q.second)))
-    (λ e there thin. expr_sound names q.second e there thin) (all_exprs q) (exprs_there names q f) (narrow names q f)
+    (λ e there thin. expr_sound names q.second e there thin) (all_exprs q) (exprs_there names q f) (narrow (column_size names) q f.wide)
 
 -- ---- the shape
 
@@ -50,15 +50,15 @@ pub if_no_fault : {X : Type 0} (b : Bool) (x : X) → (if b then None else Some 
 if_no_fault true x h = refl
 if_no_fault false x h = absurd cc
 
+pub not_true : (b : Bool) → not b ≡ true → b ≡ false
+not_true true h = absurd cc
+not_true false h = refl
+
 join_plain : (q : Query) (o : Option TableRef) → is_some o ≡ true → is_join_form q o ≡ true → is_grouped q ≡ false
 join_plain q None j h = absurd cc
 join_plain q (Some t) j h =
     let two = and_parts (pairs_both q.first.alias t.alias (chords_of q) && list_all (λ c. is_some c.table) (columns_in q)) (not (is_grouped q)) h in
     not_true (is_grouped q) two.1
-  where
-    not_true : (b : Bool) → not b ≡ true → b ≡ false
-    not_true true h = absurd cc
-    not_true false h = refl
 
 -- a join is no grouping
 pub join_is_plain : (names : List (List ℕ)) (q : Query) → Faultless names q → is_join q ≡ true → is_grouped q ≡ false

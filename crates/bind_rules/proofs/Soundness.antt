@@ -1,6 +1,6 @@
 -- A query that binds can be run.
 use Rattle.std.specs.Prelude.{option_to_list}
-use Rattle.std.proofs.Common.{◌≡◌, ℕ, ◌<◌, Bool, true, false, List, ◌∷◌, length, Option, Some, None, refl, sym, subst, arith, All}
+use Rattle.std.proofs.Common.{◌≡◌, ℕ, ◌<◌, Bool, true, false, List, ◌∷◌, map, length, Option, Some, None, refl, sym, subst, arith, All}
 use Rattle.std.specs.Prelude.{◌&&◌, ◌||◌, not, nat_lt, if◌then◌else◌}
 use Rattle.std.specs.List.{AllByRecursion as Each, flat_map, list_all, position}
 use Rattle.std.specs.Option.{is_some, option_map}
@@ -23,11 +23,11 @@ use Rattle.sql_tree.specs.Spans.{col_span}
 use Rattle.bind_rules.specs.declared.fault.BindFault.TheVariants as fault
 use Rattle.value_rules.specs.Sound.{has_col, is_paired, is_plain_col, is_sound_cond, is_sound_area, is_sound_order, is_sound_key, IsSound}
 use Rattle.bind_rules.specs.Areas.{area_test}
-use Rattle.bind_rules.specs.Binding.{bound_item, bound_items, bound_shape, key_by, bound_order, bound_query}
+use Rattle.bind_rules.specs.Binding.{item_by, bound_items, bound_shape, key_by, bound_order, bound_query}
 use Rattle.bind_rules.specs.Bounds.{Meaning, Scope, bound_col, object_columns}
 use Rattle.bind_rules.specs.Checks.{alias_place, is_named, is_sortable, order_by, order_fault}
 use Rattle.bind_rules.specs.Columns.{tables, is_join, is_known, is_qualified_well}
-use Rattle.bind_rules.specs.Forms.{values_of}
+use Rattle.bind_rules.specs.Forms.{area_form, values_of}
 use Rattle.bind_rules.specs.IdTests.{areas_by}
 use Rattle.bind_rules.specs.Laws.{HasCounts, BoundIsSound}
 use Rattle.bind_rules.specs.Mentions.{items_of, item_exprs}
@@ -41,7 +41,7 @@ use Rattle.bind_rules.proofs.Each.{back, weaker, of_parts, all_pass, IfThere}
 use Rattle.bind_rules.proofs.Exprs.{IsThere}
 use Rattle.bind_rules.proofs.Found.{tops_found}
 use Rattle.bind_rules.proofs.Faultless.{Faultless, scope_of, binds, good_areas, IsTopArea}
-use Rattle.bind_rules.proofs.Places.{count, has_there, key_there}
+use Rattle.bind_rules.proofs.Places.{below_true, count, has_there, key_there}
 use Rattle.table_rules.proofs.Catalogues.{accepted_is_catalogue}
 use Rattle.table_rules.specs.Objects.{Obj, IsRow}
 use Rattle.value_rules.specs.Ranges.{IsInRange}
@@ -54,10 +54,11 @@ use Rattle.bind_rules.proofs.Items.{items_sound}
 
 -- ---- conditions and areas
 
-forms : (q : Query) → Each IsTopArea (tests_in q.cond) → Each FoundForm (tests_in q.cond)
+pub forms : (q : Query) → Each IsTopArea (tests_in q.cond) → Each FoundForm (tests_in q.cond)
 forms q h = weaker IsTopArea FoundForm (λ t k. k.0) (tests_in q.cond) h
 
-where_sound : (means : Meaning) (allowed : BoundCol → Bool) (c : Option Cond) → Each (IsSoundExpr means allowed) (exprs_in c) → Each FoundForm (tests_in c) → list_all (is_sound_cond allowed) (conds_in means c) ≡ true
+-- the conditions of WHERE are sound, if its expressions and its area tests are
+pub where_sound : (means : Meaning) (allowed : BoundCol → Bool) (c : Option Cond) → Each (IsSoundExpr means allowed) (exprs_in c) → Each FoundForm (tests_in c) → list_all (is_sound_cond allowed) (conds_in means c) ≡ true
 where_sound means allowed None h k = refl
 where_sound means allowed (Some c) h k = all_pass (is_sound_cond allowed) (conds_in means (Some c)) (conjuncts_sound means allowed c h k)
 
@@ -70,7 +71,7 @@ conds_sound : (names : List (List ℕ)) (q : Query) → Faultless names q → li
 conds_sound names q f =
     let exprs = back (IsSoundExpr (object_columns names q) (has_col (count names) (is_some q.second))) (item_exprs q) (exprs_in q.cond) (exprs_sound names q f) in
     subst (λ b. list_all (is_sound_cond (has_col (count names) b)) (conds_in (object_columns names q) q.cond) ≡ true) (sym (over_pairs (scope_of names q) q (is_join q) (is_grouped q)))
-    (where_sound (object_columns names q) (has_col (count names) (is_some q.second)) q.cond exprs (forms q (good_areas names q f)))
+    (where_sound (object_columns names q) (has_col (count names) (is_some q.second)) q.cond exprs (forms q (good_areas q f.area)))
 
 listed_areas : (t : Option AreaTest) → IfThere IsSoundArea t → Each IsSoundArea (option_to_list t)
 listed_areas None h = tt
@@ -82,16 +83,14 @@ areas_of_test (Chord left right strict n) h = tt
 areas_of_test (Equals left right) h = tt
 areas_of_test (Listed value list) h = tt
 
-areas_sound : (names : List (List ℕ)) (q : Query) → Faultless names q → list_all is_sound_area (flat_map areas_by (top_tests q.cond)) ≡ true
-areas_sound names q f =
+-- the area tests at the top are sound, if each has its form
+pub areas_sound : (q : Query) → area_form q ≡ None → list_all is_sound_area (flat_map areas_by (top_tests q.cond)) ≡ true
+areas_sound q h =
     all_pass is_sound_area (flat_map areas_by (top_tests q.cond))
     (of_parts IsSoundArea areas_by (top_tests q.cond)
-    (weaker HasForm (λ t. Each IsSoundArea (areas_by t)) areas_of_test (top_tests q.cond) (tops_found HasForm q.cond (forms q (good_areas names q f)))))
+    (weaker HasForm (λ t. Each IsSoundArea (areas_by t)) areas_of_test (top_tests q.cond) (tops_found HasForm q.cond (forms q (good_areas q h)))))
 
 -- ---- the order
-
-below_true : (a b : ℕ) → a < b → nat_lt a b ≡ true
-below_true a b h = grind (arith, h)
 
 no_place : {X : Type 0} (x : X) → None ≡ Some x → ⊥
 no_place x h = cc
@@ -101,16 +100,24 @@ place_among : (b : Bool) (n : Name) (is : List Item) (place : ℕ) (d : Item) �
 place_among true n is place d h = absurd (no_place place h)
 place_among false n is place d h = (position-Some (λ i. is_named n i.alias) is place d h).0
 
-place_below : (s : Scope) (q : Query) (c : Col) (sel : Selection) (place : ℕ) → (if is_some c.table then None else position (λ i. is_named c.name i.alias) (items_of sel)) ≡ Some place → nat_lt place (length (bound_items s q sel)) ≡ true
-place_below s q c (selection.Star span) place h = absurd (none_of (is_some c.table) h)
+-- and so it is below the number of items that are bound one by one
+pub place_of_bound : (means : Meaning) (c : Col) (sel : Selection) (place : ℕ) → (if is_some c.table then None else position (λ i. is_named c.name i.alias) (items_of sel)) ≡ Some place → nat_lt place (length (map (λ i. item_by means i.what) (items_of sel))) ≡ true
+place_of_bound means c (selection.Star span) place h = absurd (none_of (is_some c.table) h)
   where
     none_of : {place : ℕ} (b : Bool) → (if b then None else None) ≡ Some place → ⊥
     none_of {place} true h = no_place place h
     none_of {place} false h = no_place place h
-place_below s q c (selection.List l) place h =
+place_of_bound means c (selection.List l) place h =
     let below = place_among (is_some c.table) c.name (l.first ∷ l.rest) place l.first h in
-    let same = length-map (l.first ∷ l.rest) (λ i. bound_item s i.what) in
-    below_true place (length (bound_items s q (selection.List l))) (rw same below)
+    let same = length-map (l.first ∷ l.rest) (λ i. item_by means i.what) in
+    below_true place (length (map (λ i. item_by means i.what) (l.first ∷ l.rest))) (rw same below)
+
+below_none : (place : ℕ) → nat_lt place 0 ≡ true → ⊥
+below_none place h = grind (arith, h)
+
+place_below : (s : Scope) (q : Query) (c : Col) (sel : Selection) (place : ℕ) → (if is_some c.table then None else position (λ i. is_named c.name i.alias) (items_of sel)) ≡ Some place → nat_lt place (length (bound_items s q sel)) ≡ true
+place_below s q c (selection.Star span) place h = absurd (below_none place (place_of_bound (bound_col s) c (selection.Star span) place h))
+place_below s q c (selection.List l) place h = place_of_bound (bound_col s) c (selection.List l) place h
 
 known_there : (names : List (List ℕ)) (q : Query) (c : Col) → is_known names (tables q) c ≡ true → IsThere (scope_of names q) c
 known_there names q c h = (and_parts (is_qualified_well (tables q) c.table) _ h).1
@@ -154,7 +161,7 @@ query_is_sound names q f h = record {
   shape = shape_sound names q f h (is_join q) (is_grouped q) refl;
   items = items_sound names q f;
   conds = conds_sound names q f;
-  areas = areas_sound names q f;
+  areas = areas_sound q f.area;
   order = order_is_sound names q f;
   limit = h.limit;
 }

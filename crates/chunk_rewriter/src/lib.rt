@@ -5,6 +5,7 @@
 //! their own, so that they outlive the query. Which chunks are scanned is not decided here.
 #![tactic(auto)]
 
+mod bound;
 mod cond;
 mod cut;
 mod expr;
@@ -12,5 +13,6 @@ mod items;
 mod order;
 mod query;
 
+pub use bound::copy_of_bound;
 pub use cut::rewrite;
 pub use query::copy_of;

@@ -19,7 +19,7 @@ one_chunk chunks chunk c f h true e =
 one_chunk chunks chunk c f h false e = refl
 
 -- a further chunk is none of the chunks
-apart : (chunks : List ℕ) (chunk : ℕ) → has chunks chunk ≡ false → AreDisjoint chunks (chunk ∷ [])
+pub apart : (chunks : List ℕ) (chunk : ℕ) → has chunks chunk ≡ false → AreDisjoint chunks (chunk ∷ [])
 apart chunks chunk f c h = one_chunk chunks chunk c f h (chunk == c) refl
 
 or_nothing : (a b : Bool) → (a || (b || false)) ≡ (a || b)
@@ -28,7 +28,7 @@ or_nothing false true = refl
 or_nothing false false = refl
 
 -- the chunks and the further one are all of them
-together : (chunks : List ℕ) (chunk : ℕ) (whole : List ℕ) → IsOneMore chunks chunk whole → AreSame (chunks ++ chunk ∷ []) whole
+pub together : (chunks : List ℕ) (chunk : ℕ) (whole : List ℕ) → IsOneMore chunks chunk whole → AreSame (chunks ++ chunk ∷ []) whole
 together chunks chunk whole m c =
     list_any-append (λ other. other == c) chunks (chunk ∷ []) ∙ or_nothing (has chunks c) (chunk == c) ∙ sym (one_more_has chunks chunk whole m c)
 

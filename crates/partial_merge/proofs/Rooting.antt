@@ -24,7 +24,8 @@ pub shown_long : {S X : Type 0} (entries : List (ℕ × S)) (value : S → X) (n
     → n ≡ length (shown entries value)
 shown_long {S} {X} entries value n is = is ∙ sym (length-map {B = ℕ × X} entries (λ (e : ℕ × S). (e.0, value e.1)))
 
-one_more : {X : Type 0} (P : X → Type 0) (xs : List X) (x : X) → All P xs → P x → All P (xs ++ x ∷ [])
+-- what is so of each element is so of one more
+pub one_more : {X : Type 0} (P : X → Type 0) (xs : List X) (x : X) → All P xs → P x → All P (xs ++ x ∷ [])
 one_more P xs x h k = All-from_recursion P (xs ++ x ∷ []) (each-append P xs (x ∷ []) (recursion_from_All P xs h) (k, tt))
 
 pub rooted : (b : Base) (q : ℕ) (query : ChunkQuery) → IsBase b → All (λ (e : ℕ × ChunkQuery). e.0 < q) b.queries → 1 ≤ q → q ≤ QUERY_MOST → IsSoundChunk (columns_in b) query → IsBase (with_query b q query)

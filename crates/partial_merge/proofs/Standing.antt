@@ -22,14 +22,15 @@ use Rattle.partial_merge.specs.declared.contents.Contents.{Contents}
 use Rattle.partial_merge.specs.declared.contents.Contents.TheVariants as contents
 use Rattle.partial_merge.specs.Groups.{Gathered, HaveWays, MayGather}
 use Rattle.partial_merge.specs.Contents.{IsCombined, MayCombine, rows_of, view_in}
-use Rattle.partial_merge.specs.Joining.{IsOfRows, Joins, MayFinish, MayJoin}
+use Rattle.partial_merge.specs.Joining.{AbsorbsRows, IsOfRows, Joins, MayAbsorbRows, MayFinish, MayJoin}
 
 pushed_by : (shape : Shape) (g : Partition) (table : List Obj) (cq : ChunkQuery) (B : List ℕ) (pushed : Option ℕ) (rows : List OutRow) → PieceBy shape g table cq B (OfRows pushed rows) → pushed ≡ limit_of cq.limit
 pushed_by Rows g table cq B pushed rows h = h.0
 pushed_by (Pairs limit) g table cq B pushed rows h = h.0
 pushed_by (Groups keys) g table cq B pushed rows h = absurd (cc h)
 
-pub same_some : (a b : ChunkQuery) (o : Option ChunkQuery) → o ≡ Some a → o ≡ Some b → a ≡ b
+-- an option has one value
+pub same_some : {X : Type 0} (a b : X) (o : Option X) → o ≡ Some a → o ≡ Some b → a ≡ b
 same_some a b o e f = cc (e, f)
 
 -- pieces of rows that may be joined have one limit
@@ -122,3 +123,16 @@ combined_joins (contents.Groups mine) (contents.Groups theirs) (contents.Groups 
 pub rows_apart : (merge : MergePlan) (view : PieceView) → IsOfRows view → MayFinish merge view → AreApart row_order (rows_of view)
 rows_apart merge (OfRows pushed rows) is m = may_finish_apart merge pushed rows m
 rows_apart merge (OfGroups gs) is m = absurd is
+
+-- pieces of rows with one limit may be combined
+pub may_combine_rows : (mine theirs : Contents) → MayAbsorbRows (view_in mine) (view_in theirs) → MayCombine mine theirs
+may_combine_rows (contents.Rows mine) (contents.Rows theirs) m = m
+may_combine_rows (contents.Rows mine) (contents.Groups theirs) m = absurd m
+may_combine_rows (contents.Groups mine) theirs m = absurd m
+
+-- what was combined are the rows of both
+pub combined_rows : (mine theirs new : Contents) → MayAbsorbRows (view_in mine) (view_in theirs) → IsCombined mine theirs new → AbsorbsRows (view_in mine) (view_in theirs) (view_in new)
+combined_rows (contents.Rows mine) (contents.Rows theirs) (contents.Rows new) m t = t
+combined_rows (contents.Rows mine) (contents.Rows theirs) (contents.Groups new) m t = absurd t
+combined_rows (contents.Rows mine) (contents.Groups theirs) new m t = absurd m
+combined_rows (contents.Groups mine) theirs new m t = absurd m

@@ -43,6 +43,18 @@ TakesRow (OfRows pushed rows) row (OfRows limit kept) =
     (limit ≡ pushed) × KeepsFirst row_order pushed (rows ++ row ∷ []) kept
 TakesRow old row new = ⊥
 
+-- both pieces are of rows, with one limit
+abbrev pub MayAbsorbRows : PieceView → PieceView → Type 0
+MayAbsorbRows (OfRows pushed rows) (OfRows limit others) = limit ≡ pushed
+MayAbsorbRows (OfRows pushed rows) (OfGroups parts) = ⊥
+MayAbsorbRows (OfGroups parts) other = ⊥
+
+-- the new piece keeps the first n of the rows of both, or all of them without a limit
+abbrev pub AbsorbsRows : PieceView → PieceView → PieceView → Type 0
+AbsorbsRows (OfRows pushed rows) (OfRows limit others) (OfRows now kept) =
+    (now ≡ pushed) × KeepsFirst row_order pushed (rows ++ others) kept
+AbsorbsRows old other new = ⊥
+
 -- a row with this sort key is none of the first n, whatever its values: a piece that is given it may stay as it is
 abbrev pub IsNoneOfFirst : PieceView → Rank → Type 0
 IsNoneOfFirst view rank = (values : List (Option ℤ)) → TakesRow view (out_row rank values) view

@@ -1,16 +1,18 @@
 //! What a piece contains: rows, or groups.
 
-ghost use Rattle.std.specs.Prelude.{◌≡◌, ◌≤◌, Err, IfErr, IfOk, Ok, OnErr, OnOk};
+ghost use Rattle.std.specs.Prelude.{◌≡◌, ◌≤◌, [], Err, IfErr, IfOk, Ok, OnErr, OnOk};
 ghost use Rattle.std.specs.Bool.{OnTrue};
+ghost use Rattle.answer_rules.specs.Keeps.{AreApart};
 ghost use Rattle.answer_rules.specs.PieceLaws.{empty_view};
+ghost use Rattle.answer_rules.specs.Ranks.{row_order};
 ghost use Rattle.answer_rules.specs.Rows.{limit_of};
-ghost use Rattle.partial_merge.specs.Contents.{IsCombined, MayCombine, view_in};
+ghost use Rattle.partial_merge.specs.Contents.{IsCombined, MayCombine, rows_of, view_in};
 ghost use Rattle.partial_merge.specs.Multisets.{out_row};
 ghost use Rattle.partial_merge.specs.Joining.{IsNoneOfFirst, IsOfRows, IsReportedLate, MayTakeGroup, TakesRow, with_group};
 ghost use Rattle.partial_merge.specs.Groups.{group_by};
 ghost use Rattle.partial_merge.specs.Sizes.{IsWithin, size_of};
 ghost use Rattle.answer_rules.specs.Finish.{finished};
-ghost use Rattle.answer_rules.specs.Pieces.{OfGroups};
+ghost use Rattle.answer_rules.specs.Pieces.{OfGroups, OfRows};
 ghost use Rattle.partial_merge.specs.Merging.{CanFinish, CanMerge};
 ghost use Rattle.sky_io.specs.Stops.{IfBad};
 
@@ -49,6 +51,13 @@ pub(crate) fn nothing(alloc: Global, query: &ChunkQuery) -> Contents
         Shape::Pairs { limit: _ } => Contents::Rows(Multiset::empty(alloc, limit(query.limit))),
         Shape::Groups { keys: _ } => Contents::Groups(AggregationTable::empty(alloc)),
     }
+}
+
+/// Creates an empty value of rows. Does not allocate.
+pub(crate) fn no_rows(alloc: Global, limit: Option<usize>) -> Contents
+    ensures { view_in result ≡ OfRows limit [] }
+{
+    Contents::Rows(Multiset::empty(alloc, limit))
 }
 
 /// Adds what another piece contains. After `Err` nothing has changed.
@@ -136,6 +145,22 @@ pub(crate) fn finish(
     match contents {
         Contents::Rows(multiset) => Ok(multiset.finish(alloc, merge)?),
         Contents::Groups(aggregation_table) => finish_groups(alloc, aggregation_table, merge),
+    }
+}
+
+/// Returns the table of rows, no two of which are equal in order.
+pub(crate) fn finish_rows(
+    alloc: Global,
+    contents: Contents,
+    merge: &MergePlan,
+) -> Result<Table, Memory>
+    requires rows { IsOfRows (view_in contents) }
+    requires apart { AreApart row_order (rows_of (view_in contents)) }
+    ensures { IfOk result (λ table. finished merge.now (view_in contents) ≡ Ok table) }
+{
+    match contents {
+        Contents::Rows(multiset) => multiset.finish(alloc, merge),
+        Contents::Groups(_) => unreachable!(),
     }
 }
 

@@ -7,20 +7,25 @@
 //! Callers see a piece as its rows with the limit of the chunk query, or as its groups (`PieceView`). `PieceFor`
 //! defines what a piece represents, and `absorb` preserves it for any two pieces.
 
-ghost use Rattle.std.specs.Prelude.{◌≡◌, ◌≤◌, Err, IfErr, IfOk, Ok, OnErr, OnOk};
+ghost use Rattle.std.specs.Prelude.{◌≡◌, ◌≤◌, [], Err, IfErr, IfOk, Ok, OnErr, OnOk};
 ghost use Rattle.std.specs.Bool.{OnTrue};
 ghost use Rattle.answer_rules.specs.Finish.{finished};
+ghost use Rattle.answer_rules.specs.Keeps.{AreApart};
 ghost use Rattle.answer_rules.specs.PieceLaws.{empty_view};
+ghost use Rattle.answer_rules.specs.Pieces.{OfRows};
+ghost use Rattle.answer_rules.specs.Ranks.{row_order};
 ghost use Rattle.answer_rules.specs.Rows.{limit_of};
+ghost use Rattle.partial_merge.specs.Contents.{rows_of};
 ghost use Rattle.partial_merge.specs.Multisets.{out_row};
-ghost use Rattle.partial_merge.specs.Joining.{IsNoneOfFirst, IsOfRows, IsReportedLate, Joins, MayFinish};
-ghost use Rattle.partial_merge.specs.Joining.{MayJoin, MayTakeGroup, TakesRow, with_group};
+ghost use Rattle.partial_merge.specs.Joining.{AbsorbsRows, IsNoneOfFirst, IsOfRows, IsReportedLate, Joins};
+ghost use Rattle.partial_merge.specs.Joining.{MayAbsorbRows, MayFinish, MayJoin, MayTakeGroup, TakesRow, with_group};
 ghost use Rattle.partial_merge.specs.Groups.{group_by};
 ghost use Rattle.partial_merge.specs.Sizes.{IsWithin, size_of};
 ghost use Rattle.sky_io.specs.Stops.{IfBad};
 
 use crate::contents::{
-    Contents, combine_contents, count, finish, is_too_late, nothing, push_group, push_row,
+    Contents, combine_contents, count, finish, finish_rows, is_too_late, no_rows, nothing,
+    push_group, push_row,
 };
 use crate::key::Key;
 use crate::rank::Rank;
@@ -59,6 +64,17 @@ impl<'w> Piece<'w> {
         Piece {
             alloc,
             contents: nothing(alloc, query),
+            of: PhantomData,
+        }
+    }
+
+    /// Creates a piece of rows that has none yet, and keeps the first n of them if there is a limit n. Does not allocate.
+    pub fn of_rows(alloc: Global, limit: Option<usize>) -> Piece<'w>
+        ensures { result ≡ OfRows limit [] }
+    {
+        Piece {
+            alloc,
+            contents: no_rows(alloc, limit),
             of: PhantomData,
         }
     }
@@ -115,6 +131,36 @@ impl<'w> Piece<'w> {
             of: _,
         } = other;
         combine_contents(&mut self.contents, contents)
+    }
+
+    /// Adds the rows of another piece of rows with the same limit: the first of both are kept. After `Err` this piece is
+    /// unchanged, and the other one is dropped.
+    pub fn absorb_rows(&mut self, other: Piece<'w>) -> Result<(), Memory>
+        requires { MayAbsorbRows self.old other }
+        ensures kept { OnOk result (AbsorbsRows self.old other.entry self.new) }
+        ensures same { OnErr result (self.new ≡ self.old) }
+    {
+        let Piece {
+            alloc: _,
+            contents,
+            of: _,
+        } = other;
+        combine_contents(&mut self.contents, contents)
+    }
+
+    /// Returns the table of rows, no two of which are equal in order: its rows in order, or the first of them if there
+    /// is a limit. Consumes the piece. Allocates memory for the table.
+    pub fn finish_rows(self, merge: &MergePlan) -> Result<Table, Memory>
+        requires rows { IsOfRows self }
+        requires apart { AreApart row_order (rows_of self) }
+        ensures { IfOk result (λ table. finished merge.now self.entry ≡ Ok table) }
+    {
+        let Piece {
+            alloc,
+            contents,
+            of: _,
+        } = self;
+        finish_rows(alloc, contents, merge)
     }
 
     /// Returns the answer: its rows in order, or the first of them if there is a limit. If totals are outside ±2^100,
