@@ -5,7 +5,7 @@ use Rattle.std.specs.List.{AllByRecursion as Each}
 use Rattle.std.specs.Ordering.{ordering_then}
 use Rattle.std.proofs.lemmas.Cmp.{tied_itself}
 use Rattle.std.proofs.lemmas.Int.{ints}
-use Rattle.std.proofs.lemmas.List.{append-nil}
+use Rattle.std.proofs.lemmas.List.{append-nil, length-append}
 use Rattle.std.proofs.lemmas.List.Elements.{All-from_recursion, recursion_from_All}
 use Rattle.std.proofs.lemmas.List.Sorted.{IsPermutation-middle, length_permutation}
 use Rattle.answer_rules.specs.declared.row.OutRow.{OutRow}
@@ -48,19 +48,11 @@ same_test p kept r x h k false e =
 
 one_left_out : {X : Type 0} (cmp : X → X → Ordering) → IsTotalOrder cmp → (limit : Option ℕ) (kept left_out : List X) (r : X) → IsPermutation (kept ++ r ∷ []) (left_out ++ kept) → Each (IsLate cmp limit kept) left_out → IsLate cmp limit kept r
 one_left_out cmp o limit kept [] r h k =
-    absurd (omega (arith, length_permutation _ _ h, length_more kept (r ∷ [])))
-  where
-    length_more : {X : Type 0} (xs ys : List X) → length (xs ++ ys) ≡ length xs + length ys
-    length_more [] ys = refl
-    length_more (x ∷ xs) ys = ap suc (length_more xs ys)
+    absurd (omega (arith, length_permutation _ _ h, length-append kept (r ∷ [])))
 one_left_out cmp o limit kept (x ∷ []) r h k =
     late_after cmp o limit kept r x (same_test (is_up_to cmp r) kept r x h (up_to_itself cmp o r) (is_up_to cmp r x) refl) k.0
 one_left_out cmp o limit kept (x ∷ (y ∷ rest)) r h k =
-    absurd (omega (arith, length_permutation _ _ h, length_more kept (r ∷ []), length_more rest kept))
-  where
-    length_more : {X : Type 0} (xs ys : List X) → length (xs ++ ys) ≡ length xs + length ys
-    length_more [] ys = refl
-    length_more (x ∷ xs) ys = ap suc (length_more xs ys)
+    absurd (omega (arith, length_permutation _ _ h, length-append kept (r ∷ []), length-append rest kept))
 
 -- one that may be left out is late
 late_from_kept : {X : Type 0} (cmp : X → X → Ordering) → IsTotalOrder cmp → (limit : Option ℕ) (kept : List X) (r : X) → KeepsFirst cmp limit (kept ++ r ∷ []) kept → IsLate cmp limit kept r
