@@ -26,6 +26,10 @@ keys_counted objects places order keys is =
         length-map (objects_at objects places) (λ r. value_of o.key (row r))
         ∙ length-map places (λ place. get_or objects place no_row)
 
+-- a piece of the rows at the first n places
+abbrev IsOfFirst : ChunkQuery → List Obj → List ℕ → PieceView → ℕ → Type 0
+IsOfFirst cq objects places view n = IsOfRowsOver cq (objects_at objects (take n places)) view
+
 -- one row is skipped
 skipped_one : (cq : ChunkQuery) (objects : List Obj) (places : List ℕ) (cutoff : Option ℤ) (view : PieceView) (j : ℕ) → j < length places
     → IsCutoff (chunk_down cq.order) view cutoff → is_beyond (chunk_down cq.order) cutoff (chunk_key cq.order (row (get_or objects (get_or places j 0) no_row))) ≡ true
@@ -41,11 +45,8 @@ pub rows_skipped : (cq : ChunkQuery) (objects : List Obj) (places : List ℕ) (d
     → ((j : ℕ) → from ≤ j → j < to → is_beyond down cutoff (key_in keys j) ≡ true)
     → IsOfRowsOver cq (objects_at objects (take from places)) view → IsOfRowsOver cq (objects_at objects (take to places)) view
 rows_skipped cq objects places down keys cutoff view from to order high turned known is beyond h =
-    subst IsOver (let e : from + (to - from) ≡ to = omega (arith, order) in e) (by_count (to - from) (omega (arith, order)))
+    subst (IsOfFirst cq objects places view) (let e : from + (to - from) ≡ to = omega (arith, order) in e) (by_count (to - from) (omega (arith, order)))
   where
-    abbrev IsOver : ℕ → Type 0
-    IsOver n = IsOfRowsOver cq (objects_at objects (take n places)) view
-
     key_beyond : (j : ℕ) → from ≤ j → j < to → is_beyond (chunk_down cq.order) cutoff (chunk_key cq.order (row (get_or objects (get_or places j 0) no_row))) ≡ true
     key_beyond j first low =
         let key : key_in keys j ≡ chunk_key cq.order (row (get_or objects (get_or places j 0) no_row)) =
@@ -53,9 +54,9 @@ rows_skipped cq objects places down keys cutoff view from to order high turned k
         subst (λ d. is_beyond d cutoff (chunk_key cq.order (row (get_or objects (get_or places j 0) no_row))) ≡ true) turned
         (subst (λ k. is_beyond down cutoff k ≡ true) key (beyond j first low))
 
-    by_count : (n : ℕ) → from + n ≤ to → IsOver (from + n)
-    by_count zero low = subst IsOver (let e : from ≡ from + 0 = omega arith in e) h
+    by_count : (n : ℕ) → from + n ≤ to → IsOfFirst cq objects places view (from + n)
+    by_count zero low = subst (IsOfFirst cq objects places view) (let e : from ≡ from + 0 = omega arith in e) h
     by_count (suc n) low =
-        subst IsOver (let e : (from + n) + 1 ≡ from + suc n = omega arith in e)
+        subst (IsOfFirst cq objects places view) (let e : (from + n) + 1 ≡ from + suc n = omega arith in e)
         (skipped_one cq objects places cutoff view (from + n) (omega (arith, low, high)) (subst (λ d. IsCutoff d view cutoff) turned is)
         (key_beyond (from + n) (omega arith) (omega (arith, low))) (by_count n (omega (arith, low))))

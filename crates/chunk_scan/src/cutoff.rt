@@ -11,14 +11,13 @@ ghost use Rattle.chunk_scan.specs.Cutoffs.{cutoff_after, is_beyond};
 use column_eval::ValueList;
 use sky_vector::Num;
 
-/// Returns the cutoff once a row with this order key was offered: the order key if the row came too late, unless it is
-/// NULL, or else the cutoff before. Does not allocate.
-pub(crate) fn cutoff_after(late: bool, cutoff: Option<Num>, key: Option<Num>) -> Option<Num>
-    ensures { result ≡ cutoff_after late cutoff key }
+/// Makes the order key of a row that was offered the cutoff if the row came too late, unless the key is NULL. Does not
+/// allocate.
+pub(crate) fn update(cutoff: &mut Option<Num>, late: bool, key: Option<Num>)
+    ensures { cutoff.new ≡ cutoff_after late cutoff.old key }
 {
-    match (late, key) {
-        (true, Some(n)) => Some(n),
-        _ => cutoff,
+    if let (true, Some(n)) = (late, key) {
+        *cutoff = Some(n);
     }
 }
 
@@ -27,7 +26,7 @@ pub(crate) fn cutoff_after(late: bool, cutoff: Option<Num>, key: Option<Num>) ->
 pub(crate) fn next_within(
     keys: &Option<ValueList<'_>>,
     down: bool,
-    cutoff: Option<Num>,
+    cutoff: &Option<Num>,
     from: usize,
     count: usize,
 ) -> usize
@@ -36,7 +35,7 @@ pub(crate) fn next_within(
     ensures order { from ≤ result }
     ensures most { result ≤ count }
     ensures beyond { (j : ℕ) → from ≤ j → j < result
-        → is_beyond down cutoff (key_in keys.now j) ≡ true }
+        → is_beyond down cutoff.now (key_in keys.now j) ≡ true }
 {
     match (keys, cutoff) {
         (Some(keys), Some(cutoff)) => first_within(keys, down, cutoff.get(), from),

@@ -16,7 +16,7 @@ ghost use Rattle.chunk_scan.specs.Lines.{IsOfRowsOver};
 ghost use Rattle.table_rules.specs.declared.limits.TheConstants.{FIRST_COLUMNS};
 
 use crate::columns::{key_at, rank_at};
-use crate::cutoff::{cutoff_after, next_within};
+use crate::cutoff::{next_within, update};
 use crate::line::{fill, is_down};
 use crate::place::row_at;
 use answer_rules::ChunkQuery;
@@ -61,8 +61,8 @@ pub(crate) fn first_rows<'w>(
     while i < places.len() {
         let rank = rank_at(down, keys, ids, places[i], i);
         let late = offer(&mut piece, &mut values, rows, own, query, &rank, places[i])?;
-        cutoff = cutoff_after(late, cutoff, key_at(keys, i));
-        i = next_within(keys, down, cutoff, i + 1, places.len());
+        update(&mut cutoff, late, key_at(keys, i));
+        i = next_within(keys, down, &cutoff, i + 1, places.len());
     }
     Ok(piece)
 }

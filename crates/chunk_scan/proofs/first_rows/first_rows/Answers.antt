@@ -30,8 +30,8 @@ key_at-requires c =
     (subst (λ (s : Shape). is_sound_chunk_order (4 + length c.args.rows.now.names) s c.args.query.now.order ≡ true) c.requires.shape c.requires.sound.order)
     c.len-count.ensures.rows c.requires.there c.loop-i-test.true c.requires.keys
 
-pub next_within-requires-clause-count : goal.next_within-requires-clause-count
-next_within-requires-clause-count c =
+pub next_within-i-requires-clause-count : goal.next_within-i-requires-clause-count
+next_within-i-requires-clause-count c =
     keys_counted c.args.block.now.objects c.args.places.now c.args.query.now.order c.args.keys.now c.requires.keys
 
 pub loop-i-preserved : goal.loop-i-preserved
@@ -45,15 +45,15 @@ loop-i-preserved c =
     let line = line_there cq objects places i c.is_down-down.result c.args.keys.now c.ids-ids.result.now c.rank_at-rank.result cells
     c.loop-i-test.true c.requires.there c.is_down-down.ensures c.requires.keys c.ids-ids.ensures c.rank_at-rank.ensures
     (ap (λ (l : List Obj). map (chunk_value (row (get_or l (get_or places i 0) no_row))) cq.items) (sym c.requires.objects)) in
-    let cutoff : IsCutoff c.is_down-down.result c.offer.new.piece c.cutoff_after-cutoff.result =
-    subst (IsCutoff c.is_down-down.result c.offer.new.piece) (sym c.cutoff_after-cutoff.ensures)
+    let cutoff : IsCutoff c.is_down-down.result c.offer.new.piece c.update.new.cutoff =
+    subst (IsCutoff c.is_down-down.result c.offer.new.piece) (sym c.update.ensures)
     (cutoff_next c.is_down-down.result c.loop-i.piece c.offer.new.piece (ranked c.rank_at-rank.result cells) c.loop-i.cutoff c.key_at.result id _ c.in_ok-offer.ensures.taken
     (λ late. subst (IsNoneOfFirst c.offer.new.piece) (c.rank_at-rank.ensures ∙ ap (λ key. rank_by c.is_down-down.result key id) (sym c.key_at.ensures)) (c.in_ok-offer.ensures.late late))
     c.loop-i.invariant.cutoff) in
     record {
       inside = c.next_within-i.ensures.most;
       piece =
-          rows_skipped cq objects places c.is_down-down.result c.args.keys.now c.cutoff_after-cutoff.result c.offer.new.piece (i + 1) c.next_within-i.result
+          rows_skipped cq objects places c.is_down-down.result c.args.keys.now c.update.new.cutoff c.offer.new.piece (i + 1) c.next_within-i.result
           c.next_within-i.ensures.order c.next_within-i.ensures.most c.is_down-down.ensures c.requires.keys cutoff c.next_within-i.ensures.beyond
           (rows_more cq objects places i (ranked c.rank_at-rank.result cells) c.loop-i.piece c.offer.new.piece c.loop-i-test.true line c.in_ok-offer.ensures.taken c.loop-i.invariant.piece);
       cutoff = cutoff;
