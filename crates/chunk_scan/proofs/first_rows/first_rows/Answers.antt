@@ -1,4 +1,4 @@
-use Rattle.std.proofs.Common.{◌≡◌, ◌∙◌, ◌+◌, ℤ, true, List, Option, ap, arith, get_or, length, map, pos, subst, sym}
+use Rattle.std.proofs.Common.{◌≡◌, ◌∙◌, ◌+◌, ℤ, true, List, Option, ap, get_or, length, map, pos, subst, sym}
 use Rattle.table_rules.specs.Objects.{Obj}
 use Rattle.sky_row.specs.Columns.{no_row, objects_at}
 use Rattle.sql_bound.specs.declared.query.Shape.{Shape}
@@ -7,10 +7,10 @@ use Rattle.answer_rules.specs.Pieces.{chunk_value}
 use Rattle.answer_rules.specs.SoundChunks.{is_sound_chunk_order}
 use Rattle.partial_merge.specs.Joining.{IsNoneOfFirst}
 use Rattle.partial_merge.specs.Multisets.{out_row as ranked}
-use Rattle.chunk_scan.specs.Computed.{key_in, rank_by}
+use Rattle.chunk_scan.specs.Computed.{rank_by}
 use Rattle.chunk_scan.specs.Cutoffs.{IsCutoff}
 use Rattle.chunk_scan.proofs.Computing.{keys_ready, line_there}
-use Rattle.chunk_scan.proofs.Cutoffs.{cutoff_next, cutoff_none}
+use Rattle.chunk_scan.proofs.Cutoffs.{cutoff_next}
 use Rattle.chunk_scan.proofs.Rows.{rows_more}
 use Rattle.chunk_scan.proofs.Skipping.{keys_counted, rows_skipped}
 use Rattle.chunk_scan.proofs.first_rows.first_rows.Goals as goal
@@ -47,14 +47,14 @@ loop-i-preserved c =
     (ap (λ (l : List Obj). map (chunk_value (row (get_or l (get_or places i 0) no_row))) cq.items) (sym c.requires.objects)) in
     let cutoff : IsCutoff c.is_down-down.result c.offer.new.piece c.update.new.cutoff =
     subst (IsCutoff c.is_down-down.result c.offer.new.piece) (sym c.update.ensures)
-    (cutoff_next c.is_down-down.result c.loop-i.piece c.offer.new.piece (ranked c.rank_at-rank.result cells) c.loop-i.cutoff c.key_at.result id _ c.in_ok-offer.ensures.taken
-    (λ late. subst (IsNoneOfFirst c.offer.new.piece) (c.rank_at-rank.ensures ∙ ap (λ key. rank_by c.is_down-down.result key id) (sym c.key_at.ensures)) (c.in_ok-offer.ensures.late late))
+    (cutoff_next c.is_down-down.result c.loop-i.piece c.offer.new.piece (ranked c.rank_at-rank.result cells) c.loop-i.cutoff c.key_at.result id _ c.in_ok-late.ensures.taken
+    (λ late. subst (IsNoneOfFirst c.offer.new.piece) (c.rank_at-rank.ensures ∙ ap (λ key. rank_by c.is_down-down.result key id) (sym c.key_at.ensures)) (c.in_ok-late.ensures.late late))
     c.loop-i.invariant.cutoff) in
     record {
       inside = c.next_within-i.ensures.most;
       piece =
           rows_skipped cq objects places c.is_down-down.result c.args.keys.now c.update.new.cutoff c.offer.new.piece (i + 1) c.next_within-i.result
           c.next_within-i.ensures.order c.next_within-i.ensures.most c.is_down-down.ensures c.requires.keys cutoff c.next_within-i.ensures.beyond
-          (rows_more cq objects places i (ranked c.rank_at-rank.result cells) c.loop-i.piece c.offer.new.piece c.loop-i-test.true line c.in_ok-offer.ensures.taken c.loop-i.invariant.piece);
+          (rows_more cq objects places i (ranked c.rank_at-rank.result cells) c.loop-i.piece c.offer.new.piece c.loop-i-test.true line c.in_ok-late.ensures.taken c.loop-i.invariant.piece);
       cutoff = cutoff;
     }
