@@ -1,7 +1,6 @@
 -- The tables and columns of a query over objects and their sources, and the columns of a pair that they refer to: the
--- first row of a pair is an object, the second a source of it. In the second row sourceId is the id, and the extra columns
--- begin at 4, as in each row. The objectId of a source is read from the object: on each pair the two are equal.
-use Rattle.std.specs.Prelude.{ℕ, ◌+◌, ◌==◌, nat_abs, Bool, true, false, ◌||◌, if◌then◌else◌, List, [], ◌∷◌, codes}
+-- first row of a pair is an object, the second a source of it.
+use Rattle.std.specs.Prelude.{ℕ, nat_abs, Bool, true, false, ◌||◌, if◌then◌else◌, List, [], ◌∷◌, codes}
 use Rattle.std.specs.Prelude.{Option, None, Some, unwrap_or}
 use Rattle.std.specs.Option.{is_some, option_map, option_or}
 use Rattle.std.specs.Str.{bytes_eq}
@@ -17,6 +16,7 @@ use Rattle.sql_bound.specs.declared.expr.BoundCol.{BoundCol}
 use Rattle.bind_rules.specs.Bounds.{Meaning}
 use Rattle.bind_rules.specs.Columns.{is_object_table, is_qualifier, qualifier, tables}
 use Rattle.bind_rules.specs.Names.{Known}
+use Rattle.child_rules.specs.Columns.{object_col, source_col}
 
 -- The names of the extra columns of both tables.
 pub record Schemas : Type 0 where
@@ -26,17 +26,6 @@ pub record Schemas : Type 0 where
 -- the name is that of the source table
 abbrev pub is_source_table : List ℕ → Bool
 is_source_table text = bytes_eq text (codes "Source")
-
--- the column of a pair that is the object's column with this number
-abbrev pub object_col : ℕ → BoundCol
-object_col k = record { second = false; col = k }
-
--- the column of a pair that is the source's column with this number
-abbrev pub source_col : ℕ → BoundCol
-source_col k =
-    if k == 0 then record { second = true; col = 0 }
-    else if k == 1 then object_col 0
-    else record { second = true; col = k + 2 }
 
 -- the column of the table with this name; a table that is neither of the two has no columns
 abbrev pub table_column : Schemas → List ℕ → List ℕ → Option BoundCol
