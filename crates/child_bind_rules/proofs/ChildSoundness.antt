@@ -1,5 +1,5 @@
 -- A query over objects and their sources that binds can be run over their pairs.
-use Rattle.std.proofs.Common.{◌≡◌, ℕ, pos, Bool, true, false, Option, Some, None, refl, subst}
+use Rattle.std.proofs.Common.{◌≡◌, ℕ, pos, Bool, true, false, Option, Some, None, refl}
 use Rattle.std.specs.Prelude.{◌&&◌, ◌||◌, not}
 use Rattle.std.specs.List.{AllByRecursion as Each, list_all}
 use Rattle.std.specs.Option.{is_some, option_map}
@@ -27,9 +27,9 @@ use Rattle.bind_rules.proofs.Places.{expr_sound_by}
 use Rattle.bind_rules.proofs.Shapes.{if_no_fault}
 use Rattle.bind_rules.proofs.Soundness.{areas_sound, forms, place_of_bound, where_sound}
 use Rattle.child_bind_rules.specs.ChildBinding.{child_items, child_query}
-use Rattle.child_bind_rules.specs.ChildLaws.{AreWithinLimits, ChildIsSound}
+use Rattle.child_bind_rules.specs.ChildLaws.{AreWithinLimits}
 use Rattle.child_bind_rules.specs.PairColumns.{Schemas, pair_columns, pair_names, pair_size}
-use Rattle.child_bind_rules.proofs.ChildFaultless.{Faultless, binds, formed}
+use Rattle.child_bind_rules.proofs.ChildFaultless.{Faultless, formed}
 use Rattle.child_bind_rules.proofs.PairCols.{known_of_row, known_sized}
 
 -- each expression of a query without a fault is sound over the widest pair
@@ -71,9 +71,9 @@ order_is_sound : (s : Schemas) (q : Query) → AreWithinLimits s → Faultless s
 unfolding order_by
 order_is_sound s q few f = order_sound s q q.order few f.order
 
--- ---- the law
+-- ---- the query
 
-query_is_sound : (s : Schemas) (q : Query) → AreWithinLimits s → Faultless s q → HasCounts q → IsSound 16 (child_query s q)
+pub query_is_sound : (s : Schemas) (q : Query) → AreWithinLimits s → Faultless s q → HasCounts q → IsSound 16 (child_query s q)
 unfolding child_query
 query_is_sound s q few f h =
     let exprs = exprs_sound s q few f in
@@ -85,7 +85,3 @@ query_is_sound s q few f h =
       order = order_is_sound s q few f;
       limit = h.limit;
     }
-
-pub child_is_sound : ChildIsSound
-child_is_sound s q b few h e =
-    let two = binds s q b e in subst (IsSound 16) two.1 (query_is_sound s q few two.0 h)

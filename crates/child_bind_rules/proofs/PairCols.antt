@@ -23,8 +23,8 @@ use Rattle.bind_rules.proofs.Faultless.{IsKnownColumn}
 use Rattle.bind_rules.proofs.Places.{below_true, both_true, or_second}
 use Rattle.child_bind_rules.specs.ChildLaws.{AreWithinLimits}
 use Rattle.child_bind_rules.specs.JoinCondition.{is_id_of, is_same_name}
-use Rattle.child_bind_rules.specs.PairColumns.{Schemas, column_by, is_source_table, may_be_of, no_column, pair_column, pair_columns, pair_names, pair_size, size_by, table_column}
 use Rattle.child_rules.specs.Columns.{object_col, source_col}
+use Rattle.child_bind_rules.specs.PairColumns.{Schemas, column_by, is_source_table, may_be_of, no_column, pair_column, pair_columns, pair_names, pair_size, size_by, table_column}
 
 -- ---- each column is one of a row
 

@@ -1,5 +1,5 @@
 -- The tables and columns of a query over objects and their sources, and the columns of a pair that they refer to: the
--- first row of a pair is an object, the second a source of it (`child_rules`).
+-- first row of a pair is an object, the second a source of it.
 use Rattle.std.specs.Prelude.{ℕ, nat_abs, Bool, true, false, ◌||◌, if◌then◌else◌, List, [], ◌∷◌, codes}
 use Rattle.std.specs.Prelude.{Option, None, Some, unwrap_or}
 use Rattle.std.specs.Option.{is_some, option_map, option_or}

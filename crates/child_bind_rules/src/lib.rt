@@ -4,11 +4,11 @@
 //! Callers see which column of a pair a name refers to (`specs/PairColumns.antt`), the form of the join
 //! (`specs/JoinCondition.antt`), the five checks and their order (`specs/ChildChecks.antt`), and the bound query
 //! (`specs/ChildBinding.antt`). The definitions are those of `bind_rules` over other names; the form of the join alone is
-//! another. The lemmas are that a bound query can be run, that its chunk tests are among its conditions, and that these
-//! are true of a pair exactly if the written WHERE is (`specs/ChildLaws.antt`).
+//! another. The lemmas are that a bound query can be run, and that its conditions are true of a pair exactly if the written
+//! WHERE is (`specs/ChildLaws.antt`).
 //!
-//! Below: `bind_rules` for binding, `source_rules` for the columns of sources, `value_rules` for well-formed queries. This
-//! crate has no algorithms: definitions, worked examples and lemmas.
+//! Below: `bind_rules` for binding, `child_rules` for the columns of a pair and for child queries that can be run, and
+//! `source_rules` for the columns of sources. This crate has no algorithms: definitions, worked examples and lemmas.
 #![tactic(auto)]
 
 pub mod examples;
