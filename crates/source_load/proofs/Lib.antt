@@ -1,0 +1,3 @@
+pub mod SourceFirsts
+pub mod SourceHeaders
+pub mod SourceOrders

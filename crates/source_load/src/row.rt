@@ -1,0 +1,102 @@
+//! A source from a record.
+//!
+//! The extra values of a record are read into a list that the caller reuses for the next one, and the ids are returned.
+//! What the list held before has no meaning.
+ghost use Rattle.std.specs.Prelude.{◌≡◌, ◌+◌, ◌≤◌, ◌≤ℤ◌, [], length, pos, Some, IfErr, IfOk, OnOk};
+ghost use Rattle.csv.specs.Records.{fields_of};
+ghost use Rattle.sky_io.specs.Stops.{IfBad};
+ghost use Rattle.table_rules.specs.Records.{faults_by_itself, number_in};
+ghost use Rattle.record_text.specs.Faults.{faults_from, first_of};
+ghost use Rattle.source_rules.specs.Sources.{IsSource};
+ghost use Rattle.source_rules.specs.SourceRecords.{source_form, source_of};
+ghost use Rattle.text_rules.specs.declared.limits.TheConstants.{TEXT_MOST};
+ghost use Rattle.table_rules.specs.declared.limits.TheConstants.{ID_MOST};
+ghost use Rattle.source_rules.specs.declared.limits.TheConstants.{SOURCE_COLUMNS_MOST, SOURCE_FIRST_COLUMNS};
+
+use crate::fields::read_ids;
+use csv::ByteRecord;
+use record_text::read_cells;
+use sky_io::Stop;
+use source_rules::limits::SOURCE_FIRST_COLUMNS;
+use table_rules::LoadFault;
+
+/// Returns the ids of a record with this number, and reads its extra values into `cells`, if the record has `width`
+/// fields, as the header has.
+pub(crate) fn read_source(
+    cells: &mut Vec<Option<i64>>,
+    width: usize,
+    row: u32,
+    fields: &ByteRecord,
+) -> Result<(i64, i64), Stop<LoadFault>>
+    requires two { SOURCE_FIRST_COLUMNS ≤ width }
+    requires few { width ≤ SOURCE_COLUMNS_MOST }
+    requires small { length (fields_of fields.now) ≤ TEXT_MOST + 1 }
+    ensures none { OnOk result (
+        faults_by_itself source_form width row (fields_of fields.now) ≡ []) }
+    ensures ok { IfOk result (λ ids. source_of (fields_of fields.now)
+        ≡ record { id = ids.0; object = ids.1; further = cells.new.items }) }
+    ensures limits { OnOk result (IsSource (source_of (fields_of fields.now))) }
+    ensures wide { OnOk result (SOURCE_FIRST_COLUMNS + length cells.new.items ≡ width) }
+    ensures bad { IfErr result (λ stop. IfBad stop (λ fault.
+        first_of (faults_by_itself source_form width row (fields_of fields.now)) ≡ Some fault)) }
+{
+    let count = fields.len();
+    if count != width {
+        return Err(Stop::Bad(LoadFault::FieldCount {
+            row,
+            count: count as u32,
+        }));
+    }
+    read_full_source(cells, row, fields)
+}
+
+/// Returns the ids of a record that has as many fields as the header, and reads its extra values into `cells`.
+#[tactic(auto, using(crate::proofs::SourceFirsts::own_none, crate::proofs::SourceFirsts::own_ids, crate::proofs::SourceFirsts::own_behind))]
+fn read_full_source(
+    cells: &mut Vec<Option<i64>>,
+    row: u32,
+    fields: &ByteRecord,
+) -> Result<(i64, i64), Stop<LoadFault>>
+    requires two { SOURCE_FIRST_COLUMNS ≤ length (fields_of fields.now) }
+    requires few { length (fields_of fields.now) ≤ SOURCE_COLUMNS_MOST }
+    ensures none { OnOk result (
+        faults_by_itself source_form (length (fields_of fields.now)) row (fields_of fields.now) ≡ []) }
+    ensures ok { IfOk result (λ ids. source_of (fields_of fields.now)
+        ≡ record { id = ids.0; object = ids.1; further = cells.new.items }) }
+    ensures limits { OnOk result (IsSource (source_of (fields_of fields.now))) }
+    ensures bad { IfErr result (λ stop. IfBad stop (λ fault. first_of
+        (faults_by_itself source_form (length (fields_of fields.now)) row (fields_of fields.now)) ≡ Some fault)) }
+{
+    match read_ids(row, fields) {
+        Ok((id, object)) => with_cells(cells, row, id, object, fields),
+        Err(fault) => Err(Stop::Bad(fault)),
+    }
+}
+
+/// Returns these ids of a record, and reads its extra values into `cells`.
+#[tactic(auto, using(crate::proofs::SourceFirsts::within_limits))]
+fn with_cells(
+    cells: &mut Vec<Option<i64>>,
+    row: u32,
+    id: i64,
+    object: i64,
+    fields: &ByteRecord,
+) -> Result<(i64, i64), Stop<LoadFault>>
+    requires two { SOURCE_FIRST_COLUMNS ≤ length (fields_of fields.now) }
+    requires few { length (fields_of fields.now) ≤ SOURCE_COLUMNS_MOST }
+    requires id { id ≡ number_in (fields_of fields.now) 0 }
+    requires object { object ≡ number_in (fields_of fields.now) 1 }
+    requires id_low { pos 0 ≤ℤ id }
+    requires id_high { id ≤ℤ pos ID_MOST }
+    requires object_low { pos 0 ≤ℤ object }
+    requires object_high { object ≤ℤ pos ID_MOST }
+    ensures cells { OnOk result (faults_from row SOURCE_FIRST_COLUMNS (fields_of fields.now) ≡ []) }
+    ensures ok { IfOk result (λ ids. source_of (fields_of fields.now)
+        ≡ record { id = ids.0; object = ids.1; further = cells.new.items }) }
+    ensures limits { OnOk result (IsSource (source_of (fields_of fields.now))) }
+    ensures bad { IfErr result (λ stop. IfBad stop (λ fault. first_of
+        (faults_from row SOURCE_FIRST_COLUMNS (fields_of fields.now)) ≡ Some fault)) }
+{
+    read_cells(cells, row, SOURCE_FIRST_COLUMNS, fields)?;
+    Ok((id, object))
+}

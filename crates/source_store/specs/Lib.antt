@@ -1,0 +1,3 @@
+pub mod Kept
+pub mod SourceLists
+pub mod ChunkColumns
