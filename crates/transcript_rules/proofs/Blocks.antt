@@ -86,7 +86,7 @@ one_explained_each g c s =
     as_many_by (explain_block g c) 1 (query_lines s) ∙ length-map (query_spans s.steps) (quoted s.text)
 
 -- ends that may be are as many as the queries
-as_many : (w : ℕ) (steps : List Step) (k : ℕ) (js : List Judged) (es : List EndKind)
+pub as_many : (w : ℕ) (steps : List Step) (k : ℕ) (js : List Judged) (es : List EndKind)
     → may_end_from w steps k js es ≡ true → length js ≡ length es
 as_many w steps k [] [] h = refl
 as_many w steps k [] (e ∷ es) h = absurd (cc h)
@@ -94,7 +94,7 @@ as_many w steps k (j ∷ js) [] h = absurd (cc h)
 as_many w steps k (j ∷ js) (e ∷ es) h = ap suc (as_many w steps (k + 1) js es (split_and _ _ h).1)
 
 -- and the one at a place may be
-may_at : (w : ℕ) (steps : List Step) (k i : ℕ) (js : List Judged) (es : List EndKind) (j : Judged) (e : EndKind)
+pub may_at : (w : ℕ) (steps : List Step) (k i : ℕ) (js : List Judged) (es : List EndKind) (j : Judged) (e : EndKind)
     → may_end_from w steps k js es ≡ true → slice_get js i ≡ Some j → slice_get es i ≡ Some e
     → may_end w steps (k + i) j e ≡ true
 may_at w steps k i [] es j e h judged ended = absurd (cc judged)

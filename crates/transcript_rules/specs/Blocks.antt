@@ -33,12 +33,17 @@ abbrev pub refused_lines : Bytes → Option Refusal → Bytes
 refused_lines text None = []
 refused_lines text (Some why) = refusal_line text why
 
+-- the lines of a query with the given end, if these are the lines of its answer and of its refusal
+abbrev pub lines_by : (answered refused : Bytes) → EndKind → Bytes
+lines_by answered refused Answered = answered
+lines_by answered refused Refused = refused
+lines_by answered refused Cancelled = line (codes "cancelled")
+lines_by answered refused Spent = line (codes "out of memory")
+
 -- the lines of a query with the given end
 abbrev pub end_lines : Partition → Catalogue → Bytes → EndKind → Bytes
-end_lines g c text Answered = answered_lines g c (understood c.names text)
-end_lines g c text Refused = refused_lines text (refusal_of g c text)
-end_lines g c text Cancelled = line (codes "cancelled")
-end_lines g c text Spent = line (codes "out of memory")
+end_lines g c text end =
+    lines_by (answered_lines g c (understood c.names text)) (refused_lines text (refusal_of g c text)) end
 
 -- the block of query k, which has this line and this end
 unfoldable pub block : Partition → Catalogue → ℕ → Bytes → EndKind → Bytes

@@ -24,10 +24,14 @@ abbrev pub with_bound : Query → Result Bound BindFault → Result Understood R
 with_bound q (Ok b) = Ok (record { tree = q; bound = b })
 with_bound q (Err fault) = Err (refusal.Bind fault)
 
+-- a tree with what this binding gives for it, or the fault of a text that has no tree
+abbrev pub with_tree_by : (Query → Result Bound BindFault) → Result Query SqlFault → Result Understood Refusal
+with_tree_by bind (Ok q) = with_bound q (bind q)
+with_tree_by bind (Err fault) = Err (refusal.Sql fault)
+
 -- a tree with its bound query over the schema of these extra columns, or the fault of a text that has no tree
 abbrev pub with_tree : List (List ℕ) → Result Query SqlFault → Result Understood Refusal
-with_tree names (Ok q) = with_bound q (bound_of names q)
-with_tree names (Err fault) = Err (refusal.Sql fault)
+with_tree names tree = with_tree_by (bound_of names) tree
 
 -- the tree and the bound query of a query's line over the schema of these extra columns, or why there are none
 unfoldable pub understood : List (List ℕ) → List ℕ → Result Understood Refusal
