@@ -74,7 +74,8 @@ value_there f objects places i low =
     get_or-map f (objects_at objects places) i no_row None (omega (arith, low, long objects places))
     ∙ ap f (get_or-map (λ place. get_or objects place no_row) places i 0 no_row low)
 
-key_there : (order : Option ChunkOrder) (objects : List Obj) (places : List ℕ) (i : ℕ) → i < length places
+-- the order key at an index
+pub key_there : (order : Option ChunkOrder) (objects : List Obj) (places : List ℕ) (i : ℕ) → i < length places
     → key_in (keys_on (objects_at objects places) order) i ≡ chunk_key order (row (get_or objects (get_or places i 0) no_row))
 key_there None objects places i low = refl
 key_there (Some order) objects places i low = value_there (λ o. value_of order.key (row o)) objects places i low

@@ -21,3 +21,5 @@ pub mod Dealing
 pub mod Prefetching
 pub mod IdRows
 pub mod IdTests
+pub mod Cutoffs
+pub mod Skipping

@@ -9,3 +9,4 @@ pub mod Words
 pub mod Dealt
 pub mod Prefetched
 pub mod Ids
+pub mod Cutoffs

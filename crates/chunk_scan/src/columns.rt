@@ -117,8 +117,8 @@ fn column<'a>(
     }
 }
 
-/// Returns the order key of the row at this index. Without an order all rows have the same one.
-fn key_at(keys: &Option<ValueList<'_>>, i: usize) -> Option<Num>
+/// Returns the order key of the row at this index. Without an order all rows have the same one. Does not allocate.
+pub(crate) fn key_at(keys: &Option<ValueList<'_>>, i: usize) -> Option<Num>
     requires { IsReady (i + 1) keys.now }
     ensures { result ≡ key_in keys.now i }
 {

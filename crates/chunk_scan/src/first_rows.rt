@@ -1,18 +1,22 @@
 //! The piece of a chunk query of rows with a LIMIT n: a row that comes after n others is skipped.
+//!
+//! A row is offered to the piece, which answers whether it came too late. The rows after it that are beyond the cutoff
+//! are then skipped by their order keys alone (`cutoff`).
 
-ghost use Rattle.std.specs.Prelude.{◌≡◌, ◌+◌, ◌<◌, All, IfOk, OnOk, get_or, length, map};
+ghost use Rattle.std.specs.Prelude.{◌≡◌, ◌+◌, ◌<◌, All, IfOk, OnOk, get_or, length, map, true};
 ghost use Rattle.sky_row.specs.Columns.{no_row, objects_at};
 ghost use Rattle.sql_bound.specs.declared.query.Shape.TheVariants.{Rows as OfRows};
 ghost use Rattle.value_rules.specs.Values.{row};
 ghost use Rattle.answer_rules.specs.Pieces.{chunk_value};
 ghost use Rattle.answer_rules.specs.SoundChunks.{IsSoundChunk};
 ghost use Rattle.partial_merge.specs.Multisets.{out_row};
-ghost use Rattle.partial_merge.specs.Joining.{IsOfRows, TakesRow};
+ghost use Rattle.partial_merge.specs.Joining.{IsNoneOfFirst, IsOfRows, TakesRow};
 ghost use Rattle.chunk_scan.specs.Computed.{keys_on};
 ghost use Rattle.chunk_scan.specs.Lines.{IsOfRowsOver};
 ghost use Rattle.table_rules.specs.declared.limits.TheConstants.{FIRST_COLUMNS};
 
-use crate::columns::rank_at;
+use crate::columns::{key_at, rank_at};
+use crate::cutoff::{next_within, update};
 use crate::line::{fill, is_down};
 use crate::place::row_at;
 use answer_rules::ChunkQuery;
@@ -52,15 +56,19 @@ pub(crate) fn first_rows<'w>(
     let down = is_down(&query.order);
     let mut piece = Piece::empty(alloc, query);
     let mut values = Vec::new(alloc);
-    for i in 0..places.len() {
+    let mut cutoff = None;
+    let mut i = 0usize;
+    while i < places.len() {
         let rank = rank_at(down, keys, ids, places[i], i);
-        offer(&mut piece, &mut values, rows, own, query, &rank, places[i])?;
+        let late = offer(&mut piece, &mut values, rows, own, query, &rank, places[i])?;
+        update(&mut cutoff, late, key_at(keys, i));
+        i = next_within(keys, down, &cutoff, i + 1, places.len());
     }
     Ok(piece)
 }
 
-/// Pushes the row with this number and this sort key into the piece, or skips it. `values` is a buffer that is reused
-/// for each row.
+/// Pushes the row with this number and this sort key into the piece, unless it comes too late. Returns whether it does,
+/// and only if it is none of the first n rows. `values` is a buffer that is reused for each row.
 fn offer(
     piece: &mut Piece<'_>,
     values: &mut Vec<Option<Num>>,
@@ -69,20 +77,22 @@ fn offer(
     query: &ChunkQuery,
     rank: &Rank,
     place: u32,
-) -> Result<(), Memory>
+) -> Result<bool, Memory>
     requires rows { IsOfRows piece.old }
     requires shape { query.now.shape ≡ OfRows }
     requires sound { IsSoundChunk (FIRST_COLUMNS + length rows.now.names) query.now }
     requires own { All (λ place. place < length rows.now.objects) own.now }
     requires there { place < length own.now }
-    ensures { OnOk result (TakesRow piece.old (out_row rank.now (map (chunk_value
+    ensures taken { OnOk result (TakesRow piece.old (out_row rank.now (map (chunk_value
         (row (get_or (objects_at rows.now.objects own.now) place no_row))) query.now.items))
         piece.new) }
+    ensures late { IfOk result (λ late. late ≡ true → IsNoneOfFirst piece.new rank.now) }
 {
     if piece.is_too_late(rank) {
-        return Ok(());
+        return Ok(true);
     }
-    push_one(piece, values, query, rank, &row_at(rows, own, place))
+    push_one(piece, values, query, rank, &row_at(rows, own, place))?;
+    Ok(false)
 }
 
 /// Pushes the row, which has this sort key, into the piece.

@@ -12,8 +12,9 @@
 //! the piece as one group (`group_piece`).
 //!
 //! For a query of rows the order keys are computed in the same way, and without a LIMIT also the values of the items.
-//! With a LIMIT n a row that comes after n others is skipped before its items are computed. What a scan needs beside
-//! its piece is in a `Scratch`, which its caller keeps for the next scan.
+//! With a LIMIT n a row that comes after n others is skipped before its items are computed, and the order key of such a
+//! row is the `cutoff`, by which most rows are skipped (`first_rows`). What a scan needs beside its piece is in a
+//! `Scratch`, which its caller keeps for the next scan.
 //!
 //! Below: `chunk_store` for the rows of a chunk and their columns, `lane_filter` and `column_eval` for what is computed
 //! a column at a time, `expr_eval` for the values of one row, and `partial_merge` for the piece. This crate has no
@@ -25,6 +26,7 @@ mod arguments;
 mod chunk;
 mod clustering;
 mod columns;
+mod cutoff;
 mod deal;
 mod first_rows;
 mod group_piece;

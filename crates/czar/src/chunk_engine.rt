@@ -13,6 +13,7 @@ use chunk_scan::{Scratch, scan};
 use chunk_store::Store;
 use near_join::join;
 use partial_merge::Piece;
+use scan_board::Task;
 use scan_worker::Engine;
 use sky_io::Memory;
 use sql_bound::Shape;
@@ -63,6 +64,12 @@ impl<'w, 's> Engine<Piece<'w>> for ChunkEngine<'w, 's> {
 
     fn scratch(&self) -> Scratch {
         Scratch::new(self.alloc)
+    }
+
+    fn list(&self, alloc: Global, task: &Task) -> Result<Vec<Option<Piece<'w>>>, Memory> {
+        let mut list = Vec::new(alloc);
+        list.reserve(task.queries().len())?;
+        Ok(list)
     }
 
     fn piece(&self, q: u32, chunk: u32, scratch: &mut Scratch) -> Result<Piece<'w>, Memory> {

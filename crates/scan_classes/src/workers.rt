@@ -6,6 +6,7 @@ ghost use Rattle.scan_core.specs.Answers.{IsLapped};
 ghost use Rattle.scan_core.specs.Boards.{IsLawful};
 ghost use Rattle.turn_lock.specs.Seats.{Knows};
 ghost use Rattle.scan_board.specs.Calls.{board_at};
+ghost use Rattle.scan_worker.specs.Missing.{LosesOnly, MayLose};
 ghost use Rattle.scan_worker.specs.Working.{AllDelivered, Worked};
 ghost use Rattle.scan_classes.specs.Pairs.{seat_at, turn_at};
 ghost use Rattle.scan_classes.specs.declared.class.Class.{Class};
@@ -39,6 +40,8 @@ pub fn class_worker<R: Wait, P: Work, E: Engine<P>, G: Gate>(
     ensures known { (class : Class) → Knows seat_of (seat_at result class) }
     ensures lawful { (class : Class) →
         IsLawful P.asks (board_at (seat_at pair class) (seat_at result class).seen) }
+    ensures lost { (class : Class) → LosesOnly (MayLose (E.refused engine.now) P.refuses)
+        (seat_at pair class).mine (seat_at result class).mine }
 {
     // the contract of `number` gives that both boards have one root
     let _number = pair.number();

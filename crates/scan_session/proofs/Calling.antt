@@ -8,7 +8,7 @@ use Rattle.turn_lock.specs.Seats.{Knows}
 use Rattle.turn_lock.proofs.PastLemmas.{fresh-append}
 use Rattle.scan_rules.specs.declared.journal_line.JournalLine.{JournalLine}
 use Rattle.scan_rules.specs.declared.journal_line.JournalLine.TheVariants.{Attach, Cancel, Collect}
-use Rattle.scan_rules.specs.Lines.{seat_of, attaches, has_ticket, delivers}
+use Rattle.scan_rules.specs.Lines.{seat_of, attaches, has_ticket, delivers, loses}
 use Rattle.scan_rules.specs.Queries.{Journal, QueryState, state_of, is_attached, is_collected, is_closed, is_running}
 use Rattle.scan_rules.specs.Runs.{IsRun}
 use Rattle.scan_rules.proofs.Runs.{follows_here, front_runs, wanted_stays}
@@ -21,7 +21,9 @@ use Rattle.session_script.specs.declared.step.Step.TheVariants.{Query, Cancel as
 use Rattle.session_rules.specs.Ends.{asks as is_query_of}
 use Rattle.sql_token.specs.declared.token.Span.{Span}
 use Rattle.scan_board.specs.Calls.{BoardSeat, board_at, Called}
+use Rattle.scan_worker.specs.Missing.{LosesOnly}
 use Rattle.scan_worker.specs.Working.{AllDelivered, Worked}
+use Rattle.scan_worker.proofs.Losing.{loses_on, loses_same}
 use Rattle.scan_session.specs.Plans.{Plans}
 use Rattle.scan_session.specs.Driven.{has_foreign, Driving, Going}
 use Rattle.scan_session.specs.Seats.{of_seat, IsCzar, Stays}
@@ -36,14 +38,22 @@ pub record Past (ring : ℕ) (seen past : Journal) : Type 0 where
   pub own : of_seat 0 past ≡ of_seat 0 seen
   pub run : IsRun ring past
 
--- a call that made no Take: at most one line
+-- a line that takes nothing and loses nothing
+pub record IsCalm (line : JournalLine) : Type 0 where
+  pub no_take : (t : ℕ) → has_ticket t line ≡ false
+  pub no_loss : (q : ℕ) → loses q line ≡ false
+
+-- a call that made no Take and lost nothing: at most one line
 abbrev pub AddsCalm : Journal → Journal → Type 0
-AddsCalm past seen = (seen ≡ past) ⊎ ((line : JournalLine) × ((t : ℕ) → has_ticket t line ≡ false) × (seen ≡ past ++ line ∷ []))
+AddsCalm past seen = (seen ≡ past) ⊎ ((line : JournalLine) × IsCalm line × (seen ≡ past ++ line ∷ []))
 
 deliver_more : (mine : Journal) (line : JournalLine) → ((t : ℕ) → has_ticket t line ≡ false) → AllDelivered mine → AllDelivered (mine ++ line ∷ [])
 deliver_more mine line none d = record {
   each = λ t h. any_stays (delivers t) mine (line ∷ []) (d.each t (sym (any_none (has_ticket t) mine line (none t)) ∙ h));
 }
+
+lose_no_more : (may : ℕ → Type 0) (mine : Journal) (line : JournalLine) → IsCalm line → LosesOnly may mine (mine ++ line ∷ [])
+lose_no_more may mine line calm = record { each = λ q l. inl (sym (any_none (loses q) mine line (calm.no_loss q)) ∙ l) }
 
 fresh_none : (past : Journal) → fresh past past ≡ []
 fresh_none past = ap (λ (l : Journal). fresh past l) (sym (append-nil past)) ∙ fresh-append past []
@@ -64,8 +74,8 @@ module _ {R : Type 0} (asks : R → ℕ → ℕ → Type 0) where
   }
 
   -- the czar's seat goes on by any call but a take
-  pub stays_called : {answers : _} (old new : BoardSeat R) → IsCzar asks old → (c : Called asks answers old new) → AddsCalm c.past new.seen → Stays asks old new
-  stays_called old new z c a =
+  pub stays_called : {may : ℕ → Type 0} {answers : _} (old new : BoardSeat R) → IsCzar asks old → (c : Called asks answers old new) → AddsCalm c.past new.seen → Stays asks may old new
+  stays_called {may} old new z c a =
       let root : new.root ≡ old.root = ap (λ (s : BoardSeat R). s.root) c.same in
       let mine : new.mine ≡ old.mine ++ fresh c.past new.seen = ap (λ (s : BoardSeat R). s.mine) c.same in
       let first : new.number ≡ 0 = ap (λ (s : BoardSeat R). s.number) c.same ∙ z.first in
@@ -84,9 +94,13 @@ module _ {R : Type 0} (asks : R → ℕ → ℕ → Type 0) where
           lawful = subst (λ r. IsLawful asks (record { root = r.root; ring = r.ring; past = new.seen })) (sym root) c.lawful;
           delivered = subst AllDelivered (sym mine) (⊎_elim
               (λ e. subst (λ (l : Journal). AllDelivered (old.mine ++ l)) (sym (ap (λ (l : Journal). fresh c.past l) e ∙ fresh_none c.past)) (subst AllDelivered (sym (append-nil old.mine)) z.delivered))
-              (λ m. subst (λ (l : Journal). AllDelivered (old.mine ++ l)) (sym (ap (λ (l : Journal). fresh c.past l) m.2 ∙ fresh-append c.past (m.0 ∷ []))) (deliver_more old.mine m.0 m.1 z.delivered))
+              (λ m. subst (λ (l : Journal). AllDelivered (old.mine ++ l)) (sym (ap (λ (l : Journal). fresh c.past l) m.2 ∙ fresh-append c.past (m.0 ∷ []))) (deliver_more old.mine m.0 m.1.no_take z.delivered))
               a);
         };
+        lost = subst (LosesOnly may old.mine) (sym mine) (⊎_elim
+            (λ e. loses_same may old.mine (old.mine ++ fresh c.past new.seen) (ap (λ (l : Journal). old.mine ++ l) (ap (λ (l : Journal). fresh c.past l) e ∙ fresh_none c.past) ∙ append-nil old.mine))
+            (λ m. subst (λ (l : Journal). LosesOnly may old.mine (old.mine ++ l)) (sym (ap (λ (l : Journal). fresh c.past l) m.2 ∙ fresh-append c.past (m.0 ∷ []))) (lose_no_more may old.mine m.0 m.1))
+            a);
       }
 
   module _ {Room : Type 0} (plan : Plans) (done : List Step) (ends : ℕ → Option QueryState) where
@@ -112,14 +126,14 @@ module _ {R : Type 0} (asks : R → ℕ → ℕ → Type 0) where
     after_attach old new q span chunks z c e p d =
         let here : new.seen ≡ c.past ++ Attach 0 q chunks ∷ [] = e ∙ ap (λ n. c.past ++ Attach n q chunks ∷ []) z.first in
         subst (λ (l : Journal). Going Room plan (done ++ Query q span ∷ []) l ends) (sym here)
-        (going_started plan done c.past ends q span chunks (subst (IsRun old.root.ring) here c.lawful.run.run) p (going_at_call old new z c (inr (Attach old.number q chunks, (λ t. refl), e)) d))
+        (going_started plan done c.past ends q span chunks (subst (IsRun old.root.ring) here c.lawful.run.run) p (going_at_call old new z c (inr (Attach old.number q chunks, record { no_take = λ t. refl; no_loss = λ p. refl }, e)) d))
 
     pub after_cancel : {answers : _} (old new : BoardSeat R) (q : ℕ) → IsCzar asks old → (c : Called asks answers old new) → new.seen ≡ c.past ++ Cancel old.number q ∷ [] → list_any (is_query_of q) done ≡ true → is_some (plan q) ≡ true
         → Going Room plan done old.seen ends → Going Room plan (done ++ CancelStep q ∷ []) new.seen ends
     after_cancel old new q z c e started k d =
         let here : new.seen ≡ c.past ++ Cancel 0 q ∷ [] = e ∙ ap (λ n. c.past ++ Cancel n q ∷ []) z.first in
         subst (λ (l : Journal). Going Room plan (done ++ CancelStep q ∷ []) l ends) (sym here)
-        (going_stopped plan done c.past ends q (subst (IsRun old.root.ring) here c.lawful.run.run) started k (going_at_call old new z c (inr (Cancel old.number q, (λ t. refl), e)) d))
+        (going_stopped plan done c.past ends q (subst (IsRun old.root.ring) here c.lawful.run.run) started k (going_at_call old new z c (inr (Cancel old.number q, record { no_take = λ t. refl; no_loss = λ p. refl }, e)) d))
 
     pub after_late : {answers : _} (old new : BoardSeat R) (q : ℕ) → IsCzar asks old → (c : Called asks answers old new) → new.seen ≡ c.past → is_running c.past q ≡ false → list_any (is_query_of q) done ≡ true
         → Going Room plan done old.seen ends → Going Room plan (done ++ CancelStep q ∷ []) new.seen ends
@@ -132,7 +146,7 @@ module _ {R : Type 0} (asks : R → ℕ → ℕ → Type 0) where
         let here : new.seen ≡ c.past ++ Collect 0 q ∷ [] = e ∙ ap (λ n. c.past ++ Collect n q ∷ []) z.first in
         subst (λ (l : Journal). Driving Room plan done l (with_end ends q (Some s))) (sym here)
         (subst (λ t. Driving Room plan done (c.past ++ Collect 0 q ∷ []) (with_end ends q (Some t))) is
-        (collected_now plan done c.past ends q (subst (IsRun old.root.ring) here c.lawful.run.run) (at_call old new z c (inr (Collect old.number q, (λ t. refl), e)) d)))
+        (collected_now plan done c.past ends q (subst (IsRun old.root.ring) here c.lawful.run.run) (at_call old new z c (inr (Collect old.number q, record { no_take = λ t. refl; no_loss = λ p. refl }, e)) d)))
 
     -- answers that cannot come, unless somebody else did what only the czar does
     pub odd_closed : {answers : _} (old new : BoardSeat R) → IsCzar asks old → (c : Called asks answers old new) → new.seen ≡ c.past → is_closed c.past ≡ true → Driving Room plan done old.seen ends → has_foreign new.seen ≡ true
@@ -160,8 +174,8 @@ module _ {R : Type 0} (asks : R → ℕ → ℕ → Type 0) where
         (λ g. carry plan done old.seen rest ends (subst (IsRun old.root.ring) whole lawful.run.run) (own_and_others old.seen rest w.more both w.work clean) (d (clean_front old.seen rest clean))) f
 
   -- the czar's seat goes on by work
-  pub stays_worked : (old new : BoardSeat R) → IsCzar asks old → Worked old new → Knows seat_of new → IsLawful asks (board_at old new.seen) → Stays asks old new
-  stays_worked old new z w knows lawful =
+  pub stays_worked : {may : ℕ → Type 0} (old new : BoardSeat R) → IsCzar asks old → Worked old new → Knows seat_of new → IsLawful asks (board_at old new.seen) → LosesOnly may old.mine new.mine → Stays asks may old new
+  stays_worked old new z w knows lawful lost =
       let root : new.root ≡ old.root = ap (λ (s : BoardSeat R). s.root) w.same in
       let first : new.number ≡ 0 = ap (λ (s : BoardSeat R). s.number) w.same ∙ z.first in
       record {
@@ -176,29 +190,31 @@ module _ {R : Type 0} (asks : R → ℕ → ℕ → Type 0) where
           lawful = subst (λ r. IsLawful asks (record { root = r.root; ring = r.ring; past = new.seen })) (sym root) lawful;
           delivered = w.delivered;
         };
+        lost = lost;
       }
 
-  pub stays_on : (a b c : BoardSeat R) → Stays asks a b → Stays asks b c → Stays asks a c
-  stays_on a b c s t = record {
+  pub stays_on : {may : ℕ → Type 0} (a b c : BoardSeat R) → Stays asks may a b → Stays asks may b c → Stays asks may a c
+  stays_on {may} a b c s t = record {
     later = (s.later.0 ++ t.later.0, sym (append_assoc a.seen s.later.0 t.later.0) ∙ (ap (λ (l : Journal). l ++ t.later.0) s.later.1 ∙ t.later.1));
     turn = t.turn ∙ s.turn;
     root = t.root ∙ s.root;
     ended = t.ended ∙ s.ended;
     made = t.made ∙ s.made;
     czar = t.czar;
+    lost = loses_on may a.mine b.mine c.mine s.lost t.lost;
   }
 
-  pub stays_here : (a : BoardSeat R) → IsCzar asks a → Stays asks a a
-  stays_here a z = record { later = ([], append-nil a.seen); turn = refl; root = refl; ended = refl; made = refl; czar = z }
+  pub stays_here : {may : ℕ → Type 0} (a : BoardSeat R) → IsCzar asks a → Stays asks may a a
+  stays_here {may} a z = record { later = ([], append-nil a.seen); turn = refl; root = refl; ended = refl; made = refl; czar = z; lost = loses_same may a.mine a.mine refl }
 
-  pub stays_none : {answers : _} (old new : BoardSeat R) → IsCzar asks old → (c : Called asks answers old new) → new.seen ≡ c.past → Stays asks old new
+  pub stays_none : {may : ℕ → Type 0} {answers : _} (old new : BoardSeat R) → IsCzar asks old → (c : Called asks answers old new) → new.seen ≡ c.past → Stays asks may old new
   stays_none old new z c e = stays_called old new z c (inl e)
 
-  pub stays_line : {answers : _} (old new : BoardSeat R) (line : JournalLine) → ((t : ℕ) → has_ticket t line ≡ false) → IsCzar asks old → (c : Called asks answers old new) → new.seen ≡ c.past ++ line ∷ [] → Stays asks old new
+  pub stays_line : {may : ℕ → Type 0} {answers : _} (old new : BoardSeat R) (line : JournalLine) → IsCalm line → IsCzar asks old → (c : Called asks answers old new) → new.seen ≡ c.past ++ line ∷ [] → Stays asks may old new
   stays_line old new line free z c e = stays_called old new z c (inr (line, free, e))
 
   -- a piece that was collected represents all chunks of its query
-  pub piece_whole : {P : Type 0} (stands : R → ℕ → List ℕ → P → Type 0) (q : ℕ) (piece : P) (old new : BoardSeat R) (c : Called asks (λ before after. AnswersCollect stands old.number before q (Piece piece) after) old new) → Stays asks old new → StandsWhole (stands new.root.root) new.seen q piece
+  pub piece_whole : {P : Type 0} {may : ℕ → Type 0} (stands : R → ℕ → List ℕ → P → Type 0) (q : ℕ) (piece : P) (old new : BoardSeat R) (c : Called asks (λ before after. AnswersCollect stands old.number before q (Piece piece) after) old new) → Stays asks may old new → StandsWhole (stands new.root.root) new.seen q piece
   piece_whole stands q piece old new c s =
       let line : JournalLine = Collect old.number q in
       let e : new.seen ≡ c.past ++ line ∷ [] = ap (λ (b : BoardState R). b.past) c.answer.0.line in

@@ -35,9 +35,9 @@ module _ {R : Type 0} (asks : R → ℕ → ℕ → Type 0) (old new : BoardSeat
       (cases_Bool (is_closed c.past))
 
   calm : (c : Called asks (AnswersClose old.number) old new) → AddsCalm c.past new.seen
-  calm c = ⊎_elim (λ l. inr (Close old.number, (λ t. refl), l)) (λ s. inl s.0) (close_adds c)
+  calm c = ⊎_elim (λ l. inr (Close old.number, record { no_take = λ t. refl; no_loss = λ q. refl }, l)) (λ s. inl s.0) (close_adds c)
 
-  pub stays_closed : IsCzar asks old → Called asks (AnswersClose old.number) old new → Stays asks old new
+  pub stays_closed : {may : ℕ → Type 0} → IsCzar asks old → Called asks (AnswersClose old.number) old new → Stays asks may old new
   stays_closed z c = stays_called asks old new z c (calm c)
 
   pub is_closed_now : Called asks (AnswersClose old.number) old new → is_closed new.seen ≡ true
@@ -61,12 +61,12 @@ module _ {R : Type 0} (asks : R → ℕ → ℕ → Type 0) (old new : BoardSeat
       (close_adds c)
 
 module _ {R L : Type 0} (asks : R → ℕ → ℕ → Type 0) (has : L → ℕ → Bool) (old new : L → BoardSeat R) (z : (p : L) → IsCzar asks (old p)) (called : (p : L) → Called asks (AnswersClose (old p).number) (old p) (new p)) where
-  pub stays_all : (p : L) → Stays asks (old p) (new p)
-  stays_all p = stays_closed asks (old p) (new p) (z p) (called p)
+  pub stays_all : (may : ℕ → Type 0) (p : L) → Stays asks may (old p) (new p)
+  stays_all may p = stays_closed asks (old p) (new p) (z p) (called p)
 
-  pub leaves_closed : (plan : Plans) (steps : List Step) (ends : ℕ → Option QueryState) (r : Outcome) → Goes (DrivingAll has plan steps old ends) old r → Leaves has plan steps new ends r
-  leaves_closed plan steps ends Memory g = g
-  leaves_closed plan steps ends Odd g = foreign_later old new (λ p. (stays_all p).later) g
-  leaves_closed plan steps ends Went g = λ clean p.
-      let room : AllRunAtOnce plan → HasRoom plan old = λ low. record { low = low; clean = clean_before old new (λ o. (stays_all o).later) clean } in
+  pub leaves_closed : (room : Type 0) (plan : Plans) (steps : List Step) (ends : ℕ → Option QueryState) (r : Outcome) → Goes (DrivingAll has plan steps old ends) room old r → Leaves has plan steps new ends r
+  leaves_closed room plan steps ends Memory g = tt
+  leaves_closed room plan steps ends Odd g = foreign_later old new (λ p. (stays_all (λ q. Unit {0}) p).later) g
+  leaves_closed room plan steps ends Went g = λ clean p.
+      let room : AllRunAtOnce plan → HasRoom plan old = λ low. record { low = low; clean = clean_before old new (λ o. (stays_all (λ q. Unit {0}) o).later) clean } in
       closed_at asks (old p) (new p) (only (has p) plan) steps (only (has p) ends) (z p) (called p) (λ f. driven_weaken (only (has p) plan) steps (old p).seen (only (has p) ends) room (g p f)) (clean.each p)

@@ -27,8 +27,8 @@ use Rattle.scan_session.proofs.Showing.{ends_are}
 pub script_of : (count : ℕ) (steps : List Step) → NumberedFrom 0 steps → count ≡ query_count steps → IsScript count steps
 script_of count steps numbered each = subst (λ n. IsScript n steps) (sym each) (numbered_is_script steps numbered)
 
-module _ {R L P : Type 0} (asks : R → ℕ → ℕ → Type 0) (stands : R → ℕ → List ℕ → P → Type 0) (workers : ℕ) (has : L → ℕ → Bool) (home : ℕ → L) (old new : L → BoardSeat R) (plans : List (Option (Planned P))) (first known : List (Option (End P))) (steps : List Step) (outcome : Outcome)
-    (numbered : NumberedFrom 0 steps) (each : length plans ≡ query_count steps) (len : length first ≡ length plans) (marks : MarksPlans plans first) (manned : (p : L) → MannedBy asks workers (old p) (new p)) (ran : Ran stands has home old new plans first known steps outcome) where
+module _ {R L P : Type 0} (asks : R → ℕ → ℕ → Type 0) (stands : R → ℕ → List ℕ → P → Type 0) (workers : ℕ) (may : ℕ → Type 0) (has : L → ℕ → Bool) (home : ℕ → L) (old new : L → BoardSeat R) (plans : List (Option (Planned P))) (first known : List (Option (End P))) (steps : List Step) (outcome : Outcome)
+    (numbered : NumberedFrom 0 steps) (each : length plans ≡ query_count steps) (len : length first ≡ length plans) (marks : MarksPlans plans first) (manned : (p : L) → MannedBy asks may workers (old p) (new p)) (ran : Ran stands has home old new plans first known steps outcome) where
   count : length known ≡ query_count steps
   count = ran.learns.more.len ∙ (len ∙ each)
 

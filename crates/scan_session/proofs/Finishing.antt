@@ -43,7 +43,7 @@ below_or : (m n : ℕ) → (m < n) ⊎ (n ≤ m)
 below_or m n = grind arith
 
 -- where no line carries a number from a bound on, all carry one below it
-all_low : (made : ℕ) (J : Journal) → ((n : ℕ) → made ≤ n → of_seat n J ≡ []) → list_all (λ l. nat_lt (seat_of l) made) J ≡ true
+pub all_low : (made : ℕ) (J : Journal) → ((n : ℕ) → made ≤ n → of_seat n J ≡ []) → list_all (λ l. nat_lt (seat_of l) made) J ≡ true
 all_low made [] above = refl
 all_low made (l ∷ J) above = ⊎_elim
     (λ low. and_from _ _ (lt-ltb (seat_of l) made low) (all_low made J (λ n h. rest_none n l J (above n h))))

@@ -15,3 +15,4 @@ pub mod Wanting
 pub mod Showing
 pub mod Fitting
 pub mod Ending
+mod Spending

@@ -158,16 +158,16 @@ module _ {P : Type 0} where
           whole = subst (λ r. stands r.root q (wanted b.seen q) piece) (sym (root (home q))) x.whole;
         }
 
-  pub whole_on : {R L : Type 0} (asks : R → ℕ → ℕ → Type 0) (stands : R → ℕ → List ℕ → P → Type 0) (home : ℕ → L) (old new : L → BoardSeat R) (ends : List (Option (End P)))
-      → ((p : L) → Stays asks (old p) (new p)) → AllStand stands home old ends → AllStand stands home new ends
+  pub whole_on : {R L : Type 0} {may : ℕ → Type 0} (asks : R → ℕ → ℕ → Type 0) (stands : R → ℕ → List ℕ → P → Type 0) (home : ℕ → L) (old new : L → BoardSeat R) (ends : List (Option (End P)))
+      → ((p : L) → Stays asks may (old p) (new p)) → AllStand stands home old ends → AllStand stands home new ends
   whole_on asks stands home old new ends s = pieces_on stands home old new ends (λ p. (s p).later) (λ p. (s p).root) (λ p. (s p).czar.lawful.run.run)
 
   pub learns_here : {R L : Type 0} {stands : R → ℕ → List ℕ → P → Type 0} {home : ℕ → L} {seats : L → BoardSeat R} (ends : List (Option (End P))) → Learns stands home seats seats ends ends
   learns_here ends = record { more = more_here ends; whole = λ w. w }
 
   -- where no end was learned
-  pub learns_none : {R L : Type 0} (asks : R → ℕ → ℕ → Type 0) (stands : R → ℕ → List ℕ → P → Type 0) (home : ℕ → L) (old new : L → BoardSeat R) (ends : List (Option (End P)))
-      → ((p : L) → Stays asks (old p) (new p)) → Learns stands home old new ends ends
+  pub learns_none : {R L : Type 0} {may : ℕ → Type 0} (asks : R → ℕ → ℕ → Type 0) (stands : R → ℕ → List ℕ → P → Type 0) (home : ℕ → L) (old new : L → BoardSeat R) (ends : List (Option (End P)))
+      → ((p : L) → Stays asks may (old p) (new p)) → Learns stands home old new ends ends
   learns_none asks stands home old new ends s = record { more = more_here ends; whole = whole_on asks stands home old new ends s }
 
   -- ends that were learned, and then more of them
@@ -204,13 +204,13 @@ module _ {P : Type 0} where
       (λ f. inl (ap is_some (else_is here plan q f)))
       (cases_Bool (here q))
 
-  pub goes_wait : {R L : Type 0} (has : L → ℕ → Bool) (plan : Plans) (done : List Step) (seats : L → BoardSeat R) (ends : List (Option (End P))) (q : ℕ) (r : Outcome) → list_any (is_query_of q) done ≡ true → (r ≡ Went → is_some (at_query ends q) ≡ true) → Marks plan ends
-      → Goes (DrivingAll has plan done seats (known_in ends)) seats r → Goes (GoingAll has plan (done ++ Wait q ∷ []) seats (known_in ends)) seats r
-  goes_wait has plan done seats ends q Went started known m d = λ p.
+  pub goes_wait : {R L : Type 0} (room : Type 0) (has : L → ℕ → Bool) (plan : Plans) (done : List Step) (seats : L → BoardSeat R) (ends : List (Option (End P))) (q : ℕ) (r : Outcome) → list_any (is_query_of q) done ≡ true → (r ≡ Went → is_some (at_query ends q) ≡ true) → Marks plan ends
+      → Goes (DrivingAll has plan done seats (known_in ends)) room seats r → Goes (GoingAll has plan (done ++ Wait q ∷ []) seats (known_in ends)) room seats r
+  goes_wait room has plan done seats ends q Went started known m d = λ p.
       going_waited (only (has p) plan) done (seats p).seen (only (has p) (known_in ends)) q
       (wait_known (only (has p) plan) done (seats p).seen (only (has p) (known_in ends)) q (known_at (has p) plan ends q (known refl) m) started (d p))
-  goes_wait has plan done seats ends q Odd started known m d = d
-  goes_wait has plan done seats ends q Memory started known m d = d
+  goes_wait room has plan done seats ends q Odd started known m d = d
+  goes_wait room has plan done seats ends q Memory started known m d = d
 
   -- the query of a query line: what is planned for it
   pub ready_none : (plan : Plans) (done : List Step) (plans : List (Option (Planned P))) (q : ℕ) → Ready plan done plans → list_any (is_query_of q) done ≡ false → at_query plans q ≡ None → plan q ≡ None
@@ -240,8 +240,8 @@ module _ {P : Type 0} where
     suit = λ p x at. f.suit p x (set_none plans q p x h low at);
   }
 
-  pub fit_on : {R L : Type 0} (stands : R → ℕ → List ℕ → P → Type 0) (asks : R → ℕ → ℕ → Type 0) (suits : ℕ → List ℕ → Type 0) (old new : L → BoardSeat R) (plans : List (Option (Planned P)))
-      → ((p : L) → Stays asks (old p) (new p)) → AllFit stands asks suits old plans → AllFit stands asks suits new plans
+  pub fit_on : {R L : Type 0} {may : ℕ → Type 0} (stands : R → ℕ → List ℕ → P → Type 0) (asks : R → ℕ → ℕ → Type 0) (suits : ℕ → List ℕ → Type 0) (old new : L → BoardSeat R) (plans : List (Option (Planned P)))
+      → ((p : L) → Stays asks may (old p) (new p)) → AllFit stands asks suits old plans → AllFit stands asks suits new plans
   fit_on stands asks suits old new plans s f = record {
     fit = λ p. subst (λ r. PlansFit stands asks r.ring r.root plans) (sym (s p).root) (f.fit p);
     suit = f.suit;

@@ -10,8 +10,8 @@ use Rattle.scan_session.specs.declared.end.Outcome.{Outcome}
 use Rattle.scan_session.proofs.Listing.{some_of}
 
 -- what a part leaves, where it is known how it ended
-pub goes_is : {R L : Type 0} (holds : Type 0) (seats : L → BoardSeat R) (r s : Outcome) → r ≡ s → Goes holds seats r → Goes holds seats s
-goes_is holds seats r s e a = subst (λ (t : Outcome). Goes holds seats t) e a
+pub goes_is : {R L : Type 0} (holds room : Type 0) (seats : L → BoardSeat R) (r s : Outcome) → r ≡ s → Goes holds room seats r → Goes holds room seats s
+goes_is holds room seats r s e a = subst (λ (t : Outcome). Goes holds room seats t) e a
 
 -- where the script is cut at a line
 pub cut_at : (steps : List Step) (i : ℕ) (d : Step) → i < length steps → steps ≡ take i steps ++ get_or steps i d ∷ drop (suc i) steps

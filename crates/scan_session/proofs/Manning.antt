@@ -12,6 +12,7 @@ use Rattle.scan_rules.specs.Queries.{Journal, QueryState, is_attached, is_closed
 use Rattle.scan_rules.proofs.Lists.{any_stays}
 use Rattle.scan_core.specs.Boards.{IsLawful}
 use Rattle.scan_board.specs.Calls.{BoardSeat, board_at}
+use Rattle.scan_worker.specs.Missing.{LosesOnly}
 use Rattle.scan_worker.specs.Working.{is_work, AllDelivered, Worked}
 use Rattle.session_script.specs.declared.step.Step.{Step}
 use Rattle.scan_session.specs.Plans.{AllRunAtOnce, Plans}
@@ -19,7 +20,7 @@ use Rattle.scan_session.specs.Driven.{Going}
 use Rattle.scan_session.specs.Seats.{of_seat, IsCzar, Stays}
 use Rattle.scan_session.specs.KnownEnds.{PlansFit}
 use Rattle.scan_session.specs.Places.{only, AreCzars, GoingAll, HasRoom, AllStand, AllFit}
-use Rattle.scan_session.specs.Crews.{Closed, Leaves, KeepsWork, Manned, MaySplit}
+use Rattle.scan_session.specs.Crews.{Closed, KeepsCauses, KeepsWork, Leaves, Manned, MannedBy, MaySplit}
 use Rattle.scan_session.specs.declared.end.End.{End}
 use Rattle.scan_session.specs.declared.end.Planned.{Planned}
 use Rattle.scan_session.specs.declared.end.Outcome.{Outcome}
@@ -48,7 +49,7 @@ nothing_delivered = record { each = λ t h. absurd (false≢true h) }
 
 module _ {R : Type 0} (asks : R → ℕ → ℕ → Type 0) where
   -- the czar alone
-  pub manned_alone : (old new : BoardSeat R) → Stays asks old new → is_closed new.seen ≡ true → Knows seat_of new → Manned asks old new
+  pub manned_alone : {may : ℕ → Type 0} (old new : BoardSeat R) → Stays asks may old new → is_closed new.seen ≡ true → Knows seat_of new → Manned asks old new
   manned_alone old new s c knows = record {
     first = s.czar.first;
     turn = s.turn;
@@ -114,6 +115,35 @@ module _ {R : Type 0} (asks : R → ℕ → ℕ → Type 0) where
       } where
         first_or_above : (m n : ℕ) → n ≤ m → (m ≡ n) ⊎ (n + 1 ≤ m)
         first_or_above m n h = grind (arith, h)
+
+  here_or_above : (m n : ℕ) → n ≤ m → (m ≡ n) ⊎ (n + 1 ≤ m)
+  here_or_above m n h = grind (arith, h)
+
+  -- what one worker more lost may be lost
+  pub causes_more : (may : ℕ → Type 0) (workers : ℕ) (old other mid work new : BoardSeat R) → other ≡ next_seat old → Worked other work → LosesOnly may other.mine work.mine
+      → MannedBy asks may workers (one_more_made old) mid → new ≡ joined_with mid work
+      → (n : ℕ) → old.made ≤ n → n < new.made → KeepsCauses may new.ended n
+  causes_more may workers old other mid work new o w lost m e n h low =
+      let made_new : new.made ≡ mid.made = ap (λ (s : BoardSeat R). s.made) e in
+      let ended_new : new.ended ≡ mid.ended ++ (work.number, work.mine) ∷ work.ended = ap (λ (s : BoardSeat R). s.ended) e in
+      let number : work.number ≡ old.made = ap (λ (s : BoardSeat R). s.number) w.same ∙ ap (λ (s : BoardSeat R). s.number) o in
+      subst (λ (l : List (ℕ × Journal)). KeepsCauses may l n) (sym ended_new) (⊎_elim
+      (λ same. record {
+        lines = work.mine;
+        kept = subst (λ z. Contains (mid.ended ++ (work.number, work.mine) ∷ work.ended) (z, work.mine)) (number ∙ sym same) (Contains-append_right mid.ended ((work.number, work.mine) ∷ work.ended) (work.number, work.mine) (0, omega arith, refl));
+        lost = subst (λ (l : Journal). LosesOnly may l work.mine) (ap (λ (s : BoardSeat R). s.mine) o) lost;
+      })
+      (λ above. let k = m.causes n above (omega (arith, low, made_new)) in
+      record {
+        lines = k.lines;
+        kept = Contains-append_left mid.ended ((work.number, work.mine) ∷ work.ended) (n, k.lines) k.kept;
+        lost = k.lost;
+      })
+      (here_or_above n old.made h))
+
+  -- and what the czar's participant lost, as a join adds no line to its own
+  pub lost_joined : (may : ℕ → Type 0) (old mid work new : BoardSeat R) → new ≡ joined_with mid work → LosesOnly may old.mine mid.mine → LosesOnly may old.mine new.mine
+  lost_joined may old mid work new e lost = subst (LosesOnly may old.mine) (sym (ap (λ (s : BoardSeat R). s.mine) e)) lost
 
   -- the czar's own lines are those that he made, before the join and after it
   pub own_same : (old new mid : BoardSeat R) → mid.number ≡ 0 → new.number ≡ 0 → new.mine ≡ mid.mine → Knows seat_of mid → Knows seat_of new → of_seat 0 new.seen ≡ of_seat 0 mid.seen

@@ -17,6 +17,7 @@ use Rattle.session_script.specs.declared.step.Step.{Step}
 use Rattle.session_script.specs.declared.step.Step.TheVariants.{Query, Cancel as CancelStep}
 use Rattle.session_rules.specs.Ends.{asks as is_query_of}
 use Rattle.sql_token.specs.declared.token.Span.{Span}
+use Rattle.scan_worker.specs.Missing.{LosesOnly}
 use Rattle.scan_worker.specs.Rounds.{Observed}
 use Rattle.scan_worker.specs.Working.{Worked}
 use Rattle.scan_session.specs.Plans.{Plans, AllRunAtOnce}
@@ -27,6 +28,10 @@ use Rattle.scan_session.specs.Places.{only, AreClean, AreCzars, HasRoom, Driving
 use Rattle.scan_session.proofs.Quiet.{not_full}
 use Rattle.scan_session.proofs.Keeping.{clean_front, going_refused, stopped_refused}
 use Rattle.scan_session.proofs.Calling.{after_attach, after_cancel, after_collect, after_late, after_none, after_work, going_at_call, stays_here, stays_line, stays_none, stays_on, stays_worked}
+
+-- a cause for which any query may be lost
+abbrev any_cause : ℕ → Type 0
+any_cause q = Unit {0}
 
 -- where the one premise gives the other
 pub driven_weaken : {Room Less : Type 0} (plan : Plans) (done : List Step) (S : Journal) (ends : ℕ → Option QueryState) → (Less → Room) → Driven Room plan done S ends → Driven Less plan done S ends
@@ -105,14 +110,14 @@ module _ {R L : Type 0} where
   refused_goes has plan done seats ends q span none g p = going_refused (only (has p) plan) done (seats p).seen (only (has p) ends) q span (only_none (has p q) (plan q) none) (g p)
 
   -- the czar's participants go on
-  pub czars_on : (asks : R → ℕ → ℕ → Type 0) (locks : L → TableId) (root : R) (old new : L → BoardSeat R) → AreCzars asks locks root old → ((p : L) → Stays asks (old p) (new p)) → AreCzars asks locks root new
+  pub czars_on : {may : ℕ → Type 0} (asks : R → ℕ → ℕ → Type 0) (locks : L → TableId) (root : R) (old new : L → BoardSeat R) → AreCzars asks locks root old → ((p : L) → Stays asks may (old p) (new p)) → AreCzars asks locks root new
   czars_on asks locks root old new z s = record {
     own = λ p. (s p).turn ∙ z.own p;
     czar = λ p. (s p).czar;
     engine = λ p. z.engine p ∙ sym (ap (λ r. r.root) (s p).root);
   }
 
-  pub all_stay : (asks : R → ℕ → ℕ → Type 0) (a b c : L → BoardSeat R) → ((p : L) → Stays asks (a p) (b p)) → ((p : L) → Stays asks (b p) (c p)) → (p : L) → Stays asks (a p) (c p)
+  pub all_stay : {may : ℕ → Type 0} (asks : R → ℕ → ℕ → Type 0) (a b c : L → BoardSeat R) → ((p : L) → Stays asks may (a p) (b p)) → ((p : L) → Stays asks may (b p) (c p)) → (p : L) → Stays asks may (a p) (c p)
   all_stay asks a b c s t p = stays_on asks (a p) (b p) (c p) (s p) (t p)
 
 module _ {R L : Type 0} (rootasks : R → ℕ → ℕ → Type 0) (has : L → ℕ → Bool) where
@@ -120,13 +125,13 @@ module _ {R L : Type 0} (rootasks : R → ℕ → ℕ → Type 0) (has : L → �
   module _ (q : ℕ) (ran : Bool) (old new : L → BoardSeat R) (z : (p : L) → IsCzar rootasks (old p))
       (called : (p : L) → has p q ≡ true → Called rootasks (λ before after. AnswersCancel (old p).number before q ran after) (old p) (new p))
       (others : (p : L) → has p q ≡ false → new p ≡ old p) where
-    pub cancel_stays : (p : L) → Stays rootasks (old p) (new p)
-    cancel_stays p = ⊎_elim
+    pub cancel_stays : (may : ℕ → Type 0) (p : L) → Stays rootasks may (old p) (new p)
+    cancel_stays may p = ⊎_elim
         (λ t. let c = called p t in ⊎_elim
-        (λ r. stays_line rootasks (old p) (new p) (CancelLine (old p).number q) (λ k. refl) (z p) c (ap (λ (b : BoardState R). b.past) (c.answer.line r)))
+        (λ r. stays_line rootasks (old p) (new p) (CancelLine (old p).number q) (record { no_take = λ t. refl; no_loss = λ k. refl }) (z p) c (ap (λ (b : BoardState R). b.past) (c.answer.line r)))
         (λ r. stays_none rootasks (old p) (new p) (z p) c (ap (λ (b : BoardState R). b.past) (c.answer.same r)))
         (cases_Bool ran))
-        (λ f. subst (Stays rootasks (old p)) (sym (others p f)) (stays_here rootasks (old p) (z p)))
+        (λ f. subst (Stays rootasks may (old p)) (sym (others p f)) (stays_here rootasks (old p) (z p)))
         (cases_Bool (has p q))
 
     pub cancel_goes : (plan : Plans) (done : List Step) (ends : ℕ → Option QueryState) → list_any (is_query_of q) done ≡ true → is_some (plan q) ≡ true
@@ -134,7 +139,7 @@ module _ {R L : Type 0} (rootasks : R → ℕ → ℕ → Type 0) (has : L → �
     cancel_goes plan done ends started k g p =
         let here = only (has p) plan in
         let known = only (has p) ends in
-        going_weaken here (done ++ CancelStep q ∷ []) (new p).seen known (room_before plan old new (λ o. (cancel_stays o).later))
+        going_weaken here (done ++ CancelStep q ∷ []) (new p).seen known (room_before plan old new (λ o. (cancel_stays any_cause o).later))
         (⊎_elim
         (λ t. let c = called p t in
         let some : is_some (here q) ≡ true = ap is_some (here_is (has p) plan q t) ∙ k in
@@ -150,10 +155,10 @@ module _ {R L : Type 0} (rootasks : R → ℕ → ℕ → Type 0) (has : L → �
   module _ {P : Type 0} (q : ℕ) (chunks : List ℕ) (empty : P) (old new : L → BoardSeat R) (z : (p : L) → IsCzar rootasks (old p))
       (others : (p : L) → has p q ≡ false → new p ≡ old p) where
     -- which made its line
-    pub attached_stays : ((p : L) → has p q ≡ true → Called rootasks (λ before after. AnswersAttach (old p).number before q chunks empty Attached after) (old p) (new p)) → (p : L) → Stays rootasks (old p) (new p)
-    attached_stays called p = ⊎_elim
-        (λ t. let c = called p t in stays_line rootasks (old p) (new p) (AttachLine (old p).number q chunks) (λ k. refl) (z p) c (ap (λ (b : BoardState R). b.past) c.answer.line))
-        (λ f. subst (Stays rootasks (old p)) (sym (others p f)) (stays_here rootasks (old p) (z p)))
+    pub attached_stays : (may : ℕ → Type 0) → ((p : L) → has p q ≡ true → Called rootasks (λ before after. AnswersAttach (old p).number before q chunks empty Attached after) (old p) (new p)) → (p : L) → Stays rootasks may (old p) (new p)
+    attached_stays may called p = ⊎_elim
+        (λ t. let c = called p t in stays_line rootasks (old p) (new p) (AttachLine (old p).number q chunks) (record { no_take = λ t. refl; no_loss = λ k. refl }) (z p) c (ap (λ (b : BoardState R). b.past) c.answer.line))
+        (λ f. subst (Stays rootasks may (old p)) (sym (others p f)) (stays_here rootasks (old p) (z p)))
         (cases_Bool (has p q))
 
     pub attached_goes : (called : (p : L) → has p q ≡ true → Called rootasks (λ before after. AnswersAttach (old p).number before q chunks empty Attached after) (old p) (new p))
@@ -162,7 +167,7 @@ module _ {R L : Type 0} (rootasks : R → ℕ → ℕ → Type 0) (has : L → �
     attached_goes called plan done ends span planned g p =
         let here = only (has p) plan in
         let known = only (has p) ends in
-        going_weaken here (done ++ Query q span ∷ []) (new p).seen known (room_before plan old new (λ o. (attached_stays called o).later))
+        going_weaken here (done ++ Query q span ∷ []) (new p).seen known (room_before plan old new (λ o. (attached_stays any_cause called o).later))
         (⊎_elim
         (λ t. let c = called p t in after_attach rootasks here done known (old p) (new p) q span chunks (z p) c (ap (λ (b : BoardState R). b.past) c.answer.line) (here_is (has p) plan q t ∙ planned) (g p))
         (λ f. subst (λ (s : BoardSeat R). Going (HasRoom plan old) here (done ++ Query q span ∷ []) s.seen known) (sym (others p f))
@@ -173,17 +178,17 @@ module _ {R L : Type 0} (rootasks : R → ℕ → ℕ → Type 0) (has : L → �
   module _ (q : ℕ) (old new : L → BoardSeat R) (z : (p : L) → IsCzar rootasks (old p)) (others : (p : L) → has p q ≡ false → new p ≡ old p)
       (answers : L → BoardState R → BoardState R → Type 0) (called : (p : L) → has p q ≡ true → Called rootasks (answers p) (old p) (new p))
       (same : (p : L) (t : has p q ≡ true) → (new p).seen ≡ (called p t).past) where
-    pub none_stays : (p : L) → Stays rootasks (old p) (new p)
-    none_stays p = ⊎_elim
+    pub none_stays : (may : ℕ → Type 0) (p : L) → Stays rootasks may (old p) (new p)
+    none_stays may p = ⊎_elim
         (λ t. stays_none rootasks (old p) (new p) (z p) (called p t) (same p t))
-        (λ f. subst (Stays rootasks (old p)) (sym (others p f)) (stays_here rootasks (old p) (z p)))
+        (λ f. subst (Stays rootasks may (old p)) (sym (others p f)) (stays_here rootasks (old p) (z p)))
         (cases_Bool (has p q))
 
     pub none_drives : (plan : Plans) (done : List Step) (ends : ℕ → Option QueryState) → DrivingAll has plan done old ends → DrivingAll has plan done new ends
     none_drives plan done ends d p f =
         let here = only (has p) plan in
         let known = only (has p) ends in
-        driven_weaken here done (new p).seen known (room_before plan old new (λ o. (none_stays o).later))
+        driven_weaken here done (new p).seen known (room_before plan old new (λ o. (none_stays any_cause o).later))
         (⊎_elim
         (λ (t : has p q ≡ true). after_none rootasks here done known (old p) (new p) (z p) (called p t) (same p t) (d p))
         (λ (t : has p q ≡ false). subst (λ (s : BoardSeat R). Driving (HasRoom plan old) here done s.seen known) (sym (others p t)) (d p))
@@ -193,7 +198,7 @@ module _ {R L : Type 0} (rootasks : R → ℕ → ℕ → Type 0) (has : L → �
     none_goes plan done ends g p =
         let here = only (has p) plan in
         let known = only (has p) ends in
-        going_weaken here done (new p).seen known (room_before plan old new (λ o. (none_stays o).later))
+        going_weaken here done (new p).seen known (room_before plan old new (λ o. (none_stays any_cause o).later))
         (⊎_elim
         (λ t. subst (λ (l : Journal). Going (HasRoom plan old) here done l known) (sym (same p t)) (going_at_call rootasks here done known (old p) (new p) (z p) (called p t) (inl (same p t)) (g p)))
         (λ f. subst (λ (s : BoardSeat R). Going (HasRoom plan old) here done s.seen known) (sym (others p f)) (g p))
@@ -203,10 +208,10 @@ module _ {R L : Type 0} (rootasks : R → ℕ → ℕ → Type 0) (has : L → �
   module _ (q : ℕ) (s : QueryState) (old new : L → BoardSeat R) (z : (p : L) → IsCzar rootasks (old p)) (others : (p : L) → has p q ≡ false → new p ≡ old p)
       (answers : L → BoardState R → BoardState R → Type 0) (called : (p : L) → has p q ≡ true → Called rootasks (answers p) (old p) (new p))
       (line : (p : L) (t : has p q ≡ true) → (new p).seen ≡ (called p t).past ++ CollectLine (old p).number q ∷ []) where
-    pub told_stays : (p : L) → Stays rootasks (old p) (new p)
-    told_stays p = ⊎_elim
-        (λ t. stays_line rootasks (old p) (new p) (CollectLine (old p).number q) (λ k. refl) (z p) (called p t) (line p t))
-        (λ f. subst (Stays rootasks (old p)) (sym (others p f)) (stays_here rootasks (old p) (z p)))
+    pub told_stays : (may : ℕ → Type 0) (p : L) → Stays rootasks may (old p) (new p)
+    told_stays may p = ⊎_elim
+        (λ t. stays_line rootasks (old p) (new p) (CollectLine (old p).number q) (record { no_take = λ t. refl; no_loss = λ k. refl }) (z p) (called p t) (line p t))
+        (λ f. subst (Stays rootasks may (old p)) (sym (others p f)) (stays_here rootasks (old p) (z p)))
         (cases_Bool (has p q))
 
     pub told_drives : ((p : L) (t : has p q ≡ true) → state_of (called p t).past q ≡ s) → (plan : Plans) (done : List Step) (ends : ℕ → Option QueryState)
@@ -214,7 +219,7 @@ module _ {R L : Type 0} (rootasks : R → ℕ → ℕ → Type 0) (has : L → �
     told_drives is plan done ends d p f =
         let here = only (has p) plan in
         let known = only (has p) ends in
-        driven_weaken here done (new p).seen (only (has p) (with_end ends q (Some s))) (room_before plan old new (λ o. (told_stays o).later))
+        driven_weaken here done (new p).seen (only (has p) (with_end ends q (Some s))) (room_before plan old new (λ o. (told_stays any_cause o).later))
         (⊎_elim
         (λ (t : has p q ≡ true). driven_ends here done (new p).seen (with_end known q (Some s)) (only (has p) (with_end ends q (Some s))) (with_here (has p) ends q s t)
         (after_collect rootasks here done known (old p) (new p) q s (z p) (called p t) (line p t) (is p t) (d p) f))
@@ -244,10 +249,11 @@ module _ {R L : Type 0} (rootasks : R → ℕ → ℕ → Type 0) (has : L → �
       omega (arith, full, few)
 
   -- the czar works for once, and others beside him
-  pub work_stays : (mid new : L → BoardSeat R) → ((p : L) → IsCzar rootasks (mid p)) → ((p : L) → Worked (mid p) (new p)) → ((p : L) → (new p ≡ mid p) ⊎ Observed rootasks (mid p) (new p)) → (p : L) → Stays rootasks (mid p) (new p)
-  work_stays mid new z w observed p = ⊎_elim
-      (λ e. subst (Stays rootasks (mid p)) (sym e) (stays_here rootasks (mid p) (z p)))
-      (λ t. stays_worked rootasks (mid p) (new p) (z p) (w p) t.known t.lawful)
+  pub work_stays : {may : ℕ → Type 0} (mid new : L → BoardSeat R) → ((p : L) → IsCzar rootasks (mid p)) → ((p : L) → Worked (mid p) (new p)) → ((p : L) → (new p ≡ mid p) ⊎ Observed rootasks (mid p) (new p))
+      → ((p : L) → LosesOnly may (mid p).mine (new p).mine) → (p : L) → Stays rootasks may (mid p) (new p)
+  work_stays {may} mid new z w observed lost p = ⊎_elim
+      (λ e. subst (Stays rootasks may (mid p)) (sym e) (stays_here rootasks (mid p) (z p)))
+      (λ t. stays_worked rootasks (mid p) (new p) (z p) (w p) t.known t.lawful (lost p))
       (observed p)
 
   pub work_drives : (plan : Plans) (done : List Step) (ends : ℕ → Option QueryState) (mid new : L → BoardSeat R) → ((p : L) → IsCzar rootasks (mid p)) → ((p : L) → Worked (mid p) (new p)) → ((p : L) → (new p ≡ mid p) ⊎ Observed rootasks (mid p) (new p))
@@ -255,7 +261,7 @@ module _ {R L : Type 0} (rootasks : R → ℕ → ℕ → Type 0) (has : L → �
   work_drives plan done ends mid new z w observed d p f =
       let here = only (has p) plan in
       let known = only (has p) ends in
-      driven_weaken here done (new p).seen known (room_before plan mid new (λ o. (work_stays mid new z w observed o).later))
+      driven_weaken here done (new p).seen known (room_before plan mid new (λ o. (w o).later))
       (⊎_elim
       (λ (e : new p ≡ mid p). subst (λ (s : BoardSeat R). Driving (HasRoom plan mid) here done s.seen known) (sym e) (d p))
       (λ (t : Observed rootasks (mid p) (new p)). after_work rootasks here done known (mid p) (new p) (z p) (w p) t.known t.lawful (d p))
@@ -268,5 +274,5 @@ module _ {R L : Type 0} (rootasks : R → ℕ → ℕ → Type 0) (has : L → �
       → GoingAll has plan done mid ends → GoingAll has plan done new ends
   full_goes plan done ends mid new home q t z full free from k w observed g p = record {
     drives = work_drives plan done ends mid new z w observed (λ o. (g o).drives) p;
-    calm = λ alone room. absurd (no_room plan done ends mid home q t z full free from k g (room_before plan mid new (λ o. (work_stays mid new z w observed o).later) room));
+    calm = λ alone room. absurd (no_room plan done ends mid home q t z full free from k g (room_before plan mid new (λ o. (w o).later) room));
   }

@@ -9,6 +9,7 @@ use Rattle.scan_rules.specs.Queries.{Journal, QueryState, state_of, is_attached,
 use Rattle.scan_core.specs.Boards.{IsLawful}
 use Rattle.turn_lock.specs.Seats.{Knows}
 use Rattle.scan_board.specs.Calls.{BoardSeat, board_at}
+use Rattle.scan_worker.specs.Missing.{LosesOnly}
 use Rattle.scan_worker.specs.Working.{is_work, AllDelivered, Worked}
 use Rattle.session_script.specs.declared.step.Step.{Step}
 use Rattle.scan_session.specs.Plans.{Plans, AllRunAtOnce}
@@ -55,10 +56,18 @@ pub record Manned {R : Type 0} (asks : R → ℕ → ℕ → Type 0) (old new : 
   pub closed : is_closed new.seen ≡ true
   pub crew : (n : ℕ) → old.made ≤ n → n < new.made → KeepsWork new.ended n
 
--- and for each worker one participant more of the board was made
-pub record MannedBy {R : Type 0} (asks : R → ℕ → ℕ → Type 0) (workers : ℕ) (old new : BoardSeat R) : Type 0 where
+-- a participant that was joined: the lines that it made lose only queries that may be lost
+pub record KeepsCauses (may : ℕ → Type 0) (ended : List (ℕ × Journal)) (number : ℕ) : Type 0 where
+  pub lines : Journal
+  pub kept : Contains ended (number, lines)
+  pub lost : LosesOnly may [] lines
+
+-- For each worker one participant more of the board was made. What the czar's and those participants lost may be lost.
+pub record MannedBy {R : Type 0} (asks : R → ℕ → ℕ → Type 0) (may : ℕ → Type 0) (workers : ℕ) (old new : BoardSeat R) : Type 0 where
   pub manned : Manned asks old new
   pub made : new.made ≡ old.made + workers
+  pub lost : LosesOnly may old.mine new.mine
+  pub causes : (n : ℕ) → old.made ≤ n → n < new.made → KeepsCauses may new.ended n
 
 -- one participant more of the board can be made for each worker: its number is not 0, and fits in 32 bits
 pub record MaySplit {R : Type 0} (workers : ℕ) (seat : BoardSeat R) : Type 0 where
@@ -73,8 +82,9 @@ pub record AreWorkers {R L : Type 0} (locks : L → TableId) (root : R) (seats :
   pub delivered : (p : L) → AllDelivered (seats p).mine
 
 -- a worker's participant of a board, once the worker has ended
-pub record Served {R : Type 0} (asks : R → ℕ → ℕ → Type 0) (old new : BoardSeat R) : Type 0 where
+pub record Served {R : Type 0} (asks : R → ℕ → ℕ → Type 0) (may : ℕ → Type 0) (old new : BoardSeat R) : Type 0 where
   pub worked : Worked old new
+  pub lost : LosesOnly may old.mine new.mine
   pub known : Knows seat_of new
   pub lawful : IsLawful asks (board_at old new.seen)
 

@@ -37,6 +37,10 @@ IsEnd stands S q (Some chunks) Refused = ⊥
 IsEnd stands S q (Some chunks) Cancelled = state_of S q ≡ CancelledState
 IsEnd stands S q (Some chunks) Spent = state_of S q ≡ SpentState
 
+-- each query that ended out of memory is one that may be lost
+pub record SpendsOnly {P : Type 0} (may : ℕ → Type 0) (ends : List (End P)) : Type 0 where
+  pub each : (i : ℕ) → slice_get ends i ≡ Some Spent → may (i + 1)
+
 -- the ends of the queries, from 1 on, by the lines of each query's board
 pub record AreEnds {P : Type 0} (stands : ℕ → List ℕ → P → Type 0) (plan : Plans) (S : ℕ → Journal) (ends : List (End P))
     : Type 0 where

@@ -18,11 +18,19 @@ use Rattle.scan_session.specs.declared.end.Tried.TheVariants as tried
 use Rattle.scan_session.specs.declared.end.Told.{Told}
 use Rattle.scan_session.specs.declared.end.Told.TheVariants as told
 
--- this holds if the part ran to its end; Odd occurs only if another participant did what only the czar does
-abbrev pub Goes : {R L : Type 0} → Type 0 → (L → BoardSeat R) → Outcome → Type 0
-Goes holds seats Went = holds
-Goes holds seats Memory = Unit {0}
-Goes holds seats Odd = SomeForeign seats
+-- the board of some planned query has room for it: it may be attached with its chunks
+pub record SomeRoom {R L : Type 0} (home : ℕ → L) (plan : Plans) (seats : L → BoardSeat R) : Type 0 where
+  pub q : ℕ
+  pub chunks : List ℕ
+  pub planned : plan q ≡ Some chunks
+  pub may : MayAttach (seats (home q)).root.ring (seats (home q)).seen q chunks
+
+-- The first holds if the part ran to its end. The second holds if it is out of memory: some board had room, as a full board
+-- is none. Odd occurs only if another participant did what only the czar does.
+abbrev pub Goes : {R L : Type 0} → Type 0 → Type 0 → (L → BoardSeat R) → Outcome → Type 0
+Goes holds room seats Went = holds
+Goes holds room seats Memory = room
+Goes holds room seats Odd = SomeForeign seats
 
 -- what an attempt to attach leaves: all is as before if the board is full
 abbrev pub GoesTried : {R L P : Type 0} → (L → ℕ → Bool)

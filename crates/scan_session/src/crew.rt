@@ -8,6 +8,7 @@ ghost use Rattle.std.specs.Prelude.{◌-◌, ◌≤◌};
 ghost use Rattle.std.specs.Thread.{IsSync};
 ghost use Rattle.scan_session.specs.Crews.{AreWorkers, MannedBy, MaySplit, Served};
 ghost use Rattle.scan_session.specs.Czars.{MayRun, Ran};
+ghost use Rattle.scan_worker.specs.Missing.{MayLose};
 ghost use Rattle.scan_worker.specs.Opened.{ArePromised};
 
 use crate::czar::czar;
@@ -33,7 +34,9 @@ fn alone<R: Wait, P: Work, B: Boards<P>, E: Engine<P>, G: Gate>(
         (E.root scan.now.engine.now) (B.at seat) plans.items ends.items steps.now }
     ensures ran { Ran P.stands (B.has scan.now.boards.now) (B.home scan.now.boards.now) (B.at seat)
         (B.at result.2) plans.items ends.items result.1.items steps.now result.0 }
-    ensures manned { (p : B.Place) → MannedBy P.asks 0 (B.at seat p) (B.at result.2 p) }
+    ensures manned { (p : B.Place) → MannedBy P.asks
+        (MayLose (E.refused scan.now.engine.now) P.refuses) 0
+        (B.at seat p) (B.at result.2 p) }
 {
     let mut plans = plans;
     let mut ends = ends;
@@ -74,7 +77,9 @@ where
     requires split { (p : B.Place) → MaySplit workers (B.at seat p) }
     ensures ran { Ran P.stands (B.has scan.now.boards.now) (B.home scan.now.boards.now) (B.at seat)
         (B.at result.2) plans.items ends.items result.1.items steps.now result.0 }
-    ensures manned { (p : B.Place) → MannedBy P.asks workers (B.at seat p) (B.at result.2 p) }
+    ensures manned { (p : B.Place) → MannedBy P.asks
+        (MayLose (E.refused scan.now.engine.now) P.refuses) workers
+        (B.at seat p) (B.at result.2 p) }
 {
     if workers == 0 {
         return alone(scan, seat, plans, ends, steps);
@@ -87,7 +92,9 @@ where
             requires shared { IsSync R.row }
             requires workers { AreWorkers (B.turn scan.now.boards.now) (E.root scan.now.engine.now)
                 (B.at other) }
-            ensures { (p : B.Place) → Served P.asks (B.at other p) (B.at result p) }
+            ensures { (p : B.Place) → Served P.asks
+                (MayLose (E.refused scan.entry.now.engine.now) P.refuses)
+                (B.at other p) (B.at result p) }
         {
             worker(
                 scan.alloc,
@@ -108,8 +115,9 @@ where
             ensures ran { Ran P.stands (B.has scan.entry.now.boards.now)
                 (B.home scan.entry.now.boards.now) (B.at seat) (B.at result.2) plans.items
                 ends.items result.1.items steps.entry.now result.0 }
-            ensures manned { (p : B.Place) →
-                MannedBy P.asks (workers - 1) (B.at seat p) (B.at result.2 p) }
+            ensures manned { (p : B.Place) → MannedBy P.asks
+                (MayLose (E.refused scan.entry.now.engine.now) P.refuses) (workers - 1)
+                (B.at seat p) (B.at result.2 p) }
         { manned(scan, seat, plans, ends, steps, workers - 1) },
     );
     let mut seat = seat;
@@ -141,11 +149,14 @@ where
     E::Scratch: Send,
     requires may { MayRun P.asks P.stands (B.turn scan.now.boards.now) (B.suits scan.now.boards.now)
         (E.root scan.now.engine.now) (B.at seat) plans.items ends.items steps.now }
-    requires kept { ArePromised P.asks P.stands (E.root scan.now.engine.now) W.asks W.stands }
+    requires kept { ArePromised P.asks P.stands (E.root scan.now.engine.now) W.asks W.stands
+        (E.refused scan.now.engine.now) W.refused }
     requires split { (p : B.Place) → MaySplit workers (B.at seat p) }
     ensures ran { Ran P.stands (B.has scan.now.boards.now) (B.home scan.now.boards.now) (B.at seat)
         (B.at result.2) plans.items ends.items result.1.items steps.now result.0 }
-    ensures manned { (p : B.Place) → MannedBy P.asks workers (B.at seat p) (B.at result.2 p) }
+    ensures manned { (p : B.Place) → MannedBy P.asks
+        (MayLose (E.refused scan.now.engine.now) P.refuses) workers
+        (B.at seat p) (B.at result.2 p) }
 {
     // a czar without workers has no one to help it
     let seats = if workers == 0 {

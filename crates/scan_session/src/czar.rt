@@ -4,11 +4,12 @@ ghost use Rattle.session_script.specs.declared.step.Step.{Step};
 ghost use Rattle.scan_rules.specs.Lines.{seat_of};
 ghost use Rattle.scan_rules.specs.Queries.{is_closed, QueryState};
 ghost use Rattle.turn_lock.specs.Seats.{Knows};
+ghost use Rattle.scan_worker.specs.Missing.{MayLose};
 ghost use Rattle.scan_session.specs.Plans.{Plans};
 ghost use Rattle.scan_session.specs.Seats.{Stays};
 ghost use Rattle.scan_session.specs.Places.{AreCzars, DrivingAll, GoingAll};
 ghost use Rattle.scan_session.specs.KnownEnds.{known_in, AllKnown, Marks, Ready};
-ghost use Rattle.scan_session.specs.Goes.{Goes};
+ghost use Rattle.scan_session.specs.Goes.{Goes, SomeRoom};
 ghost use Rattle.scan_session.specs.Crews.{Leaves};
 ghost use Rattle.scan_session.specs.Czars.{Learns, MayRun, Ran};
 ghost use Rattle.scan_session.specs.declared.end.Outcome.{Outcome};
@@ -37,11 +38,15 @@ fn whole<R: Wait, P: Work, B: Boards<P>, E: Engine<P>, G: Gate>(
     ensures goes { (plan : Plans) → Marks plan ends.old → Ready plan [] plans.old
         → GoingAll (B.has scan.now.boards.now) plan [] (B.at seat) (known_in ends.old)
         → Goes (DrivingAll (B.has scan.now.boards.now) plan steps.now (B.at result.1)
-        (known_in ends.new)) (B.at result.1) result.0 }
+        (known_in ends.new))
+        (SomeRoom (B.home scan.now.boards.now) plan (B.at result.1))
+        (B.at result.1) result.0 }
     ensures known { result.0 ≡ Outcome.Went → AllKnown ends.new }
     ensures learns { Learns P.stands (B.home scan.now.boards.now) (B.at seat) (B.at result.1)
         ends.old ends.new }
-    ensures stays { (p : B.Place) → Stays P.asks (B.at seat p) (B.at result.1 p) }
+    ensures stays { (p : B.Place) → Stays P.asks
+        (MayLose (E.refused scan.now.engine.now) P.refuses)
+        (B.at seat p) (B.at result.1 p) }
 {
     let (outcome, seat) = all_lines(scan, desk, seat, plans, ends, steps);
     match outcome {
@@ -60,11 +65,15 @@ pub fn close<R: Wait, P: Work, B: Boards<P>, E: Engine<P>, G: Gate>(
         (B.at seat) }
     ensures leaves { (plan : Plans) (steps : List Step) (ends : ℕ → Option QueryState)
         (outcome : Outcome)
-        → Goes (DrivingAll (B.has scan.now.boards.now) plan steps (B.at seat) ends) (B.at seat) outcome
+        → Goes (DrivingAll (B.has scan.now.boards.now) plan steps (B.at seat) ends)
+        (SomeRoom (B.home scan.now.boards.now) plan (B.at seat))
+        (B.at seat) outcome
         → Leaves (B.has scan.now.boards.now) plan steps (B.at result) ends outcome }
     ensures closed { (p : B.Place) → is_closed (B.at result p).seen ≡ true }
     ensures known { (p : B.Place) → Knows seat_of (B.at result p) }
-    ensures stays { (p : B.Place) → Stays P.asks (B.at seat p) (B.at result p) }
+    ensures stays { (p : B.Place) → Stays P.asks
+        (MayLose (E.refused scan.now.engine.now) P.refuses)
+        (B.at seat p) (B.at result p) }
 {
     scan.boards.close(scan.rt, seat)
 }
@@ -85,7 +94,9 @@ pub fn czar<R: Wait, P: Work, B: Boards<P>, E: Engine<P>, G: Gate>(
         (B.at result.1) plans.old ends.old ends.new steps.now result.0 }
     ensures closed { (p : B.Place) → is_closed (B.at result.1 p).seen ≡ true }
     ensures knows { (p : B.Place) → Knows seat_of (B.at result.1 p) }
-    ensures stays { (p : B.Place) → Stays P.asks (B.at seat p) (B.at result.1 p) }
+    ensures stays { (p : B.Place) → Stays P.asks
+        (MayLose (E.refused scan.now.engine.now) P.refuses)
+        (B.at seat p) (B.at result.1 p) }
 {
     let (outcome, seat) = whole(scan, desk, seat, plans, ends, steps);
     (outcome, close(scan, seat))

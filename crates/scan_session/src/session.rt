@@ -4,7 +4,8 @@ ghost use Rattle.scan_rules.specs.declared.limits.TheConstants.{QUERY_MOST, RING
 ghost use Rattle.session_rules.specs.declared.limits.TheConstants.{WORKERS_MOST};
 ghost use Rattle.session_script.specs.Laws.{NumberedFrom};
 ghost use Rattle.session_script.specs.Scripts.{query_count};
-ghost use Rattle.scan_session.specs.Drove.{AreEnds, Drove};
+ghost use Rattle.scan_worker.specs.Missing.{MayLose};
+ghost use Rattle.scan_session.specs.Drove.{AreEnds, Drove, SpendsOnly};
 ghost use Rattle.scan_session.specs.KnownEnds.{plan_in, AllKnown, AreKnown, IsFirstEnd, MarksPlans, PlansFit};
 ghost use Rattle.scan_session.specs.Places.{AllSuit, only, over_root, seen_of};
 ghost use Rattle.scan_session.specs.Crews.{Manned};
@@ -127,6 +128,8 @@ where
     ensures ends { IfOk result.0 (λ ends.
         AreEnds (over_root P.stands (B.home scan.now.boards.now) (B.at seat)) (plan_in plans.items)
         (seen_of (B.home scan.now.boards.now) (B.at result.1)) ends.items) }
+    ensures spent { IfOk result.0 (λ ends.
+        SpendsOnly (MayLose (E.refused scan.now.engine.now) P.refuses) ends.items) }
     ensures made { IfOk result.0 (λ ends. (p : B.Place) → (B.at result.1 p).made ≡ 1 + workers) }
     ensures manned { (p : B.Place) → Manned P.asks (B.at seat p) (B.at result.1 p) }
 {

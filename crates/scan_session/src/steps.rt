@@ -7,13 +7,14 @@ ghost use Rattle.session_rules.specs.Ends.{asks};
 ghost use Rattle.sql_token.specs.declared.token.Span.{Span};
 ghost use Rattle.scan_rules.specs.declared.limits.TheConstants.{QUERY_MOST};
 ghost use Rattle.scan_rules.specs.Queries.{QueryState};
+ghost use Rattle.scan_worker.specs.Missing.{LosesOnly, MayLose};
 ghost use Rattle.scan_worker.specs.Rounds.{Observed};
 ghost use Rattle.scan_worker.specs.Working.{Worked};
 ghost use Rattle.scan_session.specs.Plans.{Plans};
 ghost use Rattle.scan_session.specs.Seats.{Stays};
 ghost use Rattle.scan_session.specs.Places.{AreCzars, DrivingAll, GoingAll, over_root, seen_of};
 ghost use Rattle.scan_session.specs.KnownEnds.{IsCollected, MayStart, IfFull, IfTold};
-ghost use Rattle.scan_session.specs.Goes.{Goes, GoesEnded, GoesTold, GoesTried, StartsWithRoom, TriesWithRoom};
+ghost use Rattle.scan_session.specs.Goes.{Goes, GoesEnded, GoesTold, GoesTried, SomeRoom, StartsWithRoom, TriesWithRoom};
 
 use crate::end::{End, Outcome, Planned, Told, Tried};
 use crate::scan::Scan;
@@ -35,6 +36,8 @@ fn work<R: Wait, P: Work, B: Boards<P>, E: Engine<P>, G: Gate>(
     ensures worked { (p : B.Place) → Worked (B.at seat p) (B.at result p) }
     ensures observed { (p : B.Place) →
         (B.at result p ≡ B.at seat p) ⊎ Observed P.asks (B.at seat p) (B.at result p) }
+    ensures lost { (p : B.Place) → LosesOnly (MayLose (E.refused scan.now.engine.now) P.refuses)
+        (B.at seat p).mine (B.at result p).mine }
 {
     let (round, seat) = work_once(desk, scan.rt, scan.boards, seat, scan.engine, scan.gate);
     if round == Round::Idle {
@@ -65,7 +68,9 @@ pub fn try_start<R: Wait, P: Work, B: Boards<P>, E: Engine<P>, G: Gate>(
     ensures full { IfFull result.0 (λ back. back ≡ planned) }
     ensures room { TriesWithRoom (B.at result.1 (B.home scan.now.boards.now q)) q planned.chunks
         result.0 }
-    ensures stays { (p : B.Place) → Stays P.asks (B.at seat p) (B.at result.1 p) }
+    ensures stays { (p : B.Place) → Stays P.asks
+        (MayLose (E.refused scan.now.engine.now) P.refuses)
+        (B.at seat p) (B.at result.1 p) }
 {
     let Planned { chunks, empty } = planned;
     let (answer, seat) = scan.boards.attach(scan.rt, seat, q, chunks, empty);
@@ -100,10 +105,13 @@ pub fn start<R: Wait, P: Work, B: Boards<P>, E: Engine<P>, G: Gate>(
         → list_any (asks q) done ≡ false → plan q ≡ Some planned.chunks
         → GoingAll (B.has scan.now.boards.now) plan done (B.at seat) ends
         → Goes (GoingAll (B.has scan.now.boards.now) plan (done ++ Query q span ∷ []) (B.at result.1) ends)
+        (SomeRoom (B.home scan.now.boards.now) plan (B.at result.1))
         (B.at result.1) result.0 }
     ensures room { StartsWithRoom (B.at result.1 (B.home scan.now.boards.now q)) q planned.chunks
         result.0 }
-    ensures stays { (p : B.Place) → Stays P.asks (B.at seat p) (B.at result.1 p) }
+    ensures stays { (p : B.Place) → Stays P.asks
+        (MayLose (E.refused scan.now.engine.now) P.refuses)
+        (B.at seat p) (B.at result.1 p) }
 {
     let mut seat = seat;
     let mut planned = planned;
@@ -132,7 +140,9 @@ pub fn cancel<R: Wait, P: Work, B: Boards<P>, E: Engine<P>, G: Gate>(
         → list_any (asks q) done ≡ true → is_some (plan q) ≡ true
         → GoingAll (B.has scan.now.boards.now) plan done (B.at seat) ends
         → GoingAll (B.has scan.now.boards.now) plan (done ++ CancelStep q ∷ []) (B.at result) ends }
-    ensures stays { (p : B.Place) → Stays P.asks (B.at seat p) (B.at result p) }
+    ensures stays { (p : B.Place) → Stays P.asks
+        (MayLose (E.refused scan.now.engine.now) P.refuses)
+        (B.at seat p) (B.at result p) }
 {
     scan.boards.cancel(scan.rt, seat, q).1
 }
@@ -153,7 +163,9 @@ pub fn ask_end<R: Wait, P: Work, B: Boards<P>, E: Engine<P>, G: Gate>(
     ensures whole { IfTold result.0 (IsCollected
         (over_root P.stands (B.home scan.now.boards.now) (B.at result.1))
         (seen_of (B.home scan.now.boards.now) (B.at result.1) q) q) }
-    ensures stays { (p : B.Place) → Stays P.asks (B.at seat p) (B.at result.1 p) }
+    ensures stays { (p : B.Place) → Stays P.asks
+        (MayLose (E.refused scan.now.engine.now) P.refuses)
+        (B.at seat p) (B.at result.1 p) }
 {
     let (answer, seat) = scan.boards.collect(scan.rt, seat, q);
     match answer {
@@ -182,7 +194,9 @@ pub fn end_of<R: Wait, P: Work, B: Boards<P>, E: Engine<P>, G: Gate>(
     ensures whole { IfSome result.0 (IsCollected
         (over_root P.stands (B.home scan.now.boards.now) (B.at result.1))
         (seen_of (B.home scan.now.boards.now) (B.at result.1) q) q) }
-    ensures stays { (p : B.Place) → Stays P.asks (B.at seat p) (B.at result.1 p) }
+    ensures stays { (p : B.Place) → Stays P.asks
+        (MayLose (E.refused scan.now.engine.now) P.refuses)
+        (B.at seat p) (B.at result.1 p) }
 {
     let mut seat = seat;
     for _ in scan.rt.forever() {

@@ -3,7 +3,7 @@
 ghost use Rattle.std.specs.Prelude.{◌≡◌, ◌<◌, ◌≤◌, [], All, IfOk, IfSome, length, vec_len};
 ghost use Rattle.session_rules.specs.declared.limits.TheConstants.{WORKERS_MOST};
 
-use scan_board::SharedBoard;
+use scan_board::{SharedBoard, Task};
 use scan_core::{Board, ChunkSet, Work};
 use scan_session::{End, Planned, Scan, drive};
 use scan_worker::Engine;
@@ -62,6 +62,12 @@ impl Engine<Marks> for Marker {
     ghost root = { λ engine. engine.root };
 
     fn scratch(&self) {}
+
+    fn list(&self, alloc: Global, task: &Task) -> Result<Vec<Option<Marks>>, Memory> {
+        let mut list = Vec::new(alloc);
+        list.reserve(task.queries().len())?;
+        Ok(list)
+    }
 
     fn piece(&self, q: u32, chunk: u32, _scratch: &mut ()) -> Result<Marks, Memory> {
         if q == self.starved {

@@ -4,6 +4,7 @@
 ghost use Rattle.std.specs.Prelude.{◌≡◌};
 
 use crate::sessions::{Marker, Marks, marker_of, session};
+use scan_board::Task;
 use scan_worker::Engine;
 use sky_io::{Memory, NoteGate};
 use std::alloc::Global;
@@ -50,6 +51,10 @@ impl Engine<Marks> for Meeting {
     ghost root = { λ engine. engine.marker.root };
 
     fn scratch(&self) {}
+
+    fn list(&self, alloc: Global, task: &Task) -> Result<Vec<Option<Marks>>, Memory> {
+        self.marker.list(alloc, task)
+    }
 
     fn piece(&self, q: u32, chunk: u32, scratch: &mut ()) -> Result<Marks, Memory> {
         if chunk == 0 {

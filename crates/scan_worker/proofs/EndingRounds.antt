@@ -7,8 +7,10 @@ use Rattle.scan_board.specs.Calls.{BoardSeat, Called, IsAskedFor}
 use Rattle.scan_boards.specs.Tasks.{FoundNone, Inspected, TakesAt}
 use Rattle.scan_worker.specs.declared.rounds.Round.{Round}
 use Rattle.scan_worker.specs.declared.rounds.Round.TheVariants.{Worked as WorkedRound, Idle as IdleRound, Ended as EndedRound}
+use Rattle.scan_worker.specs.Missing.{LosesOnly}
 use Rattle.scan_worker.specs.Working.{AllDelivered, DeliversIt, EndsRound, Worked}
 use Rattle.scan_worker.specs.Rounds.{EndsRounds, FindsNone, Observed, ServesOneAt}
+use Rattle.scan_worker.proofs.Losing.{loses_same}
 use Rattle.scan_worker.proofs.Working.{served_one, worked_none, worked_task}
 
 -- a board that was called and had none: the seat has seen more, and worked no less
@@ -20,6 +22,10 @@ inspected_works {R} asks old new h k = record {
   same = k.same ∙ ap (λ (l : Journal). record old { seen = new.seen; mine = l }) (sym (append-nil old.mine));
   delivered = subst AllDelivered (sym (ap (λ (s : BoardSeat R). s.mine) k.same)) h;
 }
+
+-- and loses nothing more
+pub inspected_loses : {R : Type 0} (asks : R → ℕ → ℕ → Type 0) (may : ℕ → Type 0) (old new : BoardSeat R) → Inspected asks old new → LosesOnly may old.mine new.mine
+inspected_loses {R} asks may old new k = loses_same may old.mine new.mine (ap (λ (s : BoardSeat R). s.mine) k.same)
 
 pub inspected_observed : {R : Type 0} (asks : R → ℕ → ℕ → Type 0) (old new : BoardSeat R) → Inspected asks old new → Observed asks old new
 inspected_observed asks old new k = record { known = k.known; lawful = k.lawful }
@@ -87,6 +93,12 @@ module _ {R L : Type 0} (asks : R → ℕ → ℕ → Type 0) (old mid new : L �
       (inr observed_here)
       (λ p e. inl e)
       (λ p s e f. inr (subst (Observed asks (old p)) (sym e) (inspected_observed asks (old p) s f.inspected)))
+
+  pub lost_at : (may : ℕ → Type 0) → LosesOnly may (old place).mine (new place).mine → (p : L) → LosesOnly may (old p).mine (new p).mine
+  lost_at may here = at_each (λ p. LosesOnly may (old p).mine (new p).mine)
+      here
+      (λ p e. loses_same may (old p).mine (new p).mine (ap (λ (s : BoardSeat R). s.mine) e))
+      (λ p s e f. subst (λ (s : BoardSeat R). LosesOnly may (old p).mine s.mine) (sym e) (inspected_loses asks may (old p) s f.inspected))
 
 -- a take leaves the turns and the roots
 pub taken_turn : {R L : Type 0} (asks : R → ℕ → ℕ → Type 0) (old mid : L → BoardSeat R) (place : L) (task : TaskState) → TakesAt asks old place task mid

@@ -39,11 +39,14 @@ StepsOn refused task (Fetch made) old new more = (more ≡ true) × Fetched task
 StepsOn refused task Wait old new more = (more ≡ true) × (new ≡ old)
 StepsOn refused task Over old new more = (more ≡ false) × (new ≡ old)
 
--- the piece that was made of a claim, for its position, query and chunk
-pub record IsMadeOf {P : Type 0} (claim : Claim) (made : MadeState P) : Type 0 where
-  pub turn : made.turn ≡ claim.turn
-  pub query : made.q ≡ claim.q
-  pub chunk : made.chunk ≡ claim.chunk
+-- a piece of a claim, for its position, query and chunk
+abbrev pub made_of : {P : Type 0} → Claim → P → MadeState P
+made_of claim piece = record { turn = claim.turn; q = claim.q; chunk = claim.chunk; piece = piece }
+
+-- what the engine answered for a claim: a piece of its query and chunk, or it refused the piece
+abbrev pub IsAnswered : {P : Type 0} → (ℕ → List ℕ → P → Type 0) → (ℕ → ℕ → Type 0) → Claim → Option P → Type 0
+IsAnswered stands refused claim (Some piece) = stands claim.q (claim.chunk ∷ []) piece
+IsAnswered stands refused claim None = refused claim.q claim.chunk
 
 -- the engine was asked for a piece: it made the piece, or refused it
 pub record IsAsked {P : Type 0} (stands : ℕ → List ℕ → P → Type 0) (refused : ℕ → ℕ → Type 0) : Type 0 where

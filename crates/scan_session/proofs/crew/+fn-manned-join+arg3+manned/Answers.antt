@@ -1,10 +1,11 @@
 use Rattle.std.proofs.Common.{◌≡◌, ℕ, ◌≤◌, ◌-◌, sym, ap, subst, rules, ◌∙◌, []}
 use base.Fml.{Lft}
 use base.Shift.{Keyless}
+use Rattle.scan_worker.specs.Missing.{MayLose}
 use Rattle.scan_session.specs.KnownEnds.{known_in}
 use Rattle.scan_session.specs.Czars.{MayRun}
 use Rattle.scan_session.specs.Crews.{AreWorkers, MannedBy, MaySplit}
-use Rattle.scan_session.proofs.Manning.{czars_split, fit_split, going_split, leaves_joined, made_more, manned_more, pieces_split, split_delivered, split_less}
+use Rattle.scan_session.proofs.Manning.{causes_more, czars_split, fit_split, going_split, leaves_joined, lost_joined, made_more, manned_more, pieces_split, split_delivered, split_less}
 use Rattle.scan_session.proofs.Listing.{pieces_on}
 use Rattle.scan_session.proofs.crew.+fn-manned-join+arg3+manned.Goals as goal
 
@@ -42,11 +43,15 @@ returns-clause-manned g t c p =
     let served = c.join-other.ensures.first p in
     let mid = g.B.Tasks.at c.join-other.result.1.2 p in
     let some : 1 ≤ c.args.workers = search rules in
-    let m = subst (λ s. MannedBy g.P.Work.asks (c.args.workers - 1) s mid) (c.split-other.ensures.kept p) (c.join-other.ensures.second.1 p) in
+    let may = MayLose (g.E.Engine.refused c.args.scan.now.engine.now) g.P.Work.refuses in
+    let m = subst (λ s. MannedBy g.P.Work.asks may (c.args.workers - 1) s mid) (c.split-other.ensures.kept p) (c.join-other.ensures.second.1 p) in
     record {
       manned = manned_more g.P.Work.asks (g.B.Tasks.at c.args.seat p) (g.B.Tasks.at c.split-other.result p) mid (g.B.Tasks.at c.join-other.result.0 p) (g.B.Tasks.at c.join.new.seat p) (c.split-other.ensures.next p) served.worked served.lawful
           m.manned (c.join.ensures.joined p) (c.join.ensures.own_seen p) (c.join.ensures.known p);
       made = made_more g.P.Work.asks c.args.workers (g.B.Tasks.at c.args.seat p) mid (g.B.Tasks.at c.join-other.result.0 p) (g.B.Tasks.at c.join.new.seat p) some m.made (c.join.ensures.joined p);
+      lost = lost_joined g.P.Work.asks may (g.B.Tasks.at c.args.seat p) mid (g.B.Tasks.at c.join-other.result.0 p) (g.B.Tasks.at c.join.new.seat p) (c.join.ensures.joined p) m.lost;
+      causes = causes_more g.P.Work.asks may (c.args.workers - 1) (g.B.Tasks.at c.args.seat p) (g.B.Tasks.at c.split-other.result p) mid (g.B.Tasks.at c.join-other.result.0 p) (g.B.Tasks.at c.join.new.seat p)
+          (c.split-other.ensures.next p) served.worked served.lost m (c.join.ensures.joined p);
     }
 
 pub returns-clause-ran : goal.returns-clause-ran
@@ -80,7 +85,7 @@ returns-then-workers-eq0-clause-ran g t c = c.alone.ensures.ran
 pub returns-then-workers-eq0-clause-manned : goal.returns-then-workers-eq0-clause-manned
 returns-then-workers-eq0-clause-manned g t c p =
     let none : 0 ≡ c.args.workers = search rules in
-    subst (λ n. MannedBy g.P.Work.asks n (g.B.Tasks.at c.args.seat p) (g.B.Tasks.at c.alone.result.2 p)) none (c.alone.ensures.manned p)
+    subst (λ n. MannedBy g.P.Work.asks (MayLose (g.E.Engine.refused c.args.scan.now.engine.now) g.P.Work.refuses) n (g.B.Tasks.at c.args.seat p) (g.B.Tasks.at c.alone.result.2 p)) none (c.alone.ensures.manned p)
 
 pub fn::manned::join+arg3+FnOnce::call_once-join+arg3-requires : goal.fn::manned::join+arg3+FnOnce::call_once-join+arg3-requires
 fn::manned::join+arg3+FnOnce::call_once-join+arg3-requires g t c κs within =

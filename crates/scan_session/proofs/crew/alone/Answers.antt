@@ -26,4 +26,6 @@ returns-clause-manned g c p =
     record {
       manned = manned_alone g.P.Work.asks (g.B.Tasks.at c.args.seat p) (g.B.Tasks.at c.czar-outcome.result.1 p) stays (c.czar-outcome.ensures.closed p) (c.czar-outcome.ensures.knows p);
       made = omega (arith, made);
+      lost = stays.lost;
+      causes = λ n h low. absurd (omega (arith, made, h, low));
     }
