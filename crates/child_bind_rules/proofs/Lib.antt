@@ -1,0 +1,4 @@
+mod ChildFaultless
+mod PairCols
+mod ChildSoundness
+mod ChildTests
