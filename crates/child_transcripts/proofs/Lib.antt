@@ -1,0 +1,2 @@
+pub mod ChildBlockSteps
+pub mod ChildInverting

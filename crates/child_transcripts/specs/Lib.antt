@@ -1,0 +1,5 @@
+pub mod ChildQueries
+pub mod ChildBlocks
+pub mod ChildTranscripts
+pub mod ChildLaws
+pub mod ChildExamples

@@ -1,0 +1,37 @@
+//! Lemmas about transcripts over a child table, stated as functions that do nothing: a caller obtains what they ensure.
+
+ghost use Rattle.child_transcripts.specs.ChildLaws.{AnsweredShowsItsChildTable, BoundCanBeRun};
+ghost use Rattle.child_transcripts.specs.ChildLaws.{ChildAnsweredIsItsTable, ChildBlocksInOrder};
+ghost use Rattle.child_transcripts.specs.ChildLaws.{ChildCancelledIsItsLine, ChildRefusedIsItsLine};
+ghost use Rattle.child_transcripts.specs.ChildLaws.{ChildSpentIsItsLine, OneChildBlockEach};
+ghost use Rattle.child_transcripts.specs.ChildLaws.{RefusedHasItsChildReason};
+
+use child_bind_rules::laws::{child_is_sound, child_is_tested};
+
+/// A query that binds over two tables within their limits can be run.
+pub fn bound_can_be_run()
+    ensures { BoundCanBeRun }
+{
+    child_is_sound();
+    child_is_tested();
+}
+
+/// The block of a query is determined by its end: the table of its answer, the line of its refusal, or a fixed line.
+pub fn a_child_end_is_its_block()
+    ensures answered { ChildAnsweredIsItsTable }
+    ensures refused { ChildRefusedIsItsLine }
+    ensures cancelled { ChildCancelledIsItsLine }
+    ensures spent { ChildSpentIsItsLine }
+{}
+
+/// There is one block for each query, in the order of the script.
+pub fn one_child_block_each()
+    ensures each { OneChildBlockEach }
+    ensures order { ChildBlocksInOrder }
+{}
+
+/// If the ends fit, a query that ends answered binds, and one that ends refused has a reason. Its block shows it.
+pub fn child_ends_have_their_reasons()
+    ensures answered { AnsweredShowsItsChildTable }
+    ensures refused { RefusedHasItsChildReason }
+{}
