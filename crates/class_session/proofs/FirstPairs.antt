@@ -1,5 +1,5 @@
 -- The czar's pair, before a session and after it.
-use Rattle.std.proofs.Common.{◌≡◌, ◌∙◌, sym, ap, ◌≤◌, true, arith, List, Ok, Err, Result, IfOk, Unit}
+use Rattle.std.proofs.Common.{◌≡◌, ◌∙◌, sym, ap, ◌≤◌, true, arith, List, Ok, Err, Result, IfOk}
 use Rattle.table_rules.specs.Objects.{Catalogue}
 use Rattle.sky_io.specs.declared.Memory.{Memory}
 use Rattle.sky_rules.specs.Partition.{Partition, chunk_count}
