@@ -1,18 +1,15 @@
 -- Texts of worked examples over objects with a flux and sources with a flux and a time: their faults, the columns that they
 -- refer to, and their id tests.
 use Rattle.std.specs.Prelude.{ℕ, ℤ, List, [], ◌∷◌, map, Option, Result, Ok, Err, codes}
-use Rattle.std.specs.List.{flat_map}
 use Rattle.sql_bound.specs.declared.expr.BoundCol.{BoundCol}
 use Rattle.sql_tree.specs.declared.query.Query.{Query}
 use Rattle.sql_rules.specs.declared.fault.SqlFault.{SqlFault}
 use Rattle.sql_rules.specs.Trees.{tree_of}
 use Rattle.bind_rules.specs.Columns.{tables}
 use Rattle.bind_rules.specs.Examples.{Judged, NoQuery, by_fault}
-use Rattle.bind_rules.specs.IdTests.{ids_by}
 use Rattle.bind_rules.specs.Mentions.{columns_in}
-use Rattle.bind_rules.specs.Tops.{top_tests}
+use Rattle.child_bind_rules.specs.ChildBinding.{child_query}
 use Rattle.child_bind_rules.specs.ChildChecks.{child_fault}
-use Rattle.child_bind_rules.specs.JoinCondition.{is_id_of}
 use Rattle.child_bind_rules.specs.PairColumns.{Schemas, pair_column}
 
 -- the extra columns
@@ -37,9 +34,9 @@ columns_of_tree (Err f) = []
 abbrev pub columns_meant : List ℕ → List (Option BoundCol)
 columns_meant text = columns_of_tree (tree_of text)
 
--- the id tests of a query, or of none
+-- the id tests of the bound query of a query, or of none
 abbrev pub ids_of_tree : Result Query SqlFault → List (List ℤ)
-ids_of_tree (Ok q) = flat_map (ids_by (is_id_of q.first.alias)) (top_tests q.cond)
+ids_of_tree (Ok q) = (child_query flux_and_time q).ids
 ids_of_tree (Err f) = []
 
 -- the id tests of the text

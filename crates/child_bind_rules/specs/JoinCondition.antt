@@ -1,5 +1,5 @@
 -- The form of a query over objects and their sources: `FROM Object o,Source s WHERE o.objectId=s.objectId AND ..`. The
--- equation of the two ids is its join condition.
+-- equation of the two objectIds is its join condition.
 use Rattle.std.specs.Prelude.{ℕ, Bool, true, false, ◌&&◌, ◌||◌, not, if◌then◌else◌, List, [], ◌∷◌, codes, Option, None, Some}
 use Rattle.std.specs.List.{flat_map, list_all}
 use Rattle.std.specs.Option.{is_some}
@@ -34,7 +34,7 @@ is_id_of alias c = is_same_name c.table alias && bytes_eq c.name.text (codes "ob
 abbrev pub equates : Option Name → Option Name → Expr → Expr → Bool
 equates a b left right = is_lone_column (is_id_of a) (lone_of left) && is_lone_column (is_id_of b) (lone_of right)
 
--- the test equates the two ids, in either order
+-- the test equates the two objectIds, in either order
 abbrev pub is_join_condition : Option Name → Option Name → Test → Bool
 is_join_condition o s (Equals left right) = equates o s left right || equates s o left right
 is_join_condition o s _ = false

@@ -7,8 +7,8 @@ ghost use Rattle.bind_rules.specs.declared.fault.BindFault.TheVariants.{AreaForm
 ghost use Rattle.bind_rules.specs.declared.fault.BindFault.TheVariants.{UnknownName};
 ghost use Rattle.child_bind_rules.specs.ChildExamples.{child_ids, child_judged, columns_meant};
 
-/// A query binds if one conjunct equates the ids of its two tables, in either order. Brackets round the equation
-/// are allowed.
+/// A query binds if one conjunct equates the objectIds of its two tables, in either order. Brackets round the
+/// equation are allowed.
 pub fn joined_tables()
     ensures first { child_judged
         (codes "SELECT s.flux-o.flux FROM Object o,Source s WHERE o.objectId=s.objectId") ≡ Binds }
@@ -16,7 +16,8 @@ pub fn joined_tables()
         (codes "SELECT s.t FROM Object o,Source s WHERE (s.objectId=o.objectId)") ≡ Binds }
 {}
 
-/// Exactly one conjunct at the top level is the join condition, with each id alone and without brackets and minus.
+/// Exactly one conjunct at the top level is the join condition, with each objectId alone, without brackets
+/// and minus.
 pub fn join_conditions()
     ensures none { child_judged
         (codes "SELECT o.x FROM Object o,Source s WHERE o.x=s.flux") ≡ Refused JoinForm }

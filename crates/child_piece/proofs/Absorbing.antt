@@ -5,7 +5,6 @@ use Rattle.sky_rules.specs.Partition.{Partition}
 use Rattle.source_rules.specs.Sources.{Source}
 use Rattle.sql_bound.specs.declared.query.Bound.{Bound}
 use Rattle.scan_core.specs.Pieces.{Absorbs, MayAbsorb}
-use Rattle.answer_rules.specs.declared.row.OutRow.{OutRow}
 use Rattle.answer_rules.specs.Keeps.{KeepsFirst}
 use Rattle.answer_rules.specs.PieceLaws.{AreDisjoint}
 use Rattle.answer_rules.specs.Pieces.{OfGroups, OfRows, PieceView}

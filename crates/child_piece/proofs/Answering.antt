@@ -3,7 +3,6 @@ use Rattle.std.proofs.Common.{◌≡◌, List, refl, sym, ◌∙◌}
 use Rattle.std.specs.Prelude.{Ok}
 use Rattle.sql_bound.specs.declared.query.Bound.{Bound}
 use Rattle.answer_rules.specs.declared.value.Value.{Value}
-use Rattle.answer_rules.specs.declared.row.OutRow.{OutRow}
 use Rattle.answer_rules.specs.Answers.{Answer}
 use Rattle.answer_rules.specs.Finish.{finished}
 use Rattle.answer_rules.specs.Keeps.{AreApart}

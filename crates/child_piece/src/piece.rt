@@ -1,7 +1,7 @@
 //! A piece of a child query's answer: its partial result over a set of chunks.
 //!
-//! It is a `Piece` of rows without a limit: it has all rows that the query finds over its chunks. So no piece depends on
-//! the order of the query, and the first rows are taken from all of them at the end.
+//! It is a `Piece` of rows without a limit: it has all rows that the query finds over its chunks. So which rows it has
+//! does not depend on the order of the query, and the first rows are taken from all of them at the end.
 
 ghost use Rattle.std.specs.Prelude.{◌≡◌, [], IfOk, None, OnErr, OnOk};
 ghost use Rattle.answer_rules.specs.Pieces.{OfRows};
@@ -32,7 +32,7 @@ impl<'w> Model for ChildPiece<'w> {
 }
 
 impl<'w> ChildPiece<'w> {
-    /// Creates the piece over no chunks, which all queries share. Does not allocate.
+    /// Creates the piece over no chunks, which is the same for every query. Does not allocate.
     pub fn empty(alloc: Global, _query: &ChildBound) -> ChildPiece<'w>
         ensures { result ≡ OfRows None [] }
     {

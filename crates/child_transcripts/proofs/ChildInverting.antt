@@ -10,7 +10,7 @@ use Rattle.bind_rules.proofs.Counts.{what_is_read_has_counts}
 use Rattle.transcript_rules.specs.Refusals.{Understood, with_bound, with_tree_by}
 use Rattle.child_bind_rules.specs.ChildBinding.{child_bound_of}
 use Rattle.child_bind_rules.specs.PairColumns.{Schemas}
-use Rattle.child_bind_rules.specs.ChildLaws.{ChildIsSound, ChildIsTested}
+use Rattle.child_bind_rules.specs.ChildLaws.{BoundIsChild}
 use Rattle.child_transcripts.specs.ChildLaws.{BoundCanBeRun}
 use Rattle.child_transcripts.specs.ChildQueries.{child_understood, schemas_of}
 
@@ -43,14 +43,8 @@ pub is_child_bound : (s : Schemas) (text : Bytes) (u : Understood) → child_und
 unfolding child_understood
 is_child_bound s text u known = by_tree s text (tree_of text) u refl known
 
-pub can_be_run : ChildIsSound → ChildIsTested → BoundCanBeRun
-can_be_run sound tested c t text u rows sources known =
+pub can_be_run : BoundIsChild → BoundCanBeRun
+can_be_run child c t text u rows sources known =
     let s = schemas_of c t in
     let b = is_child_bound s text u known in
-    let tests = tested s u.tree u.bound b.bound in
-    record {
-      shape = tests.0;
-      sound = sound s u.tree u.bound (record { objects = rows.few_names; sources = sources.few_names })
-          (what_is_read_has_counts text u.tree b.read) b.bound;
-      tested = tests.1;
-    }
+    child s u.tree u.bound (record { objects = rows.few_names; sources = sources.few_names }) (what_is_read_has_counts text u.tree b.read) b.bound

@@ -41,6 +41,6 @@ gains_tree =
 abbrev pub gains_by : Bound → Understood
 gains_by bound = record { tree = gains_tree; bound = bound }
 
--- a query that equates columns, but not the two ids
+-- a query that equates columns, but not the two objectIds
 abbrev pub not_by_ids : Bytes
 not_by_ids = codes "SELECT o.x FROM Object o,Source s WHERE o.x=s.flux"

@@ -18,7 +18,7 @@ schemas_of c t = record { objects = c.names; sources = t.names }
 unfoldable pub child_understood : Schemas → Bytes → Result Understood Refusal
 child_understood schemas text = with_tree_by (child_bound_of schemas) (tree_of text)
 
--- the refusal of a query: for its grammar, or for the columns and the form that both tables demand; a child query has no
+-- the refusal of a query: for its grammar, or for the first fault of its binding over both tables; a child query has no
 -- radius and no total, so one that binds has an answer
 unfoldable pub child_refusal : Schemas → Bytes → Option Refusal
 child_refusal schemas text = result_err (child_understood schemas text)

@@ -27,7 +27,7 @@ pub fn lines_of_answers()
     sources_of_some_objects();
 }
 
-/// A query that does not equate the two ids has no answer. A query that is cancelled shows this and nothing else.
+/// A query that does not equate the two objectIds has no answer. One that is cancelled shows this and nothing else.
 pub fn blocks_without_rows()
     ensures refused { child_block halves six_objects sources_of_six 2 not_by_ids Refused
         ≡ codes "query 2\nrefused: join form\n" }

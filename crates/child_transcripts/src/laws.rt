@@ -6,14 +6,13 @@ ghost use Rattle.child_transcripts.specs.ChildLaws.{ChildCancelledIsItsLine, Chi
 ghost use Rattle.child_transcripts.specs.ChildLaws.{ChildSpentIsItsLine, OneChildBlockEach};
 ghost use Rattle.child_transcripts.specs.ChildLaws.{RefusedHasItsChildReason};
 
-use child_bind_rules::laws::{child_is_sound, child_is_tested};
+use child_bind_rules::laws::bound_is_child;
 
 /// A query that binds over two tables within their limits can be run.
 pub fn bound_can_be_run()
     ensures { BoundCanBeRun }
 {
-    child_is_sound();
-    child_is_tested();
+    bound_is_child();
 }
 
 /// The block of a query is determined by its end: the table of its answer, the line of its refusal, or a fixed line.

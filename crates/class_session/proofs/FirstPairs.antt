@@ -48,7 +48,7 @@ module _ (g : Partition) (c : Catalogue) (plans : List Plan) (turns : ClassTurns
       → ((p : Class) → Called Asks (AnswersClose (seat_at old p).number) (seat_at old p) (seat_at new p))
       → (p : Class) → Manned Asks (seat_at old p) (seat_at new p)
   closed_manned new called p =
-      let stays = stays_all Asks (λ o q. true) (seat_at old) (seat_at new) (czars (λ o. (called o).lawful.small)).czar called in
+      let stays = stays_all Asks (λ o q. true) (seat_at old) (seat_at new) (czars (λ o. (called o).lawful.small)).czar called (λ q. Unit {0}) in
       manned_alone Asks (seat_at old p) (seat_at new p) (stays p) (is_closed_now Asks (seat_at old p) (seat_at new p) (called p)) (called p).known
 
   ended_at : (new : PairSeat Base) → ((p : Class) → Manned Asks (seat_at old p) (seat_at new p)) → (p : Class) → AllHaveEnded (seat_at new p)

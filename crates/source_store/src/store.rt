@@ -61,7 +61,7 @@ impl<'w> SourceStore<'w> {
         })
     }
 
-    /// Returns the sources that it was created of. Does not allocate.
+    /// Returns the sources from which it was created. Does not allocate.
     pub fn sources(&self) -> &Sources
         ensures { result.now ≡ self.now.table }
     {

@@ -15,8 +15,7 @@ use Rattle.bind_rules.specs.Names.{unknown_by}
 use Rattle.bind_rules.specs.Forms.{area_form}
 use Rattle.bind_rules.specs.Checks.{too_wide_by, order_by}
 use Rattle.bind_rules.specs.IdTests.{lone_of}
-use Rattle.child_bind_rules.specs.ChildChecks.{child_fault}
-use Rattle.child_bind_rules.specs.JoinCondition.{child_form}
+use Rattle.child_bind_rules.specs.ChildBinding.{child_query}
 use Rattle.bind_rules.proofs.Worked.{written, bindings}
 use Rattle.child_bind_rules.proofs.examples.ids_of_objects.Goals as goal
 
@@ -26,7 +25,7 @@ unfolding keyword_of tokens_from too_deep many col_at bracket_with atom_with fac
     area_with group_with other_with pred_with neg_with conj_with any_with cond_at argument_at counted_at plain_at
     high_at kind_at as_at item_at item_list_at items_at alias_at table_at second_at where_at cols_at group_at way_at
     sorted_at order_at limit_at from_at front_at query_at query_of tree_of columns_of mentions_of_cond
-    width_of exprs_of unknown_by area_form too_wide_by order_by lone_of child_fault child_form
+    width_of exprs_of unknown_by area_form too_wide_by order_by lone_of child_query
 returns-clause-object c = simp (written, bindings)
 
 pub returns-clause-source : goal.returns-clause-source
@@ -35,5 +34,5 @@ unfolding keyword_of tokens_from too_deep many col_at bracket_with atom_with fac
     area_with group_with other_with pred_with neg_with conj_with any_with cond_at argument_at counted_at plain_at
     high_at kind_at as_at item_at item_list_at items_at alias_at table_at second_at where_at cols_at group_at way_at
     sorted_at order_at limit_at from_at front_at query_at query_of tree_of columns_of mentions_of_cond
-    width_of exprs_of unknown_by area_form too_wide_by order_by lone_of child_fault child_form
+    width_of exprs_of unknown_by area_form too_wide_by order_by lone_of child_query
 returns-clause-source c = simp (written, bindings)

@@ -1,0 +1,4 @@
+pub mod Testing
+pub mod Reading
+pub mod Keeping
+pub mod Narrowing
