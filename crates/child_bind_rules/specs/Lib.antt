@@ -4,3 +4,4 @@ pub mod ChildChecks
 pub mod ChildBinding
 pub mod ChildLaws
 pub mod ChildExamples
+pub mod BoundPairs

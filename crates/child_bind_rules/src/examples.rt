@@ -1,10 +1,12 @@
 //! Worked examples of queries over objects and their sources, stated as functions that do nothing: each ensures what
 //! the checker computes.
 
-ghost use Rattle.std.specs.Prelude.{◌≡◌, [], ◌∷◌, codes, pos, true, false, Some};
+ghost use Rattle.std.specs.Prelude.{◌≡◌, [], ◌∷◌, codes, pos, true, false, None, Some};
+ghost use Rattle.sql_bound.specs.declared.area.AreaTest.TheVariants.{Band};
 ghost use Rattle.bind_rules.specs.Examples.{Binds, Refused, span};
 ghost use Rattle.bind_rules.specs.declared.fault.BindFault.TheVariants.{AreaForm, JoinForm, OrderName, TooWide};
 ghost use Rattle.bind_rules.specs.declared.fault.BindFault.TheVariants.{UnknownName};
+ghost use Rattle.child_bind_rules.specs.BoundPairs.{by_flux_down, child_query_text, in_area, same_id, times};
 ghost use Rattle.child_bind_rules.specs.ChildExamples.{child_ids, child_judged, columns_meant};
 
 /// A query binds if one conjunct equates the objectIds of its two tables, in either order. Brackets round the
@@ -124,4 +126,18 @@ pub fn ids_of_objects()
     ensures source { child_ids
         (codes "SELECT s.t FROM Object o,Source s WHERE o.objectId=s.objectId AND s.objectId=4")
         ≡ [] }
+{}
+
+/// What a query without a fault is bound to, part by part: the join condition is a condition; an area test is one, and a
+/// test by which chunks are chosen; the order key has its direction. Two of the texts lack the join condition.
+pub fn bound_to_pairs()
+    ensures join { child_query_text
+        (codes "SELECT s.t FROM Object o,Source s WHERE o.objectId=s.objectId")
+        ≡ Some (times (same_id ∷ []) [] None None) }
+    ensures order { child_query_text
+        (codes "SELECT s.t FROM Object o,Source s ORDER BY s.flux DESC LIMIT 3")
+        ≡ Some (times [] [] (Some by_flux_down) (Some (pos 3))) }
+    ensures area { child_query_text
+        (codes "SELECT s.t FROM Object o,Source s WHERE area_band(1,2)")
+        ≡ Some (times (in_area (Band (pos 1) (pos 2)) ∷ []) (Band (pos 1) (pos 2) ∷ []) None None) }
 {}
