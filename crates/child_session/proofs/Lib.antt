@@ -1,0 +1,12 @@
+pub mod Zips
+pub mod Planning
+pub mod EachPlan
+pub mod Attaching
+pub mod Fitting
+pub mod Scanning
+pub mod Crossing
+pub mod Driving
+pub mod EndsOfPlans
+pub mod Pairs
+pub mod ScriptEnds
+pub mod EndBlocks

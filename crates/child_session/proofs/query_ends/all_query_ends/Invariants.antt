@@ -1,0 +1,20 @@
+use Rattle.std.proofs.Common.{◌≡◌, ◌++◌, List, length}
+use Rattle.std.specs.List.{AllZip}
+use Rattle.std.specs.Iterator.Adapters.{zip_first, zip_second}
+use Rattle.std.specs.Vec.Iter.{into_iter_items, into_iter_len}
+use Rattle.child_session.specs.ChildEnded.{AreChildEnded, MayEndChild}
+use Rattle.czar.specs.declared.end.End.{End}
+use Rattle.child_session.proofs.query_ends.all_query_ends.Given as goal
+
+-- the ends so far, with those of the queries that follow, are the ends of all
+abbrev pub invariant-loop-plan : goal.invariant-loop-plan
+invariant-loop-plan l = record {
+  next : (goal.iterator-loop-plan).can_next l.plan-iterator;
+  finite : (goal.iterator-loop-plan).is_finite l.plan-iterator;
+  plans_len : into_iter_len (zip_first l.plan-iterator) ≡ length (into_iter_items (zip_first l.plan-iterator));
+  ends_len : into_iter_len (zip_second l.plan-iterator) ≡ length (into_iter_items (zip_second l.plan-iterator));
+  may : AllZip MayEndChild (into_iter_items (zip_first l.plan-iterator)) (into_iter_items (zip_second l.plan-iterator));
+  ended : (more : List End) → AreChildEnded (into_iter_items (zip_first l.plan-iterator)) (into_iter_items (zip_second l.plan-iterator)) more
+      → AreChildEnded (into_iter_items (zip_first l.initial.plan-iterator)) (into_iter_items (zip_second l.initial.plan-iterator))
+      (l.query_ends.items ++ more);
+}

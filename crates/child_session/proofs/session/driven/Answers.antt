@@ -1,0 +1,15 @@
+use Rattle.child_session.proofs.Driving.{closed_manned}
+use Rattle.child_session.proofs.session.driven.Goals as goal
+
+pub returns-in-Ok-clause-driven : goal.returns-in-Ok-clause-driven
+returns-in-Ok-clause-driven g c = c.driven_at.ensures.driven
+
+pub returns-in-Ok-clause-manned : goal.returns-in-Ok-clause-manned
+returns-in-Ok-clause-manned g c = c.driven_at.ensures.manned
+
+pub returns-in-Ok-clause-made : goal.returns-in-Ok-clause-made
+returns-in-Ok-clause-made g c = c.driven_at.ensures.made
+
+pub returns-in-Err-clause-manned : goal.returns-in-Err-clause-manned
+returns-in-Err-clause-manned g c =
+    closed_manned c.args.session.now.world.now c.args.plans.now c.args.board.now c.args.seat c.close.result c.requires.seat c.close.ensures.called

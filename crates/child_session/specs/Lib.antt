@@ -1,0 +1,7 @@
+pub mod Tables
+pub mod ChildPlans
+pub mod ChildRefusals
+pub mod ChildAttached
+pub mod ChildEnded
+pub mod ChildEnds
+pub mod ChildDriven

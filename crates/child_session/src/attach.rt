@@ -1,0 +1,157 @@
+//! What a session attaches for the child queries of a script, and the board to which it attaches.
+
+ghost use Rattle.std.specs.Prelude.{◌≡◌, ◌≤◌, ◌<◌, ◌+◌, All, IfOk, OnOk, length, map, option_map, take};
+ghost use Rattle.sky_rules.specs.Partition.{chunk_count};
+ghost use Rattle.scan_rules.specs.declared.limits.TheConstants.{QUERY_MOST};
+ghost use Rattle.turn_lock.specs.Seats.{first_seat};
+ghost use Rattle.session_script.specs.Views.{query_lines};
+ghost use Rattle.child_session.specs.ChildAttached.{CanRunChild, child_attached, child_base_of, child_query};
+ghost use Rattle.child_session.specs.ChildAttached.{lent, with_query};
+ghost use Rattle.child_session.specs.ChildPlans.{AreChildPlans};
+
+use crate::plan::ChildPlan;
+use crate::session::ChildContext;
+use crate::world::ChildWorld;
+use child_piece::{ChildPiece, ChildRoot, copy_of_child};
+use child_rules::ChildBound;
+use child_transcripts::laws::bound_can_be_run;
+use scan_board::{Board, Seat, SharedBoard};
+use scan_session::Planned;
+use sky_io::{Gate, Memory};
+use std::alloc::Global;
+use std::sync::Wait;
+use std::thread::Threads;
+
+/// A board of child pieces, and the czar's participant of it.
+type Seated<'w> = (SharedBoard<ChildPiece<'w>>, Seat<Board<ChildPiece<'w>>>);
+
+/// Returns what is attached for a query: nothing if it is refused.
+fn attached_by<'w>(
+    alloc: Global,
+    plan: &ChildPlan,
+) -> Result<Option<Planned<ChildPiece<'w>>>, Memory>
+    ensures { IfOk result (λ it. it ≡ child_attached plan.now) }
+{
+    match plan {
+        ChildPlan::Planned { bound, chunks, .. } => match chunks.copy(alloc) {
+            Ok(chunks) => Ok(Some(Planned {
+                chunks,
+                empty: ChildPiece::empty(alloc, bound),
+            })),
+            Err(Memory) => Err(Memory),
+        },
+        ChildPlan::Refused(_) => Ok(None),
+    }
+}
+
+/// Returns what is attached for each query of a script, in their order. Allocates memory.
+pub(crate) fn all_attached<'w>(
+    alloc: Global,
+    plans: &[ChildPlan],
+) -> Result<Vec<Option<Planned<ChildPiece<'w>>>>, Memory>
+    ensures { IfOk result (λ all. all.items ≡ map child_attached plans.now) }
+{
+    let mut all = Vec::new(alloc);
+    for plan in plans {
+        all.push(attached_by(alloc, plan)?)?;
+    }
+    Ok(all)
+}
+
+/// Returns the child query of a query, if it is planned.
+fn query_of(plan: &ChildPlan) -> Option<&ChildBound>
+    ensures { option_map (λ query. query.now) result ≡ child_query plan.now }
+{
+    match plan {
+        ChildPlan::Planned { bound, .. } => Some(bound),
+        ChildPlan::Refused(_) => None,
+    }
+}
+
+/// Returns the child query of each query of a script, in their order, if it is planned. Allocates memory.
+pub(crate) fn child_queries<'p>(
+    alloc: Global,
+    plans: &'p [ChildPlan],
+) -> Result<Vec<Option<&'p ChildBound>>, Memory>
+    ensures { IfOk result (λ queries. lent queries.items ≡ map child_query plans.now) }
+{
+    let mut queries = Vec::new(alloc);
+    for plan in plans {
+        queries.push(query_of(plan))?;
+    }
+    Ok(queries)
+}
+
+/// Gives the root a copy of the child query of the query with this number, if it is planned.
+fn give(alloc: Global, plan: &ChildPlan, q: u32, root: &mut ChildRoot<'_>) -> Result<(), Memory>
+    requires above { All (λ e. e.0 < q) root.old.queries }
+    requires from_1 { 1 ≤ q }
+    requires to_255 { q ≤ QUERY_MOST }
+    requires child { CanRunChild (child_query plan.now) }
+    ensures { OnOk result (root.new ≡ with_query root.old q (child_query plan.now)) }
+{
+    match plan {
+        ChildPlan::Planned { bound, .. } => match copy_of_child(alloc, bound) {
+            Ok(copy) => root.push(q, copy),
+            Err(Memory) => Err(Memory),
+        },
+        ChildPlan::Refused(_) => Ok(()),
+    }
+}
+
+/// Gives the root of the queries before a place that of the query at it.
+fn give_next(
+    alloc: Global,
+    world: &ChildWorld<'_>,
+    plans: &[ChildPlan],
+    place: usize,
+    root: &mut ChildRoot<'_>,
+) -> Result<(), Memory>
+    requires few { length plans.now ≤ QUERY_MOST }
+    requires there { place < length plans.now }
+    requires child { All (λ plan. CanRunChild (child_query plan)) plans.now }
+    requires given { root.old ≡ child_base_of world.now (take place plans.now) }
+    ensures { OnOk result (root.new ≡ child_base_of world.now (take (place + 1) plans.now)) }
+{
+    give(alloc, &plans[place], place as u32 + 1, root)
+}
+
+/// Returns the root of a session's pieces: both tables, and copies of the child queries with their numbers. They are copies
+/// because the root is in the board, and a worker that scans a chunk for a query does not hold the board.
+fn root_of<'w>(
+    alloc: Global,
+    world: &ChildWorld<'w>,
+    plans: &[ChildPlan],
+) -> Result<ChildRoot<'w>, Memory>
+    requires few { length plans.now ≤ QUERY_MOST }
+    requires child { All (λ plan. CanRunChild (child_query plan)) plans.now }
+    ensures { IfOk result (λ root. root ≡ child_base_of world.now plans.now) }
+{
+    let store = world.store();
+    let mut root = ChildRoot::new(alloc, store.plan(), store.rows(), world.sources().sources());
+    for place in 0..plans.len() {
+        give_next(alloc, world, plans, place, &mut root)?;
+    }
+    Ok(root)
+}
+
+/// Creates a board over the chunks of the world for the queries with these plans, and the czar's participant. Allocates
+/// memory.
+pub fn board_for<'s, R: Threads + Wait + Sync, G: Gate + Sync>(
+    session: &ChildContext<'s, '_, R, G>,
+    plans: &[ChildPlan],
+) -> Result<Seated<'s>, Memory>
+    requires plans { AreChildPlans session.now.world.now (query_lines session.now.script.now)
+        plans.now }
+    ensures { IfOk result (λ r. r.1 ≡ first_seat r.0 (record {
+      root = child_base_of session.now.world.now plans.now;
+      ring = chunk_count session.now.world.now.plan;
+    })) }
+{
+    bound_can_be_run();
+    session.world.within_limits();
+    let _ = session.script.queries();
+    let root = root_of(session.alloc, session.world, plans)?;
+    let board = Board::new(session.alloc, session.world.store().plan().chunks(), root)?;
+    SharedBoard::new(session.alloc, board)
+}
