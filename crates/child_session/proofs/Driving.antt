@@ -1,10 +1,8 @@
 -- What a session leaves once its workers were joined.
-use Rattle.std.proofs.Common.{◌≡◌, ◌∙◌, sym, ap, refl, subst, ℕ, ◌≤◌, true, List, length, map, Ok, Err, Result, IfOk, Option, Vec, vec_len}
+use Rattle.std.proofs.Common.{◌≡◌, ◌∙◌, sym, ap, refl, subst, ℕ, true, List, length, map, Ok, Err, Result, IfOk, Option, Vec, vec_len}
 use Rattle.std.proofs.lemmas.List.{length-map}
 use Rattle.sky_io.specs.declared.Memory.{Memory}
 use Rattle.sky_rules.specs.Partition.{chunk_count}
-use Rattle.scan_rules.specs.declared.limits.TheConstants.{RING_MOST}
-use Rattle.scan_rules.specs.Queries.{Journal}
 use Rattle.scan_rules.specs.Runs.{IsRun}
 use Rattle.answer_rules.specs.Pieces.{PieceView}
 use Rattle.turn_lock.specs.Seats.{first_seat}

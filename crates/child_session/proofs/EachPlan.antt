@@ -1,6 +1,5 @@
 -- The plans of a script's queries, one after the other.
-use Rattle.std.proofs.Common.{◌≡◌, ◌∙◌, sym, ap, subst, ℕ, ◌+◌, ◌<◌, List, [], ◌∷◌, ◌++◌, length, take, Some}
-use Rattle.std.specs.List.{AllZip}
+use Rattle.std.proofs.Common.{◌≡◌, ◌∙◌, sym, subst, ℕ, ◌+◌, ◌<◌, List, [], ◌∷◌, ◌++◌, length, take}
 use Rattle.sql_rules.specs.PrintedExprs.{Bytes}
 use Rattle.session_script.specs.Scripts.{query_count, query_text}
 use Rattle.session_script.specs.Views.{ScriptView, query_lines}

@@ -1,6 +1,5 @@
 -- What the ends that a session leaves are, plan by plan.
-use Rattle.std.proofs.Common.{◌≡◌, ◌∙◌, sym, ap, refl, subst, ℕ, zero, suc, ◌+◌, arith, List, length, map, None, Some, Option, option_map, slice_get}
-use Rattle.std.specs.List.{AllZip}
+use Rattle.std.proofs.Common.{◌≡◌, ◌∙◌, sym, ap, subst, ℕ, suc, ◌+◌, arith, List, map, None, Some, Option, option_map, slice_get}
 use Rattle.std.proofs.lemmas.Option.{get_or_from_slice_get, slice_get-map}
 use Rattle.scan_rules.specs.Queries.{Journal, Done, Cancelled as CancelledState, Spent as SpentState, state_of}
 use Rattle.sql_tree.specs.declared.query.Query.{Query}

@@ -1,5 +1,5 @@
 -- What is attached fits the board: chunks of the sky that the root asks, and pieces over none.
-use Rattle.std.proofs.Common.{◌≡◌, ◌∙◌, sym, ap, refl, subst, ℕ, zero, suc, ◌+◌, ◌<◌, ◌≤◌, arith, List, [], ◌∷◌, All, length, map}
+use Rattle.std.proofs.Common.{◌≡◌, sym, refl, subst, ℕ, zero, suc, ◌<◌, List, [], ◌∷◌, All, map}
 use Rattle.std.proofs.Common.{get_or, None, Some, Option, slice_get, true}
 use Rattle.sky_rules.specs.Partition.{chunk_count}
 use Rattle.chunk_rules.specs.Filled.{is_filled}
@@ -7,7 +7,6 @@ use Rattle.sql_bound.specs.declared.query.Bound.{Bound}
 use Rattle.sql_rules.specs.PrintedExprs.{Bytes}
 use Rattle.sql_tree.specs.declared.query.Query.{Query}
 use Rattle.answer_rules.specs.Pieces.{OfRows, PieceView}
-use Rattle.answer_rules.specs.Plans.{plan_of}
 use Rattle.answer_rules.proofs.Planned.{plan_is_filled}
 use Rattle.scan_session.specs.KnownEnds.{MayStart, PlansFit, at_query}
 use Rattle.scan_session.specs.declared.end.Planned.{Planned as Attachable}

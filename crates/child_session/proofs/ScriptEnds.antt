@@ -1,24 +1,22 @@
 -- How the queries of a script end, by their plans and the ends at the board.
-use Rattle.std.proofs.Common.{◌≡◌, ◌∙◌, sym, ap, refl, subst, ℕ, zero, suc, ◌+◌, ◌≤◌, arith, false, not, ◌||◌, List, [], ◌∷◌, length}
-use Rattle.std.proofs.Common.{map, None, Some, Ok, Err, Option, option_map, slice_get, Result, IfOk, is_some}
+use Rattle.std.proofs.Common.{◌≡◌, ◌∙◌, sym, ap, refl, subst, ℕ, suc, ◌+◌, ◌≤◌, arith, false, not, ◌||◌, List, [], ◌∷◌, length}
+use Rattle.std.proofs.Common.{map, None, Some, Ok, Err, Option, slice_get, Result, IfOk, is_some}
 use Rattle.std.specs.List.{AllZip}
 use Rattle.std.specs.Result.{result_err}
 use Rattle.std.proofs.lemmas.Bool.{both_ways, cond-true, false_from_ne_true, not_from_false}
 use Rattle.std.proofs.lemmas.List.{length-map}
 use Rattle.std.proofs.lemmas.List.FromFn.{length-range_with_len}
 use Rattle.std.proofs.lemmas.List.Sums.{count_by-le-length, length-filter}
-use Rattle.std.proofs.lemmas.Option.{slice_get-map}
-use Rattle.table_rules.specs.Objects.{Catalogue, IsCatalogue}
+use Rattle.table_rules.specs.Objects.{IsCatalogue}
 use Rattle.sky_io.specs.declared.Memory.{Memory}
 use Rattle.sky_rules.specs.Chunks.{all_chunks}
 use Rattle.sky_rules.specs.Limits.{IsSky}
-use Rattle.sky_rules.specs.Partition.{Partition, chunk_count}
+use Rattle.sky_rules.specs.Partition.{chunk_count}
 use Rattle.source_rules.specs.Sources.{IsSourceTable}
-use Rattle.scan_rules.specs.Queries.{Journal, QueryState, Done, Fresh, Cancelled as CancelledState, Spent as SpentState, is_attached, state_of}
+use Rattle.scan_rules.specs.Queries.{Journal, QueryState, Done, Fresh, is_attached, state_of}
 use Rattle.sql_bound.specs.declared.query.Bound.{Bound}
 use Rattle.sql_rules.specs.PrintedExprs.{Bytes}
 use Rattle.sql_tree.specs.declared.query.Query.{Query}
-use Rattle.answer_rules.specs.Coverage.{AreInTheSky}
 use Rattle.answer_rules.specs.Pieces.{PieceView}
 use Rattle.answer_rules.specs.Plans.{is_needed, plan_of}
 use Rattle.session_rules.specs.Ends.{Judged, is_refused}
@@ -34,8 +32,6 @@ use Rattle.scan_session.specs.declared.end.End.TheVariants as board
 use Rattle.scan_session.proofs.Fitting.{drove_fits}
 use Rattle.scan_session.proofs.Quiet.{attached_planned}
 use Rattle.transcript_rules.specs.Transcripts.{is_idle, is_none_of}
-use Rattle.child_piece.specs.ChildAnswers.{MayFinishChild}
-use Rattle.child_rules.specs.declared.bound.ChildBound.{ChildBound}
 use Rattle.child_rules.specs.ChildBases.{IsChildBase}
 use Rattle.child_rules.specs.ChildPieces.{ChildFor}
 use Rattle.child_rules.specs.Children.{IsChild, child_answer, child_answer_in}
@@ -48,7 +44,7 @@ use Rattle.czar.specs.Traces.{AreEndsIn, IsEndIn}
 use Rattle.czar.specs.declared.end.End.{End}
 use Rattle.czar.specs.declared.end.End.TheVariants as end
 use Rattle.czar.proofs.Each.{lines_count}
-use Rattle.child_session.specs.ChildAttached.{child_base_of, child_chunks_planned}
+use Rattle.child_session.specs.ChildAttached.{child_chunks_planned}
 use Rattle.child_session.specs.ChildDriven.{IsChildDriven}
 use Rattle.child_session.specs.ChildEnded.{AreChildEnded, IsAnsweredBy, IsChildEnded, MayEndChild}
 use Rattle.child_session.specs.ChildEnds.{ChildEndShows, ChildEndsShow}
@@ -57,7 +53,7 @@ use Rattle.child_session.specs.Tables.{Tables}
 use Rattle.child_session.specs.declared.plan.ChildPlan.{ChildPlan}
 use Rattle.child_session.specs.declared.plan.ChildPlan.TheVariants.{Planned, Refused}
 use Rattle.child_session.proofs.EndsOfPlans.{IsEndFor, chunks_in, end_at, planned_in}
-use Rattle.child_session.proofs.Pairs.{EndedAt, ended_at, ended_length}
+use Rattle.child_session.proofs.Pairs.{ended_at, ended_length}
 use Rattle.child_session.proofs.Zips.{from_map, zip_at, zip_by, zip_first, zip_length, zip_second}
 
 -- The plan and both tables are within the limits, and what binds over such tables can be run.

@@ -1,5 +1,5 @@
 -- Two lists whose elements belong together one by one.
-use Rattle.std.proofs.Common.{◌≡◌, ap, refl, subst, ℕ, zero, suc, ◌+◌, arith, List, [], ◌∷◌, ◌++◌, length, map, None, Some, Option, slice_get}
+use Rattle.std.proofs.Common.{◌≡◌, ap, refl, subst, ℕ, zero, suc, arith, List, [], ◌∷◌, ◌++◌, length, map, None, Some, Option, slice_get}
 use Rattle.std.specs.List.{AllZip}
 
 pub none_is : {X : Type 0} (x : X) → ◌≡◌ {A = Option X} None (Some x) → ⊥

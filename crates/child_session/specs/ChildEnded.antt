@@ -20,8 +20,8 @@ IsAnsweredBy head bound chunks piece (Refused why) = ⊥
 IsAnsweredBy head bound chunks piece Cancelled = ⊥
 IsAnsweredBy head bound chunks piece Spent = ⊥
 
--- the end of a query that is planned over the given number of chunks, by how it ended at the board, where no planned query
--- is refused; one that was lost there is out of memory
+-- the end of a query that is planned over the given number of chunks, by how it ended at the board, where no planned
+-- query is refused; one that was lost there is out of memory
 abbrev pub IsPlannedChildEnd : Query → Bound → ℕ → BoardEnd PieceView → End → Type 0
 IsPlannedChildEnd head bound chunks (board.Answered piece) end = IsAnsweredBy head bound chunks piece end
 IsPlannedChildEnd head bound chunks board.Refused end = ⊥
@@ -40,8 +40,8 @@ AreChildEnded [] [] [] = Unit {0}
 AreChildEnded (p ∷ plans) (e ∷ ends) (q ∷ query_ends) = IsChildEnded p e q × AreChildEnded plans ends query_ends
 AreChildEnded plans ends query_ends = ⊥
 
--- a planned query may end so at the board: its piece may be finished, and the number of these chunks is within its limit;
--- no planned query is refused there
+-- a planned query may end so at the board: its piece may be finished, and the number of these chunks is within its
+-- limit; no planned query is refused there
 abbrev pub MayAnswerChild : Bound → List ℕ → BoardEnd PieceView → Type 0
 MayAnswerChild bound chunks (board.Answered piece) = MayFinishChild bound piece × (length chunks ≤ CHUNKS_MOST)
 MayAnswerChild bound chunks board.Refused = ⊥

@@ -1,5 +1,5 @@
--- The ends of the queries of a script over a child table: an answer over the two flat tables, or the reason for which there is
--- none.
+-- The ends of the queries of a script over a child table: an answer over the two flat tables, or the reason for which
+-- there is none.
 use Rattle.std.specs.Prelude.{◌≡◌, ℕ, List, Some, Ok, length}
 use Rattle.std.specs.List.{AllZip}
 use Rattle.sql_bound.specs.declared.query.Bound.{Bound}
@@ -14,7 +14,8 @@ use Rattle.child_transcripts.specs.ChildQueries.{child_refusal, child_understood
 use Rattle.child_session.specs.Tables.{Tables}
 
 -- A query that is answered: its tree, its answer over the two flat tables, and the size of its plan.
-pub record IsChildAnswered (t : Tables) (text : Bytes) (head : Query) (answer : List (List Value)) (chunks : ℕ) : Type 0 where
+pub record IsChildAnswered (t : Tables) (text : Bytes) (head : Query) (answer : List (List Value)) (chunks : ℕ)
+    : Type 0 where
   pub bound : Bound
   pub known : child_understood (schemas_of t.rows t.table) text ≡ Ok (record { tree = head; bound = bound })
   pub rows : answer ≡ child_answer t.rows.objects t.table.sources bound

@@ -1,4 +1,5 @@
--- The plans of the child queries of a script: for each its bound query and its chunks, or the reason for which it is refused.
+-- The plans of the child queries of a script: for each its bound query and its chunks, or the reason for which it is
+-- refused.
 use Rattle.std.specs.Prelude.{◌≡◌, ℕ, List, Some, Ok}
 use Rattle.std.specs.List.{AllZip}
 use Rattle.sql_bound.specs.declared.query.Bound.{Bound}

@@ -116,8 +116,8 @@ fn give_next(
     give(alloc, &plans[place], place as u32 + 1, root)
 }
 
-/// Returns the root of a session's pieces: both tables, and copies of the child queries with their numbers. They are copies
-/// because the root is in the board, and a worker that scans a chunk for a query does not hold the board.
+/// Returns the root of a session's pieces: both tables, and copies of the child queries with their numbers. They are
+/// copies because the root is in the board, and a worker that scans a chunk for a query does not hold the board.
 fn root_of<'w>(
     alloc: Global,
     world: &ChildWorld<'w>,

@@ -1,12 +1,12 @@
-//! The session of a script over a child table: its queries are planned, run over their chunks and merged, and their ends are
-//! written.
+//! The session of a script over a child table: its queries are planned, run over their chunks and merged, and their ends
+//! are written.
 //!
 //! Callers see a script's plans as `AreChildPlans` (`specs/ChildPlans.antt`) and its ends as `ChildEndsShow`
-//! (`specs/ChildEnds.antt`): an answer is that over the two flat tables, whose definition does not mention chunks. Below:
-//! `sql_reader` and `child_bind` for the meaning of a query, `czar` for its chunks and for the type of its end,
-//! `scan_session` for the session over a shared board, `child_scan` for a chunk's work, `child_piece` for the merge, and
-//! `answer_text` for its text. The boards, the workers and the script's waits and cancels are those of every session: no
-//! loop of a session and no thread is here.
+//! (`specs/ChildEnds.antt`): an answer is that over the two flat tables, whose definition does not mention chunks.
+//! Below: `sql_reader` and `child_bind` for the meaning of a query, `czar` for its chunks and for the type of its end,
+//! `scan_session` for the session over a shared board, `child_scan` for a chunk's work, `child_piece` for the merge,
+//! and `answer_text` for its text. The board, the workers and the script's waits and cancels are those of every
+//! session: no loop of a session and no thread is here.
 #![tactic(auto)]
 
 mod attach;

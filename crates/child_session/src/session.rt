@@ -1,5 +1,5 @@
-//! The session of a script over a child table: its queries are planned and driven over a shared board with workers beside
-//! the czar, and their ends are returned.
+//! The session of a script over a child table: its queries are planned and driven over a shared board with workers
+//! beside the czar, and their ends are returned.
 
 ghost use Rattle.std.specs.Prelude.{◌≡◌, ◌+◌, ◌≤◌, IfOk, map};
 ghost use Rattle.sky_rules.specs.Partition.{chunk_count};
@@ -36,11 +36,11 @@ use std::alloc::Global;
 use std::sync::Wait;
 use std::thread::Threads;
 
-/// Runs the queries of a script over both tables and a shared board, with the given number of workers on threads beside the
-/// caller, which works too while it waits. A worker that takes a chunk passes the gate before the work on it. Allocates
-/// memory, and waits; each answer is computed before any of it is written. Wait lines and cancel lines are obeyed in the
-/// order of the script. If an allocation fails in a query's own work, the query ends as `Spent`, and the others go on. That
-/// there is a board is visible in the contract of `drive_children`, and not in this one.
+/// Runs the queries of a script over both tables and a shared board, with the given number of workers on threads beside
+/// the caller, which works too while it waits. A worker that takes a chunk passes the gate before the work on it.
+/// Allocates memory, and waits; each answer is computed before any of it is written. Wait lines and cancel lines are
+/// obeyed in the order of the script. If an allocation fails in a query's own work, the query ends as `Spent`, and the
+/// others go on. That there is a board is visible in the contract of `drive_children`, and not in this one.
 pub fn run_children<R: Threads + Wait + Sync, G: Gate + Sync>(
     alloc: Global,
     rt: &R,
@@ -168,8 +168,8 @@ fn parts<'p, 's>(alloc: Global, plans: &'p [ChildPlan]) -> Result<Parts<'p, 's>,
     Ok((queries, planned))
 }
 
-/// Drives what is attached for the queries with these plans over this board, from the czar's first participant. The plans
-/// are read by contracts alone.
+/// Drives what is attached for the queries with these plans over this board, from the czar's first participant. The
+/// plans are read by contracts alone.
 fn driven_at<'s, R: Threads + Wait + Sync, G: Gate + Sync>(
     session: &ChildContext<'s, '_, R, G>,
     plans: &[ChildPlan],

@@ -17,8 +17,8 @@ use session_script::Script;
 use sky_io::{Put, Sink};
 use sql_tree::Query;
 
-/// Writes the block of a query that is answered; `text` is its line. The headings of a child query are listed, so the schema of
-/// the objects serves, and no column of it is read.
+/// Writes the block of a query that is answered; `text` is its line. A child query lists its items, so no heading is read
+/// from the schema of the objects.
 fn put_answer<K: Sink>(
     sink: &mut K,
     world: &ChildWorld<'_>,

@@ -10,8 +10,8 @@ use czar::{World, within_limits};
 use source_store::SourceStore;
 use std::marker::Model;
 
-/// The world of a catalogue, and the store of sources that belongs to it. It serves each script over both tables. Contracts
-/// see the plan of the sky, the catalogue and the source table.
+/// The world of a catalogue, and the store of sources that belongs to it. It serves each script over both tables.
+/// Contracts see the plan of the sky, the catalogue and the source table.
 #[derive(Drop)]
 pub struct ChildWorld<'w> {
     world: &'w World<'w>,

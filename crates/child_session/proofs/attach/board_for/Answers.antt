@@ -1,5 +1,4 @@
-use Rattle.std.proofs.Common.{arith, length, ◌≤◌}
-use Rattle.scan_rules.specs.declared.limits.TheConstants.{QUERY_MOST}
+use Rattle.std.proofs.Common.{arith}
 use Rattle.session_script.specs.Views.{query_lines}
 use Rattle.child_session.proofs.Attaching.{all_can_run}
 use Rattle.child_session.proofs.EachPlan.{a_plan_each}

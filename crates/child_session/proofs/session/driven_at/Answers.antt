@@ -1,10 +1,10 @@
-use Rattle.std.proofs.Common.{◌≡◌, ◌∙◌, sym, ap, subst, ℕ, ◌≤◌, arith, length}
+use Rattle.std.proofs.Common.{◌∙◌, sym, ap, subst, ℕ, ◌≤◌, arith, length}
 use Rattle.std.proofs.lemmas.List.{length-map}
 use Rattle.scan_rules.specs.declared.limits.TheConstants.{QUERY_MOST, RING_MOST}
 use Rattle.session_script.specs.Scripts.{query_count}
 use Rattle.session_script.specs.Views.{query_lines}
 use Rattle.sky_rules.specs.Partition.{chunk_count}
-use Rattle.child_rules.specs.ChildBases.{ChildAsks, ChildBase, ChildStands}
+use Rattle.child_rules.specs.ChildBases.{ChildAsks, ChildStands}
 use Rattle.scan_session.specs.KnownEnds.{PlansFit}
 use Rattle.scan_session.specs.declared.end.Planned.{Planned as Attachable}
 use Rattle.answer_rules.specs.Pieces.{PieceView}
