@@ -24,7 +24,7 @@ use Rattle.answer_rules.proofs.Orders.{each_weaker}
 use Rattle.answer_rules.proofs.Sorting.{Rises, apart_by_ids}
 use Rattle.child_rules.specs.Children.{child_found, child_pair, child_picks, is_source_of, as_row, source_pairs}
 use Rattle.child_rules.specs.ChildLaws.{ChildPieceIsForASet, ChildRowsAreApart, ChildPiecesJoin, EmptyChildPiece, SourcesAscend}
-use Rattle.child_rules.specs.ChildPieces.{child_lines, lines_of}
+use Rattle.child_rules.specs.ChildPieces.{child_lines, rows_of_picks}
 
 -- ---- what is found
 
@@ -56,12 +56,12 @@ found_same g table sources conds B B' s =
 
 pub child_piece_is_for_a_set : ChildPieceIsForASet
 child_piece_is_for_a_set g table sources q B B' (OfRows pushed rows) s h =
-    (h.0, subst (λ ps. IsPermutation (lines_of q ps) rows) (found_same g table sources q.conds B B' s) h.1)
+    (h.0, subst (λ ps. IsPermutation (rows_of_picks q ps) rows) (found_same g table sources q.conds B B' s) h.1)
 child_piece_is_for_a_set g table sources q B B' (OfGroups parts) s h = absurd h
 
 pub empty_child_piece : EmptyChildPiece
 empty_child_piece g table sources q =
-    (refl, subst (λ ps. IsPermutation (lines_of q ps) []) (sym (filter_none (λ p. meets q.conds p && lies_in g [] p.first.at) (λ p. nowhere (chunk_holding g p.first.at) (meets q.conds p)) (child_picks table sources))) (IsPermutation-refl []))
+    (refl, subst (λ ps. IsPermutation (rows_of_picks q ps) []) (sym (filter_none (λ p. meets q.conds p && lies_in g [] p.first.at) (λ p. nowhere (chunk_holding g p.first.at) (meets q.conds p)) (child_picks table sources))) (IsPermutation-refl []))
 
 -- ---- the pairs ascend by their two ids
 

@@ -12,12 +12,12 @@ use Rattle.answer_rules.specs.Rows.{bound_lines, out_row}
 use Rattle.child_rules.specs.Children.{child_found}
 
 -- the rows that a query computes of these pairs
-abbrev pub lines_of : Bound → List Pick → List OutRow
-lines_of q ps = map (out_row (bound_lines q)) ps
+abbrev pub rows_of_picks : Bound → List Pick → List OutRow
+rows_of_picks q ps = map (out_row (bound_lines q)) ps
 
 -- the rows that a child query finds in these chunks, in the order of the two tables
 abbrev pub child_lines : Partition → List Obj → List Source → Bound → List ℕ → List OutRow
-child_lines g table sources q chunks = lines_of q (child_found g table sources q.conds chunks)
+child_lines g table sources q chunks = rows_of_picks q (child_found g table sources q.conds chunks)
 
 -- the partial result has these rows, in any order, and no limit
 abbrev pub HasAllRows : List OutRow → PieceView → Type 0

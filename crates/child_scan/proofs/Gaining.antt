@@ -12,7 +12,7 @@ use Rattle.answer_rules.specs.Rows.{bound_lines, item_value, out_row}
 use Rattle.partial_merge.specs.declared.rank.Rank.{Rank}
 use Rattle.partial_merge.specs.Multisets.{out_row as ranked}
 use Rattle.partial_merge.specs.Joining.{IsOfRows, TakesRow}
-use Rattle.child_rules.specs.ChildPieces.{HasAllRows, lines_of}
+use Rattle.child_rules.specs.ChildPieces.{HasAllRows, rows_of_picks}
 use Rattle.child_rules.proofs.Joined.{kept_all}
 use Rattle.child_scan.specs.Gains.{Gains}
 use Rattle.child_scan.specs.Lines.{with_cells}
@@ -52,5 +52,5 @@ pub row_is_line : (q : Bound) (p : Pick) (rank : Rank) (values : List (Option �
     → ranked rank values ≡ out_row (bound_lines q) p
 row_is_line q p rank values e f = ap (with_cells values) e ∙ ap (λ cells. with_cells cells (out_row (bound_lines q) p)) f
 
-pub gains_line : (q : Bound) (p : Pick) (row : OutRow) (old new : PieceView) → row ≡ out_row (bound_lines q) p → TakesRow old row new → Gains (lines_of q (p ∷ [])) old new
+pub gains_line : (q : Bound) (p : Pick) (row : OutRow) (old new : PieceView) → row ≡ out_row (bound_lines q) p → TakesRow old row new → Gains (rows_of_picks q (p ∷ [])) old new
 gains_line q p row old new e t = subst (λ r. Gains (r ∷ []) old new) e (gains_one row old new t)

@@ -21,7 +21,7 @@ use Rattle.answer_rules.specs.Coverage.{AreInTheSky}
 use Rattle.answer_rules.specs.Pieces.{OfGroups, OfRows, PieceView}
 use Rattle.answer_rules.specs.Rows.{bound_lines, out_row}
 use Rattle.child_rules.specs.ChildLaws.{met_pairs}
-use Rattle.child_rules.specs.ChildPieces.{ChildFor, HasAllRows, lines_of}
+use Rattle.child_rules.specs.ChildPieces.{ChildFor, HasAllRows, rows_of_picks}
 use Rattle.child_rules.proofs.Scanning.{child_found_in_one}
 use Rattle.child_scan.specs.ChunkSources.{AreChunkSources}
 use Rattle.child_scan.specs.Gains.{Gains}
@@ -29,19 +29,19 @@ use Rattle.child_scan.specs.Scans.{pairs_at, pairs_of}
 use Rattle.child_scan.proofs.Taking.{blocks_more, blocks_of_map, places_taken}
 
 -- no rows yet
-pub begun : (q : Bound) (view : PieceView) → view ≡ OfRows None [] → HasAllRows (lines_of q []) view
+pub begun : (q : Bound) (view : PieceView) → view ≡ OfRows None [] → HasAllRows (rows_of_picks q []) view
 begun q view e = subst (λ v. HasAllRows [] v) (sym e) (refl, IsPermutation-refl [])
 
 -- one more source
 pub one_source : (table : List Obj) (p : SourceParts) (q : Bound) (numbers : List ℕ) (k i : ℕ) (old new : PieceView) → k < length numbers → i ≡ get_or numbers k 0
-    → HasAllRows (lines_of q (pairs_at table q p (take k numbers))) old
-    → Gains (lines_of q (met_pairs table q.conds (source_at p i))) old new
-    → HasAllRows (lines_of q (pairs_at table q p (take (suc k) numbers))) new
+    → HasAllRows (rows_of_picks q (pairs_at table q p (take k numbers))) old
+    → Gains (rows_of_picks q (met_pairs table q.conds (source_at p i))) old new
+    → HasAllRows (rows_of_picks q (pairs_at table q p (take (suc k) numbers))) new
 one_source table p q numbers k i old new low e h g =
     let f : ℕ → List Pick = λ i. met_pairs table q.conds (source_at p i) in
-    let more : lines_of q (pairs_at table q p (take (suc k) numbers)) ≡ lines_of q (pairs_at table q p (take k numbers)) ++ lines_of q (f i) =
-    ap (lines_of q) (blocks_more f numbers k 0 low ∙ ap (λ i. flat_map f (take k numbers) ++ f i) (sym e)) ∙ map-append (out_row (bound_lines q)) (flat_map f (take k numbers)) (f i) in
-    subst (λ l. HasAllRows l new) (sym more) (g (lines_of q (pairs_at table q p (take k numbers))) h)
+    let more : rows_of_picks q (pairs_at table q p (take (suc k) numbers)) ≡ rows_of_picks q (pairs_at table q p (take k numbers)) ++ rows_of_picks q (f i) =
+    ap (rows_of_picks q) (blocks_more f numbers k 0 low ∙ ap (λ i. flat_map f (take k numbers) ++ f i) (sym e)) ∙ map-append (out_row (bound_lines q)) (flat_map f (take k numbers)) (f i) in
+    subst (λ l. HasAllRows l new) (sym more) (g (rows_of_picks q (pairs_at table q p (take k numbers))) h)
 
 moved : (a b : List OutRow) (view : PieceView) → IsPermutation b a → HasAllRows a view → HasAllRows b view
 moved a b (OfRows pushed rows) p h = (h.0, IsPermutation-trans _ _ _ p h.1)
@@ -57,11 +57,11 @@ pairs_of_chunk g table sources q c p is =
 
 -- all sources of the chunk
 pub all_sources : (g : Partition) (table : List Obj) (sources : List Source) (q : Bound) (c : ℕ) (p : SourceParts) (view : PieceView) → IsSky g → AreInTheSky table → IdsAscend table
-    → c < chunk_count g → sources_in p ≡ sources_at sources (chunk_sources g table sources c) → HasAllRows (lines_of q (pairs_of table q p)) view
+    → c < chunk_count g → sources_in p ≡ sources_at sources (chunk_sources g table sources c) → HasAllRows (rows_of_picks q (pairs_of table q p)) view
     → ChildFor g table sources q (c ∷ []) view
 all_sources g table sources q c p view sky at up low is h =
     moved _ _ view (IsPermutation-map (out_row (bound_lines q)) _ _ (child_found_in_one g table sources q.conds c sky at up low))
-    (subst (λ ps. HasAllRows (lines_of q ps) view) (pairs_of_chunk g table sources q c p is) h)
+    (subst (λ ps. HasAllRows (rows_of_picks q ps) view) (pairs_of_chunk g table sources q c p is) h)
 
 -- the rows of a catalogue are in the sky
 pub in_sky : (c : Catalogue) → IsCatalogue c → AreInTheSky c.objects

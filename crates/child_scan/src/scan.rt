@@ -11,7 +11,7 @@ ghost use Rattle.partial_merge.specs.Joining.{IsOfRows};
 ghost use Rattle.source_row.specs.SourceColumns.{source_at};
 ghost use Rattle.child_rules.specs.Children.{IsChild, child_pair};
 ghost use Rattle.child_rules.specs.ChildLaws.{met_pairs};
-ghost use Rattle.child_rules.specs.ChildPieces.{HasAllRows, lines_of};
+ghost use Rattle.child_rules.specs.ChildPieces.{HasAllRows, rows_of_picks};
 ghost use Rattle.child_scan.specs.ChunkSources.{AreChunkSources};
 ghost use Rattle.child_scan.specs.Scans.{pairs_at, pairs_of};
 ghost use Rattle.child_scan.specs.Gains.{Gains};
@@ -44,7 +44,7 @@ pub(crate) fn scan_sources<'w>(
     requires sources { AreChunkSources lists.now }
     requires width { width ≡ length lists.now.further }
     requires child { IsChild query.now.bound }
-    ensures { IfOk result (HasAllRows (lines_of query.now.bound
+    ensures { IfOk result (HasAllRows (rows_of_picks query.now.bound
         (pairs_of rows.now.objects query.now.bound lists.now))) }
 {
     let numbers = candidates(alloc, lists, width, query.bound.conds.as_slice())?;
@@ -64,7 +64,7 @@ fn scan_numbers<'w>(
     requires width { width ≡ length lists.now.further }
     requires there { All (λ i. i < length lists.now.ids) numbers.now }
     requires child { IsChild query.now.bound }
-    ensures { IfOk result (HasAllRows (lines_of query.now.bound
+    ensures { IfOk result (HasAllRows (rows_of_picks query.now.bound
         (pairs_at rows.now.objects query.now.bound lists.now numbers.now))) }
 {
     let mut piece = ChildPiece::empty(alloc, query);
@@ -98,7 +98,7 @@ fn push_source(
     requires width { width ≡ length lists.now.further }
     requires there { i < length lists.now.ids }
     requires child { IsChild query.now }
-    ensures { OnOk result (Gains (lines_of query.now (met_pairs rows.now.objects query.now.conds
+    ensures { OnOk result (Gains (rows_of_picks query.now (met_pairs rows.now.objects query.now.conds
         (source_at lists.now i))) piece.old piece.new) }
 {
     match object_of(rows, object_id(lists, i)) {
@@ -135,7 +135,7 @@ fn push_pair(
     requires there { i < length lists.now.ids }
     requires long { length first.now.further ≡ FURTHER_COLUMNS_MOST }
     requires child { IsChild query.now }
-    ensures { OnOk result ((o : Obj) → IsWide o first.now → Gains (lines_of query.now
+    ensures { OnOk result ((o : Obj) → IsWide o first.now → Gains (rows_of_picks query.now
         (filter (meets query.now.conds) (child_pair o (source_at lists.now i) ∷ [])))
         piece.old piece.new) }
 {
@@ -155,7 +155,7 @@ fn push_if_met(
     requires wide { length second.now.further ≡ length first.now.further }
     requires sound { IsSoundPair (has_col (FIRST_COLUMNS + length first.now.further) true)
         query.now }
-    ensures { OnOk result (Gains (lines_of query.now (filter (meets query.now.conds)
+    ensures { OnOk result (Gains (rows_of_picks query.now (filter (meets query.now.conds)
         (pair first.now second.now ∷ []))) piece.old piece.new) }
 {
     if meets(query.conds.as_slice(), first, Some(second)) {
@@ -177,7 +177,7 @@ fn push_rows(
     requires wide { length second.now.further ≡ length first.now.further }
     requires sound { IsSoundPair (has_col (FIRST_COLUMNS + length first.now.further) true)
         query.now }
-    ensures { OnOk result (Gains (lines_of query.now (pair first.now second.now ∷ []))
+    ensures { OnOk result (Gains (rows_of_picks query.now (pair first.now second.now ∷ []))
         piece.old piece.new) }
 {
     fill(values, query.items.as_slice(), first, second)?;

@@ -6,7 +6,7 @@ use Rattle.source_rules.specs.SourcePlaces.{chunk_sources}
 use Rattle.source_rules.specs.Sources.{IsSourceTable, SourceTable}
 use Rattle.source_row.specs.SourceColumns.{sources_at, sources_in}
 use Rattle.answer_rules.specs.Pieces.{PieceView}
-use Rattle.child_rules.specs.ChildPieces.{HasAllRows, lines_of}
+use Rattle.child_rules.specs.ChildPieces.{HasAllRows, rows_of_picks}
 use Rattle.child_scan.specs.Scans.{pairs_of}
 use Rattle.child_scan.proofs.Scanned.{all_sources, chunk_columns, in_sky}
 use Rattle.child_scan.proofs.chunk.child_scan.Goals as goal
@@ -34,5 +34,5 @@ returns c =
     ∙ ap (λ (os : List Obj). sources_at sources (chunk_sources g os sources c.args.chunk)) c.requires.objects in
     IfOk-weaker c.scan_sources.result _ _
     (λ (view : PieceView) h. all_sources g objects sources q c.args.chunk c.columns.result.now view c.know.ensures.sky (in_sky c.args.store.now.rows c.know.ensures.rows) c.know.ensures.rows.ascend c.requires.there own
-    (subst (λ (r : Catalogue). HasAllRows (lines_of q (pairs_of r.objects q c.columns.result.now)) view) c.rows.ensures h))
+    (subst (λ (r : Catalogue). HasAllRows (rows_of_picks q (pairs_of r.objects q c.columns.result.now)) view) c.rows.ensures h))
     c.scan_sources.ensures

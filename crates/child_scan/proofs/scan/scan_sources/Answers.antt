@@ -2,7 +2,7 @@ use Rattle.std.proofs.Common.{◌<◌, subst, sym, length, List}
 use Rattle.std.specs.Prelude.{All, IfOk}
 use Rattle.sql_bound.specs.declared.cond.BoundCond.{BoundCond}
 use Rattle.source_filter.specs.Candidates.{AreCandidates}
-use Rattle.child_rules.specs.ChildPieces.{HasAllRows, lines_of}
+use Rattle.child_rules.specs.ChildPieces.{HasAllRows, rows_of_picks}
 use Rattle.child_scan.proofs.Taking.{candidates_cover, candidates_there}
 use Rattle.child_scan.proofs.scan.scan_sources.Goals as goal
 
@@ -19,4 +19,4 @@ returns c =
     let found : AreCandidates q.conds p c.as_slice-2.result.now =
     subst (λ (conds : List BoundCond). AreCandidates conds p c.as_slice-2.result.now) c.as_slice.ensures
     (subst (λ l. AreCandidates c.as_slice.result.now p l) (sym c.as_slice-2.ensures.value) c.in_ok-numbers.ensures) in
-    subst (λ ps. IfOk c.scan_numbers.result (HasAllRows (lines_of q ps))) (candidates_cover table q p c.as_slice-2.result.now found) c.scan_numbers.ensures
+    subst (λ ps. IfOk c.scan_numbers.result (HasAllRows (rows_of_picks q ps))) (candidates_cover table q p c.as_slice-2.result.now found) c.scan_numbers.ensures
