@@ -14,7 +14,7 @@ use Rattle.object_index.specs.Indexes.{IsPlaceOf}
 use Rattle.chunk_store.proofs.Ranges.{filter_below}
 use Rattle.source_rules.specs.Sources.{Source}
 use Rattle.source_rules.specs.SourcePlaces.{chunk_sources, object_is_in, source_passes}
-use Rattle.source_store.specs.SourceLists.{AreSourceLists, LeadsTo, is_chunk}
+use Rattle.source_store.specs.NumbersByChunk.{AreNumbersByChunk, LeadsTo, is_chunk}
 
 -- some object passes if one with a number does
 any_at : (test : Obj → Bool) (objects : List Obj) (i : ℕ) (o : Obj) → slice_get objects i ≡ Some o → test o ≡ true → list_any test objects ≡ true
@@ -81,7 +81,7 @@ pub sources_there : (g : Partition) (objects : List Obj) (sources : List Source)
 sources_there g objects sources c = filter_below (λ i. source_passes (object_is_in g objects c) (slice_get sources i)) (length sources)
 
 -- and so it is in each of the lists of all sources
-pub lists_there : (g : Partition) (objects : List Obj) (sources : List Source) (lists : List (List ℕ)) → AreSourceLists g objects sources (length sources) lists
+pub lists_there : (g : Partition) (objects : List Obj) (sources : List Source) (lists : List (List ℕ)) → AreNumbersByChunk g objects sources (length sources) lists
     → (c : ℕ) → c < length lists → All (λ i. i < length sources) (get_or lists c [])
 lists_there g objects sources lists are c low =
     subst (All (λ i. i < length sources)) (sym (are.each c (subst (λ n. c < n) are.all low))) (sources_there g objects sources c)

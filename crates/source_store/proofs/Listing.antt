@@ -7,7 +7,7 @@ use Rattle.chunk_store.specs.Lists.{Pushed, as_often, kept_if}
 use Rattle.chunk_store.proofs.Ranges.{filter_more}
 use Rattle.source_rules.specs.Sources.{Source}
 use Rattle.source_rules.specs.SourcePlaces.{object_is_in, source_passes, source_places}
-use Rattle.source_store.specs.SourceLists.{AreSourceLists, LeadsTo, is_chunk}
+use Rattle.source_store.specs.NumbersByChunk.{AreNumbersByChunk, LeadsTo, is_chunk}
 
 once : (place d : ℕ) (t : Bool) → map (λ e. place) (cond t (d ∷ []) []) ≡ kept_if t place
 once place d true = refl
@@ -21,7 +21,7 @@ often place c (Some d) = once place d (d == c)
 -- one more source
 pub lists_more : (g : Partition) (objects : List Obj) (sources : List Source) (n : ℕ) (chunk : Option ℕ) (s : Source) (old new : List (List ℕ))
     → slice_get sources n ≡ Some s → LeadsTo g objects s.object chunk
-    → AreSourceLists g objects sources n old → Pushed (option_to_list chunk) n old new → AreSourceLists g objects sources (n + 1) new
+    → AreNumbersByChunk g objects sources n old → Pushed (option_to_list chunk) n old new → AreNumbersByChunk g objects sources (n + 1) new
 lists_more g objects sources n chunk s old new is leads are pushed = record { all = pushed.same ∙ are.all; each = at }
   where
     at : (c : ℕ) → c < chunk_count g → get_or new c [] ≡ source_places 0 (n + 1) (object_is_in g objects c) sources

@@ -1,3 +1,3 @@
-pub mod Kept
-pub mod SourceLists
+pub mod SourceSurvey
+pub mod NumbersByChunk
 pub mod ChunkColumns

@@ -19,6 +19,6 @@ pub record LeadsTo (g : Partition) (objects : List Obj) (id : ℤ) (chunk : Opti
   pub each : (c : ℕ) → c < chunk_count g → list_any (λ o. int_eq o.id id && in_chunk g c o.at) objects ≡ is_chunk c chunk
 
 -- A list for each chunk: of the first n sources the numbers of those whose object is in it.
-pub record AreSourceLists (g : Partition) (objects : List Obj) (sources : List Source) (n : ℕ) (lists : List (List ℕ)) : Type 0 where
+pub record AreNumbersByChunk (g : Partition) (objects : List Obj) (sources : List Source) (n : ℕ) (lists : List (List ℕ)) : Type 0 where
   pub all : length lists ≡ chunk_count g
   pub each : (c : ℕ) → c < chunk_count g → get_or lists c [] ≡ source_places 0 n (object_is_in g objects c) sources

@@ -3,7 +3,7 @@
 ghost use Rattle.std.specs.Prelude.{◌≡◌, ◌<◌, IfOk, IfSome, OnOk, length, option_to_list};
 ghost use Rattle.sky_rules.specs.Partition.{chunk_count};
 ghost use Rattle.chunk_store.specs.Lists.{Pushed};
-ghost use Rattle.source_store.specs.SourceLists.{AreSourceLists, LeadsTo};
+ghost use Rattle.source_store.specs.NumbersByChunk.{AreNumbersByChunk, LeadsTo};
 
 use chunk_store::Lists;
 use object_index::Index;
@@ -34,12 +34,12 @@ fn push(lists: &mut Lists, chunk: Option<u32>, place: u32) -> Result<(), Memory>
 }
 
 /// Returns, for each chunk, the numbers of the sources whose object is in it.
-pub(crate) fn source_lists(
+pub(crate) fn numbers_by_chunk(
     alloc: Global,
     index: &Index<'_>,
     sources: &Sources,
 ) -> Result<Lists, Memory>
-    ensures { IfOk result (λ lists. AreSourceLists index.now.plan index.now.rows
+    ensures { IfOk result (λ lists. AreNumbersByChunk index.now.plan index.now.rows
         sources.now.sources (length sources.now.sources) lists) }
 {
     let mut lists = Lists::empty(alloc, index.plan().chunks())?;

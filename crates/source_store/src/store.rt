@@ -6,7 +6,7 @@ ghost use Rattle.source_rules.specs.SourcePlaces.{chunk_sources};
 ghost use Rattle.source_row.specs.SourceColumns.{AreEven, sources_at, sources_in};
 
 use crate::columns::chunk_columns;
-use crate::fill::source_lists;
+use crate::fill::numbers_by_chunk;
 use chunk_store::{Lists, Store};
 use object_index::Index;
 use sky_io::Memory;
@@ -26,15 +26,18 @@ pub struct SourceStore<'w> {
 
 impl<'w> Model for SourceStore<'w> {
     ghost use Rattle.std.specs.Prelude.{length};
-    ghost use Rattle.source_store.specs.Kept.{Kept};
-    ghost use Rattle.source_store.specs.SourceLists.{AreSourceLists};
+    ghost use Rattle.source_store.specs.SourceSurvey.{SourceSurvey};
+    ghost use Rattle.source_store.specs.NumbersByChunk.{AreNumbersByChunk};
     ghost use Rattle.source_store.specs.ChunkColumns.{AreChunkColumns};
 
-    ghost Value = { Kept };
+    ghost Value = { SourceSurvey };
 
     ghost view = { λ s. record { plan = s.store.now.plan; objects = s.store.now.rows.objects; table = s.sources } };
 
-    ghost invariant = { λ s. AreSourceLists s.store.now.plan s.store.now.rows.objects s.sources.sources (length s.sources.sources) s.lists × AreChunkColumns s.sources s.lists (length s.lists) s.columns.items };
+    ghost invariant = { λ s.
+        AreNumbersByChunk s.store.now.plan s.store.now.rows.objects s.sources.sources
+        (length s.sources.sources) s.lists
+        × AreChunkColumns s.sources s.lists (length s.lists) s.columns.items };
 }
 
 impl<'w> SourceStore<'w> {
@@ -51,7 +54,7 @@ impl<'w> SourceStore<'w> {
         ensures { IfOk result (λ made. made
             ≡ record { plan = store.now.plan; objects = store.now.rows.objects; table = sources }) }
     {
-        let lists = source_lists(alloc, index, &sources)?;
+        let lists = numbers_by_chunk(alloc, index, &sources)?;
         let columns = chunk_columns(alloc, &sources, &lists)?;
         Ok(SourceStore {
             store,

@@ -3,9 +3,9 @@ use Rattle.std.proofs.lemmas.Int.{to_z-of_z}
 use Rattle.std.proofs.lemmas.List.{get_or-map}
 use Rattle.std.proofs.lemmas.Option.{slice_get-get_or}
 use Rattle.source_row.specs.SourceColumns.{no_source}
-use Rattle.source_store.specs.SourceLists.{LeadsTo}
+use Rattle.source_store.specs.NumbersByChunk.{LeadsTo}
 use Rattle.source_store.proofs.Listing.{lists_more}
-use Rattle.source_store.proofs.fill.source_lists.Goals as goal
+use Rattle.source_store.proofs.fill.numbers_by_chunk.Goals as goal
 
 pub loop-place-preserved : goal.loop-place-preserved
 loop-place-preserved c =
