@@ -16,7 +16,8 @@ use sql_bound::BoundCond;
 use std::alloc::Global;
 
 /// Returns the numbers of the sources, ascending, that may meet the conditions with their objects. Each other source
-/// fails a condition. A source has `width` extra columns. Allocates memory for a flag and a number for each source.
+/// fails a condition with its object, if it has one. A source has `width` extra columns. Allocates memory for a flag and a
+/// number for each source.
 pub fn candidates(
     alloc: Global,
     lists: &SourceLists,

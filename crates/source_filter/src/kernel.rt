@@ -45,12 +45,12 @@ fn keep_values(column: &Column, test: Test, mask: &mut [bool])
     ensures { IsNarrowedBy (λ k. passes test (get_or column.now k None) ≡ false) mask.old mask.new }
 {
     keep_numbers(column.values(), test, mask);
-    keep_valued(column, mask);
+    keep_not_null(column, mask);
 }
 
 /// Clears the mask at each NULL of an extra column.
 #[tactic(auto, using(crate::proofs::Keeping::presence_narrows, crate::proofs::Keeping::narrowed_not))]
-fn keep_valued(column: &Column, mask: &mut [bool])
+fn keep_not_null(column: &Column, mask: &mut [bool])
     requires { length column.now ≡ length mask.old }
     ensures { IsNarrowedBy (λ k. get_or column.now k None ≡ None) mask.old mask.new }
 {

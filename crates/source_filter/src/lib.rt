@@ -7,7 +7,7 @@
 //! Other conditions are left to the evaluator of pairs.
 //!
 //! Below: `source_row` for the columns of sources, `lane_filter` for masks, and `child_rules` for the pair of a source
-//! with its object. No objects and no pairs are read here.
+//! with its object. Above: `child_scan`. No objects and no pairs are read here.
 #![tactic(auto)]
 
 mod column_test;
