@@ -1,9 +1,11 @@
 //! Partial results of child queries, which a board combines, and what they are defined over.
 //!
 //! Callers see a `ChildPiece` as `PieceView` of `answer_rules`, and a `ChildRoot` as a `ChildBase` of `child_rules`.
-//! `ChildFor` defines what a piece represents: all rows of its query over its chunks. Below: `child_rules` for that
-//! meaning, `partial_merge` for pieces of rows, `scan_core` for `Work`, by which a board combines pieces (`work`). Above:
-//! the scan of a chunk fills pieces, a board combines them, and the session finishes them.
+//! `ChildFor` defines what a piece represents: all rows of its query over its chunks.
+//!
+//! Below: `child_rules` for that meaning, `partial_merge` for pieces of rows, `chunk_rewriter` for copies and for the merge,
+//! `scan_core` for `Work`, by which a board combines pieces (`work`). Above: `child_scan` fills pieces, a board combines
+//! them, and `child_session` finishes them.
 #![tactic(auto)]
 
 mod copy;

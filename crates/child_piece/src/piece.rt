@@ -61,7 +61,7 @@ impl<'w> ChildPiece<'w> {
     }
 
     /// Returns the answer of the query over the piece's chunks. Consumes the piece. Allocates memory for the table, and
-    /// for the merge of the query.
+    /// for the two parts into which the query is split.
     pub fn finish(self, alloc: Global, query: &ChildBound) -> Result<Table, Memory>
         requires { MayFinishChild query.now.bound self }
         ensures { IfOk result (IsChildAnswer query.now.bound self.entry) }
