@@ -24,7 +24,7 @@ use Rattle.child_rules.specs.ChildLaws.{met_pairs}
 use Rattle.child_rules.specs.ChildPieces.{ChildFor, HasAllRows, rows_of_picks}
 use Rattle.child_rules.proofs.Scanning.{child_found_in_one}
 use Rattle.child_scan.specs.ChunkSources.{AreChunkSources}
-use Rattle.child_scan.specs.Gains.{Gains}
+use Rattle.child_scan.specs.AddsRows.{AddsRows}
 use Rattle.child_scan.specs.Scans.{pairs_at, pairs_of}
 use Rattle.child_scan.proofs.Taking.{blocks_more, blocks_of_map, places_taken}
 
@@ -35,7 +35,7 @@ begun q view e = subst (λ v. HasAllRows [] v) (sym e) (refl, IsPermutation-refl
 -- one more source
 pub one_source : (table : List Obj) (p : SourceParts) (q : Bound) (numbers : List ℕ) (k i : ℕ) (old new : PieceView) → k < length numbers → i ≡ get_or numbers k 0
     → HasAllRows (rows_of_picks q (pairs_at table q p (take k numbers))) old
-    → Gains (rows_of_picks q (met_pairs table q.conds (source_at p i))) old new
+    → AddsRows (rows_of_picks q (met_pairs table q.conds (source_at p i))) old new
     → HasAllRows (rows_of_picks q (pairs_at table q p (take (suc k) numbers))) new
 one_source table p q numbers k i old new low e h g =
     let f : ℕ → List Pick = λ i. met_pairs table q.conds (source_at p i) in
@@ -91,13 +91,17 @@ pub are_chunk_sources : (t : SourceTable) (numbers : List ℕ) (p : SourceParts)
 are_chunk_sources t numbers p h even wide is there few =
     let long : length p.ids ≡ length numbers = sym (sources_count p) ∙ ap length is ∙ length-map numbers (λ k. get_or t.sources k no_source) in
     record {
-      few = omega (arith, long, few, h.few);
-      few_columns = omega (arith, wide, h.few_names);
-      even = even;
-      rows = λ i low.
-          let within : i < length numbers = omega (arith, low, long) in
-          subst IsSource (sym (get_or-map (λ k. get_or t.sources k no_source) numbers i 0 no_source within) ∙ ap (λ (l : List Source). get_or l i no_source) (sym is) ∙ source_there p i no_source low)
-          (h.rows (get_or numbers i 0) no_source (there i 0 within));
+      names = t.names;
+      are = record {
+        few_names = h.few_names;
+        few = omega (arith, long, few, h.few);
+        wide = wide;
+        even = even;
+        rows = λ i low.
+            let within : i < length numbers = omega (arith, low, long) in
+            subst IsSource (sym (get_or-map (λ k. get_or t.sources k no_source) numbers i 0 no_source within) ∙ ap (λ (l : List Source). get_or l i no_source) (sym is) ∙ source_there p i no_source low)
+            (h.rows (get_or numbers i 0) no_source (there i 0 within));
+      };
     }
 
 pub chunk_columns : (g : Partition) (table : List Obj) (t : SourceTable) (c : ℕ) (p : SourceParts) → IsSourceTable t → AreEven p → length p.further ≡ length t.names

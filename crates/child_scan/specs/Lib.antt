@@ -2,5 +2,5 @@ pub mod ChunkSources
 pub mod Wide
 pub mod SoundPairs
 pub mod Lines
-pub mod Gains
+pub mod AddsRows
 pub mod Scans

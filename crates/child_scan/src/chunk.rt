@@ -18,8 +18,8 @@ use source_rules::limits::SOURCE_FIRST_COLUMNS;
 use source_store::SourceStore;
 use std::alloc::Global;
 
-/// Returns what the child query finds over the pairs whose object is in the chunk. Allocates memory for the piece, and
-/// for a flag and a number for each source of the chunk.
+/// Returns what the child query finds over the pairs whose object is in the chunk. Allocates memory for the piece, for a
+/// flag and a number for each source of the chunk, and for the values of one row.
 pub fn child_scan<'w>(
     alloc: Global,
     store: &'w Store,
@@ -34,13 +34,13 @@ pub fn child_scan<'w>(
     ensures { IfOk result (ChildFor store.now.plan store.now.rows.objects sources.now.table.sources
         query.now.bound (chunk ∷ [])) }
 {
-    know(store);
+    within_limits(store);
     let width = further_columns(sources.sources());
     scan_sources(alloc, store.rows(), sources.columns(chunk), width, query)
 }
 
 /// Makes invariants of a store visible to contracts: its plan and its rows are within the limits. Does not allocate.
-fn know(store: &Store)
+fn within_limits(store: &Store)
     ensures sky { IsSky store.now.plan }
     ensures rows { IsCatalogue store.now.rows }
 {

@@ -2,11 +2,12 @@
 //!
 //! Callers see the result as a `ChildPiece`, and `ChildFor` of `child_rules` defines what it represents. Conditions that
 //! compare one column of a source with numbers are evaluated first, on all sources of the chunk (`source_filter`). Each
-//! source that is left finds its object by a binary search among the ids of the table (`object`). The source and its object become
-//! two rows of one width (`row`), on which the evaluator computes conditions and items (`line`).
+//! source that is left finds its object by a binary search among the ids of the table (`object`). The source and its
+//! object become two rows of one width (`row`), on which the evaluator computes conditions and items (`line`).
 //!
 //! Below: `source_store` for the sources of a chunk, `chunk_store` for the objects, `expr_eval` for conditions and
-//! items, and `child_piece` for the piece. This crate merges nothing: an order and a LIMIT are left to the piece.
+//! items, and `child_piece` for the piece. Above: `child_session`, whose workers call it for each task. This crate merges
+//! nothing: an order and a LIMIT are left to the piece.
 #![tactic(auto)]
 
 mod chunk;

@@ -8,7 +8,7 @@ ghost use Rattle.value_rules.specs.Values.{cell_of, pair};
 ghost use Rattle.answer_rules.specs.Ranks.{rank_class, rank_value};
 ghost use Rattle.answer_rules.specs.Rows.{bound_lines, goes_down, item_value, key_value, order_value, out_row};
 ghost use Rattle.partial_merge.specs.Multisets.{out_row as ranked};
-ghost use Rattle.child_scan.specs.SoundPairs.{IsSoundPair, is_sound_by, is_sound_item, is_sound_key};
+ghost use Rattle.child_scan.specs.SoundPairs.{IsSoundPair, is_pair_key, is_pair_item, is_pair_order};
 ghost use Rattle.child_scan.specs.Lines.{with_cells};
 ghost use Rattle.table_rules.specs.declared.limits.TheConstants.{FIRST_COLUMNS};
 
@@ -46,7 +46,7 @@ pub(crate) fn fill(
 ) -> Result<(), Memory>
     requires wide { length second.now.further ≡ length first.now.further }
     requires sound { IsTrue (list_all
-        (is_sound_item (has_col (FIRST_COLUMNS + length first.now.further) true))
+        (is_pair_item (has_col (FIRST_COLUMNS + length first.now.further) true))
         items.now) }
     ensures { OnOk result (values.new.items
         ≡ map (item_value (pair first.now second.now)) items.now) }
@@ -61,7 +61,7 @@ pub(crate) fn fill(
 /// Returns the value of an item. An aggregate has none on a pair.
 fn cell(item: &BoundItem, first: &Row, second: &Row) -> Option<Num>
     requires wide { length second.now.further ≡ length first.now.further }
-    requires sound { IsTrue (is_sound_item (has_col (FIRST_COLUMNS + length first.now.further) true)
+    requires sound { IsTrue (is_pair_item (has_col (FIRST_COLUMNS + length first.now.further) true)
         item.now) }
     ensures { result ≡ item_value (pair first.now second.now) item.now }
 {
@@ -99,7 +99,7 @@ fn key_of(query: &Bound, key: BoundKey, first: &Row, second: &Row) -> Option<Num
     requires wide { length second.now.further ≡ length first.now.further }
     requires sound { IsSoundPair (has_col (FIRST_COLUMNS + length first.now.further) true)
         query.now }
-    requires there { IsTrue (is_sound_by (has_col (FIRST_COLUMNS + length first.now.further) true)
+    requires there { IsTrue (is_pair_key (has_col (FIRST_COLUMNS + length first.now.further) true)
         key) }
     ensures { result ≡ key_value query.now (pair first.now second.now) key }
 {
@@ -113,7 +113,7 @@ fn key_of(query: &Bound, key: BoundKey, first: &Row, second: &Row) -> Option<Num
 fn item_at(items: &[BoundItem], place: usize, first: &Row, second: &Row) -> Option<Num>
     requires wide { length second.now.further ≡ length first.now.further }
     requires sound { IsTrue (list_all
-        (is_sound_item (has_col (FIRST_COLUMNS + length first.now.further) true))
+        (is_pair_item (has_col (FIRST_COLUMNS + length first.now.further) true))
         items.now) }
     ensures { result ≡ option_and_then (item_value (pair first.now second.now))
         (slice_get items.now place) }

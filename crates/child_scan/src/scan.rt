@@ -14,7 +14,7 @@ ghost use Rattle.child_rules.specs.ChildLaws.{met_pairs};
 ghost use Rattle.child_rules.specs.ChildPieces.{HasAllRows, rows_of_picks};
 ghost use Rattle.child_scan.specs.ChunkSources.{AreChunkSources};
 ghost use Rattle.child_scan.specs.Scans.{pairs_at, pairs_of};
-ghost use Rattle.child_scan.specs.Gains.{Gains};
+ghost use Rattle.child_scan.specs.AddsRows.{AddsRows};
 ghost use Rattle.child_scan.specs.SoundPairs.{IsSoundPair};
 ghost use Rattle.child_scan.specs.Wide.{IsWide};
 
@@ -98,8 +98,9 @@ fn push_source(
     requires width { width ≡ length lists.now.further }
     requires there { i < length lists.now.ids }
     requires child { IsChild query.now }
-    ensures { OnOk result (Gains (rows_of_picks query.now (met_pairs rows.now.objects query.now.conds
-        (source_at lists.now i))) piece.old piece.new) }
+    ensures { OnOk result (AddsRows (rows_of_picks query.now
+        (met_pairs rows.now.objects query.now.conds (source_at lists.now i)))
+        piece.old piece.new) }
 {
     match object_of(rows, object_id(lists, i)) {
         Some(object) => {
@@ -135,7 +136,7 @@ fn push_pair(
     requires there { i < length lists.now.ids }
     requires long { length first.now.further ≡ FURTHER_COLUMNS_MOST }
     requires child { IsChild query.now }
-    ensures { OnOk result ((o : Obj) → IsWide o first.now → Gains (rows_of_picks query.now
+    ensures { OnOk result ((o : Obj) → IsWide o first.now → AddsRows (rows_of_picks query.now
         (filter (meets query.now.conds) (child_pair o (source_at lists.now i) ∷ [])))
         piece.old piece.new) }
 {
@@ -155,18 +156,18 @@ fn push_if_met(
     requires wide { length second.now.further ≡ length first.now.further }
     requires sound { IsSoundPair (has_col (FIRST_COLUMNS + length first.now.further) true)
         query.now }
-    ensures { OnOk result (Gains (rows_of_picks query.now (filter (meets query.now.conds)
+    ensures { OnOk result (AddsRows (rows_of_picks query.now (filter (meets query.now.conds)
         (pair first.now second.now ∷ []))) piece.old piece.new) }
 {
     if meets(query.conds.as_slice(), first, Some(second)) {
-        push_rows(piece, values, query, first, second)
+        push_pair_row(piece, values, query, first, second)
     } else {
         Ok(())
     }
 }
 
 /// Pushes the pair of these rows into the piece. `values` is a buffer that is reused for each pair.
-fn push_rows(
+fn push_pair_row(
     piece: &mut ChildPiece<'_>,
     values: &mut Vec<Option<Num>>,
     query: &Bound,
@@ -177,7 +178,7 @@ fn push_rows(
     requires wide { length second.now.further ≡ length first.now.further }
     requires sound { IsSoundPair (has_col (FIRST_COLUMNS + length first.now.further) true)
         query.now }
-    ensures { OnOk result (Gains (rows_of_picks query.now (pair first.now second.now ∷ []))
+    ensures { OnOk result (AddsRows (rows_of_picks query.now (pair first.now second.now ∷ []))
         piece.old piece.new) }
 {
     fill(values, query.items.as_slice(), first, second)?;

@@ -33,6 +33,6 @@ returns c =
     c.columns.ensures.sources ∙ ap (λ (h : Partition). sources_at sources (chunk_sources h c.args.sources.now.objects sources c.args.chunk)) c.requires.plan
     ∙ ap (λ (os : List Obj). sources_at sources (chunk_sources g os sources c.args.chunk)) c.requires.objects in
     IfOk-weaker c.scan_sources.result _ _
-    (λ (view : PieceView) h. all_sources g objects sources q c.args.chunk c.columns.result.now view c.know.ensures.sky (in_sky c.args.store.now.rows c.know.ensures.rows) c.know.ensures.rows.ascend c.requires.there own
+    (λ (view : PieceView) h. all_sources g objects sources q c.args.chunk c.columns.result.now view c.within_limits.ensures.sky (in_sky c.args.store.now.rows c.within_limits.ensures.rows) c.within_limits.ensures.rows.ascend c.requires.there own
     (subst (λ (r : Catalogue). HasAllRows (rows_of_picks q (pairs_of r.objects q c.columns.result.now)) view) c.rows.ensures h))
     c.scan_sources.ensures

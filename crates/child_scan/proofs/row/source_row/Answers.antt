@@ -8,4 +8,4 @@ use Rattle.child_scan.proofs.row.source_row.Goals as goal
 pub new-requires-clause-further : goal.new-requires-clause-further
 new-requires-clause-further c =
     let s = source_at c.args.lists.now c.args.i in
-    subst (λ l. list_all is_further l ≡ true) (sym c.as_slice.ensures) (wide_further s.further c.source_values-further.result c.source_values-further.ensures (c.requires.sources.rows c.args.i c.requires.there).further)
+    subst (λ l. list_all is_further l ≡ true) (sym c.as_slice.ensures) (wide_further s.further c.source_values-further.result c.source_values-further.ensures (c.requires.sources.are.rows c.args.i c.requires.there).further)

@@ -7,7 +7,7 @@ use Rattle.child_scan.proofs.row.source_values.Goals as goal
 pub get-requires : goal.get-requires
 get-requires c =
     let there : c.loop-k.k < length c.args.lists.now.further = omega (arith, c.loop-k-test.true, c.requires.width) in
-    let long : length (get_or c.args.lists.now.further c.loop-k.k []) ≡ length c.args.lists.now.ids = c.requires.sources.even.further c.loop-k.k [] there in
+    let long : length (get_or c.args.lists.now.further c.loop-k.k []) ≡ length c.args.lists.now.ids = c.requires.sources.are.even.further c.loop-k.k [] there in
     let column = ap length c.further.ensures in
     omega (arith, c.requires.there, long, column)
 
@@ -17,7 +17,7 @@ loop-k-preserved c =
     let s = source_at p c.args.i in
     let next : suc c.loop-k.k ≡ c.loop-k.k + 1 = omega arith in
     let there : c.loop-k.k < length p.further = omega (arith, c.loop-k-test.true, c.requires.width) in
-    let low : c.loop-k.k < length c.loop-k.further = omega (arith, there, c.requires.sources.few_columns, c.loop-k.invariant.long) in
+    let low : c.loop-k.k < length c.loop-k.further = omega (arith, there, c.requires.sources.are.wide, c.requires.sources.are.few_names, c.loop-k.invariant.long) in
     let value = c.get.ensures ∙ ap (λ l. get_or l c.args.i None) c.further.ensures ∙ source_value p c.args.i c.loop-k.k there in
     subst (λ n. AreFirst n s.further (slice_set c.loop-k.further c.loop-k.k c.get.result)) next
     (one_more c.loop-k.k s.further c.loop-k.further c.get.result low value c.loop-k.invariant)

@@ -3,7 +3,7 @@ use Rattle.std.proofs.lemmas.Result.{on_ok_weaker}
 use Rattle.source_row.specs.SourceColumns.{source_at}
 use Rattle.value_rules.specs.Sound.{has_col}
 use Rattle.child_rules.specs.Children.{as_row}
-use Rattle.child_scan.specs.Gains.{Gains}
+use Rattle.child_scan.specs.AddsRows.{AddsRows}
 use Rattle.child_scan.specs.SoundPairs.{IsSoundPair}
 use Rattle.child_scan.specs.Wide.{IsWide, row_at_point}
 use Rattle.child_scan.proofs.Sounding.{child_is_sound}
@@ -22,8 +22,8 @@ returns c =
     let s = source_at c.args.lists.now c.args.i in
     let first = c.args.first.now in
     on_ok_weaker c.push_if_met.result
-    (λ gains o wide.
+    (λ adds o wide.
     let second : IsWide (as_row o s) c.source_row-second.result =
     subst (λ at. IsWide (row_at_point at s) c.source_row-second.result) (c.pos.ensures.value ∙ wide.at) c.source_row-second.ensures in
-    subst (λ rows. Gains rows c.args.piece.now c.push_if_met.new.piece) (wide_lines c.args.query.now o first (as_row o s) c.source_row-second.result wide second) gains)
+    subst (λ rows. AddsRows rows c.args.piece.now c.push_if_met.new.piece) (wide_lines c.args.query.now o first (as_row o s) c.source_row-second.result wide second) adds)
     c.push_if_met.ensures

@@ -10,8 +10,8 @@ use Rattle.answer_rules.specs.Plans.{row_of_id}
 use Rattle.child_rules.specs.Children.{child_pair}
 use Rattle.child_rules.specs.ChildLaws.{own_pairs}
 use Rattle.child_rules.specs.ChildPieces.{HasAllRows, rows_of_picks}
-use Rattle.child_scan.specs.Gains.{Gains}
-use Rattle.child_scan.proofs.Gaining.{gains_nothing}
+use Rattle.child_scan.specs.AddsRows.{AddsRows}
+use Rattle.child_scan.proofs.Adding.{adds_nothing}
 use Rattle.child_scan.proofs.scan.push_source.Goals as goal
 
 pub returns-in-Some : goal.returns-in-Some
@@ -24,7 +24,7 @@ returns-in-Some c =
     let own : own_pairs table s ≡ child_pair o s ∷ [] =
     ap (λ (r : Option Obj). option_to_list (option_map (λ o. child_pair o s) r)) (ap (row_of_id table) (sym c.object_id.ensures ∙ sym (to_z-of_z w64 c.object_id.result fits)) ∙ c.in-Some.ensures.found) in
     on_ok_weaker c.push_pair.result
-    (λ gains. subst (λ ps. Gains (rows_of_picks q (filter (meets q.conds) ps)) c.args.piece.now c.push_pair.new.piece) (sym own) (gains o c.object_row-first.ensures))
+    (λ adds. subst (λ ps. AddsRows (rows_of_picks q (filter (meets q.conds) ps)) c.args.piece.now c.push_pair.new.piece) (sym own) (adds o c.object_row-first.ensures))
     c.push_pair.ensures
 
 pub returns-in-None : goal.returns-in-None
@@ -35,4 +35,4 @@ returns-in-None c = λ all h.
     let fits : FitsSigned w64 c.object_id.result = search rules in
     let own : own_pairs table s ≡ [] =
     ap (λ (r : Option Obj). option_to_list (option_map (λ o. child_pair o s) r)) (ap (row_of_id table) (sym c.object_id.ensures ∙ sym (to_z-of_z w64 c.object_id.result fits)) ∙ c.in-None.ensures.none) in
-    subst (λ ps. HasAllRows (all ++ rows_of_picks q (filter (meets q.conds) ps)) c.args.piece.now) (sym own) (gains_nothing c.args.piece.now all h)
+    subst (λ ps. HasAllRows (all ++ rows_of_picks q (filter (meets q.conds) ps)) c.args.piece.now) (sym own) (adds_nothing c.args.piece.now all h)

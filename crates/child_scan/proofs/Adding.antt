@@ -14,7 +14,7 @@ use Rattle.partial_merge.specs.Multisets.{out_row as ranked}
 use Rattle.partial_merge.specs.Joining.{IsOfRows, TakesRow}
 use Rattle.child_rules.specs.ChildPieces.{HasAllRows, rows_of_picks}
 use Rattle.child_rules.proofs.Joined.{kept_all}
-use Rattle.child_scan.specs.Gains.{Gains}
+use Rattle.child_scan.specs.AddsRows.{AddsRows}
 use Rattle.child_scan.specs.Lines.{with_cells}
 
 -- a piece that has rows is one of rows
@@ -23,34 +23,34 @@ has_of_rows all (OfRows pushed rows) h = tt
 has_of_rows all (OfGroups parts) h = absurd h
 
 -- a step that finds nothing
-pub gains_nothing : (view : PieceView) → Gains [] view view
-gains_nothing view all h = subst (λ l. HasAllRows l view) (sym (append-nil all)) h
+pub adds_nothing : (view : PieceView) → AddsRows [] view view
+adds_nothing view all h = subst (λ l. HasAllRows l view) (sym (append-nil all)) h
 
 -- one step after another
-pub gains_joined : (a b : List OutRow) (old mid new : PieceView) → Gains a old mid → Gains b mid new → Gains (a ++ b) old new
-gains_joined a b old mid new g h all k = subst (λ l. HasAllRows l new) (append_assoc all a b) (h (all ++ a) (g all k))
+pub adds_joined : (a b : List OutRow) (old mid new : PieceView) → AddsRows a old mid → AddsRows b mid new → AddsRows (a ++ b) old new
+adds_joined a b old mid new g h all k = subst (λ l. HasAllRows l new) (append_assoc all a b) (h (all ++ a) (g all k))
 
 -- a step that puts one row
-pub gains_one : (row : OutRow) (old new : PieceView) → TakesRow old row new → Gains (row ∷ []) old new
-gains_one row (OfRows pushed rows) (OfRows limit kept) t all h =
+pub adds_one : (row : OutRow) (old new : PieceView) → TakesRow old row new → AddsRows (row ∷ []) old new
+adds_one row (OfRows pushed rows) (OfRows limit kept) t all h =
     let keeps : KeepsFirst row_order None (rows ++ row ∷ []) kept = subst (λ (p : Option ℕ). KeepsFirst row_order p (rows ++ row ∷ []) kept) h.0 t.1 in
     (t.0 ∙ h.0, IsPermutation-trans _ _ _ (IsPermutation-append_left (row ∷ []) all rows h.1) (kept_all (rows ++ row ∷ []) kept keeps))
-gains_one row (OfRows pushed rows) (OfGroups parts) t all h = absurd t
-gains_one row (OfGroups parts) new t all h = absurd h
+adds_one row (OfRows pushed rows) (OfGroups parts) t all h = absurd t
+adds_one row (OfGroups parts) new t all h = absurd h
 
 -- a step that puts what passes a test
-pub gains_passed : {X : Type 0} (f : X → OutRow) (x : X) (b : Bool) (old new : PieceView) → b ≡ true → Gains (f x ∷ []) old new → Gains (map f (cond b (x ∷ []) [])) old new
-gains_passed f x true old new e g = g
-gains_passed f x false old new e g = absurd (cc e)
+pub adds_passed : {X : Type 0} (f : X → OutRow) (x : X) (b : Bool) (old new : PieceView) → b ≡ true → AddsRows (f x ∷ []) old new → AddsRows (map f (cond b (x ∷ []) [])) old new
+adds_passed f x true old new e g = g
+adds_passed f x false old new e g = absurd (cc e)
 
-pub gains_failed : {X : Type 0} (f : X → OutRow) (x : X) (b : Bool) (view : PieceView) → b ≡ false → Gains (map f (cond b (x ∷ []) [])) view view
-gains_failed f x true view e = absurd (cc e)
-gains_failed f x false view e = gains_nothing view
+pub adds_failed : {X : Type 0} (f : X → OutRow) (x : X) (b : Bool) (view : PieceView) → b ≡ false → AddsRows (map f (cond b (x ∷ []) [])) view view
+adds_failed f x true view e = absurd (cc e)
+adds_failed f x false view e = adds_nothing view
 
 -- the rank of a pair with the values of its items is its row
 pub row_is_line : (q : Bound) (p : Pick) (rank : Rank) (values : List (Option ℤ)) → ranked rank [] ≡ with_cells [] (out_row (bound_lines q) p) → values ≡ map (item_value p) q.items
     → ranked rank values ≡ out_row (bound_lines q) p
 row_is_line q p rank values e f = ap (with_cells values) e ∙ ap (λ cells. with_cells cells (out_row (bound_lines q) p)) f
 
-pub gains_line : (q : Bound) (p : Pick) (row : OutRow) (old new : PieceView) → row ≡ out_row (bound_lines q) p → TakesRow old row new → Gains (rows_of_picks q (p ∷ [])) old new
-gains_line q p row old new e t = subst (λ r. Gains (r ∷ []) old new) e (gains_one row old new t)
+pub adds_line : (q : Bound) (p : Pick) (row : OutRow) (old new : PieceView) → row ≡ out_row (bound_lines q) p → TakesRow old row new → AddsRows (rows_of_picks q (p ∷ [])) old new
+adds_line q p row old new e t = subst (λ r. AddsRows (r ∷ []) old new) e (adds_one row old new t)
