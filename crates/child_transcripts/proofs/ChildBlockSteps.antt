@@ -22,16 +22,16 @@ use Rattle.transcript_rules.specs.RefusalLines.{quoted}
 use Rattle.transcript_rules.specs.Refusals.{Understood}
 use Rattle.transcript_rules.proofs.Blocks.{as_many, as_many_by, by_at, from_one, may_at, split_and, zip_at}
 use Rattle.child_transcripts.specs.ChildBlocks.{child_answered_lines, child_block}
-use Rattle.child_transcripts.specs.ChildLaws.{AnsweredShowsItsChildTable, ChildAnsweredIsItsTable, ChildBlocksInOrder}
+use Rattle.child_transcripts.specs.ChildLaws.{AnsweredShowsItsAnswer, ChildAnsweredIsItsAnswer, ChildBlocksInOrder}
 use Rattle.child_transcripts.specs.ChildLaws.{ChildCancelledIsItsLine, ChildRefusedIsItsLine, ChildSpentIsItsLine}
-use Rattle.child_transcripts.specs.ChildLaws.{IsChildEnd, IsChildRefusal, IsChildTable, OneChildBlockEach}
+use Rattle.child_transcripts.specs.ChildLaws.{IsAnswerBlock, IsChildEnd, IsChildRefusal, OneChildBlockEach}
 use Rattle.child_transcripts.specs.ChildLaws.{RefusedHasItsChildReason}
 use Rattle.child_transcripts.specs.ChildQueries.{child_refusal, child_understood, schemas_of}
 use Rattle.child_transcripts.specs.ChildTranscripts.{ChildFitEnds, child_blocks_of, child_judged_of}
 
 -- ---- the block of a query
 
-pub child_answered : ChildAnsweredIsItsTable
+pub child_answered : ChildAnsweredIsItsAnswer
 unfolding child_block
 child_answered g c t k text u known = ap (λ r. number_line k ++ child_answered_lines g c t r) known
 
@@ -99,14 +99,14 @@ binds (Err why) none = absurd (cc none)
 
 answered_by : (w : ℕ) (g : Partition) (c : Catalogue) (t : SourceTable) (steps : List Step) (k n : ℕ) (text : Bytes)
     → may_end w steps n (child_judged_of g c t text) Answered ≡ true
-    → IsChildTable g c t k text (child_block g c t k text Answered)
+    → IsAnswerBlock g c t k text (child_block g c t k text Answered)
 unfolding child_judged_of child_refusal
 answered_by w g c t steps k n text allowed =
     let is = binds (child_understood (schemas_of c t) text) (none_refused (child_refusal (schemas_of c t) text) _ allowed) in
     record { query = is.0; known = is.1; shows = child_answered g c t k text is.0 is.1 }
 
-pub answered_shows_its_child_table : AnsweredShowsItsChildTable
-answered_shows_its_child_table w g c t s ends i text h =
+pub answered_shows_its_answer : AnsweredShowsItsAnswer
+answered_shows_its_answer w g c t s ends i text h =
     answered_by w g c t s.steps (i + 1) (1 + i) text (may_be w g c t s ends i text Answered h)
 
 -- a query that may end refused has a reason

@@ -1,2 +1,3 @@
 pub mod ChildBlockSteps
 pub mod ChildInverting
+pub mod ChildRefusing

@@ -27,7 +27,7 @@ sources_of_six = record { names = codes "flux" ∷ codes "t" ∷ []; sources = f
 abbrev pub column : Bytes → Bytes → Atom
 column table name = atom.Col (own (word table) (word name))
 
--- SELECT o.objectId,s.sourceId,s.flux-o.flux FROM Object o,Source s, and any WHERE
+-- the tree of SELECT o.objectId,s.sourceId,s.flux-o.flux FROM Object o,Source s; no heading depends on a WHERE
 abbrev pub gains_tree : Query
 gains_tree =
     query (items (item (what.Plain (alone (column (codes "o") (codes "objectId")))))

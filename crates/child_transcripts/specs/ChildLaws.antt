@@ -11,6 +11,7 @@ use Rattle.session_script.specs.Views.{ScriptView, query_lines}
 use Rattle.session_rules.specs.declared.end.EndKind.{EndKind}
 use Rattle.session_rules.specs.declared.end.EndKind.TheVariants.{Answered, Refused, Cancelled, Spent}
 use Rattle.transcript_rules.specs.declared.refusal.Refusal.{Refusal}
+use Rattle.transcript_rules.specs.declared.refusal.Refusal.TheVariants.{Sql, Bind, Radius, Total}
 use Rattle.transcript_rules.specs.Blocks.{number_line}
 use Rattle.transcript_rules.specs.Refusals.{Understood}
 use Rattle.transcript_rules.specs.RefusalLines.{line, refusal_line}
@@ -27,13 +28,26 @@ BoundCanBeRun =
 
 -- the block of a query that binds and ends answered is its answer's table, under the headings of its tree and with the
 -- size of its plan
-abbrev pub ChildAnsweredIsItsTable : Type 0
-ChildAnsweredIsItsTable =
+abbrev pub ChildAnsweredIsItsAnswer : Type 0
+ChildAnsweredIsItsAnswer =
     (g : Partition) (c : Catalogue) (t : SourceTable) (k : ℕ) (text : Bytes) (u : Understood)
     → child_understood (schemas_of c t) text ≡ Ok u
     → child_block g c t k text Answered
     ≡ number_line k ++ table_lines (headings c.names u.tree) (child_answer c.objects t.sources u.bound)
     (length (plan_of g c.objects u.bound))
+
+-- the refusal is for the grammar of the query, or for a fault of its binding
+abbrev pub IsGrammarOrBinding : Refusal → Type 0
+IsGrammarOrBinding (Sql fault) = Unit {0}
+IsGrammarOrBinding (Bind fault) = Unit {0}
+IsGrammarOrBinding (Radius radius) = ⊥
+IsGrammarOrBinding (Total total) = ⊥
+
+-- a child query is refused for its grammar or its binding alone: it has no radius and no total
+abbrev pub ChildRefusedBeforeItRuns : Type 0
+ChildRefusedBeforeItRuns =
+    (c : Catalogue) (t : SourceTable) (text : Bytes) (why : Refusal) → child_refusal (schemas_of c t) text ≡ Some why
+    → IsGrammarOrBinding why
 
 -- the block of a query that is refused and ends refused is the line of its refusal
 abbrev pub ChildRefusedIsItsLine : Type 0
@@ -75,7 +89,7 @@ pub record IsChildEnd (workers : ℕ) (g : Partition) (c : Catalogue) (t : Sourc
   pub ended : slice_get ends i ≡ Some end
 
 -- The text is the block of a query that is answered: its answer over the two flat tables, and the size of its plan.
-pub record IsChildTable (g : Partition) (c : Catalogue) (t : SourceTable) (k : ℕ) (text block_text : Bytes) : Type 0 where
+pub record IsAnswerBlock (g : Partition) (c : Catalogue) (t : SourceTable) (k : ℕ) (text block_text : Bytes) : Type 0 where
   pub query : Understood
   pub known : child_understood (schemas_of c t) text ≡ Ok query
   pub shows : block_text
@@ -90,11 +104,11 @@ pub record IsChildRefusal (g : Partition) (c : Catalogue) (t : SourceTable) (k :
   pub shows : block_text ≡ number_line k ++ refusal_line text why
 
 -- a query that ends answered binds, and its block shows its answer
-abbrev pub AnsweredShowsItsChildTable : Type 0
-AnsweredShowsItsChildTable =
+abbrev pub AnsweredShowsItsAnswer : Type 0
+AnsweredShowsItsAnswer =
     (workers : ℕ) (g : Partition) (c : Catalogue) (t : SourceTable) (s : ScriptView) (ends : List EndKind) (i : ℕ)
     (text : Bytes) → IsChildEnd workers g c t s ends i text Answered
-    → IsChildTable g c t (i + 1) text (child_block g c t (i + 1) text Answered)
+    → IsAnswerBlock g c t (i + 1) text (child_block g c t (i + 1) text Answered)
 
 -- a query that ends refused has a reason, and its block reports it
 abbrev pub RefusedHasItsChildReason : Type 0
