@@ -2,7 +2,6 @@
 use Rattle.std.proofs.Common.{◌≡◌, ◌∙◌, sym, ap, refl, subst, ℕ, true, List, length, map, Ok, Err, Result, IfOk, Option, Vec, vec_len}
 use Rattle.std.proofs.lemmas.List.{length-map}
 use Rattle.sky_io.specs.declared.Memory.{Memory}
-use Rattle.sky_rules.specs.Partition.{chunk_count}
 use Rattle.scan_rules.specs.Runs.{IsRun}
 use Rattle.answer_rules.specs.Pieces.{PieceView}
 use Rattle.turn_lock.specs.Seats.{first_seat}
@@ -18,16 +17,16 @@ use Rattle.scan_session.proofs.Closing.{is_closed_now, stays_all}
 use Rattle.scan_session.proofs.Finishing.{first_czars}
 use Rattle.scan_session.proofs.Manning.{manned_alone}
 use Rattle.child_rules.specs.ChildBases.{ChildAsks, ChildBase, ChildStands}
-use Rattle.child_session.specs.ChildAttached.{child_attached, child_base_of, child_chunks_planned}
+use Rattle.child_session.specs.ChildAttached.{child_attached, child_base_of, child_board_of, child_chunks_planned}
 use Rattle.child_session.specs.ChildDriven.{IsChildDriven}
-use Rattle.child_session.specs.Tables.{Tables}
+use Rattle.child_session.specs.ChildSurvey.{ChildSurvey}
 use Rattle.child_session.specs.declared.plan.ChildPlan.{ChildPlan}
 
 -- the czar's participant has seen the journal that justifies the ends
-pub driven : {Y Z : Type 0} (workers : ℕ) (t : Tables) (steps ran : List Step) (plans : List ChildPlan)
+pub driven : {Y Z : Type 0} (workers : ℕ) (t : ChildSurvey) (steps ran : List Step) (plans : List ChildPlan)
     (planned : Vec (Option (Attachable PieceView)) Y) (old new : BoardSeat ChildBase) (r : Result (Vec (BoardEnd PieceView) Z) Memory)
     → ran ≡ steps → planned.items ≡ map child_attached plans
-    → old.root ≡ record { root = child_base_of t plans; ring = chunk_count t.plan } → Manned ChildAsks old new
+    → old.root ≡ child_board_of t plans → Manned ChildAsks old new
     → IfOk r (λ v. Unit {0} → Drove workers (plan_in planned.items) ran new.seen)
     → IfOk r (λ v. vec_len v ≡ vec_len planned)
     → IfOk r (λ v. AreEnds (ChildStands old.root.root) (plan_in planned.items) (λ q. new.seen) v.items)
@@ -54,8 +53,8 @@ at_board A (Ok v) each = each tt
 at_board A (Err m) each = tt
 
 -- once the board is closed without a session
-pub closed_manned : (t : Tables) (plans : List ChildPlan) (turn : TableId) (old new : BoardSeat ChildBase)
-    → old ≡ first_seat turn (record { root = child_base_of t plans; ring = chunk_count t.plan })
+pub closed_manned : (t : ChildSurvey) (plans : List ChildPlan) (turn : TableId) (old new : BoardSeat ChildBase)
+    → old ≡ first_seat turn (child_board_of t plans)
     → Called ChildAsks (AnswersClose old.number) old new → Manned ChildAsks old new
 closed_manned t plans turn old new first called =
     let czars =

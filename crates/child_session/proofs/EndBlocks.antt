@@ -18,11 +18,11 @@ use Rattle.czar.specs.Ends.{kind_of}
 use Rattle.czar.specs.declared.end.End.{End}
 use Rattle.czar.proofs.Each.{lines_count}
 use Rattle.child_session.specs.ChildEnds.{ChildEndShows, ChildEndsShow, IsChildAnswered}
-use Rattle.child_session.specs.Tables.{Tables}
+use Rattle.child_session.specs.ChildSurvey.{ChildSurvey}
 use Rattle.child_session.proofs.Zips.{zip_length}
 
 -- the block of a query that is answered is its table
-pub answered_block : (t : Tables) (k : ℕ) (text : Bytes) (head : Query) (answer : List (List Value)) (chunks : ℕ)
+pub answered_block : (t : ChildSurvey) (k : ℕ) (text : Bytes) (head : Query) (answer : List (List Value)) (chunks : ℕ)
     → IsChildAnswered t text head answer chunks
     → number_line k ++ table_lines (headings t.rows.names head) answer chunks ≡ child_block t.plan t.rows t.table k text kind.Answered
 answered_block t k text head answer chunks is =
@@ -31,11 +31,11 @@ answered_block t k text head answer chunks is =
     ∙ sym (child_answered t.plan t.rows t.table k text (record { tree = head; bound = is.bound }) is.known)
 
 -- there are as many ends as queries
-pub an_end_each : (t : Tables) (s : ScriptView) (ends : List End) → ChildEndsShow t (query_lines s) ends → length ends ≡ query_count s.steps
+pub an_end_each : (t : ChildSurvey) (s : ScriptView) (ends : List End) → ChildEndsShow t (query_lines s) ends → length ends ≡ query_count s.steps
 an_end_each t s ends show = zip_length (ChildEndShows t) (query_lines s) ends show ∙ lines_count s
 
 -- and as many blocks
-pub as_many_blocks : (t : Tables) (s : ScriptView) (ends : List End) → ChildEndsShow t (query_lines s) ends
+pub as_many_blocks : (t : ChildSurvey) (s : ScriptView) (ends : List End) → ChildEndsShow t (query_lines s) ends
     → length (child_blocks_of t.plan t.rows t.table s (map kind_of ends)) ≡ query_count s.steps
 as_many_blocks t s ends show =
     as_many_child_blocks t.plan t.rows t.table s (map kind_of ends)
@@ -43,7 +43,7 @@ as_many_blocks t s ends show =
     ∙ lines_count s
 
 -- the block at a place is that of the line and the end there
-pub block_there : (t : Tables) (s : ScriptView) (ends : List End) (i : ℕ) (text : Bytes) (end : End)
+pub block_there : (t : ChildSurvey) (s : ScriptView) (ends : List End) (i : ℕ) (text : Bytes) (end : End)
     → slice_get (query_lines s) i ≡ Some text → slice_get ends i ≡ Some end
     → child_block t.plan t.rows t.table (i + 1) text (kind_of end) ≡ get_or (child_blocks_of t.plan t.rows t.table s (map kind_of ends)) i []
 block_there t s ends i text end there ended =

@@ -12,7 +12,7 @@ use Rattle.child_rules.specs.declared.bound.ChildBound.{ChildBound}
 use Rattle.child_rules.specs.ChildBases.{ChildStands}
 use Rattle.child_rules.specs.ChildPieces.{ChildFor}
 use Rattle.child_session.specs.ChildAttached.{child_attached, child_base_of, child_chunks_planned}
-use Rattle.child_session.specs.Tables.{Tables}
+use Rattle.child_session.specs.ChildSurvey.{ChildSurvey}
 use Rattle.child_session.specs.declared.plan.ChildPlan.{ChildPlan}
 use Rattle.child_session.specs.declared.plan.ChildPlan.TheVariants.{Planned, Refused}
 use Rattle.child_session.proofs.Attaching.{known_under}
@@ -22,7 +22,7 @@ abbrev pub chunks_in : ChildPlan → Option (List ℕ)
 chunks_in p = option_map (λ x. x.chunks) (child_attached p)
 
 -- the end of a query by its plan: the state of the query in the end, and the piece over its chunks
-abbrev pub IsEndFor : Tables → Journal → ℕ → ChildPlan → BoardEnd PieceView → Type 0
+abbrev pub IsEndFor : ChildSurvey → Journal → ℕ → ChildPlan → BoardEnd PieceView → Type 0
 IsEndFor t S k (Planned head query chunks) (board.Answered piece) =
     (state_of S k ≡ Done) × ChildFor t.plan t.rows.objects t.table.sources query.bound chunks piece
 IsEndFor t S k (Planned head query chunks) board.Refused = ⊥
@@ -34,14 +34,14 @@ IsEndFor t S k (Refused why) board.Cancelled = ⊥
 IsEndFor t S k (Refused why) board.Spent = ⊥
 
 -- a piece of the query of this number is one of its child query
-piece_for : (t : Tables) (plans : List ChildPlan) (i : ℕ) (head : Query) (query : ChildBound) (chunks : List ℕ) (piece : PieceView)
+piece_for : (t : ChildSurvey) (plans : List ChildPlan) (i : ℕ) (head : Query) (query : ChildBound) (chunks : List ℕ) (piece : PieceView)
     → slice_get plans i ≡ Some (Planned head query chunks) → ChildStands (child_base_of t plans) (suc i) chunks piece
     → ChildFor t.plan t.rows.objects t.table.sources query.bound chunks piece
 piece_for t plans i head query chunks piece there stands =
     let is : stands.query ≡ query = same_entry _ _ (sym stands.known ∙ known_under plans i head query chunks there) in
     subst (λ (q : ChildBound). ChildFor t.plan t.rows.objects t.table.sources q.bound chunks piece) is stands.piece
 
-end_for : (t : Tables) (S : Journal) (plans : List ChildPlan) (i : ℕ) (p : ChildPlan) (e : BoardEnd PieceView)
+end_for : (t : ChildSurvey) (S : Journal) (plans : List ChildPlan) (i : ℕ) (p : ChildPlan) (e : BoardEnd PieceView)
     → slice_get plans i ≡ Some p → IsEnd (ChildStands (child_base_of t plans)) S (suc i) (chunks_in p) e → IsEndFor t S (suc i) p e
 end_for t S plans i (Planned head query chunks) (board.Answered piece) there is =
     (is.0, piece_for t plans i head query chunks piece there is.1)
@@ -59,7 +59,7 @@ planned_in plans i p there =
     (slice_get-map child_attached plans i ∙ ap (option_map child_attached) there))
 
 -- the end of the query at a place
-pub end_at : (t : Tables) (S : Journal) (plans : List ChildPlan) (ends : List (BoardEnd PieceView))
+pub end_at : (t : ChildSurvey) (S : Journal) (plans : List ChildPlan) (ends : List (BoardEnd PieceView))
     → AreEnds (ChildStands (child_base_of t plans)) (child_chunks_planned plans) (λ q. S) ends
     → (i : ℕ) (p : ChildPlan) (e : BoardEnd PieceView) → slice_get plans i ≡ Some p → slice_get ends i ≡ Some e
     → IsEndFor t S (suc i) p e

@@ -15,20 +15,20 @@ use Rattle.child_rules.specs.ChildBases.{ChildAsks, ChildStands, IsChildBase}
 use Rattle.child_rules.proofs.Joined.{empty_child_piece}
 use Rattle.child_session.specs.ChildAttached.{child_attached, child_base_of}
 use Rattle.child_session.specs.ChildPlans.{AreChildPlans, ChildPlanFor, IsChildPlanned}
-use Rattle.child_session.specs.Tables.{Tables}
+use Rattle.child_session.specs.ChildSurvey.{ChildSurvey}
 use Rattle.child_session.specs.declared.plan.ChildPlan.{ChildPlan}
 use Rattle.child_session.specs.declared.plan.ChildPlan.TheVariants.{Planned, Refused}
 use Rattle.child_session.proofs.Attaching.{known_under}
 use Rattle.child_session.proofs.Zips.{zip_first}
 
 -- each chunk of a plan is one of the sky and has an object
-filled : (t : Tables) (text : Bytes) (head : Query) (bound : Bound) (chunks : List ℕ) → IsChildPlanned t text head bound chunks
+filled : (t : ChildSurvey) (text : Bytes) (head : Query) (bound : Bound) (chunks : List ℕ) → IsChildPlanned t text head bound chunks
     → All (λ c. (c < chunk_count t.plan) × (is_filled t.plan t.rows.objects c ≡ true)) chunks
 filled t text head bound chunks is =
     subst (λ (cs : List ℕ). All (λ c. (c < chunk_count t.plan) × (is_filled t.plan t.rows.objects c ≡ true)) cs) (sym is.plan)
     (plan_is_filled t.plan t.rows.objects bound)
 
-may_start : (t : Tables) (plans : List ChildPlan) (i : ℕ) (text : Bytes) (head : Query) (query : ChildBound) (chunks : List ℕ)
+may_start : (t : ChildSurvey) (plans : List ChildPlan) (i : ℕ) (text : Bytes) (head : Query) (query : ChildBound) (chunks : List ℕ)
     (it : Attachable PieceView) → IsChildBase (child_base_of t plans) → slice_get plans i ≡ Some (Planned head query chunks)
     → IsChildPlanned t text head query.bound chunks → it ≡ record { chunks = chunks; empty = OfRows None [] }
     → MayStart ChildStands ChildAsks (chunk_count t.plan) (child_base_of t plans) (suc i) it
@@ -58,7 +58,7 @@ same_attached a b e = cc
 none_attached : (a : Attachable PieceView) → ◌≡◌ {A = Option (Attachable PieceView)} None (Some a) → ⊥
 none_attached a e = absurd (cc)
 
-by_plan : (t : Tables) (plans : List ChildPlan) (i : ℕ) (text : Bytes) (p : ChildPlan) (it : Attachable PieceView)
+by_plan : (t : ChildSurvey) (plans : List ChildPlan) (i : ℕ) (text : Bytes) (p : ChildPlan) (it : Attachable PieceView)
     → IsChildBase (child_base_of t plans) → slice_get plans i ≡ Some p → ChildPlanFor t text p → child_attached p ≡ Some it
     → MayStart ChildStands ChildAsks (chunk_count t.plan) (child_base_of t plans) (suc i) it
 by_plan t plans i text (Planned head query chunks) it base there for is =
@@ -72,7 +72,7 @@ plan_there [] i it is = absurd (none_attached it is)
 plan_there (p ∷ plans) zero it is = (p, refl, is)
 plan_there (p ∷ plans) (suc i) it is = plan_there plans i it is
 
-pub plans_fit : (t : Tables) (texts : List Bytes) (plans : List ChildPlan) → IsChildBase (child_base_of t plans)
+pub plans_fit : (t : ChildSurvey) (texts : List Bytes) (plans : List ChildPlan) → IsChildBase (child_base_of t plans)
     → AreChildPlans t texts plans
     → PlansFit ChildStands ChildAsks (chunk_count t.plan) (child_base_of t plans) (map child_attached plans)
 plans_fit t texts plans base are = record { each = each }

@@ -19,7 +19,7 @@ use Rattle.transcript_rules.specs.declared.refusal.Refusal.TheVariants as refusa
 use Rattle.child_transcripts.specs.ChildQueries.{child_refusal, child_understood, schemas_of}
 use Rattle.child_session.specs.ChildPlans.{ChildPlanFor, IsChildPlanBy, IsChildPlanOf}
 use Rattle.child_session.specs.ChildRefusals.{IsUnboundPlan, IsUnreadPlan}
-use Rattle.child_session.specs.Tables.{Tables}
+use Rattle.child_session.specs.ChildSurvey.{ChildSurvey}
 use Rattle.child_session.specs.declared.plan.ChildPlan.{ChildPlan}
 
 -- a line that has no tree
@@ -42,7 +42,7 @@ unfolding child_understood
 bound s text q b read is = ap (with_tree_by (child_bound_of s)) read ∙ ap (with_bound q) is
 
 -- the plan of a line on which the reader stops so
-pub unread_plan : (t : Tables) (text : Bytes) (s : Stop SqlFault) (r : Result ChildPlan Memory)
+pub unread_plan : (t : ChildSurvey) (text : Bytes) (s : Stop SqlFault) (r : Result ChildPlan Memory)
     → IfBad s (λ fault. tree_of text ≡ Err fault) → IfOk r (IsUnreadPlan s) → IfOk r (ChildPlanFor t text)
 unread_plan t text s (Err m) bad is = tt
 unread_plan t text (stop.Bad fault) (Ok p) bad is =
@@ -50,7 +50,7 @@ unread_plan t text (stop.Bad fault) (Ok p) bad is =
 unread_plan t text stop.Memory (Ok p) bad is = absurd is
 
 -- the plan of the lines with a tree on which the binder stops so
-pub unbound_plan : (t : Tables) (q : Query) (s : Stop BindFault) (r : Result ChildPlan Memory)
+pub unbound_plan : (t : ChildSurvey) (q : Query) (s : Stop BindFault) (r : Result ChildPlan Memory)
     → IfBad s (λ fault. child_bound_of (schemas_of t.rows t.table) q ≡ Err fault) → IfOk r (IsUnboundPlan s)
     → IfOk r (IsChildPlanOf t q)
 unbound_plan t q s (Err m) bad is = tt
@@ -59,7 +59,7 @@ unbound_plan t q (stop.Bad fault) (Ok p) bad is = λ text read.
 unbound_plan t q stop.Memory (Ok p) bad is = absurd is
 
 -- the plan of the lines with a tree that binds
-pub bound_plan : (t : Tables) (q : Query) (query : ChildBound) (r : Result ChildPlan Memory)
+pub bound_plan : (t : ChildSurvey) (q : Query) (query : ChildBound) (r : Result ChildPlan Memory)
     → child_bound_of (schemas_of t.rows t.table) q ≡ Ok query.bound → IfOk r (IsChildPlanBy t q query)
     → IfOk r (IsChildPlanOf t q)
 bound_plan t q query (Err m) binds is = tt
@@ -68,7 +68,7 @@ bound_plan t q query (Ok p) binds is = λ text read.
     (record { known = bound (schemas_of t.rows t.table) text q query.bound read binds; plan = refl })
 
 -- the plan of a line that has this tree
-pub of_line : (t : Tables) (text : Bytes) (tree : Query) (r : Result ChildPlan Memory) → tree_of text ≡ Ok tree
+pub of_line : (t : ChildSurvey) (text : Bytes) (tree : Query) (r : Result ChildPlan Memory) → tree_of text ≡ Ok tree
     → IfOk r (IsChildPlanOf t tree) → IfOk r (ChildPlanFor t text)
 of_line t text tree (Ok p) read is = is text read
 of_line t text tree (Err m) read is = tt

@@ -45,11 +45,11 @@ use Rattle.czar.specs.declared.end.End.{End}
 use Rattle.czar.specs.declared.end.End.TheVariants as end
 use Rattle.czar.proofs.Each.{lines_count}
 use Rattle.child_session.specs.ChildAttached.{child_chunks_planned}
-use Rattle.child_session.specs.ChildDriven.{IsChildDriven}
+use Rattle.child_session.specs.ChildDriven.{AnsweredAreDone, IsChildDriven}
 use Rattle.child_session.specs.ChildEnded.{AreChildEnded, IsAnsweredBy, IsChildEnded, MayEndChild}
 use Rattle.child_session.specs.ChildEnds.{ChildEndShows, ChildEndsShow}
 use Rattle.child_session.specs.ChildPlans.{AreChildPlans, ChildPlanFor, IsChildPlanned}
-use Rattle.child_session.specs.Tables.{Tables}
+use Rattle.child_session.specs.ChildSurvey.{ChildSurvey}
 use Rattle.child_session.specs.declared.plan.ChildPlan.{ChildPlan}
 use Rattle.child_session.specs.declared.plan.ChildPlan.TheVariants.{Planned, Refused}
 use Rattle.child_session.proofs.EndsOfPlans.{IsEndFor, chunks_in, end_at, planned_in}
@@ -57,14 +57,14 @@ use Rattle.child_session.proofs.Pairs.{ended_at, ended_length}
 use Rattle.child_session.proofs.Zips.{from_map, zip_at, zip_by, zip_first, zip_length, zip_second}
 
 -- The plan and both tables are within the limits, and what binds over such tables can be run.
-pub record AreLimited (t : Tables) : Type 0 where
+pub record AreLimited (t : ChildSurvey) : Type 0 where
   pub sky : IsSky t.plan
   pub rows : IsCatalogue t.rows
   pub table : IsSourceTable t.table
   pub run : BoundCanBeRun
 
 -- a root without queries
-no_queries : (t : Tables) → AreLimited t → IsChildBase (record { plan = t.plan; rows = t.rows; table = t.table; queries = [] })
+no_queries : (t : ChildSurvey) → AreLimited t → IsChildBase (record { plan = t.plan; rows = t.rows; table = t.table; queries = [] })
 no_queries t limits = record {
   sky = limits.sky;
   rows = limits.rows;
@@ -75,7 +75,7 @@ no_queries t limits = record {
   child = λ k d low. absurd (omega (arith, low));
 }
 
-can_run : (t : Tables) (text : Bytes) (head : Query) (bound : Bound) (chunks : List ℕ) → AreLimited t
+can_run : (t : ChildSurvey) (text : Bytes) (head : Query) (bound : Bound) (chunks : List ℕ) → AreLimited t
     → IsChildPlanned t text head bound chunks → IsChild bound
 can_run t text head bound chunks limits is =
     limits.run t.rows t.table text (record { tree = head; bound = bound }) limits.rows limits.table is.known
@@ -83,7 +83,7 @@ can_run t text head bound chunks limits is =
 -- ---- each may end so
 
 -- a plan has no more chunks than a sky may have
-few : (t : Tables) (text : Bytes) (head : Query) (bound : Bound) (chunks : List ℕ) → AreLimited t
+few : (t : ChildSurvey) (text : Bytes) (head : Query) (bound : Bound) (chunks : List ℕ) → AreLimited t
     → IsChildPlanned t text head bound chunks → length chunks ≤ 16384
 few t text head bound chunks limits is =
     let needed = is_needed t.plan t.rows.objects bound in
@@ -91,7 +91,7 @@ few t text head bound chunks limits is =
     let most = limits.sky.few_chunks in
     omega (arith, ap length is.plan, length-filter needed all, count_by-le-length needed all, length-range_with_len 0 (chunk_count t.plan), most)
 
-may_end : (t : Tables) (S : Journal) (k : ℕ) (text : Bytes) (p : ChildPlan) (e : BoardEnd PieceView) → AreLimited t
+may_end : (t : ChildSurvey) (S : Journal) (k : ℕ) (text : Bytes) (p : ChildPlan) (e : BoardEnd PieceView) → AreLimited t
     → ChildPlanFor t text p → IsEndFor t S k p e → MayEndChild p e
 may_end t S k text (Planned head query chunks) (board.Answered piece) limits for is = (
   record {
@@ -108,7 +108,7 @@ may_end t S k text (Planned head query chunks) board.Cancelled limits for is = t
 may_end t S k text (Planned head query chunks) board.Spent limits for is = tt
 may_end t S k text (Refused why) e limits for is = tt
 
-pub all_may_end : (workers : ℕ) (t : Tables) (s : ScriptView) (plans : List ChildPlan) (seen : Journal) (ends : List (BoardEnd PieceView))
+pub all_may_end : (workers : ℕ) (t : ChildSurvey) (s : ScriptView) (plans : List ChildPlan) (seen : Journal) (ends : List (BoardEnd PieceView))
     → AreLimited t → AreChildPlans t (query_lines s) plans → IsChildDriven workers t s.steps plans seen ends → AllZip MayEndChild plans ends
 all_may_end workers t s plans seen ends limits are d =
     zip_by MayEndChild plans ends d.each (λ i p e here there.
@@ -118,7 +118,7 @@ all_may_end workers t s plans seen ends limits are d =
 -- ---- each shows the result of its query
 
 -- the answer over the chunks of a plan is that over the two flat tables
-answer_is : (t : Tables) (text : Bytes) (head : Query) (bound : Bound) (chunks : List ℕ) → AreLimited t
+answer_is : (t : ChildSurvey) (text : Bytes) (head : Query) (bound : Bound) (chunks : List ℕ) → AreLimited t
     → IsChildPlanned t text head bound chunks
     → child_answer_in t.plan t.rows.objects t.table.sources bound chunks ≡ child_answer t.rows.objects t.table.sources bound
 answer_is t text head bound chunks limits is =
@@ -126,7 +126,7 @@ answer_is t text head bound chunks limits is =
     ∙ child_plan_covers t.plan t.rows.objects t.table.sources bound limits.sky (λ k d low. (limits.rows.rows k d low).at)
     (can_run t text head bound chunks limits is)
 
-shows_answer : (t : Tables) (text : Bytes) (head : Query) (bound : Bound) (chunks : List ℕ) (piece : PieceView) (q : End) → AreLimited t
+shows_answer : (t : ChildSurvey) (text : Bytes) (head : Query) (bound : Bound) (chunks : List ℕ) (piece : PieceView) (q : End) → AreLimited t
     → IsChildPlanned t text head bound chunks → ChildFor t.plan t.rows.objects t.table.sources bound chunks piece
     → IsAnsweredBy head bound (length chunks) piece q → ChildEndShows t text q
 shows_answer t text head bound chunks piece (end.Answered tree answer count) limits for is ended = record {
@@ -140,7 +140,7 @@ shows_answer t text head bound chunks piece (end.Refused why) limits for is ende
 shows_answer t text head bound chunks piece end.Cancelled limits for is ended = absurd ended
 shows_answer t text head bound chunks piece end.Spent limits for is ended = absurd ended
 
-shows : (t : Tables) (S : Journal) (k : ℕ) (text : Bytes) (p : ChildPlan) (e : BoardEnd PieceView) (q : End) → AreLimited t
+shows : (t : ChildSurvey) (S : Journal) (k : ℕ) (text : Bytes) (p : ChildPlan) (e : BoardEnd PieceView) (q : End) → AreLimited t
     → ChildPlanFor t text p → IsEndFor t S k p e → IsChildEnded p e q → ChildEndShows t text q
 shows t S k text (Planned head query chunks) (board.Answered piece) q limits for is ended =
     shows_answer t text head query.bound chunks piece q limits for is.1 ended
@@ -149,7 +149,7 @@ shows t S k text (Planned head query chunks) board.Cancelled q limits for is end
 shows t S k text (Planned head query chunks) board.Spent q limits for is ended = subst (λ (x : End). ChildEndShows t text x) (sym ended) tt
 shows t S k text (Refused why) e q limits for is ended = subst (λ (x : End). ChildEndShows t text x) (sym ended) for
 
-pub all_show : (workers : ℕ) (t : Tables) (s : ScriptView) (plans : List ChildPlan) (seen : Journal) (ends : List (BoardEnd PieceView)) (qs : List End)
+pub all_show : (workers : ℕ) (t : ChildSurvey) (s : ScriptView) (plans : List ChildPlan) (seen : Journal) (ends : List (BoardEnd PieceView)) (qs : List End)
     → AreLimited t → AreChildPlans t (query_lines s) plans → IsChildDriven workers t s.steps plans seen ends → AreChildEnded plans ends qs
     → ChildEndsShow t (query_lines s) qs
 all_show workers t s plans seen ends qs limits are d ended =
@@ -169,7 +169,7 @@ none_empty xs ys is = same xs ∙ ap is_empty (sym is)
     same (x ∷ xs) = refl
 
 -- the facts about a query, by its plan
-judged_by : (t : Tables) (text : Bytes) (p : ChildPlan) → ChildPlanFor t text p
+judged_by : (t : ChildSurvey) (text : Bytes) (p : ChildPlan) → ChildPlanFor t text p
     → IsJudgedBy (chunks_in p) (child_judged_of t.plan t.rows t.table text)
 unfolding child_judged_of child_refusal
 judged_by t text (Planned head query chunks) for = (
@@ -179,12 +179,12 @@ judged_by t text (Planned head query chunks) for = (
 judged_by t text (Refused why) for = ap is_some for
 
 -- a query that is planned is not refused
-not_refused : (t : Tables) (text : Bytes) (head : Query) (bound : Bound) (chunks : List ℕ) → IsChildPlanned t text head bound chunks
+not_refused : (t : ChildSurvey) (text : Bytes) (head : Query) (bound : Bound) (chunks : List ℕ) → IsChildPlanned t text head bound chunks
     → is_refused (child_judged_of t.plan t.rows t.table text) ≡ false
 unfolding child_judged_of child_refusal
 not_refused t text head bound chunks for = ap (λ r. is_some (result_err r) || false) for.known
 
-kind_of_answer : (t : Tables) (S : Journal) (k : ℕ) (text : Bytes) (head : Query) (bound : Bound) (chunks : List ℕ) (piece : PieceView) (q : End)
+kind_of_answer : (t : ChildSurvey) (S : Journal) (k : ℕ) (text : Bytes) (head : Query) (bound : Bound) (chunks : List ℕ) (piece : PieceView) (q : End)
     → IsChildPlanned t text head bound chunks → state_of S k ≡ Done → IsAnsweredBy head bound (length chunks) piece q
     → ShowsKind S k (Some chunks) (child_judged_of t.plan t.rows t.table text) (kind_of q)
 kind_of_answer t S k text head bound chunks piece (end.Answered tree answer count) for done ended =
@@ -193,7 +193,7 @@ kind_of_answer t S k text head bound chunks piece (end.Refused why) for done end
 kind_of_answer t S k text head bound chunks piece end.Cancelled for done ended = absurd ended
 kind_of_answer t S k text head bound chunks piece end.Spent for done ended = absurd ended
 
-kind_shown : (t : Tables) (S : Journal) (k : ℕ) (text : Bytes) (p : ChildPlan) (e : BoardEnd PieceView) (q : End) → ChildPlanFor t text p
+kind_shown : (t : ChildSurvey) (S : Journal) (k : ℕ) (text : Bytes) (p : ChildPlan) (e : BoardEnd PieceView) (q : End) → ChildPlanFor t text p
     → IsEndFor t S k p e → IsChildEnded p e q → ShowsKind S k (chunks_in p) (child_judged_of t.plan t.rows t.table text) (kind_of q)
 kind_shown t S k text (Planned head query chunks) (board.Answered piece) q for is ended =
     kind_of_answer t S k text head query.bound chunks piece q for is.0 ended
@@ -228,8 +228,13 @@ shown_in S k (Some chunks) j kind.Spent shows unplanned =
     subst (λ (x : QueryState). IsEndIn x kind.Spent) (sym shows)
     (record { cancelled = (λ e. absurd (cc e), λ e. absurd (cc e)); spent = (λ e. refl, λ e. refl) })
 
+-- a planned query that ended answered is done in the journal, and one that is not planned has no answer
+done_in : (S : Journal) (k : ℕ) (o : Option (List ℕ)) (j : Judged) → ShowsKind S k o j kind.Answered → state_of S k ≡ Done
+done_in S k None j shows = absurd (cc shows)
+done_in S k (Some chunks) j shows = shows.0
+
 -- a query that is not planned is never attached
-unplanned_state : (workers : ℕ) (t : Tables) (steps : List Step) (plans : List ChildPlan) (seen : Journal) (ends : List (BoardEnd PieceView)) (q : ℕ)
+unplanned_state : (workers : ℕ) (t : ChildSurvey) (steps : List Step) (plans : List ChildPlan) (seen : Journal) (ends : List (BoardEnd PieceView)) (q : ℕ)
     → IsChildDriven workers t steps plans seen ends → child_chunks_planned plans q ≡ None → state_of seen q ≡ Fresh
 unplanned_state workers t steps plans seen ends q d none =
     let unplanned : is_some (child_chunks_planned plans q) ≡ false = ap is_some none in
@@ -237,7 +242,7 @@ unplanned_state workers t steps plans seen ends q d none =
     both_ways _ unplanned (attached_planned (child_chunks_planned plans) steps seen q (d.driven.drove q).attached h).1) in
     cond-true (not (is_attached seen q)) Fresh _ (not_from_false _ alone)
 
-module _ (workers : ℕ) (t : Tables) (s : ScriptView) (plans : List ChildPlan) (seen : Journal) (ends : List (BoardEnd PieceView)) (qs : List End)
+module _ (workers : ℕ) (t : ChildSurvey) (s : ScriptView) (plans : List ChildPlan) (seen : Journal) (ends : List (BoardEnd PieceView)) (qs : List End)
     (are : AreChildPlans t (query_lines s) plans) (d : IsChildDriven workers t s.steps plans seen ends) (ended : AreChildEnded plans ends qs) where
   abbrev facts : Bytes → Judged
   facts = child_judged_of t.plan t.rows t.table
@@ -291,21 +296,32 @@ module _ (workers : ℕ) (t : Tables) (s : ScriptView) (plans : List ChildPlan) 
       (shown_in seen (suc i) (child_chunks_planned plans (suc i)) (facts text.0) (kind_of q.0) (kind_at i text.0 q.0 text.1 q.1)
       (unplanned_state workers t s.steps plans seen ends (suc i) d)))
 
+  pub answered_done : AnsweredAreDone seen (map kind_of qs)
+  answered_done i there =
+      let q = from_map kind_of qs i kind.Answered there in
+      let at = ended_at plans ends qs i q.0 ended q.1 in
+      let text = zip_first (ChildPlanFor t) (query_lines s) plans i at.plan are at.planned in
+      let on : suc i ≡ i + 1 = omega arith in
+      subst (λ n. state_of seen n ≡ Done) on
+      (done_in seen (suc i) (child_chunks_planned plans (suc i)) (facts text.0)
+      (subst (λ (x : EndKind). ShowsKind seen (suc i) (child_chunks_planned plans (suc i)) (facts text.0) x) q.2
+      (kind_at i text.0 q.0 text.1 q.1)))
+
 -- ---- so if there are ends, under any names of the plans and of the ends at the board
 
-same_driven : {workers : ℕ} {t : Tables} {steps : List Step} {plans same : List ChildPlan} {seen : Journal} {ends given : List (BoardEnd PieceView)}
+same_driven : {workers : ℕ} {t : ChildSurvey} {steps : List Step} {plans same : List ChildPlan} {seen : Journal} {ends given : List (BoardEnd PieceView)}
     → IsChildDriven workers t steps plans seen ends → plans ≡ same → ends ≡ given → IsChildDriven workers t steps same seen given
 same_driven {workers} {t} {steps} {plans} {same} {seen} {ends} {given} d is are =
     subst (λ (l : List ChildPlan). IsChildDriven workers t steps l seen given) is
     (subst (λ (l : List (BoardEnd PieceView)). IsChildDriven workers t steps plans seen l) are d)
 
-pub may_all_end : (s : ScriptView) {workers : ℕ} {t : Tables} {plans same : List ChildPlan} {seen : Journal} {ends given : List (BoardEnd PieceView)}
+pub may_all_end : (s : ScriptView) {workers : ℕ} {t : ChildSurvey} {plans same : List ChildPlan} {seen : Journal} {ends given : List (BoardEnd PieceView)}
     → IsChildDriven workers t s.steps plans seen ends → plans ≡ same → ends ≡ given → AreLimited t → AreChildPlans t (query_lines s) same
     → AllZip MayEndChild same given
 may_all_end s {workers} {t} {plans} {same} {seen} {ends} {given} d is at limits are =
     all_may_end workers t s same seen given limits are (same_driven d is at)
 
-pub ends_fit : (s : ScriptView) {V : Type 0} {workers : ℕ} {t : Tables} {plans same : List ChildPlan} {seen : Journal}
+pub ends_fit : (s : ScriptView) {V : Type 0} {workers : ℕ} {t : ChildSurvey} {plans same : List ChildPlan} {seen : Journal}
     {ends given : List (BoardEnd PieceView)} → IsChildDriven workers t s.steps plans seen ends → (items : V → List End) (r : Result V Memory)
     → plans ≡ same → ends ≡ given → NumberedFrom 0 s.steps → AreChildPlans t (query_lines s) same
     → IfOk r (λ v. AreChildEnded same given (items v)) → IfOk r (λ v. ChildFitEnds workers t.plan t.rows t.table s (map kind_of (items v)))
@@ -313,7 +329,7 @@ ends_fit s {V} {workers} {t} {plans} {same} {seen} {ends} {given} d items (Ok v)
     fits workers t s same seen given (items v) are (same_driven d is at) ended numbered
 ends_fit s {V} {workers} {t} {plans} {same} {seen} {ends} {given} d items (Err m) is at numbered are ended = tt
 
-pub ends_show : (s : ScriptView) {V : Type 0} {workers : ℕ} {t : Tables} {plans same : List ChildPlan} {seen : Journal}
+pub ends_show : (s : ScriptView) {V : Type 0} {workers : ℕ} {t : ChildSurvey} {plans same : List ChildPlan} {seen : Journal}
     {ends given : List (BoardEnd PieceView)} → IsChildDriven workers t s.steps plans seen ends → (items : V → List End) (r : Result V Memory)
     → plans ≡ same → ends ≡ given → AreLimited t → AreChildPlans t (query_lines s) same
     → IfOk r (λ v. AreChildEnded same given (items v)) → IfOk r (λ v. ChildEndsShow t (query_lines s) (items v))
@@ -321,7 +337,7 @@ ends_show s {V} {workers} {t} {plans} {same} {seen} {ends} {given} d items (Ok v
     all_show workers t s same seen given (items v) limits are (same_driven d is at) ended
 ends_show s {V} {workers} {t} {plans} {same} {seen} {ends} {given} d items (Err m) is at limits are ended = tt
 
-pub ends_in_states : (s : ScriptView) {V : Type 0} {workers : ℕ} {t : Tables} {plans same : List ChildPlan} {seen : Journal}
+pub ends_in_states : (s : ScriptView) {V : Type 0} {workers : ℕ} {t : ChildSurvey} {plans same : List ChildPlan} {seen : Journal}
     {ends given : List (BoardEnd PieceView)} → IsChildDriven workers t s.steps plans seen ends → (items : V → List End) (r : Result V Memory)
     → plans ≡ same → ends ≡ given → AreChildPlans t (query_lines s) same
     → IfOk r (λ v. AreChildEnded same given (items v)) → IfOk r (λ v. AreEndsIn (λ q. seen) (map kind_of (items v)))
@@ -329,8 +345,16 @@ ends_in_states s {V} {workers} {t} {plans} {same} {seen} {ends} {given} d items 
     in_states workers t s same seen given (items v) are (same_driven d is at) ended
 ends_in_states s {V} {workers} {t} {plans} {same} {seen} {ends} {given} d items (Err m) is at are ended = tt
 
+pub ends_done : (s : ScriptView) {V : Type 0} {workers : ℕ} {t : ChildSurvey} {plans same : List ChildPlan} {seen : Journal}
+    {ends given : List (BoardEnd PieceView)} → IsChildDriven workers t s.steps plans seen ends → (items : V → List End) (r : Result V Memory)
+    → plans ≡ same → ends ≡ given → AreChildPlans t (query_lines s) same
+    → IfOk r (λ v. AreChildEnded same given (items v)) → IfOk r (λ v. AnsweredAreDone seen (map kind_of (items v)))
+ends_done s {V} {workers} {t} {plans} {same} {seen} {ends} {given} d items (Ok v) is at are ended =
+    answered_done workers t s same seen given (items v) are (same_driven d is at) ended
+ends_done s {V} {workers} {t} {plans} {same} {seen} {ends} {given} d items (Err m) is at are ended = tt
+
 -- what the lines of the session show
-pub ends_drove : {V : Type 0} {workers : ℕ} {t : Tables} {steps : List Step} {plans same : List ChildPlan} {seen : Journal}
+pub ends_drove : {V : Type 0} {workers : ℕ} {t : ChildSurvey} {steps : List Step} {plans same : List ChildPlan} {seen : Journal}
     {ends : List (BoardEnd PieceView)} → IsChildDriven workers t steps plans seen ends → (r : Result V Memory) → plans ≡ same
     → IfOk r (λ v. Drove workers (child_chunks_planned same) steps seen)
 ends_drove {V} {workers} {t} {steps} {plans} {same} {seen} {ends} d (Ok v) is =

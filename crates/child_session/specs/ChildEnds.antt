@@ -11,10 +11,10 @@ use Rattle.czar.specs.declared.end.End.{End}
 use Rattle.czar.specs.declared.end.End.TheVariants.{Answered, Refused, Cancelled, Spent}
 use Rattle.child_rules.specs.Children.{child_answer}
 use Rattle.child_transcripts.specs.ChildQueries.{child_refusal, child_understood, schemas_of}
-use Rattle.child_session.specs.Tables.{Tables}
+use Rattle.child_session.specs.ChildSurvey.{ChildSurvey}
 
 -- A query that is answered: its tree, its answer over the two flat tables, and the size of its plan.
-pub record IsChildAnswered (t : Tables) (text : Bytes) (head : Query) (answer : List (List Value)) (chunks : ℕ)
+pub record IsChildAnswered (t : ChildSurvey) (text : Bytes) (head : Query) (answer : List (List Value)) (chunks : ℕ)
     : Type 0 where
   pub bound : Bound
   pub known : child_understood (schemas_of t.rows t.table) text ≡ Ok (record { tree = head; bound = bound })
@@ -23,12 +23,12 @@ pub record IsChildAnswered (t : Tables) (text : Bytes) (head : Query) (answer : 
 
 -- the end is the result of the query with this line; a query that was cancelled, or in whose work an allocation failed,
 -- has no result
-abbrev pub ChildEndShows : Tables → Bytes → End → Type 0
+abbrev pub ChildEndShows : ChildSurvey → Bytes → End → Type 0
 ChildEndShows t text (Answered head answer chunks) = IsChildAnswered t text head answer chunks
 ChildEndShows t text (Refused why) = child_refusal (schemas_of t.rows t.table) text ≡ Some why
 ChildEndShows t text Cancelled = Unit {0}
 ChildEndShows t text Spent = Unit {0}
 
 -- there is an end for each of the queries with these lines, in their order
-abbrev pub ChildEndsShow : Tables → List Bytes → List End → Type 0
+abbrev pub ChildEndsShow : ChildSurvey → List Bytes → List End → Type 0
 ChildEndsShow t texts ends = AllZip (ChildEndShows t) texts ends

@@ -9,28 +9,28 @@ use Rattle.sql_tree.specs.declared.query.Query.{Query}
 use Rattle.answer_rules.specs.Plans.{plan_of}
 use Rattle.child_rules.specs.declared.bound.ChildBound.{ChildBound}
 use Rattle.child_transcripts.specs.ChildQueries.{child_refusal, child_understood, schemas_of}
-use Rattle.child_session.specs.Tables.{Tables}
+use Rattle.child_session.specs.ChildSurvey.{ChildSurvey}
 use Rattle.child_session.specs.declared.plan.ChildPlan.{ChildPlan}
 use Rattle.child_session.specs.declared.plan.ChildPlan.TheVariants.{Planned, Refused}
 
 -- A query that can be run: its tree, its bound query, and the chunks that it needs.
-pub record IsChildPlanned (t : Tables) (text : Bytes) (head : Query) (bound : Bound) (chunks : List ℕ) : Type 0 where
+pub record IsChildPlanned (t : ChildSurvey) (text : Bytes) (head : Query) (bound : Bound) (chunks : List ℕ) : Type 0 where
   pub known : child_understood (schemas_of t.rows t.table) text ≡ Ok (record { tree = head; bound = bound })
   pub plan : chunks ≡ plan_of t.plan t.rows.objects bound
 
 -- the plan of the query with this line, or the reason for which it is refused
-abbrev pub ChildPlanFor : Tables → Bytes → ChildPlan → Type 0
+abbrev pub ChildPlanFor : ChildSurvey → Bytes → ChildPlan → Type 0
 ChildPlanFor t text (Planned head query chunks) = IsChildPlanned t text head query.bound chunks
 ChildPlanFor t text (Refused why) = child_refusal (schemas_of t.rows t.table) text ≡ Some why
 
 -- there is a plan for each of the queries with these lines, in their order
-abbrev pub AreChildPlans : Tables → List Bytes → List ChildPlan → Type 0
+abbrev pub AreChildPlans : ChildSurvey → List Bytes → List ChildPlan → Type 0
 AreChildPlans t texts plans = AllZip (ChildPlanFor t) texts plans
 
 -- the plan of each line that has this tree
-abbrev pub IsChildPlanOf : Tables → Query → ChildPlan → Type 0
+abbrev pub IsChildPlanOf : ChildSurvey → Query → ChildPlan → Type 0
 IsChildPlanOf t tree plan = (text : Bytes) → tree_of text ≡ Ok tree → ChildPlanFor t text plan
 
 -- the plan of a query with this tree and this bound query
-abbrev pub IsChildPlanBy : Tables → Query → ChildBound → ChildPlan → Type 0
+abbrev pub IsChildPlanBy : ChildSurvey → Query → ChildBound → ChildPlan → Type 0
 IsChildPlanBy t tree query plan = plan ≡ Planned tree query (plan_of t.plan t.rows.objects query.bound)

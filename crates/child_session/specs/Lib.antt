@@ -1,4 +1,4 @@
-pub mod Tables
+pub mod ChildSurvey
 pub mod ChildPlans
 pub mod ChildRefusals
 pub mod ChildAttached

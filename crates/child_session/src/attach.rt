@@ -1,12 +1,11 @@
 //! What a session attaches for the child queries of a script, and the board to which it attaches.
 
 ghost use Rattle.std.specs.Prelude.{◌≡◌, ◌≤◌, ◌<◌, ◌+◌, All, IfOk, OnOk, length, map, option_map, take};
-ghost use Rattle.sky_rules.specs.Partition.{chunk_count};
 ghost use Rattle.scan_rules.specs.declared.limits.TheConstants.{QUERY_MOST};
 ghost use Rattle.turn_lock.specs.Seats.{first_seat};
 ghost use Rattle.session_script.specs.Views.{query_lines};
-ghost use Rattle.child_session.specs.ChildAttached.{CanRunChild, child_attached, child_base_of, child_query};
-ghost use Rattle.child_session.specs.ChildAttached.{lent, with_query};
+ghost use Rattle.child_session.specs.ChildAttached.{CanRunChild, child_attached, child_base_of, child_board_of};
+ghost use Rattle.child_session.specs.ChildAttached.{query_in_plan, query_values, with_child_if_planned};
 ghost use Rattle.child_session.specs.ChildPlans.{AreChildPlans};
 
 use crate::plan::ChildPlan;
@@ -23,7 +22,7 @@ use std::sync::Wait;
 use std::thread::Threads;
 
 /// A board of child pieces, and the czar's participant of it.
-type Seated<'w> = (SharedBoard<ChildPiece<'w>>, Seat<Board<ChildPiece<'w>>>);
+type BoardAndSeat<'w> = (SharedBoard<ChildPiece<'w>>, Seat<Board<ChildPiece<'w>>>);
 
 /// Returns what is attached for a query: nothing if it is refused.
 fn attached_by<'w>(
@@ -60,7 +59,7 @@ pub(crate) fn all_attached<'w>(
 
 /// Returns the child query of a query, if it is planned.
 fn query_of(plan: &ChildPlan) -> Option<&ChildBound>
-    ensures { option_map (λ query. query.now) result ≡ child_query plan.now }
+    ensures { option_map (λ query. query.now) result ≡ query_in_plan plan.now }
 {
     match plan {
         ChildPlan::Planned { bound, .. } => Some(bound),
@@ -73,7 +72,7 @@ pub(crate) fn child_queries<'p>(
     alloc: Global,
     plans: &'p [ChildPlan],
 ) -> Result<Vec<Option<&'p ChildBound>>, Memory>
-    ensures { IfOk result (λ queries. lent queries.items ≡ map child_query plans.now) }
+    ensures { IfOk result (λ queries. query_values queries.items ≡ map query_in_plan plans.now) }
 {
     let mut queries = Vec::new(alloc);
     for plan in plans {
@@ -82,13 +81,18 @@ pub(crate) fn child_queries<'p>(
     Ok(queries)
 }
 
-/// Gives the root a copy of the child query of the query with this number, if it is planned.
-fn give(alloc: Global, plan: &ChildPlan, q: u32, root: &mut ChildRoot<'_>) -> Result<(), Memory>
+/// Adds a copy of the query of this plan to the root, under this number, if the query is planned. Allocates memory for it.
+fn push_query(
+    alloc: Global,
+    plan: &ChildPlan,
+    q: u32,
+    root: &mut ChildRoot<'_>,
+) -> Result<(), Memory>
     requires above { All (λ e. e.0 < q) root.old.queries }
     requires from_1 { 1 ≤ q }
     requires to_255 { q ≤ QUERY_MOST }
-    requires child { CanRunChild (child_query plan.now) }
-    ensures { OnOk result (root.new ≡ with_query root.old q (child_query plan.now)) }
+    requires child { CanRunChild (query_in_plan plan.now) }
+    ensures { OnOk result (root.new ≡ with_child_if_planned root.old q (query_in_plan plan.now)) }
 {
     match plan {
         ChildPlan::Planned { bound, .. } => match copy_of_child(alloc, bound) {
@@ -99,8 +103,8 @@ fn give(alloc: Global, plan: &ChildPlan, q: u32, root: &mut ChildRoot<'_>) -> Re
     }
 }
 
-/// Gives the root of the queries before a place that of the query at it.
-fn give_next(
+/// Adds that of the query at an index to the root of the queries before it. Allocates memory for it.
+fn push_next(
     alloc: Global,
     world: &ChildWorld<'_>,
     plans: &[ChildPlan],
@@ -109,28 +113,28 @@ fn give_next(
 ) -> Result<(), Memory>
     requires few { length plans.now ≤ QUERY_MOST }
     requires there { place < length plans.now }
-    requires child { All (λ plan. CanRunChild (child_query plan)) plans.now }
+    requires child { All (λ plan. CanRunChild (query_in_plan plan)) plans.now }
     requires given { root.old ≡ child_base_of world.now (take place plans.now) }
     ensures { OnOk result (root.new ≡ child_base_of world.now (take (place + 1) plans.now)) }
 {
-    give(alloc, &plans[place], place as u32 + 1, root)
+    push_query(alloc, &plans[place], place as u32 + 1, root)
 }
 
-/// Returns the root of a session's pieces: both tables, and copies of the child queries with their numbers. They are
-/// copies because the root is in the board, and a worker that scans a chunk for a query does not hold the board.
+/// Returns the root of a session's pieces: both tables, and copies of the child queries with their numbers. A root owns
+/// its queries, and contracts alone read them: a worker finds a child query in its engine. Allocates memory.
 fn root_of<'w>(
     alloc: Global,
     world: &ChildWorld<'w>,
     plans: &[ChildPlan],
 ) -> Result<ChildRoot<'w>, Memory>
     requires few { length plans.now ≤ QUERY_MOST }
-    requires child { All (λ plan. CanRunChild (child_query plan)) plans.now }
+    requires child { All (λ plan. CanRunChild (query_in_plan plan)) plans.now }
     ensures { IfOk result (λ root. root ≡ child_base_of world.now plans.now) }
 {
     let store = world.store();
     let mut root = ChildRoot::new(alloc, store.plan(), store.rows(), world.sources().sources());
     for place in 0..plans.len() {
-        give_next(alloc, world, plans, place, &mut root)?;
+        push_next(alloc, world, plans, place, &mut root)?;
     }
     Ok(root)
 }
@@ -140,13 +144,11 @@ fn root_of<'w>(
 pub fn board_for<'s, R: Threads + Wait + Sync, G: Gate + Sync>(
     session: &ChildContext<'s, '_, R, G>,
     plans: &[ChildPlan],
-) -> Result<Seated<'s>, Memory>
+) -> Result<BoardAndSeat<'s>, Memory>
     requires plans { AreChildPlans session.now.world.now (query_lines session.now.script.now)
         plans.now }
-    ensures { IfOk result (λ r. r.1 ≡ first_seat r.0 (record {
-      root = child_base_of session.now.world.now plans.now;
-      ring = chunk_count session.now.world.now.plan;
-    })) }
+    ensures { IfOk result (λ r. r.1
+        ≡ first_seat r.0 (child_board_of session.now.world.now plans.now)) }
 {
     bound_can_be_run();
     session.world.within_limits();

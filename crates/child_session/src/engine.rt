@@ -2,7 +2,7 @@
 
 ghost use Rattle.std.specs.Prelude.{◌≡◌, Some, is_some, true};
 ghost use Rattle.session_rules.specs.Numbers.{numbered_at, numbered_from};
-ghost use Rattle.child_session.specs.ChildAttached.{lent};
+ghost use Rattle.child_session.specs.ChildAttached.{query_values};
 
 use crate::world::ChildWorld;
 use child_piece::ChildPiece;
@@ -23,8 +23,8 @@ pub(crate) struct ChildEngine<'w, 's> {
 
 /// Returns the child query of the query with this number, which has one.
 fn query_with<'s>(queries: &[Option<&'s ChildBound>], q: u32) -> &'s ChildBound
-    requires { is_some (numbered_at (numbered_from 1 (lent queries.now)) q) ≡ true }
-    ensures { numbered_at (numbered_from 1 (lent queries.now)) q ≡ Some result.now }
+    requires { is_some (numbered_at (numbered_from 1 (query_values queries.now)) q) ≡ true }
+    ensures { numbered_at (numbered_from 1 (query_values queries.now)) q ≡ Some result.now }
 {
     let place = q as usize - 1;
     let query = queries[place];
@@ -35,11 +35,11 @@ fn query_with<'s>(queries: &[Option<&'s ChildBound>], q: u32) -> &'s ChildBound
 }
 
 impl<'w, 's> Engine<ChildPiece<'w>> for ChildEngine<'w, 's> {
-    ghost use Rattle.child_session.specs.ChildAttached.{child_base, lent};
+    ghost use Rattle.child_session.specs.ChildAttached.{child_base, query_values};
 
     type Scratch = ();
 
-    ghost root = { λ e. child_base e.world.now (lent e.queries.now) };
+    ghost root = { λ e. child_base e.world.now (query_values e.queries.now) };
 
     fn scratch(&self) {}
 

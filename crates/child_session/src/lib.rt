@@ -6,7 +6,7 @@
 //! Below: `sql_reader` and `child_bind` for the meaning of a query, `czar` for its chunks and for the type of its end,
 //! `scan_session` for the session over a shared board, `child_scan` for a chunk's work, `child_piece` for the merge,
 //! and `answer_text` for its text. The board, the workers and the script's waits and cancels are those of every
-//! session: no loop of a session and no thread is here.
+//! session: no loop of a session and no thread is here. Above: the top call.
 #![tactic(auto)]
 
 mod attach;

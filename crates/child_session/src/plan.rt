@@ -32,7 +32,7 @@ pub enum ChildPlan {
         bound: ChildBound,
         chunks: ChunkSet,
     },
-    /// The refusal, because of its grammar, or of the columns and the form that both tables demand.
+    /// The reason for which it is refused: the fault of its grammar, or else the first fault of its binding over both tables.
     Refused(Refusal),
 }
 

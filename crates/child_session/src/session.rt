@@ -2,7 +2,6 @@
 //! beside the czar, and their ends are returned.
 
 ghost use Rattle.std.specs.Prelude.{◌≡◌, ◌+◌, ◌≤◌, IfOk, map};
-ghost use Rattle.sky_rules.specs.Partition.{chunk_count};
 ghost use Rattle.turn_lock.specs.Seats.{first_seat};
 ghost use Rattle.session_rules.specs.declared.limits.TheConstants.{WORKERS_MOST};
 ghost use Rattle.session_script.specs.Views.{query_lines};
@@ -12,9 +11,9 @@ ghost use Rattle.czar.specs.Ends.{kind_of};
 ghost use Rattle.czar.specs.Traces.{AreEndsIn};
 ghost use Rattle.child_rules.specs.ChildBases.{ChildAsks};
 ghost use Rattle.child_transcripts.specs.ChildTranscripts.{ChildFitEnds};
-ghost use Rattle.child_session.specs.ChildAttached.{child_attached, child_base_of, child_chunks_planned};
-ghost use Rattle.child_session.specs.ChildAttached.{child_query, lent};
-ghost use Rattle.child_session.specs.ChildDriven.{IsChildDriven};
+ghost use Rattle.child_session.specs.ChildAttached.{child_attached, child_board_of, child_chunks_planned};
+ghost use Rattle.child_session.specs.ChildAttached.{query_in_plan, query_values};
+ghost use Rattle.child_session.specs.ChildDriven.{AnsweredAreDone, IsChildDriven};
 ghost use Rattle.child_session.specs.ChildEnded.{AreChildEnded};
 ghost use Rattle.child_session.specs.ChildEnds.{ChildEndsShow};
 ghost use Rattle.child_session.specs.ChildPlans.{AreChildPlans};
@@ -93,16 +92,16 @@ pub fn drive_children<'s, R: Threads + Wait + Sync, G: Gate + Sync>(
     requires few { session.now.workers ≤ WORKERS_MOST }
     requires plans { AreChildPlans session.now.world.now (query_lines session.now.script.now)
         plans.items }
-    requires seat { seat ≡ first_seat board.now (record {
-      root = child_base_of session.now.world.now plans.items;
-      ring = chunk_count session.now.world.now.plan;
-    }) }
+    requires seat { seat ≡ first_seat board.now
+        (child_board_of session.now.world.now plans.items) }
     ensures drove { IfOk result.0 (λ ends. Drove session.now.workers
         (child_chunks_planned plans.items) session.now.script.now.steps result.1.seen) }
     ensures made { IfOk result.0 (λ ends. result.1.made ≡ 1 + session.now.workers) }
     ensures manned { Manned ChildAsks seat.entry result.1 }
     ensures states { IfOk result.0 (λ ends.
         AreEndsIn (λ q. result.1.seen) (map kind_of ends.items)) }
+    ensures done { IfOk result.0 (λ ends.
+        AnsweredAreDone result.1.seen (map kind_of ends.items)) }
     ensures fit { IfOk result.0 (λ ends. ChildFitEnds session.now.workers
         session.now.world.now.plan session.now.world.now.rows session.now.world.now.table
         session.now.script.now (map kind_of ends.items)) }
@@ -135,10 +134,8 @@ fn driven<'s, R: Threads + Wait + Sync, G: Gate + Sync>(
     requires few { session.now.workers ≤ WORKERS_MOST }
     requires plans { AreChildPlans session.now.world.now (query_lines session.now.script.now)
         plans.now }
-    requires seat { seat ≡ first_seat board.now (record {
-      root = child_base_of session.now.world.now plans.now;
-      ring = chunk_count session.now.world.now.plan;
-    }) }
+    requires seat { seat ≡ first_seat board.now
+        (child_board_of session.now.world.now plans.now) }
     ensures driven { IfOk result.0 (λ ends. IsChildDriven session.now.workers
         session.now.world.now session.now.script.now.steps plans.now result.1.seen ends.items) }
     ensures made { IfOk result.0 (λ ends. result.1.made ≡ 1 + session.now.workers) }
@@ -160,7 +157,7 @@ type Parts<'p, 's> = (
 
 /// Returns what is needed to drive the queries with these plans. Allocates memory.
 fn parts<'p, 's>(alloc: Global, plans: &'p [ChildPlan]) -> Result<Parts<'p, 's>, Memory>
-    ensures queries { IfOk result (λ r. lent r.0.items ≡ map child_query plans.now) }
+    ensures queries { IfOk result (λ r. query_values r.0.items ≡ map query_in_plan plans.now) }
     ensures planned { IfOk result (λ r. r.1.items ≡ map child_attached plans.now) }
 {
     let queries = child_queries(alloc, plans)?;
@@ -184,12 +181,10 @@ fn driven_at<'s, R: Threads + Wait + Sync, G: Gate + Sync>(
     requires few { session.now.workers ≤ WORKERS_MOST }
     requires plans { AreChildPlans session.now.world.now (query_lines session.now.script.now)
         plans.now }
-    requires queries { lent queries.now ≡ map child_query plans.now }
+    requires queries { query_values queries.now ≡ map query_in_plan plans.now }
     requires planned { planned.items ≡ map child_attached plans.now }
-    requires seat { seat ≡ first_seat board.now (record {
-      root = child_base_of session.now.world.now plans.now;
-      ring = chunk_count session.now.world.now.plan;
-    }) }
+    requires seat { seat ≡ first_seat board.now
+        (child_board_of session.now.world.now plans.now) }
     ensures driven { IfOk result.0 (λ ends. IsChildDriven session.now.workers
         session.now.world.now session.now.script.now.steps plans.now result.1.seen ends.items) }
     ensures made { IfOk result.0 (λ ends. result.1.made ≡ 1 + session.now.workers) }

@@ -20,9 +20,9 @@ pub struct ChildWorld<'w> {
 
 impl<'w> Model for ChildWorld<'w> {
     ghost use Rattle.std.specs.Prelude.{◌≡◌};
-    ghost use Rattle.child_session.specs.Tables.{Tables};
+    ghost use Rattle.child_session.specs.ChildSurvey.{ChildSurvey};
 
-    ghost Value = { Tables };
+    ghost Value = { ChildSurvey };
 
     ghost view = { λ w. record { plan = w.world.now.plan; rows = w.world.now.rows; table = w.sources.now.table } };
 
@@ -30,7 +30,8 @@ impl<'w> Model for ChildWorld<'w> {
 }
 
 impl<'w> ChildWorld<'w> {
-    /// Joins a world with the store of sources that was created of its store. Does not allocate.
+    /// Creates the world of both tables, from the world of the objects and the store of sources built over its store. Does
+    /// not allocate.
     pub fn new(world: &'w World<'w>, sources: &'w SourceStore<'w>) -> ChildWorld<'w>
         requires plan { sources.now.plan ≡ world.now.plan }
         requires objects { sources.now.objects ≡ world.now.rows.objects }

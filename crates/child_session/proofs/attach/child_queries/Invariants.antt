@@ -1,6 +1,6 @@
 use Rattle.std.proofs.Common.{◌≡◌, map, take}
-use Rattle.child_session.specs.ChildAttached.{child_query, lent}
+use Rattle.child_session.specs.ChildAttached.{query_in_plan, query_values}
 use Rattle.child_session.proofs.attach.child_queries.Given as goal
 
 abbrev pub invariant-loop-plan : goal.invariant-loop-plan
-invariant-loop-plan l = lent l.queries.items ≡ map child_query (take l.plan-index l.fn.plans)
+invariant-loop-plan l = query_values l.queries.items ≡ map query_in_plan (take l.plan-index l.fn.plans)

@@ -1,6 +1,6 @@
 use Rattle.std.proofs.Common.{rules}
 use Rattle.czar.proofs.Driving.{of_value}
-use Rattle.child_session.proofs.ScriptEnds.{ends_drove, ends_fit, ends_in_states, ends_show, if_ok, may_all_end}
+use Rattle.child_session.proofs.ScriptEnds.{ends_done, ends_drove, ends_fit, ends_in_states, ends_show, if_ok, may_all_end}
 use Rattle.child_session.proofs.session.drive_children.Goals as goal
 
 pub all_query_ends-requires : goal.all_query_ends-requires
@@ -27,6 +27,11 @@ returns-in-Err-clause-manned g c = c.driven-ends.ensures.manned
 pub returns-in-Ok-clause-states : goal.returns-in-Ok-clause-states
 returns-in-Ok-clause-states g c =
     ends_in_states c.args.session.now.script.now (of_value _ c.in-Ok.is c.driven-ends.ensures.driven) (λ v. v.items) c.all_query_ends.result
+    (search rules) (search rules) c.requires.plans c.all_query_ends.ensures
+
+pub returns-in-Ok-clause-done : goal.returns-in-Ok-clause-done
+returns-in-Ok-clause-done g c =
+    ends_done c.args.session.now.script.now (of_value _ c.in-Ok.is c.driven-ends.ensures.driven) (λ v. v.items) c.all_query_ends.result
     (search rules) (search rules) c.requires.plans c.all_query_ends.ensures
 
 pub returns-in-Ok-clause-fit : goal.returns-in-Ok-clause-fit
