@@ -1,5 +1,5 @@
 -- Why a worker's lines lose a query.
-use Rattle.std.proofs.Common.{◌≡◌, ℕ, ◌<◌, ◌==◌, ◌&&◌, zero, suc, List, [], ◌∷◌, ◌++◌, length, Option, None, Some, IfSome, true, false, ◌⊎◌, inl, inr, ⊎_elim, refl, sym, ap, ◌∙◌, subst, arith, eq-eqb, eqb-true}
+use Rattle.std.proofs.Common.{◌≡◌, ℕ, ◌<◌, ◌==◌, ◌&&◌, zero, suc, List, [], ◌∷◌, ◌++◌, length, Option, None, Some, IfSome, true, false, inl, inr, ⊎_elim, refl, sym, ap, ◌∙◌, subst, arith, eq-eqb, eqb-true}
 use Rattle.std.proofs.lemmas.List.{append_assoc}
 use Rattle.std.specs.List.{list_any}
 use Rattle.std.proofs.lemmas.Bool.{and_parts, both_ways, false≢true, or_cases}
@@ -18,7 +18,8 @@ use Rattle.scan_core.specs.declared.answers.Take.TheVariants.{Task}
 use Rattle.scan_core.specs.Boards.{BoardState, TaskState}
 use Rattle.scan_board.specs.Calls.{BoardSeat, Called}
 use Rattle.scan_board.proofs.Holding.{past_runs, seat_adds, seen_take}
-use Rattle.scan_worker.specs.Missing.{LosesOnly, MayLose}
+use Rattle.scan_core.specs.Delivering.{PiecesFit}
+use Rattle.scan_worker.specs.Missing.{LosesOnly, MayLose, MissesRefused}
 use Rattle.scan_worker.specs.Rounds.{HandsOn}
 
 -- a line that takes with this ticket for a query takes with this ticket
@@ -52,17 +53,34 @@ has_turn (x ∷ xs) q h = ⊎_elim
     (λ f. let r = has_turn xs q f in (suc r.0, omega (arith, r.1), r.2))
     (or_cases (x == q) (has xs q) h)
 
--- a query is lost for want of its entry, or because a piece could not absorb it
-cause_of : {P : Type 0} (refused : ℕ → ℕ → Type 0) (refuses : P → P → Type 0) (q chunk : ℕ) (entry : Option P)
-    → (entry ≡ None → refused q chunk) → IfSome entry (λ other. (mine : P) × refuses mine other) → MayLose refused refuses q
-cause_of refused refuses q chunk None missing r = inl (chunk, missing refl)
-cause_of refused refuses q chunk (Some other) missing r = inr (r.0, other, r.1)
+module _ {P : Type 0} (refused : ℕ → ℕ → Type 0) (unlisted : TaskState → Type 0) (refuses : P → P → Type 0)
+    (stands : ℕ → List ℕ → P → Type 0) where
+  -- a query is lost as the engine refused its piece, or because another piece could not absorb it
+  cause_of : (q chunk : ℕ) (entry : Option P) → (entry ≡ None → refused q chunk)
+      → IfSome entry (λ piece. stands q (chunk ∷ []) piece) → IfSome entry (λ other. (mine : P) × refuses mine other)
+      → MayLose refused unlisted refuses stands q
+  cause_of q chunk None missing fits r = inl (record { chunk = chunk; piece = missing refl })
+  cause_of q chunk (Some other) missing fits r =
+      inr (inr (record { chunk = chunk; mine = r.0; other = other; stands_so = fits; full = r.1 }))
+
+  -- so each query of a task that is lost has a cause
+  cause_at : (task : TaskState) (entries : List (Option P)) (q turn : ℕ) → turn < length task.queries
+      → query_of task.queries turn ≡ q → has task.queries q ≡ true → PiecesFit stands task.chunk task.queries entries
+      → MissesRefused refused unlisted task entries → IfSome (entry_of entries turn) (λ other. (mine : P) × refuses mine other)
+      → MayLose refused unlisted refuses stands q
+  cause_at task entries q turn low is asked fit missing r = ⊎_elim
+      (λ a. subst (MayLose refused unlisted refuses stands) is
+      (cause_of (query_of task.queries turn) task.chunk (entry_of entries turn) (a.none.each turn low)
+      (fit.each turn (omega (arith, low, a.full))) r))
+      (λ n. inr (inl (record { task = task; asked = asked; list = n.list })))
+      missing
 
 -- a task that is taken and delivered with its pieces loses a query only for a cause
-pub lost_task : {R P : Type 0} (refuses : P → P → Type 0) (asks : R → ℕ → ℕ → Type 0) (refused : ℕ → ℕ → Type 0) (old mid new : BoardSeat R)
-    (task : TaskState) → Called asks (λ before after. AnswersTake old.number before (Task task) after) old mid
-    → HandsOn refuses asks refused task mid new → LosesOnly (MayLose refused refuses) old.mine new.mine
-lost_task {R} {P} refuses asks refused old mid new task t h =
+pub lost_task : {R P : Type 0} (refuses : P → P → Type 0) (asks : R → ℕ → ℕ → Type 0) (stands : ℕ → List ℕ → P → Type 0)
+    (refused : ℕ → ℕ → Type 0) (unlisted : TaskState → Type 0) (old mid new : BoardSeat R) (task : TaskState)
+    → Called asks (λ before after. AnswersTake old.number before (Task task) after) old mid
+    → HandsOn refuses asks stands refused unlisted task mid new → LosesOnly (MayLose refused unlisted refuses stands) old.mine new.mine
+lost_task {R} {P} refuses asks stands refused unlisted old mid new task t h =
     let d = h.called in
     let lost : List ℕ = d.answer.lost in
     let first : JournalLine = TakeLine old.number task.ticket task.chunk task.queries in
@@ -77,14 +95,13 @@ lost_task {R} {P} refuses asks refused old mid new task t h =
     sym d.later.1 ∙ (ap (λ (l : Journal). l ++ d.later.0) taken ∙ append_assoc t.past (first ∷ []) d.later.0) in
     let run : IsRun mid.root.ring (t.past ++ first ∷ d.later.0) = subst (IsRun mid.root.ring) past_is (past_runs asks _ mid new d) in
     let Test : ℕ → Journal → Type 0 = λ q past. list_any (names_with task.ticket q) past ≡ true in
-    let by : (q : ℕ) → has lost q ≡ true → MayLose refused refuses q = λ q there.
+    let by : (q : ℕ) → has lost q ≡ true → MayLose refused unlisted refuses stands q = λ q there.
     let named = (and_parts (is_running d.past q) (list_any (names_with task.ticket q) d.past)
     (all_has (λ p. is_running d.past p && list_any (names_with task.ticket p) d.past) lost q d.answer.may.losable there)).1 in
     let asked = names_its t.past old.number task.ticket task.chunk task.queries d.later.0 run q (subst (Test q) past_is named) in
     let at = has_turn task.queries q asked in
     let turn : ℕ = at.0 in
-    cause_of refused refuses q task.chunk (entry_of h.entries turn)
-    (λ none. subst (λ n. refused n task.chunk) at.2 (h.missing.each turn at.1 none))
+    cause_at refused unlisted refuses stands task h.entries q turn at.1 at.2 asked h.fit h.missing
     (d.answer.causes.each turn at.1 (subst (λ n. has lost n ≡ true) (sym at.2) there)) in
     record {
       each = λ q l. ⊎_elim

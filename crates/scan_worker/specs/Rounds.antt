@@ -4,7 +4,7 @@ use Rattle.scan_rules.specs.Lines.{seat_of}
 use Rattle.scan_core.specs.Answers.{AnswersTake}
 use Rattle.scan_core.specs.Boards.{IsLawful, TaskState}
 use Rattle.scan_core.specs.declared.answers.Take.TheVariants as take
-use Rattle.scan_core.specs.Delivering.{DeliversTask}
+use Rattle.scan_core.specs.Delivering.{DeliversTask, PiecesFit}
 use Rattle.turn_lock.specs.Seats.{Knows}
 use Rattle.scan_board.specs.Calls.{BoardSeat, Called, board_at}
 use Rattle.scan_worker.specs.Missing.{MissesRefused}
@@ -36,21 +36,24 @@ EndsRounds {R} {L} asks Worked old new = ServesOneAt asks old new
 EndsRounds {R} {L} asks Idle old new = FindsNone asks old new × ((p : L) × EndsRound Idle (old p) (new p))
 EndsRounds {R} {L} asks Ended old new = FindsNone asks old new × ((p : L) → EndsRound Ended (old p) (new p))
 
--- The task is delivered with the pieces that were made of it: one is missing only if the engine refused it.
-pub record HandsOn {R P : Type 0} (refuses : P → P → Type 0) (asks : R → ℕ → ℕ → Type 0) (refused : ℕ → ℕ → Type 0)
-    (task : TaskState) (old new : BoardSeat R) : Type 0 where
+-- The task is delivered with the pieces that were made of it. Each represents the task's chunk and its query, and one is
+-- missing only if the engine refused it, or had no memory for their list.
+pub record HandsOn {R P : Type 0} (refuses : P → P → Type 0) (asks : R → ℕ → ℕ → Type 0) (stands : ℕ → List ℕ → P → Type 0)
+    (refused : ℕ → ℕ → Type 0) (unlisted : TaskState → Type 0) (task : TaskState) (old new : BoardSeat R) : Type 0 where
   pub entries : List (Option P)
-  pub missing : MissesRefused refused task entries
+  pub fit : PiecesFit stands task.chunk task.queries entries
+  pub missing : MissesRefused refused unlisted task entries
   pub called : Called asks (DeliversTask refuses old.number task entries) old new
 
 -- at one of the boards a task was taken, and delivered with the pieces that were made of it
-pub record HandsOnOne {R L P : Type 0} (refuses : P → P → Type 0) (asks : R → ℕ → ℕ → Type 0) (refused : ℕ → ℕ → Type 0)
-    (old new : L → BoardSeat R) : Type 0 where
+pub record HandsOnOne {R L P : Type 0} (refuses : P → P → Type 0) (asks : R → ℕ → ℕ → Type 0)
+    (stands : ℕ → List ℕ → P → Type 0) (refused : ℕ → ℕ → Type 0) (unlisted : TaskState → Type 0) (old new : L → BoardSeat R)
+    : Type 0 where
   pub place : L
   pub task : TaskState
   pub mid : BoardSeat R
   pub taken : Called asks (λ was is. AnswersTake (old place).number was (take.Task task) is) (old place) mid
-  pub handed : HandsOn refuses asks refused task mid (new place)
+  pub handed : HandsOn refuses asks stands refused unlisted task mid (new place)
 
 -- this holds if a chunk was taken
 abbrev pub IfWorked : Round → Type 0 → Type 0

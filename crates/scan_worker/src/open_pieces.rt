@@ -7,7 +7,7 @@ ghost use Rattle.std.specs.Prelude.{◌≡◌, ◌<◌, All, length};
 ghost use Rattle.scan_rules.specs.Delivers.{entry_of};
 ghost use Rattle.scan_core.specs.Changes.{Beside};
 ghost use Rattle.scan_core.specs.Delivering.{PiecesFit};
-ghost use Rattle.scan_worker.specs.Missing.{AllAnswered, Answered, MissesRefused};
+ghost use Rattle.scan_worker.specs.Missing.{AllAnswered, Answered};
 ghost use Rattle.scan_worker.specs.Opened.{AreMade, AreNone, Fetched};
 ghost use Rattle.scan_worker.specs.Turns.{StepsOn};
 
