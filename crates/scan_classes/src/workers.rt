@@ -40,7 +40,9 @@ pub fn class_worker<R: Wait, P: Work, E: Engine<P>, G: Gate>(
     ensures known { (class : Class) → Knows seat_of (seat_at result class) }
     ensures lawful { (class : Class) →
         IsLawful P.asks (board_at (seat_at pair class) (seat_at result class).seen) }
-    ensures lost { (class : Class) → LosesOnly (MayLose (E.refused engine.now) P.refuses)
+    ensures lost { (class : Class) → LosesOnly
+        (MayLose (E.refused engine.now) (E.unlisted engine.now) P.refuses
+        (P.stands (E.root engine.now)))
         (seat_at pair class).mine (seat_at result class).mine }
 {
     // the contract of `number` gives that both boards have one root
