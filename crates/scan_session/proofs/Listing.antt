@@ -205,12 +205,12 @@ module _ {P : Type 0} where
       (cases_Bool (here q))
 
   pub goes_wait : {R L : Type 0} (room : Type 0) (has : L → ℕ → Bool) (plan : Plans) (done : List Step) (seats : L → BoardSeat R) (ends : List (Option (End P))) (q : ℕ) (r : Outcome) → list_any (is_query_of q) done ≡ true → (r ≡ Went → is_some (at_query ends q) ≡ true) → Marks plan ends
-      → Goes (DrivingAll has plan done seats (known_in ends)) room seats r → Goes (GoingAll has plan (done ++ Wait q ∷ []) seats (known_in ends)) room seats r
+      → Goes (DrivingAll has plan done seats (known_in ends)) ⊥ seats r → Goes (GoingAll has plan (done ++ Wait q ∷ []) seats (known_in ends)) room seats r
   goes_wait room has plan done seats ends q Went started known m d = λ p.
       going_waited (only (has p) plan) done (seats p).seen (only (has p) (known_in ends)) q
       (wait_known (only (has p) plan) done (seats p).seen (only (has p) (known_in ends)) q (known_at (has p) plan ends q (known refl) m) started (d p))
   goes_wait room has plan done seats ends q Odd started known m d = d
-  goes_wait room has plan done seats ends q Memory started known m d = d
+  goes_wait room has plan done seats ends q Memory started known m d = absurd d
 
   -- the query of a query line: what is planned for it
   pub ready_none : (plan : Plans) (done : List Step) (plans : List (Option (Planned P))) (q : ℕ) → Ready plan done plans → list_any (is_query_of q) done ≡ false → at_query plans q ≡ None → plan q ≡ None

@@ -1,17 +1,26 @@
 -- The loops over the script's lines and over the queries: one turn more.
-use Rattle.std.proofs.Common.{◌≡◌, ℕ, ◌+◌, ◌≤◌, ◌<◌, zero, suc, List, [], ◌∷◌, ◌++◌, length, take, drop, get_or, true, Option, is_some, ◌⊎◌, ⊎_elim, refl, sym, ◌∙◌, ap, subst, arith, take-append-drop, drop-cons}
+use Rattle.std.proofs.Common.{◌≡◌, ℕ, ◌+◌, ◌≤◌, ◌<◌, zero, suc, List, [], ◌∷◌, ◌++◌, length, take, drop, get_or, Bool, true, Option, is_some, ◌⊎◌, ⊎_elim, refl, sym, ◌∙◌, ap, subst, arith, take-append-drop, drop-cons}
 use Rattle.std.proofs.lemmas.List.{take_more}
 use Rattle.session_script.specs.declared.step.Step.{Step}
+use Rattle.scan_rules.specs.Queries.{QueryState}
 use Rattle.scan_board.specs.Calls.{BoardSeat}
-use Rattle.scan_session.specs.Goes.{Goes, IsNext, IsScript, number_of}
+use Rattle.scan_session.specs.Plans.{Plans}
+use Rattle.scan_session.specs.Goes.{Goes, IsNext, IsScript, number_of, StopsAt, StopsWithRoom}
 use Rattle.scan_session.specs.KnownEnds.{at_query, MoreKnown}
 use Rattle.scan_session.specs.declared.end.End.{End}
 use Rattle.scan_session.specs.declared.end.Outcome.{Outcome}
+use Rattle.scan_session.specs.declared.end.Outcome.TheVariants.{Went, Memory, Odd}
 use Rattle.scan_session.proofs.Listing.{some_of}
 
 -- what a part leaves, where it is known how it ended
 pub goes_is : {R L : Type 0} (holds room : Type 0) (seats : L → BoardSeat R) (r s : Outcome) → r ≡ s → Goes holds room seats r → Goes holds room seats s
 goes_is holds room seats r s e a = subst (λ (t : Outcome). Goes holds room seats t) e a
+
+-- what a part leaves that is never out of memory
+pub never_stops : {R L : Type 0} (holds room : Type 0) (seats : L → BoardSeat R) (r : Outcome) → Goes holds ⊥ seats r → Goes holds room seats r
+never_stops holds room seats Went d = d
+never_stops holds room seats Memory d = absurd d
+never_stops holds room seats Odd d = d
 
 -- where the script is cut at a line
 pub cut_at : (steps : List Step) (i : ℕ) (d : Step) → i < length steps → steps ≡ take i steps ++ get_or steps i d ∷ drop (suc i) steps
@@ -25,6 +34,11 @@ from_1_at count steps i d s low = s.from_1 (take i steps) (get_or steps i d) (dr
 
 pub low_at : (count : ℕ) (steps : List Step) (i : ℕ) (d : Step) → IsScript count steps → i < length steps → number_of (get_or steps i d) ≤ count
 low_at count steps i d s low = s.low (take i steps) (get_or steps i d) (drop (suc i) steps) (cut_at steps i d low)
+
+-- a script that stopped at a line
+pub stops_at : {R L : Type 0} (has : L → ℕ → Bool) (home : ℕ → L) (plan : Plans) (steps : List Step) (i : ℕ) (d : Step) (seats : L → BoardSeat R)
+    (ends : ℕ → Option QueryState) → i < length steps → StopsAt has home plan (take i steps) (get_or steps i d) seats ends → StopsWithRoom has home plan steps seats ends
+stops_at has home plan steps i d seats ends low s = record { done = take i steps; step = get_or steps i d; rest = drop (suc i) steps; cut = cut_at steps i d low; stops = s }
 
 pub take_next : (steps : List Step) (i : ℕ) (d : Step) → i < length steps → take i steps ++ get_or steps i d ∷ [] ≡ take (i + 1) steps
 take_next steps i d low = sym (take_more steps i d low)

@@ -4,6 +4,7 @@ use Rattle.std.specs.List.{list_any}
 use Rattle.scan_rules.specs.Queries.{QueryState}
 use Rattle.scan_rules.specs.Runs.{MayAttach}
 use Rattle.scan_board.specs.Calls.{BoardSeat}
+use Rattle.sql_token.specs.declared.token.Span.{Span}
 use Rattle.session_script.specs.declared.step.Step.{Step}
 use Rattle.session_script.specs.declared.step.Step.TheVariants.{Query, Wait, Cancel as CancelStep}
 use Rattle.session_rules.specs.Ends.{asks}
@@ -18,26 +19,43 @@ use Rattle.scan_session.specs.declared.end.Tried.TheVariants as tried
 use Rattle.scan_session.specs.declared.end.Told.{Told}
 use Rattle.scan_session.specs.declared.end.Told.TheVariants as told
 
--- the board of some planned query has room for it: it may be attached with its chunks
-pub record SomeRoom {R L : Type 0} (home : ℕ → L) (plan : Plans) (seats : L → BoardSeat R) : Type 0 where
+-- the step asks a planned query, and the query's board has room for it: it may be attached there with its chunks
+pub record HasRoomFor {R L : Type 0} (home : ℕ → L) (plan : Plans) (seats : L → BoardSeat R) (step : Step) : Type 0 where
   pub q : ℕ
+  pub span : Span
+  pub asks_it : step ≡ Query q span
   pub chunks : List ℕ
   pub planned : plan q ≡ Some chunks
   pub may : MayAttach (seats (home q)).root.ring (seats (home q)).seen q chunks
 
--- The first holds if the part ran to its end. The second holds if it is out of memory: some board had room, as a full board
--- is none. Odd occurs only if another participant did what only the czar does.
+-- these steps are run and the next one is not, for which there was room
+pub record StopsAt {R L : Type 0} (has : L → ℕ → Bool) (home : ℕ → L) (plan : Plans) (done : List Step) (step : Step)
+    (seats : L → BoardSeat R) (ends : ℕ → Option QueryState) : Type 0 where
+  pub ran : GoingAll has plan done seats ends
+  pub room : HasRoomFor home plan seats step
+
+-- the script stopped at one of its steps, for which there was room
+pub record StopsWithRoom {R L : Type 0} (has : L → ℕ → Bool) (home : ℕ → L) (plan : Plans) (steps : List Step)
+    (seats : L → BoardSeat R) (ends : ℕ → Option QueryState) : Type 0 where
+  pub done : List Step
+  pub step : Step
+  pub rest : List Step
+  pub cut : steps ≡ done ++ step ∷ rest
+  pub stops : StopsAt has home plan done step seats ends
+
+-- The first holds if the part ran to its end. The second holds if it is out of memory: there was room for the query that it
+-- was to attach, as a full board is no lack of memory. Odd occurs only if another participant did what only the czar does.
 abbrev pub Goes : {R L : Type 0} → Type 0 → Type 0 → (L → BoardSeat R) → Outcome → Type 0
 Goes holds room seats Went = holds
 Goes holds room seats Memory = room
 Goes holds room seats Odd = SomeForeign seats
 
--- what an attempt to attach leaves: all is as before if the board is full
+-- what an attempt to attach leaves: all is as before if the board is full, or if it is out of memory
 abbrev pub GoesTried : {R L P : Type 0} → (L → ℕ → Bool)
     → Plans → List Step → Step → (L → BoardSeat R) → (ℕ → Option QueryState) → Tried P → Type 0
 GoesTried has plan done step seats ends tried.Attached = GoingAll has plan (done ++ step ∷ []) seats ends
 GoesTried has plan done step seats ends (tried.Full planned) = GoingAll has plan done seats ends
-GoesTried has plan done step seats ends tried.Memory = Unit {0}
+GoesTried has plan done step seats ends tried.Memory = GoingAll has plan done seats ends
 GoesTried has plan done step seats ends tried.Odd = SomeForeign seats
 
 -- out of memory is answered only if the board had room for the query: a full board is none

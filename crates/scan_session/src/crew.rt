@@ -35,7 +35,8 @@ fn alone<R: Wait, P: Work, B: Boards<P>, E: Engine<P>, G: Gate>(
     ensures ran { Ran P.stands (B.has scan.now.boards.now) (B.home scan.now.boards.now) (B.at seat)
         (B.at result.2) plans.items ends.items result.1.items steps.now result.0 }
     ensures manned { (p : B.Place) → MannedBy P.asks
-        (MayLose (E.refused scan.now.engine.now) P.refuses) 0
+        (MayLose (E.refused scan.now.engine.now) (E.unlisted scan.now.engine.now)
+        P.refuses (P.stands (E.root scan.now.engine.now))) 0
         (B.at seat p) (B.at result.2 p) }
 {
     let mut plans = plans;
@@ -50,6 +51,27 @@ fn alone<R: Wait, P: Work, B: Boards<P>, E: Engine<P>, G: Gate>(
         steps,
     );
     (outcome, ends, seat)
+}
+
+/// Runs a worker, which has a participant of each board.
+fn beside<R: Wait, P: Work, B: Boards<P>, E: Engine<P>, G: Gate>(
+    scan: &Scan<'_, R, B, E, G>,
+    seat: B::Seat,
+) -> B::Seat
+    requires { AreWorkers (B.turn scan.now.boards.now) (E.root scan.now.engine.now) (B.at seat) }
+    ensures { (p : B.Place) → Served P.asks
+        (MayLose (E.refused scan.now.engine.now) (E.unlisted scan.now.engine.now)
+        P.refuses (P.stands (E.root scan.now.engine.now)))
+        (B.at seat p) (B.at result p) }
+{
+    worker(
+        scan.alloc,
+        scan.rt,
+        scan.boards,
+        seat,
+        scan.engine,
+        scan.gate,
+    )
 }
 
 /// Runs the czar with the given number of workers beside it.
@@ -78,7 +100,8 @@ where
     ensures ran { Ran P.stands (B.has scan.now.boards.now) (B.home scan.now.boards.now) (B.at seat)
         (B.at result.2) plans.items ends.items result.1.items steps.now result.0 }
     ensures manned { (p : B.Place) → MannedBy P.asks
-        (MayLose (E.refused scan.now.engine.now) P.refuses) workers
+        (MayLose (E.refused scan.now.engine.now) (E.unlisted scan.now.engine.now)
+        P.refuses (P.stands (E.root scan.now.engine.now))) workers
         (B.at seat p) (B.at result.2 p) }
 {
     if workers == 0 {
@@ -93,18 +116,11 @@ where
             requires workers { AreWorkers (B.turn scan.now.boards.now) (E.root scan.now.engine.now)
                 (B.at other) }
             ensures { (p : B.Place) → Served P.asks
-                (MayLose (E.refused scan.entry.now.engine.now) P.refuses)
+                (MayLose (E.refused scan.entry.now.engine.now)
+                (E.unlisted scan.entry.now.engine.now) P.refuses
+                (P.stands (E.root scan.entry.now.engine.now)))
                 (B.at other p) (B.at result p) }
-        {
-            worker(
-                scan.alloc,
-                scan.rt,
-                scan.boards,
-                other,
-                scan.engine,
-                scan.gate,
-            )
-        },
+        { beside(scan, other) },
         move || -> (Outcome, Vec<Option<End<P>>>, B::Seat)
             requires shared { IsSync R.row }
             requires may { MayRun P.asks P.stands (B.turn scan.now.boards.now)
@@ -116,7 +132,9 @@ where
                 (B.home scan.entry.now.boards.now) (B.at seat) (B.at result.2) plans.items
                 ends.items result.1.items steps.entry.now result.0 }
             ensures manned { (p : B.Place) → MannedBy P.asks
-                (MayLose (E.refused scan.entry.now.engine.now) P.refuses) (workers - 1)
+                (MayLose (E.refused scan.entry.now.engine.now)
+                (E.unlisted scan.entry.now.engine.now) P.refuses
+                (P.stands (E.root scan.entry.now.engine.now))) (workers - 1)
                 (B.at seat p) (B.at result.2 p) }
         { manned(scan, seat, plans, ends, steps, workers - 1) },
     );
@@ -155,7 +173,8 @@ where
     ensures ran { Ran P.stands (B.has scan.now.boards.now) (B.home scan.now.boards.now) (B.at seat)
         (B.at result.2) plans.items ends.items result.1.items steps.now result.0 }
     ensures manned { (p : B.Place) → MannedBy P.asks
-        (MayLose (E.refused scan.now.engine.now) P.refuses) workers
+        (MayLose (E.refused scan.now.engine.now) (E.unlisted scan.now.engine.now)
+        P.refuses (P.stands (E.root scan.now.engine.now))) workers
         (B.at seat p) (B.at result.2 p) }
 {
     // a czar without workers has no one to help it

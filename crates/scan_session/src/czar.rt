@@ -9,7 +9,7 @@ ghost use Rattle.scan_session.specs.Plans.{Plans};
 ghost use Rattle.scan_session.specs.Seats.{Stays};
 ghost use Rattle.scan_session.specs.Places.{AreCzars, DrivingAll, GoingAll};
 ghost use Rattle.scan_session.specs.KnownEnds.{known_in, AllKnown, Marks, Ready};
-ghost use Rattle.scan_session.specs.Goes.{Goes, SomeRoom};
+ghost use Rattle.scan_session.specs.Goes.{Goes, StopsWithRoom};
 ghost use Rattle.scan_session.specs.Crews.{Leaves};
 ghost use Rattle.scan_session.specs.Czars.{Learns, MayRun, Ran};
 ghost use Rattle.scan_session.specs.declared.end.Outcome.{Outcome};
@@ -39,13 +39,15 @@ fn whole<R: Wait, P: Work, B: Boards<P>, E: Engine<P>, G: Gate>(
         → GoingAll (B.has scan.now.boards.now) plan [] (B.at seat) (known_in ends.old)
         → Goes (DrivingAll (B.has scan.now.boards.now) plan steps.now (B.at result.1)
         (known_in ends.new))
-        (SomeRoom (B.home scan.now.boards.now) plan (B.at result.1))
+        (StopsWithRoom (B.has scan.now.boards.now) (B.home scan.now.boards.now) plan steps.now
+        (B.at result.1) (known_in ends.new))
         (B.at result.1) result.0 }
     ensures known { result.0 ≡ Outcome.Went → AllKnown ends.new }
     ensures learns { Learns P.stands (B.home scan.now.boards.now) (B.at seat) (B.at result.1)
         ends.old ends.new }
     ensures stays { (p : B.Place) → Stays P.asks
-        (MayLose (E.refused scan.now.engine.now) P.refuses)
+        (MayLose (E.refused scan.now.engine.now) (E.unlisted scan.now.engine.now)
+        P.refuses (P.stands (E.root scan.now.engine.now)))
         (B.at seat p) (B.at result.1 p) }
 {
     let (outcome, seat) = all_lines(scan, desk, seat, plans, ends, steps);
@@ -66,13 +68,15 @@ pub fn close<R: Wait, P: Work, B: Boards<P>, E: Engine<P>, G: Gate>(
     ensures leaves { (plan : Plans) (steps : List Step) (ends : ℕ → Option QueryState)
         (outcome : Outcome)
         → Goes (DrivingAll (B.has scan.now.boards.now) plan steps (B.at seat) ends)
-        (SomeRoom (B.home scan.now.boards.now) plan (B.at seat))
+        (StopsWithRoom (B.has scan.now.boards.now) (B.home scan.now.boards.now) plan steps
+        (B.at seat) ends)
         (B.at seat) outcome
         → Leaves (B.has scan.now.boards.now) plan steps (B.at result) ends outcome }
     ensures closed { (p : B.Place) → is_closed (B.at result p).seen ≡ true }
     ensures known { (p : B.Place) → Knows seat_of (B.at result p) }
     ensures stays { (p : B.Place) → Stays P.asks
-        (MayLose (E.refused scan.now.engine.now) P.refuses)
+        (MayLose (E.refused scan.now.engine.now) (E.unlisted scan.now.engine.now)
+        P.refuses (P.stands (E.root scan.now.engine.now)))
         (B.at seat p) (B.at result p) }
 {
     scan.boards.close(scan.rt, seat)
@@ -95,7 +99,8 @@ pub fn czar<R: Wait, P: Work, B: Boards<P>, E: Engine<P>, G: Gate>(
     ensures closed { (p : B.Place) → is_closed (B.at result.1 p).seen ≡ true }
     ensures knows { (p : B.Place) → Knows seat_of (B.at result.1 p) }
     ensures stays { (p : B.Place) → Stays P.asks
-        (MayLose (E.refused scan.now.engine.now) P.refuses)
+        (MayLose (E.refused scan.now.engine.now) (E.unlisted scan.now.engine.now)
+        P.refuses (P.stands (E.root scan.now.engine.now)))
         (B.at seat p) (B.at result.1 p) }
 {
     let (outcome, seat) = whole(scan, desk, seat, plans, ends, steps);

@@ -12,7 +12,7 @@ ghost use Rattle.scan_session.specs.Plans.{Plans};
 ghost use Rattle.scan_session.specs.Seats.{Stays};
 ghost use Rattle.scan_session.specs.Places.{AreCzars, DrivingAll, GoingAll, AllFit};
 ghost use Rattle.scan_session.specs.KnownEnds.{at_query, known_in, AllKnown, Marks, Ready};
-ghost use Rattle.scan_session.specs.Goes.{Goes, IsNext, number_of, SomeRoom};
+ghost use Rattle.scan_session.specs.Goes.{Goes, IsNext, number_of, StopsAt, StopsWithRoom};
 ghost use Rattle.scan_session.specs.Czars.{Learns, MayRun};
 
 use crate::end::{End, Outcome, Planned};
@@ -41,13 +41,13 @@ pub fn await_end<R: Wait, P: Work, B: Boards<P>, E: Engine<P>, G: Gate>(
         → list_any (asks q) done ≡ true
         → DrivingAll (B.has scan.now.boards.now) plan done (B.at seat) (known_in ends.old)
         → Goes (DrivingAll (B.has scan.now.boards.now) plan done (B.at result.1) (known_in ends.new))
-        (SomeRoom (B.home scan.now.boards.now) plan (B.at result.1))
-        (B.at result.1) result.0 }
+        ⊥ (B.at result.1) result.0 }
     ensures known { result.0 ≡ Outcome.Went → is_some (at_query ends.new q) ≡ true }
     ensures learns { Learns P.stands (B.home scan.now.boards.now) (B.at seat) (B.at result.1)
         ends.old ends.new }
     ensures stays { (p : B.Place) → Stays P.asks
-        (MayLose (E.refused scan.now.engine.now) P.refuses)
+        (MayLose (E.refused scan.now.engine.now) (E.unlisted scan.now.engine.now)
+        P.refuses (P.stands (E.root scan.now.engine.now)))
         (B.at seat p) (B.at result.1 p) }
 {
     let place = (q - 1) as usize;
@@ -81,7 +81,8 @@ fn cancel_line<R: Wait, P: Work, B: Boards<P>, E: Engine<P>, G: Gate>(
         → GoingAll (B.has scan.now.boards.now) plan (done ++ CancelStep q ∷ []) (B.at result)
         (known_in ends.now) }
     ensures stays { (p : B.Place) → Stays P.asks
-        (MayLose (E.refused scan.now.engine.now) P.refuses)
+        (MayLose (E.refused scan.now.engine.now) (E.unlisted scan.now.engine.now)
+        P.refuses (P.stands (E.root scan.now.engine.now)))
         (B.at seat p) (B.at result p) }
 {
     let place = (q - 1) as usize;
@@ -109,14 +110,16 @@ fn query_line<R: Wait, P: Work, B: Boards<P>, E: Engine<P>, G: Gate>(
         → Ready plan done plans.old → list_any (asks q) done ≡ false
         → GoingAll (B.has scan.now.boards.now) plan done (B.at seat) ends
         → Goes (GoingAll (B.has scan.now.boards.now) plan (done ++ Query q span ∷ []) (B.at result.1) ends)
-        (SomeRoom (B.home scan.now.boards.now) plan (B.at result.1))
+        (StopsAt (B.has scan.now.boards.now) (B.home scan.now.boards.now) plan done (Query q span)
+        (B.at result.1) ends)
         (B.at result.1) result.0 }
     ensures ready { (plan : Plans) (done : List Step) (span : Span)
         → Ready plan done plans.old → Ready plan (done ++ Query q span ∷ []) plans.new }
     ensures fit { AllFit P.stands P.asks (B.suits scan.now.boards.now) (B.at result.1) plans.new }
     ensures len { length plans.new ≡ length plans.old }
     ensures stays { (p : B.Place) → Stays P.asks
-        (MayLose (E.refused scan.now.engine.now) P.refuses)
+        (MayLose (E.refused scan.now.engine.now) (E.unlisted scan.now.engine.now)
+        P.refuses (P.stands (E.root scan.now.engine.now)))
         (B.at seat p) (B.at result.1 p) }
 {
     let place = (q - 1) as usize;
@@ -147,7 +150,8 @@ fn line<R: Wait, P: Work, B: Boards<P>, E: Engine<P>, G: Gate>(
         → GoingAll (B.has scan.now.boards.now) plan done (B.at seat) (known_in ends.old)
         → Goes (GoingAll (B.has scan.now.boards.now) plan (done ++ step ∷ []) (B.at result.1)
         (known_in ends.new))
-        (SomeRoom (B.home scan.now.boards.now) plan (B.at result.1))
+        (StopsAt (B.has scan.now.boards.now) (B.home scan.now.boards.now) plan done step
+        (B.at result.1) (known_in ends.new))
         (B.at result.1) result.0 }
     ensures ready { (plan : Plans) (done : List Step)
         → Ready plan done plans.old → Ready plan (done ++ step ∷ []) plans.new }
@@ -156,7 +160,8 @@ fn line<R: Wait, P: Work, B: Boards<P>, E: Engine<P>, G: Gate>(
     ensures learns { Learns P.stands (B.home scan.now.boards.now) (B.at seat) (B.at result.1)
         ends.old ends.new }
     ensures stays { (p : B.Place) → Stays P.asks
-        (MayLose (E.refused scan.now.engine.now) P.refuses)
+        (MayLose (E.refused scan.now.engine.now) (E.unlisted scan.now.engine.now)
+        P.refuses (P.stands (E.root scan.now.engine.now)))
         (B.at seat p) (B.at result.1 p) }
 {
     match step {
@@ -181,12 +186,14 @@ pub fn all_lines<R: Wait, P: Work, B: Boards<P>, E: Engine<P>, G: Gate>(
         → GoingAll (B.has scan.now.boards.now) plan [] (B.at seat) (known_in ends.old)
         → Goes (DrivingAll (B.has scan.now.boards.now) plan steps.now (B.at result.1)
         (known_in ends.new))
-        (SomeRoom (B.home scan.now.boards.now) plan (B.at result.1))
+        (StopsWithRoom (B.has scan.now.boards.now) (B.home scan.now.boards.now) plan steps.now
+        (B.at result.1) (known_in ends.new))
         (B.at result.1) result.0 }
     ensures learns { Learns P.stands (B.home scan.now.boards.now) (B.at seat) (B.at result.1)
         ends.old ends.new }
     ensures stays { (p : B.Place) → Stays P.asks
-        (MayLose (E.refused scan.now.engine.now) P.refuses)
+        (MayLose (E.refused scan.now.engine.now) (E.unlisted scan.now.engine.now)
+        P.refuses (P.stands (E.root scan.now.engine.now)))
         (B.at seat p) (B.at result.1 p) }
 {
     let mut seat = seat;
@@ -216,13 +223,13 @@ pub fn all_ends<R: Wait, P: Work, B: Boards<P>, E: Engine<P>, G: Gate>(
         → ((q : ℕ) → 1 ≤ q → q ≤ length ends.old → list_any (asks q) done ≡ true)
         → DrivingAll (B.has scan.now.boards.now) plan done (B.at seat) (known_in ends.old)
         → Goes (DrivingAll (B.has scan.now.boards.now) plan done (B.at result.1) (known_in ends.new))
-        (SomeRoom (B.home scan.now.boards.now) plan (B.at result.1))
-        (B.at result.1) result.0 }
+        ⊥ (B.at result.1) result.0 }
     ensures known { result.0 ≡ Outcome.Went → AllKnown ends.new }
     ensures learns { Learns P.stands (B.home scan.now.boards.now) (B.at seat) (B.at result.1)
         ends.old ends.new }
     ensures stays { (p : B.Place) → Stays P.asks
-        (MayLose (E.refused scan.now.engine.now) P.refuses)
+        (MayLose (E.refused scan.now.engine.now) (E.unlisted scan.now.engine.now)
+        P.refuses (P.stands (E.root scan.now.engine.now)))
         (B.at seat p) (B.at result.1 p) }
 {
     let mut seat = seat;

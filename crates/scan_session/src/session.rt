@@ -129,7 +129,10 @@ where
         AreEnds (over_root P.stands (B.home scan.now.boards.now) (B.at seat)) (plan_in plans.items)
         (seen_of (B.home scan.now.boards.now) (B.at result.1)) ends.items) }
     ensures spent { IfOk result.0 (λ ends.
-        SpendsOnly (MayLose (E.refused scan.now.engine.now) P.refuses) ends.items) }
+        SpendsOnly
+        (MayLose (E.refused scan.now.engine.now) (E.unlisted scan.now.engine.now)
+        P.refuses (P.stands (E.root scan.now.engine.now)))
+        ends.items) }
     ensures made { IfOk result.0 (λ ends. (p : B.Place) → (B.at result.1 p).made ≡ 1 + workers) }
     ensures manned { (p : B.Place) → Manned P.asks (B.at seat p) (B.at result.1 p) }
 {

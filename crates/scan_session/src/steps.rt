@@ -14,7 +14,7 @@ ghost use Rattle.scan_session.specs.Plans.{Plans};
 ghost use Rattle.scan_session.specs.Seats.{Stays};
 ghost use Rattle.scan_session.specs.Places.{AreCzars, DrivingAll, GoingAll, over_root, seen_of};
 ghost use Rattle.scan_session.specs.KnownEnds.{IsCollected, MayStart, IfFull, IfTold};
-ghost use Rattle.scan_session.specs.Goes.{Goes, GoesEnded, GoesTold, GoesTried, SomeRoom, StartsWithRoom, TriesWithRoom};
+ghost use Rattle.scan_session.specs.Goes.{Goes, GoesEnded, GoesTold, GoesTried, StartsWithRoom, StopsAt, TriesWithRoom};
 
 use crate::end::{End, Outcome, Planned, Told, Tried};
 use crate::scan::Scan;
@@ -36,7 +36,9 @@ fn work<R: Wait, P: Work, B: Boards<P>, E: Engine<P>, G: Gate>(
     ensures worked { (p : B.Place) → Worked (B.at seat p) (B.at result p) }
     ensures observed { (p : B.Place) →
         (B.at result p ≡ B.at seat p) ⊎ Observed P.asks (B.at seat p) (B.at result p) }
-    ensures lost { (p : B.Place) → LosesOnly (MayLose (E.refused scan.now.engine.now) P.refuses)
+    ensures lost { (p : B.Place) → LosesOnly
+        (MayLose (E.refused scan.now.engine.now) (E.unlisted scan.now.engine.now)
+        P.refuses (P.stands (E.root scan.now.engine.now)))
         (B.at seat p).mine (B.at result p).mine }
 {
     let (round, seat) = work_once(desk, scan.rt, scan.boards, seat, scan.engine, scan.gate);
@@ -69,7 +71,8 @@ pub fn try_start<R: Wait, P: Work, B: Boards<P>, E: Engine<P>, G: Gate>(
     ensures room { TriesWithRoom (B.at result.1 (B.home scan.now.boards.now q)) q planned.chunks
         result.0 }
     ensures stays { (p : B.Place) → Stays P.asks
-        (MayLose (E.refused scan.now.engine.now) P.refuses)
+        (MayLose (E.refused scan.now.engine.now) (E.unlisted scan.now.engine.now)
+        P.refuses (P.stands (E.root scan.now.engine.now)))
         (B.at seat p) (B.at result.1 p) }
 {
     let Planned { chunks, empty } = planned;
@@ -105,12 +108,14 @@ pub fn start<R: Wait, P: Work, B: Boards<P>, E: Engine<P>, G: Gate>(
         → list_any (asks q) done ≡ false → plan q ≡ Some planned.chunks
         → GoingAll (B.has scan.now.boards.now) plan done (B.at seat) ends
         → Goes (GoingAll (B.has scan.now.boards.now) plan (done ++ Query q span ∷ []) (B.at result.1) ends)
-        (SomeRoom (B.home scan.now.boards.now) plan (B.at result.1))
+        (StopsAt (B.has scan.now.boards.now) (B.home scan.now.boards.now) plan done (Query q span)
+        (B.at result.1) ends)
         (B.at result.1) result.0 }
     ensures room { StartsWithRoom (B.at result.1 (B.home scan.now.boards.now q)) q planned.chunks
         result.0 }
     ensures stays { (p : B.Place) → Stays P.asks
-        (MayLose (E.refused scan.now.engine.now) P.refuses)
+        (MayLose (E.refused scan.now.engine.now) (E.unlisted scan.now.engine.now)
+        P.refuses (P.stands (E.root scan.now.engine.now)))
         (B.at seat p) (B.at result.1 p) }
 {
     let mut seat = seat;
@@ -141,7 +146,8 @@ pub fn cancel<R: Wait, P: Work, B: Boards<P>, E: Engine<P>, G: Gate>(
         → GoingAll (B.has scan.now.boards.now) plan done (B.at seat) ends
         → GoingAll (B.has scan.now.boards.now) plan (done ++ CancelStep q ∷ []) (B.at result) ends }
     ensures stays { (p : B.Place) → Stays P.asks
-        (MayLose (E.refused scan.now.engine.now) P.refuses)
+        (MayLose (E.refused scan.now.engine.now) (E.unlisted scan.now.engine.now)
+        P.refuses (P.stands (E.root scan.now.engine.now)))
         (B.at seat p) (B.at result p) }
 {
     scan.boards.cancel(scan.rt, seat, q).1
@@ -164,7 +170,8 @@ pub fn ask_end<R: Wait, P: Work, B: Boards<P>, E: Engine<P>, G: Gate>(
         (over_root P.stands (B.home scan.now.boards.now) (B.at result.1))
         (seen_of (B.home scan.now.boards.now) (B.at result.1) q) q) }
     ensures stays { (p : B.Place) → Stays P.asks
-        (MayLose (E.refused scan.now.engine.now) P.refuses)
+        (MayLose (E.refused scan.now.engine.now) (E.unlisted scan.now.engine.now)
+        P.refuses (P.stands (E.root scan.now.engine.now)))
         (B.at seat p) (B.at result.1 p) }
 {
     let (answer, seat) = scan.boards.collect(scan.rt, seat, q);
@@ -195,7 +202,8 @@ pub fn end_of<R: Wait, P: Work, B: Boards<P>, E: Engine<P>, G: Gate>(
         (over_root P.stands (B.home scan.now.boards.now) (B.at result.1))
         (seen_of (B.home scan.now.boards.now) (B.at result.1) q) q) }
     ensures stays { (p : B.Place) → Stays P.asks
-        (MayLose (E.refused scan.now.engine.now) P.refuses)
+        (MayLose (E.refused scan.now.engine.now) (E.unlisted scan.now.engine.now)
+        P.refuses (P.stands (E.root scan.now.engine.now)))
         (B.at seat p) (B.at result.1 p) }
 {
     let mut seat = seat;

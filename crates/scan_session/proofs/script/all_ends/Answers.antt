@@ -1,7 +1,6 @@
 use Rattle.std.proofs.Common.{◌≤◌, ◌+◌, arith, length, rules}
 use Rattle.scan_session.specs.KnownEnds.{known_in}
 use Rattle.scan_session.specs.Places.{DrivingAll}
-use Rattle.scan_session.specs.Goes.{SomeRoom}
 use Rattle.scan_session.specs.declared.end.Outcome.TheVariants.{Went, Memory, Odd}
 use Rattle.scan_session.proofs.Calling.{stays_here}
 use Rattle.scan_session.proofs.Placing.{all_stay, czars_on}
@@ -19,14 +18,14 @@ pub returns-in-Memory-clause-goes : goal.returns-in-Memory-clause-goes
 returns-in-Memory-clause-goes g c plan done marks started d =
     let i = c.loop-place.invariant in
     let low : c.loop-place.place + 1 ≤ length c.args.ends.now = search rules in
-    goes_is (DrivingAll (g.B.Boards.has c.args.scan.now.boards.now) plan done (g.B.Tasks.at c.await_end-outcome.result.1) (known_in c.await_end-outcome.new.ends)) (SomeRoom (g.B.Boards.home c.args.scan.now.boards.now) plan (g.B.Tasks.at c.await_end-outcome.result.1)) (g.B.Tasks.at c.await_end-outcome.result.1) c.await_end-outcome.result.0 Memory c.in-Memory.is
+    goes_is (DrivingAll (g.B.Boards.has c.args.scan.now.boards.now) plan done (g.B.Tasks.at c.await_end-outcome.result.1) (known_in c.await_end-outcome.new.ends)) ⊥ (g.B.Tasks.at c.await_end-outcome.result.1) c.await_end-outcome.result.0 Memory c.in-Memory.is
     (c.await_end-outcome.ensures.goes plan done (marks_on plan c.args.ends.now c.loop-place.ends i.learns.more marks) (started (c.loop-place.place + 1) (omega arith) low) (i.drives plan done marks started d))
 
 pub returns-in-Odd-clause-goes : goal.returns-in-Odd-clause-goes
 returns-in-Odd-clause-goes g c plan done marks started d =
     let i = c.loop-place.invariant in
     let low : c.loop-place.place + 1 ≤ length c.args.ends.now = search rules in
-    goes_is (DrivingAll (g.B.Boards.has c.args.scan.now.boards.now) plan done (g.B.Tasks.at c.await_end-outcome.result.1) (known_in c.await_end-outcome.new.ends)) (SomeRoom (g.B.Boards.home c.args.scan.now.boards.now) plan (g.B.Tasks.at c.await_end-outcome.result.1)) (g.B.Tasks.at c.await_end-outcome.result.1) c.await_end-outcome.result.0 Odd c.in-Odd.is
+    goes_is (DrivingAll (g.B.Boards.has c.args.scan.now.boards.now) plan done (g.B.Tasks.at c.await_end-outcome.result.1) (known_in c.await_end-outcome.new.ends)) ⊥ (g.B.Tasks.at c.await_end-outcome.result.1) c.await_end-outcome.result.0 Odd c.in-Odd.is
     (c.await_end-outcome.ensures.goes plan done (marks_on plan c.args.ends.now c.loop-place.ends i.learns.more marks) (started (c.loop-place.place + 1) (omega arith) low) (i.drives plan done marks started d))
 
 pub loop-place-init : goal.loop-place-init
@@ -45,7 +44,7 @@ loop-place-preserved g c =
       stays = all_stay g.P.Work.asks (g.B.Tasks.at c.args.seat) (g.B.Tasks.at c.loop-place.seat) (g.B.Tasks.at c.await_end-outcome.result.1) i.stays c.await_end-outcome.ensures.stays;
       learns = learns_on i.learns c.await_end-outcome.ensures.learns;
       known = known_next c.loop-place.ends c.await_end-outcome.new.ends c.loop-place.place c.await_end-outcome.ensures.learns.more i.known (c.await_end-outcome.ensures.known c.in-Went.is);
-      drives = λ plan done marks started d. goes_is (DrivingAll (g.B.Boards.has c.args.scan.now.boards.now) plan done (g.B.Tasks.at c.await_end-outcome.result.1) (known_in c.await_end-outcome.new.ends)) (SomeRoom (g.B.Boards.home c.args.scan.now.boards.now) plan (g.B.Tasks.at c.await_end-outcome.result.1)) (g.B.Tasks.at c.await_end-outcome.result.1) c.await_end-outcome.result.0 Went c.in-Went.is
+      drives = λ plan done marks started d. goes_is (DrivingAll (g.B.Boards.has c.args.scan.now.boards.now) plan done (g.B.Tasks.at c.await_end-outcome.result.1) (known_in c.await_end-outcome.new.ends)) ⊥ (g.B.Tasks.at c.await_end-outcome.result.1) c.await_end-outcome.result.0 Went c.in-Went.is
           (c.await_end-outcome.ensures.goes plan done (marks_on plan c.args.ends.now c.loop-place.ends i.learns.more marks) (started (c.loop-place.place + 1) (omega arith) low) (i.drives plan done marks started d));
     }
 

@@ -4,12 +4,11 @@ use Rattle.session_script.specs.declared.step.Step.{Step}
 use Rattle.session_script.specs.declared.step.Step.TheVariants.{Query}
 use Rattle.scan_session.specs.Places.{DrivingAll, GoingAll}
 use Rattle.scan_session.specs.KnownEnds.{known_in, Ready}
-use Rattle.scan_session.specs.Goes.{SomeRoom}
 use Rattle.scan_session.specs.declared.end.Outcome.TheVariants.{Went, Memory, Odd}
 use Rattle.scan_session.proofs.Calling.{stays_here}
 use Rattle.scan_session.proofs.Placing.{all_stay, czars_on}
 use Rattle.scan_session.proofs.Listing.{learns_here, learns_on, marks_on}
-use Rattle.scan_session.proofs.Looping.{goes_is, next_at, from_1_at, low_at, take_next, take_whole}
+use Rattle.scan_session.proofs.Looping.{goes_is, next_at, from_1_at, low_at, stops_at, take_next, take_whole}
 use Rattle.scan_session.proofs.script.all_lines.Goals as goal
 
 pub line-outcome-requires-clause-from_1 : goal.line-outcome-requires-clause-from_1
@@ -30,13 +29,14 @@ returns-in-Memory-clause-stays g c = all_stay g.P.Work.asks (g.B.Tasks.at c.args
 pub returns-in-Memory-clause-goes : goal.returns-in-Memory-clause-goes
 returns-in-Memory-clause-goes g c plan marks ready d =
     let i = c.loop-step.invariant in
-    goes_is _ (SomeRoom (g.B.Boards.home c.args.scan.now.boards.now) plan (g.B.Tasks.at c.line-outcome.result.1)) (g.B.Tasks.at c.line-outcome.result.1) c.line-outcome.result.0 Memory c.in-Memory.is
-    (c.line-outcome.ensures.goes plan (take c.loop-step.step-index c.args.steps.now) (next_at _ c.args.steps.now c.loop-step.step-index _ c.requires.script c.loop-step-test.true) (marks_on plan c.args.ends.now c.loop-step.ends i.learns.more marks) (i.ready plan ready) (i.drives plan marks ready d))
+    stops_at (g.B.Boards.has c.args.scan.now.boards.now) (g.B.Boards.home c.args.scan.now.boards.now) plan c.args.steps.now c.loop-step.step-index _ (g.B.Tasks.at c.line-outcome.result.1) (known_in c.line-outcome.new.ends) c.loop-step-test.true
+    (goes_is _ _ (g.B.Tasks.at c.line-outcome.result.1) c.line-outcome.result.0 Memory c.in-Memory.is
+    (c.line-outcome.ensures.goes plan (take c.loop-step.step-index c.args.steps.now) (next_at _ c.args.steps.now c.loop-step.step-index _ c.requires.script c.loop-step-test.true) (marks_on plan c.args.ends.now c.loop-step.ends i.learns.more marks) (i.ready plan ready) (i.drives plan marks ready d)))
 
 pub returns-in-Odd-clause-goes : goal.returns-in-Odd-clause-goes
 returns-in-Odd-clause-goes g c plan marks ready d =
     let i = c.loop-step.invariant in
-    goes_is _ (SomeRoom (g.B.Boards.home c.args.scan.now.boards.now) plan (g.B.Tasks.at c.line-outcome.result.1)) (g.B.Tasks.at c.line-outcome.result.1) c.line-outcome.result.0 Odd c.in-Odd.is
+    goes_is _ _ (g.B.Tasks.at c.line-outcome.result.1) c.line-outcome.result.0 Odd c.in-Odd.is
     (c.line-outcome.ensures.goes plan (take c.loop-step.step-index c.args.steps.now) (next_at _ c.args.steps.now c.loop-step.step-index _ c.requires.script c.loop-step-test.true) (marks_on plan c.args.ends.now c.loop-step.ends i.learns.more marks) (i.ready plan ready) (i.drives plan marks ready d))
 
 pub returns-in-Odd-clause-learns : goal.returns-in-Odd-clause-learns
@@ -73,7 +73,7 @@ loop-step-preserved g c =
       fit = c.line-outcome.ensures.fit;
       ready = λ plan ready. subst (λ (l : List Step). Ready plan l c.line-outcome.new.plans) more (c.line-outcome.ensures.ready plan (take c.loop-step.step-index c.args.steps.now) (i.ready plan ready));
       drives = λ plan marks ready d. subst (λ (l : List Step). GoingAll (g.B.Boards.has c.args.scan.now.boards.now) plan l (g.B.Tasks.at c.line-outcome.result.1) (known_in c.line-outcome.new.ends)) more
-          (goes_is _ (SomeRoom (g.B.Boards.home c.args.scan.now.boards.now) plan (g.B.Tasks.at c.line-outcome.result.1)) (g.B.Tasks.at c.line-outcome.result.1) c.line-outcome.result.0 Went c.in-Went.is
+          (goes_is _ _ (g.B.Tasks.at c.line-outcome.result.1) c.line-outcome.result.0 Went c.in-Went.is
           (c.line-outcome.ensures.goes plan (take c.loop-step.step-index c.args.steps.now) next (marks_on plan c.args.ends.now c.loop-step.ends i.learns.more marks) (i.ready plan ready) (i.drives plan marks ready d)));
     }
 

@@ -2,14 +2,14 @@ use Rattle.std.proofs.Common.{[], ◌∷◌, ◌++◌, sym, subst}
 use Rattle.session_script.specs.declared.step.Step.{Step}
 use Rattle.scan_session.specs.KnownEnds.{known_in, Ready}
 use Rattle.scan_session.specs.Places.{GoingAll}
-use Rattle.scan_session.specs.Goes.{Goes, IsNext, SomeRoom}
+use Rattle.scan_session.specs.Goes.{Goes, IsNext, StopsAt}
 use Rattle.scan_session.proofs.Listing.{fit_on, goes_wait, learns_none, marks_on}
 use Rattle.scan_session.proofs.script.line.Goals as goal
 
 pub returns-in-Query-clause-goes : goal.returns-in-Query-clause-goes
 returns-in-Query-clause-goes g c plan done next marks ready d =
     let new = g.B.Tasks.at c.query_line.result.1 in
-    subst (λ (s : Step). Goes (GoingAll (g.B.Boards.has c.args.scan.now.boards.now) plan (done ++ s ∷ []) new (known_in c.args.ends.now)) (SomeRoom (g.B.Boards.home c.args.scan.now.boards.now) plan new) new c.query_line.result.0) (sym c.in-Query.is)
+    subst (λ (s : Step). Goes (GoingAll (g.B.Boards.has c.args.scan.now.boards.now) plan (done ++ s ∷ []) new (known_in c.args.ends.now)) (StopsAt (g.B.Boards.has c.args.scan.now.boards.now) (g.B.Boards.home c.args.scan.now.boards.now) plan done s new (known_in c.args.ends.now)) new c.query_line.result.0) (sym c.in-Query.is)
     (c.query_line.ensures.goes plan done (known_in c.args.ends.now) _ ready (subst (IsNext done) c.in-Query.is next) d)
 
 pub returns-in-Query-clause-ready : goal.returns-in-Query-clause-ready
@@ -23,8 +23,8 @@ pub returns-in-Wait-clause-goes : goal.returns-in-Wait-clause-goes
 returns-in-Wait-clause-goes g c plan done next marks ready d =
     let started = subst (IsNext done) c.in-Wait.is next in
     let new = g.B.Tasks.at c.await_end.result.1 in
-    subst (λ (s : Step). Goes (GoingAll (g.B.Boards.has c.args.scan.now.boards.now) plan (done ++ s ∷ []) new (known_in c.await_end.new.ends)) (SomeRoom (g.B.Boards.home c.args.scan.now.boards.now) plan new) new c.await_end.result.0) (sym c.in-Wait.is)
-    (goes_wait (SomeRoom (g.B.Boards.home c.args.scan.now.boards.now) plan new) (g.B.Boards.has c.args.scan.now.boards.now) plan done new c.await_end.new.ends c.in-Wait.number c.await_end.result.0 started c.await_end.ensures.known
+    subst (λ (s : Step). Goes (GoingAll (g.B.Boards.has c.args.scan.now.boards.now) plan (done ++ s ∷ []) new (known_in c.await_end.new.ends)) (StopsAt (g.B.Boards.has c.args.scan.now.boards.now) (g.B.Boards.home c.args.scan.now.boards.now) plan done s new (known_in c.await_end.new.ends)) new c.await_end.result.0) (sym c.in-Wait.is)
+    (goes_wait _ (g.B.Boards.has c.args.scan.now.boards.now) plan done new c.await_end.new.ends c.in-Wait.number c.await_end.result.0 started c.await_end.ensures.known
     (marks_on plan c.args.ends.now c.await_end.new.ends c.await_end.ensures.learns.more marks) (c.await_end.ensures.goes plan done marks started (λ p. (d p).drives)))
 
 pub returns-in-Cancel-clause-goes : goal.returns-in-Cancel-clause-goes
