@@ -401,7 +401,7 @@ def facts_of_the_man_page(copy):
     page, formats = read(f"{copy.root}/docs/qserv.1").decode(), read(f"{copy.root}/docs/FORMATS.md").decode()
     commands = set(re.findall(r"^\.It Cm (\w+) Ar (.*)$", page, re.M))
     shown = set(re.findall(r"^  qserv (\w+) ([A-Z ]+?)(?:   .*)?$", copy.run("./qserv", "--help")[1], re.M))
-    yield "the man page has the commands of --help", commands == shown and len(commands) == 9
+    yield "the man page has the commands of --help", commands == shown and len(commands) == 10
     synopsis = page[page.index(".Sh SYNOPSIS") : page.index(".Sh DESCRIPTION")]
     yield "and the synopsis too", set(re.findall(r"^\.Cm (\w+)\n\.Ar (.*)$", synopsis, re.M)) == shown
     words = set(re.findall(r"^\| `(\w+) ([A-Z ]+)` \|", formats, re.M))
@@ -409,7 +409,7 @@ def facts_of_the_man_page(copy):
     ends = page[page.index(".Sh EXIT STATUS") : page.index(".Sh EXAMPLES")]
     told = {number: words.rstrip(".").lower() for number, words in re.findall(r"^\.It (\d+)\n(.*)$", ends, re.M)}
     wanted = {number: words for words, number in re.findall(r"^\| ([a-z ]+) \| (\d+) \|", formats, re.M)}
-    yield "its statuses are those of FORMATS", len(wanted) == 10 and all(told.get(it, "").startswith(wanted[it]) for it in wanted)
+    yield "its statuses are those of FORMATS", len(wanted) == 11 and all(told.get(it, "").startswith(wanted[it]) for it in wanted)
     if shutil.which("mandoc"):
         lint = copy.run("mandoc", "-Tlint", "-W", "style", "docs/qserv.1")
         yield f"mandoc finds nothing: {lint[1]}", lint[:2] == (0, "")

@@ -4,7 +4,7 @@
     scripts/fail_allocations.py FOLDER [--program FILE] [--workers N ..] [--session] [--processes N]
 
 The run is small: six rows, and a script with a query of every kind and one of every refusal. Each form of the command line
-is run: load, explain, check, query, classes, trace and demo, the last four with each number of workers (0). So are query and
+is run: load, explain, check, query, classes, trace, demo and sources, the last five with each number of workers (0). So are query and
 classes over three scripts and the catalogue of the worked rows, all ids, the pairs of neighbours, and a cancel with a wait, trace
 over the last of them, and query and classes over 150 rows of one chunk, whose columns are gathered in three parts, with a first
 NULL in the second. First the
@@ -22,7 +22,8 @@ The right texts are computed here from the flat table. With --session the script
 and the C library is a small library in C that refuses the requests; it is compiled with cc into a folder that goes again.
 
 FILE is the built program, by default .qserv/qserv, where ./qserv leaves it. FOLDER is made where it isn't there, and gets the
-texts sky, csv, script and journal, the catalogue and scripts of the worked rows, and one, many and asked for the chunk of 150 rows.
+texts sky, csv, script and journal, the catalogue and scripts of the worked rows, measured and joins for sources, and one, many and
+asked for the chunk of 150 rows.
 """
 import collections
 import concurrent.futures
@@ -199,6 +200,12 @@ def sessions(world, script):
     yield ["one", "many", "asked"], random_worlds.World(ONE, NAMES, MANY), ASKED
 
 
+def joined(workers):
+    """The ends that the queries over objects and their sources may have."""
+    blocks = [(block.splitlines(), not block.startswith("refused")) for _, block in worked_runs.JOINS]
+    return session_ends.chosen([("query", query) for query, _ in worked_runs.JOINS], blocks, workers, True)
+
+
 def forms(world, script, workers):
     """The forms that are run."""
     whole = {
@@ -211,6 +218,7 @@ def forms(world, script, workers):
     lines = compare_answers.queries_of(demo_files.SCRIPT)
     for number in workers:
         found.append(written(["demo", "5", "7", str(number)], session_ends.choices(demo, lines, number, True)))
+        found.append(written(["sources", "sky", "worked", "measured", "joins", str(number)], joined(number)))
         for texts, over, asked in sessions(world, script):
             told = session_ends.choices(over, asked, number, True)
             found += [written([command, *texts, str(number)], told) for command in ("query", "classes")]
@@ -290,6 +298,7 @@ def main():
     texts = {"sky": [random_worlds.SKIES[0].rstrip()], "csv": lines_of(ROWS), "script": script, **WORKED}
     texts |= {"one": [ONE.rstrip()], "many": lines_of(MANY), "asked": ASKED, "worked": lines_of(FLUX)}
     texts["journal"] = worked_runs.BOARD.splitlines()
+    texts |= {"measured": worked_runs.SOURCES.splitlines(), "joins": worked_runs.JOIN_SCRIPT.splitlines()}
     compare_answers.write(folder, {name: "\n".join(lines) + "\n" for name, lines in texts.items()})
     wrong = 0
     with tempfile.TemporaryDirectory() as made, concurrent.futures.ThreadPoolExecutor(words.processes) as pool:

@@ -4,7 +4,7 @@
     scripts/memory_checkers.py [PROGRAM] [--threads] [--scripts N] [--seed SEED] [--workers N ..] [--processes N]
     scripts/memory_checkers.py [PROGRAM] --why
 
-The example is reported, explained, answered by `query` and by `classes` and traced with each number of workers, a small demo is
+The example is reported, explained, answered by `query`, by `classes` and by `sources` and traced with each number of workers, a small demo is
 drawn, and a journal is checked. Then come N (200) random scripts that wait and cancel, each over a world of its own
 (`random_sessions.py`), with each number of workers, by `query` and by `classes` in turns.
 
@@ -46,7 +46,7 @@ import worked_runs
 HERE = os.path.dirname(os.path.abspath(__file__))
 PROGRAM = os.path.join(HERE, "..", "crates", "qserv_cli", "out", "qserv_cli")
 EXAMPLES = os.path.join(HERE, "..", "examples")
-EXAMPLE = {"sky": "sky.txt", "csv": "catalogue.csv", "script": "script.sql"}
+EXAMPLE = {"sky": "sky.txt", "csv": "catalogue.csv", "script": "script.sql", "measured": "sources.csv", "joins": "sources.sql"}
 # the status of a run of which a checker reports anything; the program has no such status
 REPORTED = 99
 MEMCHECK = ["valgrind", "-q", f"--error-exitcode={REPORTED}", "--leak-check=full", "--errors-for-leak-kinds=definite,indirect"]
@@ -109,6 +109,7 @@ def worlds(words, folder):
     compare_answers.write(first, {"journal": worked_runs.BOARD})
     forms = [["load", "sky", "csv"], ["explain", "sky", "csv", "script"], ["check", "journal"]]
     forms += [form for command in ("query", "classes", "trace") for form in asked(words.workers, command)]
+    forms += [["sources", "sky", "csv", "measured", "joins", str(number)] for number in words.workers]
     yield from ((first, form) for form in [*forms, *(["demo", "300", "7", str(number)] for number in words.workers)])
     for number in range(words.scripts):
         draw, own = random.Random(f"{words.seed} {number}"), os.path.join(folder, str(number))

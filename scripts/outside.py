@@ -36,6 +36,7 @@ HEADINGS = "".join(f"query {number}\nx{',x' * 1021}\n0 rows, 1 chunks\n" for num
 TEXTS = {
     "sky": worked_runs.SKY,
     "csv": "objectId,x,y,z\n1,268435456,0,0\n",
+    "measured": "sourceId,objectId\n7,1\n",
     "script": worked_streams.SCRIPT,
     "journal": worked_runs.BOARD,
     "long": LONG,
@@ -43,7 +44,8 @@ TEXTS = {
 LOAD, EXPLAIN, CHECK = ["load", "sky", "csv"], ["explain", "sky", "csv", "script"], ["check", "journal"]
 ASK_LONG = ["query", "sky", "csv", "long", "0"]
 ASK, BY_CLASS, TRACE = ([word, "sky", "csv", "script", "2"] for word in ("query", "classes", "trace"))
-FORMS = [LOAD, EXPLAIN, ASK, BY_CLASS, TRACE, CHECK, ["demo", "300", "7", "2"]]
+SOURCES = ["sources", "sky", "csv", "measured", "script", "2"]
+FORMS = [LOAD, EXPLAIN, ASK, BY_CLASS, TRACE, SOURCES, CHECK, ["demo", "300", "7", "2"]]
 # each place of a form in which the name of a text is
 PLACES = [(words, place) for words in FORMS for place, word in enumerate(words) if word in TEXTS]
 # how a run ends of which the text in a place is empty
@@ -51,6 +53,7 @@ EMPTY = [
     (LOAD, 1, 3, b"sky line 1: syntax\n"),
     (LOAD, 2, 4, b"catalogue header: field 1\n"),
     (ASK, 3, 0, b""),
+    (SOURCES, 3, 11, b"sources header: field 1\n"),
     (CHECK, 1, 12, b"journal line 1: syntax\n"),
 ]
 REPORT = b"1 rows, 1 of 8 chunks\nchunk 4: 1 rows, 0 overlap\n"

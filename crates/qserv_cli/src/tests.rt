@@ -12,6 +12,7 @@ mod classes;
 mod cuts;
 mod journal;
 mod limits;
+mod sources;
 
 pub(crate) const SKY: &[u8] = b"overlap 5\nstripe -268435472 4 2 2\nstripe 0 4 2 2\n";
 
@@ -29,8 +30,13 @@ pub(crate) fn words_of(alloc: Global, workers: &str) -> Result<Vec<String>, Fail
 
 // The words of a command over the script with the given number of workers.
 pub(crate) fn words_for(alloc: Global, command: &str, workers: &str) -> Result<Vec<String>, Fail> {
+    words_in(alloc, &[command, "sky", "csv", "script", workers])
+}
+
+// These words.
+pub(crate) fn words_in(alloc: Global, list: &[&str]) -> Result<Vec<String>, Fail> {
     let mut words = Vec::new(alloc);
-    for word in [command, "sky", "csv", "script", workers] {
+    for word in list {
         words.push(String::from_str(alloc, word)?)?;
     }
     Ok(words)
@@ -54,9 +60,20 @@ pub(crate) fn texts_over<'t>(
 ) -> Result<Vec<(String, Vec<u8>)>, Fail> {
     let mut texts = Vec::new(alloc);
     for (name, text) in [("sky", sky), ("csv", catalogue), ("script", script)] {
-        texts.push((String::from_str(alloc, name)?, text.to_vec(alloc)?))?;
+        add_text(alloc, &mut texts, name, text)?;
     }
     Ok(texts)
+}
+
+// Appends a text with its name.
+pub(crate) fn add_text(
+    alloc: Global,
+    texts: &mut Vec<(String, Vec<u8>)>,
+    name: &str,
+    text: &[u8],
+) -> Result<(), Fail> {
+    texts.push((String::from_str(alloc, name)?, text.to_vec(alloc)?))?;
+    Ok(())
 }
 
 // The status of the top call over a shelf, past a gate.

@@ -66,5 +66,5 @@ pub served : (words : ServeWords) (survey : Survey) (old new : ShelfState) (s : 
     → OutcomeOf words old new s outcome
 served words survey old new s Usage loaded is = is
 served words survey old new s (Stopped outcome) loaded is =
-    (subst (λ o. IsSurveyStop words.sky words.catalogue old new o) (sym is.0) (λ script sink. (loaded.same, refl)), is.1)
+    (subst (λ o. IsSurveyStop words.sky words.catalogue old new o) (sym is.0) (λ sources script sink. (loaded.same, refl)), is.1)
 served words survey old new s (Ended session) loaded is = record { survey = survey; loaded = loaded; session = is }

@@ -1,5 +1,5 @@
 -- What the check of a journal comes to explains the outcome.
-use Rattle.std.proofs.Common.{◌≡◌, ℕ, ◌≤◌, List, length, Option, None, Some, Result, Ok, Err, refl, sym, subst, ◌∙◌}
+use Rattle.std.proofs.Common.{◌≡◌, ℕ, ◌≤◌, ◌<◌, List, length, Option, None, Some, Ok, Err, refl, sym, subst, arith}
 use Rattle.text_rules.specs.declared.limits.TheConstants.{TEXT_MOST}
 use Rattle.sky_io.specs.Shelves.{ShelfState, named_text}
 use Rattle.sky_io.specs.Sinks.{SinkState}
@@ -8,16 +8,18 @@ use Rattle.scan_history.specs.Texts.{journal_of}
 use Rattle.scan_history.specs.Checked.{IsRight, ServesRightly}
 use Rattle.scan_history.specs.declared.fault.HistoryFault.{HistoryFault}
 use Rattle.top_call.specs.Words.{Check, names_of}
-use Rattle.top_call.specs.Reached.{IfObservable, Texts, text_at}
+use Rattle.top_call.specs.Reached.{HasText, IfObservable, IsAccepted, Texts, place_of, text_at}
 use Rattle.top_call.specs.Journals.{IsChecked, IsFaultOf, IsJournalFault, IsJournalOf}
 use Rattle.top_call.specs.Jobs.{Checks}
-use Rattle.top_call.specs.Explained.{ExplainedOf, IsStop, shown}
+use Rattle.top_call.specs.Explained.{ExplainedOf, shown}
 use Rattle.top_call.specs.Steps.{IsWhole, IsWholeStop, IsWritten}
 use Rattle.top_call.specs.Checks.{IsCheckOf, IsCheckOver}
-use Rattle.top_call.specs.declared.outcome.Which.TheVariants.{Sky, Catalogue, Script, Journal}
+use Rattle.top_call.specs.declared.outcome.Which.{Which}
+use Rattle.top_call.specs.declared.outcome.Which.TheVariants.{Sky, Catalogue, Sources, Script, Journal}
 use Rattle.top_call.specs.declared.outcome.Outcome.{Outcome}
-use Rattle.top_call.specs.declared.outcome.Outcome.TheVariants.{Done, Usage, BadSky, BadCatalogue, BadScript}
+use Rattle.top_call.specs.declared.outcome.Outcome.TheVariants.{Done, Usage, BadSky, BadCatalogue, BadSources, BadScript}
 use Rattle.top_call.specs.declared.outcome.Outcome.TheVariants.{TooLong, ShelfFault, SinkFault, Memory, BadJournal}
+use Rattle.top_call.proofs.Stops.{EarlierAccepted, whole_stop}
 use Rattle.top_call.proofs.Tasks.{stop_explained}
 use Rattle.top_call.proofs.Writing.{job_explained}
 
@@ -39,6 +41,7 @@ check_written journal old new (SinkFault ends) right serves h = record {
 check_written journal old new Usage right serves h = absurd h
 check_written journal old new (BadSky fault) right serves h = absurd h
 check_written journal old new (BadCatalogue fault) right serves h = absurd h
+check_written journal old new (BadSources fault) right serves h = absurd h
 check_written journal old new (BadScript fault) right serves h = absurd h
 check_written journal old new (TooLong which) right serves h = absurd h
 check_written journal old new (ShelfFault which) right serves h = absurd h
@@ -53,6 +56,7 @@ check_over text journal old new (SinkFault ends) is h = record { journal = journ
 check_over text journal old new Usage is h = absurd h.work
 check_over text journal old new (BadSky fault) is h = absurd h.work
 check_over text journal old new (BadCatalogue fault) is h = absurd h.work
+check_over text journal old new (BadSources fault) is h = absurd h.work
 check_over text journal old new (BadScript fault) is h = absurd h.work
 check_over text journal old new (TooLong which) is h = absurd h.work
 check_over text journal old new (ShelfFault which) is h = absurd h.work
@@ -73,10 +77,18 @@ fault_visible : (name text : List ℕ) (fault : HistoryFault) (visible : Option 
 fault_visible name text fault None h short is = tt
 fault_visible name text fault (Some texts) h short is = subst (λ t. IsJournalFault t fault) (sym h) (short, is)
 
--- no text is before a journal
-none_earlier : (visible : Option Texts) → IfObservable visible (λ texts. Unit {0})
-none_earlier None = tt
-none_earlier (Some texts) = tt
+-- the command has no other text, so none is before a journal
+none_before : (name : List ℕ) (texts : Texts) (earlier : Which) → HasText (names_of (Check name)) earlier
+    → place_of earlier < place_of Journal → IsAccepted earlier (text_at (names_of (Check name)) texts earlier)
+none_before name texts Sky has low = absurd (cc has)
+none_before name texts Catalogue has low = absurd (cc has)
+none_before name texts Sources has low = absurd (cc has)
+none_before name texts Script has low = absurd (cc has)
+none_before name texts Journal has low = absurd (omega (arith, low))
+
+none_earlier : (name : List ℕ) (visible : Option Texts) → EarlierAccepted (names_of (Check name)) Journal visible
+none_earlier name None = tt
+none_earlier name (Some texts) = none_before name texts
 
 -- what the check of the named text comes to explains the outcome
 check_explained : (name text : List ℕ) (old new : ShelfState) (before now : SinkState) (outcome : Outcome)
@@ -101,13 +113,14 @@ check_explained name text old new before now (SinkFault ends) given h =
 check_explained name text old new before now Usage given h = absurd h.check.work
 check_explained name text old new before now (BadSky fault) given h = absurd h.check.work
 check_explained name text old new before now (BadCatalogue fault) given h = absurd h.check.work
+check_explained name text old new before now (BadSources fault) given h = absurd h.check.work
 check_explained name text old new before now (BadScript fault) given h = absurd h.check.work
 check_explained name text old new before now (TooLong which) given h = absurd h.check.work
 check_explained name text old new before now (ShelfFault which) given h = absurd h.check.work
 check_explained name text old new before now Memory given h = (given.read.same, h)
 check_explained name text old new before now (BadJournal fault) given h = record {
   has = refl;
-  earlier = none_earlier old.texts;
+  earlier = none_earlier name old.texts;
   why = fault_visible name text fault old.texts given.read.holds given.short h.0;
   fetched = given.read.same;
   untouched = h.1;
@@ -120,40 +133,9 @@ pub slice_explained : (name text slice : List ℕ) (old new : ShelfState) (befor
 slice_explained name text slice old new before now outcome given same h =
     check_explained name slice old new before now outcome (subst (λ t. IsWhole name Journal t old new) (sym same) given) h
 
--- the shelf explains why a journal's text was not given
-shelf_stop : (name : List ℕ) (old new : ShelfState) (sink : SinkState) (outcome : Outcome)
-    → IsWholeStop name Journal old new outcome → IsStop (names_of (Check name)) (shown old new sink sink) outcome
-shelf_stop name old new sink (Done ends) h = absurd h
-shelf_stop name old new sink Usage h = absurd h
-shelf_stop name old new sink (BadSky fault) h = absurd h
-shelf_stop name old new sink (BadCatalogue fault) h = absurd h
-shelf_stop name old new sink (BadScript fault) h = absurd h
-shelf_stop name old new sink (TooLong Sky) h = absurd (cc h.0)
-shelf_stop name old new sink (TooLong Catalogue) h = absurd (cc h.0)
-shelf_stop name old new sink (TooLong Script) h = absurd (cc h.0)
-shelf_stop name old new sink (TooLong Journal) h = record {
-  has = refl;
-  earlier = none_earlier old.texts;
-  why = h.1.holds;
-  fetched = h.1.same;
-  untouched = refl;
-}
-shelf_stop name old new sink (ShelfFault Sky) h = absurd (cc h.0)
-shelf_stop name old new sink (ShelfFault Catalogue) h = absurd (cc h.0)
-shelf_stop name old new sink (ShelfFault Script) h = absurd (cc h.0)
-shelf_stop name old new sink (ShelfFault Journal) h = record {
-  has = refl;
-  earlier = none_earlier old.texts;
-  grew = h.1.grew;
-  cause = h.1.cause;
-  untouched = refl;
-}
-shelf_stop name old new sink (SinkFault ends) h = absurd h
-shelf_stop name old new sink Memory h = (h, refl)
-shelf_stop name old new sink (BadJournal fault) h = absurd h
-
 -- Why a journal's text was not given explains the outcome.
 pub unfetched : (name : List ℕ) (old new : ShelfState) (sink : SinkState) (outcome : Outcome)
     → IsWholeStop name Journal old new outcome → ExplainedOf (Check name) (shown old new sink sink) outcome
 unfetched name old new sink outcome h =
-    stop_explained (Check name) (shown old new sink sink) outcome (shelf_stop name old new sink outcome h)
+    stop_explained (Check name) (shown old new sink sink) outcome
+    (whole_stop (names_of (Check name)) Journal old new outcome refl (none_earlier name old.texts) h sink)

@@ -1,138 +1,27 @@
--- What an outcome says leaves no other outcome where the texts are as they are.
-use Rattle.std.proofs.Common.{◌≡◌, ℕ, ◌<◌, List, Option, None, Some, Result, Ok, Err, refl, sym, subst, arith}
+-- The meaning of an outcome excludes every other outcome if the texts are as they are.
+use Rattle.std.proofs.Common.{◌≡◌, ℕ, ◌<◌, List, Option, None, Some, refl, sym, subst}
 use Rattle.sky_io.specs.Shelves.{times}
 use Rattle.sky_io.specs.Sinks.{Rose}
 use Rattle.sky_rules.specs.declared.fault.SkyFault.{SkyFault}
 use Rattle.table_rules.specs.declared.fault.LoadFault.{LoadFault}
 use Rattle.session_script.specs.declared.fault.ScriptFault.{ScriptFault}
 use Rattle.scan_history.specs.Texts.{journal_of}
-use Rattle.scan_rules.specs.Runs.{IsRun}
 use Rattle.scan_history.specs.declared.fault.HistoryFault.{HistoryFault}
-use Rattle.scan_history.specs.declared.fault.HistoryFault.TheVariants.{Syntax, NotAStep}
-use Rattle.scan_rules.specs.declared.journal.Journal.{Journal as JournalView}
-use Rattle.top_call.specs.Words.{Form, Load, Asks, Check, Demo, names_of}
+use Rattle.top_call.specs.Words.{Form, Load, Asks, AsksSources, Check, Demo, names_of}
 use Rattle.top_call.specs.Outcomes.{name_of}
-use Rattle.top_call.specs.Reached.{HasText, IfObservable, IsAccepted, IsCatalogueFault, IsLong, IsScriptFault, IsSkyFault, Texts, text_at}
-use Rattle.top_call.specs.Reached.{AreAccepted, AreEarlierAccepted, IsStill, AreStill, AreAllStill}
-use Rattle.top_call.specs.Journals.{IsFaultOf, IsJournalFault, IsJournalOf}
-use Rattle.top_call.specs.Jobs.{Job, IsJobOf}
+use Rattle.top_call.specs.Reached.{HasText, IfObservable, IsAccepted, IsCatalogueFault, IsLong, IsScriptFault, IsSkyFault}
+use Rattle.top_call.specs.Reached.{AreAccepted, AreAllStill, AreEarlierAccepted, AreStill, IsSourcesFault, Texts, text_at}
+use Rattle.top_call.specs.Journals.{IsJournalFault}
 use Rattle.top_call.specs.Explained.{Shown, IsRefused, ExplainedOf, Explained}
 use Rattle.top_call.specs.Completes.{IsRefusalOrMemory, IsDoneOrMemory, Completes, Complete}
 use Rattle.top_call.specs.declared.outcome.Which.{Which}
-use Rattle.top_call.specs.declared.outcome.Which.TheVariants.{Sky, Catalogue, Script, Journal}
+use Rattle.top_call.specs.declared.outcome.Which.TheVariants.{Sky, Catalogue, Sources, Script, Journal}
 use Rattle.top_call.specs.declared.outcome.Outcome.{Outcome}
-use Rattle.top_call.specs.declared.outcome.Outcome.TheVariants.{Done, Usage, BadSky, BadCatalogue, BadScript}
+use Rattle.top_call.specs.declared.outcome.Outcome.TheVariants.{Done, Usage, BadSky, BadCatalogue, BadSources, BadScript}
 use Rattle.top_call.specs.declared.outcome.Outcome.TheVariants.{TooLong, ShelfFault, SinkFault, Memory, BadJournal}
-
--- a text with a fault isn't accepted: a sky plan
-sky_fault : (text : List ℕ) (fault : SkyFault) → IsSkyFault text fault → IsAccepted Sky text → ⊥
-sky_fault text fault is (plan, ok) = absurd (cc (is.1, ok.1))
-
--- a catalogue
-catalogue_fault : (text : List ℕ) (fault : LoadFault) → IsCatalogueFault text fault → IsAccepted Catalogue text → ⊥
-catalogue_fault text fault is (table, ok) = absurd (cc (is.1, ok.1))
-
--- a script
-script_fault : (text : List ℕ) (fault : ScriptFault) → IsScriptFault text fault → IsAccepted Script text → ⊥
-script_fault text fault is (view, ok) = let read = ok.read in absurd (cc (is.1, read))
-
--- a journal that is read and whose first wrong entry is named isn't right
-journal_fault :
-    (text : List ℕ) (fault : HistoryFault) (read : Result JournalView HistoryFault) → journal_of text ≡ read
-    → IsFaultOf read fault → IsAccepted Journal text → ⊥
-journal_fault text fault (Err found) is faulty (journal, ok) = let read = ok.read in absurd (cc (is, read))
-journal_fault text (Syntax line) (Ok other) is faulty (journal, ok) = absurd faulty
-journal_fault text (NotAStep line) (Ok other) is faulty (journal, ok) =
-    let read = ok.read in
-    let same : other ≡ journal = cc (is, read) in
-    let run : IsRun other.ring other.lines = subst (λ (j : JournalView). IsRun j.ring j.lines) (sym same) ok.right in
-    faulty.wrong (run.follows faulty.before faulty.entry faulty.rest faulty.cut)
-
--- nor is a text that is too long
-long_text : (which : Which) (text : List ℕ) → IsLong which text → IsAccepted which text → ⊥
-long_text Sky text long (plan, ok) = let short = ok.0 in absurd (omega arith)
-long_text Catalogue text long (table, ok) = let short = ok.0 in absurd (omega arith)
-long_text Script text long (view, ok) = let short = ok.short in absurd (omega arith)
-long_text Journal text long (journal, ok) = let short = ok.short in absurd (omega arith)
-
--- each text of a job is accepted
-job_accepted : (form : Form) (texts : Texts) (job : Job) → IsJobOf form (Some texts) job → AreAccepted (names_of form) texts
-job_accepted (Load sky catalogue) texts job is Sky has = (is.0.plan, is.2.0)
-job_accepted (Load sky catalogue) texts job is Catalogue has = (is.0.rows, is.2.1)
-job_accepted (Load sky catalogue) texts job is Script has = absurd (cc has)
-job_accepted (Load sky catalogue) texts job is Journal has = absurd (cc has)
-job_accepted (Asks task sky catalogue script) texts job is Sky has = (is.0.plan, is.3.0.0)
-job_accepted (Asks task sky catalogue script) texts job is Catalogue has = (is.0.rows, is.3.0.1)
-job_accepted (Asks task sky catalogue script) texts job is Script has = (is.1, is.3.1)
-job_accepted (Asks task sky catalogue script) texts job is Journal has = absurd (cc has)
-job_accepted (Check journal) texts job is Sky has = absurd (cc has)
-job_accepted (Check journal) texts job is Catalogue has = absurd (cc has)
-job_accepted (Check journal) texts job is Script has = absurd (cc has)
-job_accepted (Check journal) texts job is Journal has = (is.0, is.3)
-job_accepted (Demo count seed workers) texts job is Sky has = absurd (cc has)
-job_accepted (Demo count seed workers) texts job is Catalogue has = absurd (cc has)
-job_accepted (Demo count seed workers) texts job is Script has = absurd (cc has)
-job_accepted (Demo count seed workers) texts job is Journal has = absurd (cc has)
-
--- the same, if the texts are observable
-visible_accepted :
-    (form : Form) (visible : Option Texts) (texts : Texts) (job : Job) → visible ≡ Some texts → IsJobOf form visible job →
-    AreAccepted (names_of form) texts
-visible_accepted form visible texts job is asked = job_accepted form texts job (subst (λ t. IsJobOf form t job) is asked)
-
--- a command that has a journal has no other text
-journal_alone : (form : Form) (which : Which) → HasText (names_of form) Journal → HasText (names_of form) which → which ≡ Journal
-journal_alone (Load sky catalogue) which has has' = absurd (cc has)
-journal_alone (Asks task sky catalogue script) which has has' = absurd (cc has)
-journal_alone (Check journal) Sky has has' = absurd (cc has')
-journal_alone (Check journal) Catalogue has has' = absurd (cc has')
-journal_alone (Check journal) Script has has' = absurd (cc has')
-journal_alone (Check journal) Journal has has' = refl
-journal_alone (Demo count seed workers) which has has' = absurd (cc has)
-
--- the text at which texts are no longer accepted is one
-one_first :
-    (form : Form) (texts : Texts) (which other : Which) → HasText (names_of form) which → HasText (names_of form) other
-    → AreEarlierAccepted (names_of form) texts which → (IsAccepted which (text_at (names_of form) texts which) → ⊥)
-    → AreEarlierAccepted (names_of form) texts other → (IsAccepted other (text_at (names_of form) texts other) → ⊥)
-    → other ≡ which
-one_first form texts Sky Sky has has' earlier isnt earlier' isnt' = refl
-one_first form texts Sky Catalogue has has' earlier isnt earlier' isnt' = absurd (isnt earlier')
-one_first form texts Sky Script has has' earlier isnt earlier' isnt' = absurd (isnt earlier'.0)
-one_first form texts Sky Journal has has' earlier isnt earlier' isnt' = sym (journal_alone form Sky has' has)
-one_first form texts Catalogue Sky has has' earlier isnt earlier' isnt' = absurd (isnt' earlier)
-one_first form texts Catalogue Catalogue has has' earlier isnt earlier' isnt' = refl
-one_first form texts Catalogue Script has has' earlier isnt earlier' isnt' = absurd (isnt earlier'.1)
-one_first form texts Catalogue Journal has has' earlier isnt earlier' isnt' = sym (journal_alone form Catalogue has' has)
-one_first form texts Script Sky has has' earlier isnt earlier' isnt' = absurd (isnt' earlier.0)
-one_first form texts Script Catalogue has has' earlier isnt earlier' isnt' = absurd (isnt' earlier.1)
-one_first form texts Script Script has has' earlier isnt earlier' isnt' = refl
-one_first form texts Script Journal has has' earlier isnt earlier' isnt' = sym (journal_alone form Script has' has)
-one_first form texts Journal other has has' earlier isnt earlier' isnt' = journal_alone form other has has'
-
-still_not_risen : (before now : ℕ) → now ≡ before → before < now → ⊥
-still_not_risen before now same rose = absurd (omega arith)
-
--- where this text is refused and it and the earlier ones are still, a text that is reached is still
-still_at :
-    (form : Form) (texts : Texts) (which other : Which) (old new : List (List ℕ)) →
-    HasText (names_of form) which → HasText (names_of form) other →
-    (IsAccepted which (text_at (names_of form) texts which) → ⊥) → AreStill (names_of form) old new which →
-    AreEarlierAccepted (names_of form) texts other → IsStill (names_of form) old new other
-still_at form texts Sky Sky old new has has' isnt still earlier = still
-still_at form texts Sky Catalogue old new has has' isnt still earlier = absurd (isnt earlier)
-still_at form texts Sky Script old new has has' isnt still earlier = absurd (isnt earlier.0)
-still_at form texts Catalogue Sky old new has has' isnt still earlier = still.0
-still_at form texts Catalogue Catalogue old new has has' isnt still earlier = still.1
-still_at form texts Catalogue Script old new has has' isnt still earlier = absurd (isnt earlier.1)
-still_at form texts Script Sky old new has has' isnt still earlier = still.0
-still_at form texts Script Catalogue old new has has' isnt still earlier = still.1
-still_at form texts Script Script old new has has' isnt still earlier = still.2
-still_at form texts Sky Journal old new has has' isnt still earlier = absurd (cc (journal_alone form Sky has' has))
-still_at form texts Catalogue Journal old new has has' isnt still earlier = absurd (cc (journal_alone form Catalogue has' has))
-still_at form texts Script Journal old new has has' isnt still earlier = absurd (cc (journal_alone form Script has' has))
-still_at form texts Journal other old new has has' isnt still earlier =
-    subst (λ w. IsStill (names_of form) old new w) (sym (journal_alone form other has has')) still
+use Rattle.top_call.proofs.Accepted.{catalogue_fault, journal_fault, long_text, none_named, script_fault, sky_fault}
+use Rattle.top_call.proofs.Accepted.{sources_fault, visible_accepted}
+use Rattle.top_call.proofs.TextOrder.{one_first, still_at, still_not_risen}
 
 -- no fault can be at a text where this one is refused and it and the earlier ones are still
 no_fault :
@@ -187,6 +76,12 @@ catalogue_stops : (form : Form) (s : Shown) (texts : Texts) (fault : LoadFault) 
 catalogue_stops form s texts fault visible h =
     stops form s texts Catalogue (λ text. IsCatalogueFault text fault) visible (λ text is. catalogue_fault text fault is) h
 
+-- a refused source table
+sources_stops : (form : Form) (s : Shown) (texts : Texts) (fault : LoadFault) → s.shelf_old.texts ≡ Some texts
+    → IsRefused (names_of form) s Sources (λ text. IsSourcesFault text fault) → StopsAt form texts Sources
+sources_stops form s texts fault visible h =
+    stops form s texts Sources (λ text. IsSourcesFault text fault) visible (λ text is. sources_fault text fault is) h
+
 -- a refused script
 script_stops : (form : Form) (s : Shown) (texts : Texts) (fault : ScriptFault) → s.shelf_old.texts ≡ Some texts
     → IsRefused (names_of form) s Script (λ text. IsScriptFault text fault) → StopsAt form texts Script
@@ -227,6 +122,8 @@ stops_by form s texts (BadSky fault) which visible h has earlier isnt still =
     sym (same_stop form texts which Sky has earlier isnt (sky_stops form s texts fault visible h))
 stops_by form s texts (BadCatalogue fault) which visible h has earlier isnt still =
     sym (same_stop form texts which Catalogue has earlier isnt (catalogue_stops form s texts fault visible h))
+stops_by form s texts (BadSources fault) which visible h has earlier isnt still =
+    sym (same_stop form texts which Sources has earlier isnt (sources_stops form s texts fault visible h))
 stops_by form s texts (BadScript fault) which visible h has earlier isnt still =
     sym (same_stop form texts which Script has earlier isnt (script_stops form s texts fault visible h))
 stops_by form s texts (TooLong other) which visible h has earlier isnt still =
@@ -256,6 +153,8 @@ done_by form s texts (BadSky fault) visible h all still calm =
     none_stops form texts Sky (sky_stops form s texts fault visible h) all
 done_by form s texts (BadCatalogue fault) visible h all still calm =
     none_stops form texts Catalogue (catalogue_stops form s texts fault visible h) all
+done_by form s texts (BadSources fault) visible h all still calm =
+    none_stops form texts Sources (sources_stops form s texts fault visible h) all
 done_by form s texts (BadScript fault) visible h all still calm =
     none_stops form texts Script (script_stops form s texts fault visible h) all
 done_by form s texts (TooLong which) visible h all still calm =
@@ -280,20 +179,14 @@ visible_completes form s outcome h = if_observable s.shelf_old.texts (Completes 
   done = λ all still calm. done_by form s texts outcome visible h all still calm;
 })
 
--- a demo names no text
-none_named : (count seed workers : ℕ) (which : Which) → HasText (names_of (Demo count seed workers)) which → ⊥
-none_named count seed workers Sky has = absurd (cc has)
-none_named count seed workers Catalogue has = absurd (cc has)
-none_named count seed workers Script has = absurd (cc has)
-none_named count seed workers Journal has = absurd (cc has)
-
--- so its work is done where nothing has failed
+-- a demo names no text, so its work is done where nothing has failed
 demo_done : (count seed workers : ℕ) (s : Shown) (outcome : Outcome) → ExplainedOf (Demo count seed workers) s outcome
     → (Rose s.sink_old.faults s.sink_new.faults → ⊥) → IsDoneOrMemory outcome
 demo_done count seed workers s (Done ends) h calm = tt
 demo_done count seed workers s Usage h calm = h
 demo_done count seed workers s (BadSky fault) h calm = none_named count seed workers Sky h.has
 demo_done count seed workers s (BadCatalogue fault) h calm = none_named count seed workers Catalogue h.has
+demo_done count seed workers s (BadSources fault) h calm = none_named count seed workers Sources h.has
 demo_done count seed workers s (BadScript fault) h calm = none_named count seed workers Script h.has
 demo_done count seed workers s (TooLong which) h calm = none_named count seed workers which h.has
 demo_done count seed workers s (ShelfFault which) h calm = none_named count seed workers which h.has
@@ -315,5 +208,7 @@ pub completes :
 completes None s outcome h = tt
 completes (Some (Load sky catalogue)) s outcome h = visible_completes (Load sky catalogue) s outcome h
 completes (Some (Asks task sky catalogue script)) s outcome h = visible_completes (Asks task sky catalogue script) s outcome h
+completes (Some (AsksSources workers sky catalogue sources script)) s outcome h =
+    visible_completes (AsksSources workers sky catalogue sources script) s outcome h
 completes (Some (Check journal)) s outcome h = visible_completes (Check journal) s outcome h
 completes (Some (Demo count seed workers)) s outcome h = λ texts. demo_completes count seed workers s outcome texts h

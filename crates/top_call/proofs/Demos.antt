@@ -15,12 +15,12 @@ use Rattle.sky_io.specs.Sinks.{SinkState}
 use Rattle.chunk_store.specs.Survey.{Survey}
 use Rattle.top_call.specs.Words.{Demo}
 use Rattle.top_call.specs.Reached.{IsScriptOf}
-use Rattle.top_call.specs.Jobs.{Runs, IsDemoSurvey}
+use Rattle.top_call.specs.Jobs.{Runs, IsDemoSurvey, job_on}
 use Rattle.top_call.specs.Explained.{ExplainedOf, shown}
-use Rattle.top_call.specs.Steps.{IsDemoOver, IsDemoWritten, IsTaskAsRead, IsTaskOver}
+use Rattle.top_call.specs.ScriptWork.{IsDemoOver, IsDemoWritten, IsTaskOver, IsWorkAsRead}
 use Rattle.top_call.specs.declared.task.Task.TheVariants.{Answer}
 use Rattle.top_call.specs.declared.outcome.Outcome.{Outcome}
-use Rattle.top_call.specs.declared.outcome.Outcome.TheVariants.{Done, Usage, BadSky, BadCatalogue, BadScript}
+use Rattle.top_call.specs.declared.outcome.Outcome.TheVariants.{Done, Usage, BadSky, BadCatalogue, BadSources, BadScript}
 use Rattle.top_call.specs.declared.outcome.Outcome.TheVariants.{TooLong, ShelfFault, SinkFault, Memory, BadJournal}
 use Rattle.top_call.proofs.DemoEnds.{demo_has_ends}
 use Rattle.top_call.proofs.Writing.{job_explained}
@@ -42,7 +42,7 @@ not_refused text named steps fault is accepted refused =
 
 -- What is read of the demo's script, and the writing of its job.
 read_demo : (workers : ℕ) (survey : Survey) (text : List ℕ) (old new : SinkState) (outcome : Outcome) → text ≡ demo_script
-    → length demo_script ≤ SCRIPT_TEXT_MOST → IsTaskAsRead (Answer workers) survey text old new outcome
+    → length demo_script ≤ SCRIPT_TEXT_MOST → IsWorkAsRead (job_on (Answer workers) survey) text old new outcome
     → IsDemoWritten workers survey old new outcome
 read_demo workers survey text old new outcome is short h = record {
   view = h.view;
@@ -59,6 +59,7 @@ demo_task workers survey text old new (SinkFault ends) is short steps h = read_d
 demo_task workers survey text old new Usage is short steps h = absurd h.work
 demo_task workers survey text old new (BadSky fault) is short steps h = absurd h.work
 demo_task workers survey text old new (BadCatalogue fault) is short steps h = absurd h.work
+demo_task workers survey text old new (BadSources fault) is short steps h = absurd h.work
 demo_task workers survey text old new (BadScript fault) is short steps h = absurd (not_refused text demo_script demo_steps fault is steps h.0)
 demo_task workers survey text old new (TooLong which) is short steps h = absurd h.work
 demo_task workers survey text old new (ShelfFault which) is short steps h = absurd h.work
@@ -81,6 +82,7 @@ demo_explained law sky steps count seed workers few survey old new (SinkFault en
 demo_explained law sky steps count seed workers few survey old new Usage shelf is h = absurd h.work
 demo_explained law sky steps count seed workers few survey old new (BadSky fault) shelf is h = absurd h.work
 demo_explained law sky steps count seed workers few survey old new (BadCatalogue fault) shelf is h = absurd h.work
+demo_explained law sky steps count seed workers few survey old new (BadSources fault) shelf is h = absurd h.work
 demo_explained law sky steps count seed workers few survey old new (BadScript fault) shelf is h = absurd h.work
 demo_explained law sky steps count seed workers few survey old new (TooLong which) shelf is h = absurd h.work
 demo_explained law sky steps count seed workers few survey old new (ShelfFault which) shelf is h = absurd h.work

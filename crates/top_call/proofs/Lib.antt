@@ -1,8 +1,10 @@
 pub mod Cuts
+pub mod Accepted
+pub mod TextOrder
 pub mod Completeness
 pub mod Writing
 pub mod EndLists
-pub mod ScriptStops
+pub mod Stops
 pub mod Tasks
 pub mod Checks
 pub mod Traces

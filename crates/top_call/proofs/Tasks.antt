@@ -1,22 +1,26 @@
--- What the work on a script comes to explains the outcome, where the texts are what the shelf gave.
-use Rattle.std.proofs.Common.{◌≡◌, ℕ, ◌≤◌, List, length, Option, None, Some, Ok, Err, refl, sym, subst, ◌∙◌}
+-- The outcome of the work on a script explains the outcome of the command, if the texts are those that the shelf gave.
+use Rattle.std.proofs.Common.{◌≡◌, ℕ, ◌≤◌, List, length, Option, None, Some, Ok, refl, sym, subst, inl, inr}
 use Rattle.text_rules.specs.declared.limits.TheConstants.{SCRIPT_TEXT_MOST}
-use Rattle.sky_io.specs.Shelves.{ShelfState, named_text}
+use Rattle.sky_io.specs.Shelves.{ShelfState}
 use Rattle.sky_io.specs.Sinks.{SinkState}
 use Rattle.chunk_store.specs.Survey.{Survey}
 use Rattle.session_script.specs.Scripts.{script_of}
 use Rattle.session_script.specs.Views.{ScriptView}
-use Rattle.session_script.specs.declared.fault.ScriptFault.{ScriptFault}
-use Rattle.top_call.specs.Words.{Form, Asks, names_from, names_of}
-use Rattle.top_call.specs.Reached.{AreEarlierAccepted, IfObservable, IsScriptFault, IsScriptOf, Texts, text_at}
-use Rattle.top_call.specs.Jobs.{AreSurveyAndScript, IsSurveyOf, job_on}
+use Rattle.session_rules.specs.declared.end.EndKind.{EndKind}
+use Rattle.child_session.specs.ChildSurvey.{ChildSurvey}
+use Rattle.top_call.specs.Words.{Form, Asks, AsksSources, names_from, names_of}
+use Rattle.top_call.specs.Outcomes.{name_of}
+use Rattle.top_call.specs.Reached.{HasText, IfObservable, IsScriptFault, IsScriptOf, Texts}
+use Rattle.top_call.specs.Jobs.{AreTablesOf, EndsFit, HasDemoEnds, IsJobOf, IsSurveyOf, Job, RunsChildren, job_on}
 use Rattle.top_call.specs.Explained.{ExplainedOf, IsStop, Shown, shown}
-use Rattle.top_call.specs.Steps.{AreGiven, IsTaskOver}
+use Rattle.top_call.specs.Steps.{AreGiven, IsRead, IsWhole, OfNamed}
+use Rattle.top_call.specs.ScriptWork.{IsScriptRun, IsTaskOver, IsWorkOver}
 use Rattle.top_call.specs.declared.task.Task.{Task}
 use Rattle.top_call.specs.declared.outcome.Which.TheVariants.{Script}
 use Rattle.top_call.specs.declared.outcome.Outcome.{Outcome}
-use Rattle.top_call.specs.declared.outcome.Outcome.TheVariants.{Done, Usage, BadSky, BadCatalogue, BadScript}
+use Rattle.top_call.specs.declared.outcome.Outcome.TheVariants.{Done, Usage, BadSky, BadCatalogue, BadSources, BadScript}
 use Rattle.top_call.specs.declared.outcome.Outcome.TheVariants.{TooLong, ShelfFault, SinkFault, Memory, BadJournal}
+use Rattle.top_call.proofs.Stops.{EarlierAccepted, script_earlier, tables_earlier, whole_stop}
 use Rattle.top_call.proofs.Writing.{job_explained}
 
 -- A stop that comes of the texts alone explains the outcome of each form with their names.
@@ -25,6 +29,7 @@ stop_explained form s (Done ends) h = absurd h
 stop_explained form s Usage h = h
 stop_explained form s (BadSky fault) h = h
 stop_explained form s (BadCatalogue fault) h = h
+stop_explained form s (BadSources fault) h = h
 stop_explained form s (BadScript fault) h = h
 stop_explained form s (TooLong which) h = h
 stop_explained form s (ShelfFault which) h = h
@@ -32,73 +37,145 @@ stop_explained form s (SinkFault ends) h = absurd h
 stop_explained form s Memory h = h
 stop_explained form s (BadJournal fault) h = h
 
--- what the shelf gave, in short
-abbrev AreVisible : (sky catalogue script : List ℕ) → Survey → List ℕ → Option Texts → Type 0
-AreVisible sky catalogue script survey text visible =
-    IfObservable visible (λ texts. IsSurveyOf sky catalogue survey texts × (named_text script texts ≡ text))
+-- what holds of a text holds of the named one, if they are the same
+of_named : (name text : List ℕ) (Holds : List ℕ → Type 0) (visible : Option Texts)
+    → IfObservable visible (OfNamed name (λ whole. whole ≡ text)) → Holds text → IfObservable visible (OfNamed name Holds)
+of_named name text Holds None is h = tt
+of_named name text Holds (Some texts) is h = subst Holds (sym is) h
 
--- the script that is read of the text is that of the named one
-named_script : (text named : List ℕ) (view : ScriptView) → named ≡ text → length text ≤ SCRIPT_TEXT_MOST → view.text ≡ text
-    → script_of text ≡ Ok view.steps → IsScriptOf named view
-named_script text named view is short same steps = record {
-  short = subst (λ t. length t ≤ SCRIPT_TEXT_MOST) (sym is) short;
-  same = same ∙ sym is;
-  read = subst (λ t. script_of t ≡ Ok view.steps) (sym is) steps;
+-- the named script is this one, if its text is read as it
+script_named : (name text : List ℕ) (view : ScriptView) (visible : Option Texts)
+    → IfObservable visible (OfNamed name (λ whole. whole ≡ text)) → length text ≤ SCRIPT_TEXT_MOST → view.text ≡ text
+    → script_of text ≡ Ok view.steps → IfObservable visible (OfNamed name (λ named. IsScriptOf named view))
+script_named name text view visible is short same steps =
+    of_named name text (λ named. IsScriptOf named view) visible is (record { short = short; same = same; read = steps })
+
+-- The outcome of the work on the text of a command's script explains that of the command, if each script that this text is
+-- read as gives the job of the command.
+pub work_explained : (form : Form) (job : ScriptView → Job) (text : List ℕ) (old new : ShelfState) (before now : SinkState)
+    (outcome : Outcome) → HasText (names_of form) Script → EarlierAccepted (names_of form) Script old.texts
+    → ((view : ScriptView) → IfObservable old.texts (OfNamed (name_of (names_of form) Script) (λ named. IsScriptOf named view))
+    → IsJobOf form old.texts (job view))
+    → ((view : ScriptView) (ends : List EndKind) → EndsFit (job view) ends → HasDemoEnds form ends)
+    → IsWhole (name_of (names_of form) Script) Script text old new → IsWorkOver job text before now outcome
+    → ExplainedOf form (shown old new before now) outcome
+work_explained form job text old new before now (Done ends) has earlier asked reported whole h =
+    job_explained form (job h.view) old new before now (Done ends)
+    (asked h.view (script_named (name_of (names_of form) Script) text h.view old.texts whole.read.holds whole.short h.same h.steps))
+    (reported h.view) whole.read.same h.work
+work_explained form job text old new before now (SinkFault ends) has earlier asked reported whole h =
+    job_explained form (job h.view) old new before now (SinkFault ends)
+    (asked h.view (script_named (name_of (names_of form) Script) text h.view old.texts whole.read.holds whole.short h.same h.steps))
+    (reported h.view) whole.read.same h.work
+work_explained form job text old new before now Usage has earlier asked reported whole h = absurd h.work
+work_explained form job text old new before now (BadSky fault) has earlier asked reported whole h = absurd h.work
+work_explained form job text old new before now (BadCatalogue fault) has earlier asked reported whole h = absurd h.work
+work_explained form job text old new before now (BadSources fault) has earlier asked reported whole h = absurd h.work
+work_explained form job text old new before now (BadScript fault) has earlier asked reported whole h = record {
+  has = has;
+  earlier = earlier;
+  why = of_named (name_of (names_of form) Script) text (λ named. IsScriptFault named fault) old.texts whole.read.holds
+      (whole.short, h.0);
+  fetched = whole.read.same;
+  untouched = h.1;
 }
+work_explained form job text old new before now (TooLong which) has earlier asked reported whole h = absurd h.work
+work_explained form job text old new before now (ShelfFault which) has earlier asked reported whole h = absurd h.work
+work_explained form job text old new before now Memory has earlier asked reported whole h = (whole.read.same, h)
+work_explained form job text old new before now (BadJournal fault) has earlier asked reported whole h = absurd h.work
 
-both_visible : (sky catalogue script : List ℕ) (survey : Survey) (text : List ℕ) (view : ScriptView) (visible : Option Texts)
-    → AreVisible sky catalogue script survey text visible → length text ≤ SCRIPT_TEXT_MOST → view.text ≡ text
-    → script_of text ≡ Ok view.steps → IfObservable visible (AreSurveyAndScript sky catalogue script survey view)
-both_visible sky catalogue script survey text view None h short same steps = tt
-both_visible sky catalogue script survey text view (Some texts) h short same steps =
-    (h.0, named_script text (named_text script texts) view h.1 short same steps)
+-- ---- facts of the texts, if they are observable
 
-earlier_visible : (sky catalogue script : List ℕ) (survey : Survey) (text : List ℕ) (visible : Option Texts)
-    → AreVisible sky catalogue script survey text visible
-    → IfObservable visible (λ texts. AreEarlierAccepted (names_from sky catalogue (Some script)) texts Script)
-earlier_visible sky catalogue script survey text None h = tt
-earlier_visible sky catalogue script survey text (Some texts) h = ((survey.plan, h.0.0), (survey.rows, h.0.1))
+both_observable : (visible : Option Texts) (P Q : Texts → Type 0) → IfObservable visible P → IfObservable visible Q
+    → IfObservable visible (λ texts. P texts × Q texts)
+both_observable None P Q h k = tt
+both_observable (Some texts) P Q h k = (h, k)
 
-fault_visible : (sky catalogue script : List ℕ) (survey : Survey) (text : List ℕ) (fault : ScriptFault) (visible : Option Texts)
-    → AreVisible sky catalogue script survey text visible → length text ≤ SCRIPT_TEXT_MOST → script_of text ≡ Err fault
-    → IfObservable visible (λ texts. IsScriptFault (text_at (names_from sky catalogue (Some script)) texts Script) fault)
-fault_visible sky catalogue script survey text fault None h short is = tt
-fault_visible sky catalogue script survey text fault (Some texts) h short is =
-    subst (λ t. IsScriptFault t fault) (sym h.1) (short, is)
+first_observable : (visible : Option Texts) (P Q : Texts → Type 0) → IfObservable visible (λ texts. P texts × Q texts)
+    → IfObservable visible P
+first_observable None P Q h = tt
+first_observable (Some texts) P Q h = h.0
 
--- What the work on the given script comes to explains the outcome.
-pub task_explained : (task : Task) (sky catalogue script : List ℕ) (survey : Survey) (text : List ℕ) (old new : ShelfState)
+second_observable : (visible : Option Texts) (P Q : Texts → Type 0) → IfObservable visible (λ texts. P texts × Q texts)
+    → IfObservable visible Q
+second_observable None P Q h = tt
+second_observable (Some texts) P Q h = h.1
+
+-- ---- a task on a script over a survey
+
+-- the outcome of the work on the given script explains the outcome
+task_explained : (task : Task) (sky catalogue script : List ℕ) (survey : Survey) (text : List ℕ) (old new : ShelfState)
     (before now : SinkState) (outcome : Outcome) → AreGiven sky catalogue script survey text old new
     → IsTaskOver task survey text before now outcome
     → ExplainedOf (Asks task sky catalogue script) (shown old new before now) outcome
-task_explained task sky catalogue script survey text old new before now (Done ends) given h =
-    job_explained (Asks task sky catalogue script) (job_on task survey h.view) old new before now (Done ends) (
+task_explained task sky catalogue script survey text old new before now outcome given h =
+    let read : IfObservable old.texts (IsSurveyOf sky catalogue survey) =
+    first_observable old.texts (IsSurveyOf sky catalogue survey) (OfNamed script (λ whole. whole ≡ text)) given.read.holds in
+    work_explained (Asks task sky catalogue script) (job_on task survey) text old new before now outcome refl
+    (script_earlier sky catalogue script survey old.texts read)
+    (λ view is. (
       survey,
-      h.view,
+      view,
       refl,
-      both_visible sky catalogue script survey text h.view old.texts given.read.holds given.short h.same h.steps,
-    )
-    (λ ends fits. tt) given.read.same h.work
-task_explained task sky catalogue script survey text old new before now (SinkFault ends) given h =
-    job_explained (Asks task sky catalogue script) (job_on task survey h.view) old new before now (SinkFault ends) (
-      survey,
-      h.view,
+      both_observable old.texts (IsSurveyOf sky catalogue survey) (OfNamed script (λ named. IsScriptOf named view)) read is,
+    ))
+    (λ view ends fits. tt)
+    (record {
+      short = given.short;
+      read = record {
+        same = given.read.same;
+        holds = second_observable old.texts (IsSurveyOf sky catalogue survey) (OfNamed script (λ whole. whole ≡ text))
+            given.read.holds;
+      };
+    })
+    h
+
+-- ---- a script over objects and their sources
+
+tables_explained : (workers : ℕ) (sky catalogue sources script : List ℕ) (tables : ChildSurvey) (old new : ShelfState)
+    (before now : SinkState) (outcome : Outcome) → IfObservable old.texts (AreTablesOf sky catalogue sources tables)
+    → IsScriptRun (RunsChildren workers tables) script old new before now outcome
+    → ExplainedOf (AsksSources workers sky catalogue sources script) (shown old new before now) outcome
+tables_explained workers sky catalogue sources script tables old new before now outcome are (inl stop) =
+    subst (λ sink. ExplainedOf (AsksSources workers sky catalogue sources script) (shown old new before sink) outcome) (sym stop.1)
+    (stop_explained (AsksSources workers sky catalogue sources script) (shown old new before before) outcome
+    (whole_stop (names_from sky catalogue (Some sources) (Some script)) Script old new outcome refl
+    (tables_earlier sky catalogue sources script tables old.texts are) stop.0 before))
+tables_explained workers sky catalogue sources script tables old new before now outcome are (inr run) =
+    work_explained (AsksSources workers sky catalogue sources script) (RunsChildren workers tables) run.text old new before now
+    outcome refl (tables_earlier sky catalogue sources script tables old.texts are)
+    (λ view is. (
+      tables,
+      view,
       refl,
-      both_visible sky catalogue script survey text h.view old.texts given.read.holds given.short h.same h.steps,
-    )
-    (λ ends fits. tt) given.read.same h.work
-task_explained task sky catalogue script survey text old new before now Usage given h = absurd h.work
-task_explained task sky catalogue script survey text old new before now (BadSky fault) given h = absurd h.work
-task_explained task sky catalogue script survey text old new before now (BadCatalogue fault) given h = absurd h.work
-task_explained task sky catalogue script survey text old new before now (BadScript fault) given h = record {
-  has = refl;
-  earlier = earlier_visible sky catalogue script survey text old.texts given.read.holds;
-  why = fault_visible sky catalogue script survey text fault old.texts given.read.holds given.short h.0;
-  fetched = given.read.same;
-  untouched = h.1;
-}
-task_explained task sky catalogue script survey text old new before now (TooLong which) given h = absurd h.work
-task_explained task sky catalogue script survey text old new before now (ShelfFault which) given h = absurd h.work
-task_explained task sky catalogue script survey text old new before now (BadJournal fault) given h = absurd h.work
-task_explained task sky catalogue script survey text old new before now Memory given h =
-    (given.read.same, h)
+      both_observable old.texts (AreTablesOf sky catalogue sources tables) (OfNamed script (λ named. IsScriptOf named view)) are is,
+    ))
+    (λ view ends fits. tt) run.given run.work
+
+-- The outcome of the fetch of a script and of the work on it explains the outcome, if the tables were read before it.
+pub sources_explained : (workers : ℕ) (sky catalogue sources script : List ℕ) (tables : ChildSurvey)
+    (old mid new : ShelfState) (before now : SinkState) (outcome : Outcome)
+    → IsRead (AreTablesOf sky catalogue sources tables) old mid
+    → IsScriptRun (RunsChildren workers tables) script mid new before now outcome
+    → ExplainedOf (AsksSources workers sky catalogue sources script) (shown old new before now) outcome
+sources_explained workers sky catalogue sources script tables old mid new before now outcome read run =
+    tables_explained workers sky catalogue sources script tables old new before now outcome read.holds
+    (subst (λ (s : ShelfState). IsScriptRun (RunsChildren workers tables) script s new before now outcome) read.same run)
+
+-- ---- a slice that is the text
+
+-- The outcome of the work on a slice that is the given script explains the outcome.
+pub slice_explained : (task : Task) (sky catalogue script : List ℕ) (survey : Survey) (text slice : List ℕ) (old new : ShelfState)
+    (before now : SinkState) (outcome : Outcome) → AreGiven sky catalogue script survey text old new → slice ≡ text
+    → IsTaskOver task survey slice before now outcome
+    → ExplainedOf (Asks task sky catalogue script) (shown old new before now) outcome
+slice_explained task sky catalogue script survey text slice old new before now outcome given same h =
+    task_explained task sky catalogue script survey text old new before now outcome given
+    (subst (λ t. IsTaskOver task survey t before now outcome) same h)
+
+-- The outcome of the work on a slice that is the given script is that of the fetch and of the work.
+pub script_run : (job : ScriptView → Job) (name text slice : List ℕ) (old new : ShelfState) (before now : SinkState)
+    (outcome : Outcome) → IsWhole name Script text old new → slice ≡ text → IsWorkOver job slice before now outcome
+    → IsScriptRun job name old new before now outcome
+script_run job name text slice old new before now outcome given same h =
+    inr (record { text = text; given = given; work = subst (λ t. IsWorkOver job t before now outcome) same h })

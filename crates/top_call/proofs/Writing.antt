@@ -10,7 +10,7 @@ use Rattle.top_call.specs.Jobs.{EndsFit, HasDemoEnds, IsJobOf, Job, Writes}
 use Rattle.top_call.specs.Explained.{ExplainedOf, shown}
 use Rattle.top_call.specs.Steps.{IsSent, IsTorn, IsWritten, IsFlushed}
 use Rattle.top_call.specs.declared.outcome.Outcome.{Outcome}
-use Rattle.top_call.specs.declared.outcome.Outcome.TheVariants.{Done, Usage, BadSky, BadCatalogue, BadScript}
+use Rattle.top_call.specs.declared.outcome.Outcome.TheVariants.{Done, Usage, BadSky, BadCatalogue, BadSources, BadScript}
 use Rattle.top_call.specs.declared.outcome.Outcome.TheVariants.{TooLong, ShelfFault, SinkFault, Memory, BadJournal}
 
 -- all of a text is a front of it
@@ -64,6 +64,7 @@ written job ends text old mid new (SinkFault reported) fits writes wrote h =
 written job ends text old mid new Usage fits writes wrote h = absurd h
 written job ends text old mid new (BadSky fault) fits writes wrote h = absurd h
 written job ends text old mid new (BadCatalogue fault) fits writes wrote h = absurd h
+written job ends text old mid new (BadSources fault) fits writes wrote h = absurd h
 written job ends text old mid new (BadScript fault) fits writes wrote h = absurd h
 written job ends text old mid new (TooLong which) fits writes wrote h = absurd h
 written job ends text old mid new (ShelfFault which) fits writes wrote h = absurd h
@@ -115,6 +116,7 @@ job_explained form job old new before now Memory asked reported same h = (same, 
 job_explained form job old new before now Usage asked reported same h = absurd h
 job_explained form job old new before now (BadSky fault) asked reported same h = absurd h
 job_explained form job old new before now (BadCatalogue fault) asked reported same h = absurd h
+job_explained form job old new before now (BadSources fault) asked reported same h = absurd h
 job_explained form job old new before now (BadScript fault) asked reported same h = absurd h
 job_explained form job old new before now (TooLong which) asked reported same h = absurd h
 job_explained form job old new before now (ShelfFault which) asked reported same h = absurd h

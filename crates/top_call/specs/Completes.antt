@@ -1,19 +1,20 @@
 -- Which outcome of the top call must occur.
 use Rattle.std.specs.Prelude.{◌≡◌, Option, None, Some}
 use Rattle.sky_io.specs.Sinks.{Rose}
-use Rattle.top_call.specs.Words.{Form, Load, Asks, Check, Demo, Names, names_of}
+use Rattle.top_call.specs.Words.{Form, Load, Asks, AsksSources, Check, Demo, Names, names_of}
 use Rattle.top_call.specs.Reached.{AreEarlierAccepted, HasText, IfObservable, IsAccepted, Texts, text_at}
 use Rattle.top_call.specs.Reached.{AreAccepted, AreStill, AreAllStill}
 use Rattle.top_call.specs.Explained.{Shown}
 use Rattle.top_call.specs.declared.outcome.Which.{Which}
-use Rattle.top_call.specs.declared.outcome.Which.TheVariants.{Sky, Catalogue, Script, Journal}
+use Rattle.top_call.specs.declared.outcome.Which.TheVariants.{Sky, Catalogue, Sources, Script, Journal}
 use Rattle.top_call.specs.declared.outcome.Outcome.{Outcome}
-use Rattle.top_call.specs.declared.outcome.Outcome.TheVariants.{Done, BadSky, BadCatalogue, BadScript, TooLong, Memory, BadJournal}
+use Rattle.top_call.specs.declared.outcome.Outcome.TheVariants.{Done, BadSky, BadCatalogue, BadSources, BadScript, TooLong, Memory, BadJournal}
 
 -- the outcome refuses this text, or is an allocation failure
 abbrev pub IsRefusalOrMemory : Which → Outcome → Type 0
 IsRefusalOrMemory which (BadSky fault) = which ≡ Sky
 IsRefusalOrMemory which (BadCatalogue fault) = which ≡ Catalogue
+IsRefusalOrMemory which (BadSources fault) = which ≡ Sources
 IsRefusalOrMemory which (BadScript fault) = which ≡ Script
 IsRefusalOrMemory which (TooLong named) = named ≡ which
 IsRefusalOrMemory which (BadJournal fault) = which ≡ Journal
@@ -44,6 +45,9 @@ CompleteOf (Load sky catalogue) shown outcome =
     IfObservable shown.shelf_old.texts (Completes (names_of (Load sky catalogue)) shown outcome)
 CompleteOf (Asks task sky catalogue script) shown outcome =
     IfObservable shown.shelf_old.texts (Completes (names_of (Asks task sky catalogue script)) shown outcome)
+CompleteOf (AsksSources workers sky catalogue sources script) shown outcome =
+    IfObservable shown.shelf_old.texts
+    (Completes (names_of (AsksSources workers sky catalogue sources script)) shown outcome)
 CompleteOf (Check journal) shown outcome =
     IfObservable shown.shelf_old.texts (Completes (names_of (Check journal)) shown outcome)
 CompleteOf (Demo count seed workers) shown outcome =

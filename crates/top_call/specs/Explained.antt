@@ -6,13 +6,13 @@ use Rattle.session_rules.specs.declared.end.EndKind.{EndKind}
 use Rattle.top_call.specs.Words.{Form, Names, names_of}
 use Rattle.top_call.specs.Outcomes.{name_of}
 use Rattle.top_call.specs.Reached.{AreEarlierAccepted, HasText, IfObservable, text_at}
-use Rattle.top_call.specs.Reached.{IsSkyFault, IsCatalogueFault, IsScriptFault, IsLong}
+use Rattle.top_call.specs.Reached.{IsSkyFault, IsCatalogueFault, IsSourcesFault, IsScriptFault, IsLong}
 use Rattle.top_call.specs.Journals.{IsJournalFault}
 use Rattle.top_call.specs.Jobs.{EndsFit, HasDemoEnds, IsJobOf, Job, Writes}
 use Rattle.top_call.specs.declared.outcome.Which.{Which}
-use Rattle.top_call.specs.declared.outcome.Which.TheVariants.{Sky, Catalogue, Script, Journal}
+use Rattle.top_call.specs.declared.outcome.Which.TheVariants.{Sky, Catalogue, Sources, Script, Journal}
 use Rattle.top_call.specs.declared.outcome.Outcome.{Outcome}
-use Rattle.top_call.specs.declared.outcome.Outcome.TheVariants.{Done, Usage, BadSky, BadCatalogue, BadScript}
+use Rattle.top_call.specs.declared.outcome.Outcome.TheVariants.{Done, Usage, BadSky, BadCatalogue, BadSources, BadScript}
 use Rattle.top_call.specs.declared.outcome.Outcome.TheVariants.{TooLong, ShelfFault, SinkFault, Memory, BadJournal}
 
 -- The states of shelf and sink before and after the call.
@@ -84,6 +84,7 @@ IsStop names shown (Done ends) = ⊥
 IsStop names shown Usage = ⊥
 IsStop names shown (BadSky fault) = IsRefused names shown Sky (λ text. IsSkyFault text fault)
 IsStop names shown (BadCatalogue fault) = IsRefused names shown Catalogue (λ text. IsCatalogueFault text fault)
+IsStop names shown (BadSources fault) = IsRefused names shown Sources (λ text. IsSourcesFault text fault)
 IsStop names shown (BadScript fault) = IsRefused names shown Script (λ text. IsScriptFault text fault)
 IsStop names shown (TooLong which) = IsRefused names shown which (IsLong which)
 IsStop names shown (ShelfFault which) = IsShelfFault names shown which

@@ -32,18 +32,22 @@ sky_line (sky.TooMany line) = numbered (codes "sky line ") line (codes ": too ma
 
 -- the place of a data row's fault, and the text after it
 abbrev pub row_line : ℕ → List ℕ → List ℕ
-row_line row behind = numbered (codes "catalogue row ") row behind
+row_line row behind = numbered (codes " row ") row behind
 
--- the line of a catalogue's fault
-abbrev pub catalogue_line : LoadFault → List ℕ
-catalogue_line (load.Header field) = numbered (codes "catalogue header: field ") field (codes "\n")
-catalogue_line (load.FieldCount row count) = row_line row (numbered (codes ": ") count (codes " fields\n"))
-catalogue_line (load.Number row field) = row_line row (numbered (codes ": field ") field (codes " is not a number\n"))
-catalogue_line (load.Range row field value) =
+-- the line of the fault of a table's text, after the word for the table
+abbrev pub load_line : LoadFault → List ℕ
+load_line (load.Header field) = numbered (codes " header: field ") field (codes "\n")
+load_line (load.FieldCount row count) = row_line row (numbered (codes ": ") count (codes " fields\n"))
+load_line (load.Number row field) = row_line row (numbered (codes ": field ") field (codes " is not a number\n"))
+load_line (load.Range row field value) =
     row_line row (numbered (codes ": field ") field (valued (codes " out of range: ") value))
-catalogue_line (load.Length row) = row_line row (codes ": length\n")
-catalogue_line (load.Repeated row id) = row_line row (valued (codes ": repeated id ") id)
-catalogue_line load.TooManyRows = codes "catalogue: too many rows\n"
+load_line (load.Length row) = row_line row (codes ": length\n")
+load_line (load.Repeated row id) = row_line row (valued (codes ": repeated id ") id)
+load_line load.TooManyRows = codes ": too many rows\n"
+
+-- the line of the fault of a table's text, by the word for the table
+abbrev pub table_line : List ℕ → LoadFault → List ℕ
+table_line table fault = table ++ load_line fault
 
 -- the place of a fault in a line of a script, and the text after it
 abbrev pub script_place : ℕ → List ℕ → List ℕ

@@ -15,9 +15,12 @@ use Rattle.session_rules.specs.declared.end.EndKind.TheVariants.{Answered, Refus
 use Rattle.transcript_rules.specs.Transcripts.{FitEnds, transcript}
 use Rattle.transcript_rules.specs.Explained.{explained}
 use Rattle.czar.specs.Traces.{IsTraceOf}
-use Rattle.top_call.specs.Words.{Form, Load, Asks, Check, Demo}
+use Rattle.source_rules.specs.Sources.{SourceTable}
+use Rattle.child_transcripts.specs.ChildTranscripts.{ChildFitEnds, child_transcript}
+use Rattle.child_session.specs.ChildSurvey.{ChildSurvey}
+use Rattle.top_call.specs.Words.{Form, Load, Asks, AsksSources, Check, Demo}
 use Rattle.top_call.specs.Journals.{IsChecked, IsJournalOf, tally_line}
-use Rattle.top_call.specs.Reached.{IfObservable, IsCatalogueOf, IsScriptOf, IsSkyOf, Texts}
+use Rattle.top_call.specs.Reached.{IfObservable, IsCatalogueOf, IsScriptOf, IsSkyOf, IsSourcesOf, Texts}
 use Rattle.top_call.specs.declared.task.Task.{Task}
 use Rattle.top_call.specs.declared.task.Task.TheVariants.{Answer, ByClass, Trace, Explain}
 
@@ -29,6 +32,8 @@ pub data Job : Type 0 where
   Runs : (workers : ℕ) → Survey → ScriptView → Job
   -- to answer them so, and to write the journal of the session
   Traces : (workers : ℕ) → Survey → ScriptView → Job
+  -- to answer the queries of a script over objects and their sources, with the given number of workers
+  RunsChildren : (workers : ℕ) → ChildSurvey → ScriptView → Job
   -- to explain the queries of a script over a survey
   Explains : Survey → ScriptView → Job
   -- to report how much a journal contains, which is right
@@ -46,6 +51,8 @@ abbrev pub Writes : Job → List EndKind → List ℕ → Type 0
 Writes (Reports survey) ends text = text ≡ report survey.plan survey.rows.objects
 Writes (Runs workers survey view) ends text = text ≡ transcript survey.plan survey.rows view ends
 Writes (Traces workers survey view) ends text = IsTraceText workers survey view ends text
+Writes (RunsChildren workers tables view) ends text =
+    text ≡ child_transcript tables.plan tables.rows tables.table view ends
 Writes (Explains survey view) ends text = text ≡ explained survey.plan survey.rows view
 Writes (Checks journal) ends text = text ≡ tally_line (tally_of journal.lines)
 
@@ -54,6 +61,7 @@ abbrev pub EndsFit : Job → List EndKind → Type 0
 EndsFit (Reports survey) ends = ends ≡ []
 EndsFit (Runs workers survey view) ends = FitEnds workers survey.plan survey.rows view ends
 EndsFit (Traces workers survey view) ends = FitEnds workers survey.plan survey.rows view ends
+EndsFit (RunsChildren workers tables view) ends = ChildFitEnds workers tables.plan tables.rows tables.table view ends
 EndsFit (Explains survey view) ends = ends ≡ []
 EndsFit (Checks journal) ends = ends ≡ []
 
@@ -68,6 +76,7 @@ IsAnsweredOrSpent Spent = Unit {0}
 abbrev pub HasDemoEnds : Form → List EndKind → Type 0
 HasDemoEnds (Load sky catalogue) ends = Unit {0}
 HasDemoEnds (Asks task sky catalogue script) ends = Unit {0}
+HasDemoEnds (AsksSources workers sky catalogue sources script) ends = Unit {0}
 HasDemoEnds (Check journal) ends = Unit {0}
 HasDemoEnds (Demo count seed workers) ends = All IsAnsweredOrSpent ends
 
@@ -80,6 +89,21 @@ IsSurveyOf sky catalogue survey texts =
 abbrev pub AreSurveyAndScript : (sky catalogue script : List ℕ) → Survey → ScriptView → Texts → Type 0
 AreSurveyAndScript sky catalogue script survey view texts =
     IsSurveyOf sky catalogue survey texts × IsScriptOf (named_text script texts) view
+
+-- the plan of a survey's sky, its catalogue and a source table
+abbrev pub tables_of : Survey → SourceTable → ChildSurvey
+tables_of survey table = record { plan = survey.plan; rows = survey.rows; table = table }
+
+-- the named sky plan, catalogue and source table are accepted as these
+abbrev pub AreTablesOf : (sky catalogue sources : List ℕ) → ChildSurvey → Texts → Type 0
+AreTablesOf sky catalogue sources tables texts =
+    IsSkyOf (named_text sky texts) tables.plan × IsCatalogueOf (named_text catalogue texts) tables.rows
+    × IsSourcesOf (named_text sources texts) tables.table
+
+-- the named texts are accepted as these and this script
+abbrev pub AreTablesAndScript : (sky catalogue sources script : List ℕ) → ChildSurvey → ScriptView → Texts → Type 0
+AreTablesAndScript sky catalogue sources script tables view texts =
+    AreTablesOf sky catalogue sources tables texts × IsScriptOf (named_text script texts) view
 
 -- the job of a task on a script over a survey
 abbrev pub job_on : Task → Survey → ScriptView → Job
@@ -99,6 +123,9 @@ IsJobOf (Load sky catalogue) visible job =
 IsJobOf (Asks task sky catalogue script) visible job =
     (survey : Survey) × (view : ScriptView) × (job ≡ job_on task survey view)
     × IfObservable visible (AreSurveyAndScript sky catalogue script survey view)
+IsJobOf (AsksSources workers sky catalogue sources script) visible job =
+    (tables : ChildSurvey) × (view : ScriptView) × (job ≡ RunsChildren workers tables view)
+    × IfObservable visible (AreTablesAndScript sky catalogue sources script tables view)
 IsJobOf (Check name) visible job =
     (journal : Journal) × (job ≡ Checks journal) × IsChecked journal
     × IfObservable visible (λ texts. IsJournalOf (named_text name texts) journal)

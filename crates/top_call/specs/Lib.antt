@@ -8,4 +8,5 @@ pub mod Jobs
 pub mod Explained
 pub mod Completes
 pub mod Steps
+pub mod ScriptWork
 pub mod Checks

@@ -1,11 +1,11 @@
 -- The report of an outcome: the exit status, and the line on standard error.
 use Rattle.std.specs.Prelude.{ℕ, List, [], ◌++◌, Option, None, Some, codes, unwrap_or}
 use Rattle.top_call.specs.Words.{Form, Names, names_of}
-use Rattle.top_call.specs.FaultLines.{sky_line, catalogue_line, script_line, journal_line}
+use Rattle.top_call.specs.FaultLines.{sky_line, table_line, script_line, journal_line}
 use Rattle.top_call.specs.declared.outcome.Which.{Which}
-use Rattle.top_call.specs.declared.outcome.Which.TheVariants.{Sky, Catalogue, Script, Journal}
+use Rattle.top_call.specs.declared.outcome.Which.TheVariants.{Sky, Catalogue, Sources, Script, Journal}
 use Rattle.top_call.specs.declared.outcome.Outcome.{Outcome}
-use Rattle.top_call.specs.declared.outcome.Outcome.TheVariants.{Done, Usage, BadSky, BadCatalogue, BadScript}
+use Rattle.top_call.specs.declared.outcome.Outcome.TheVariants.{Done, Usage, BadSky, BadCatalogue, BadSources, BadScript}
 use Rattle.top_call.specs.declared.outcome.Outcome.TheVariants.{TooLong, ShelfFault, SinkFault, Memory, BadJournal}
 
 -- the exit status
@@ -19,12 +19,14 @@ status_of (TooLong which) = 6
 status_of (ShelfFault which) = 7
 status_of (SinkFault ends) = 8
 status_of Memory = 9
+status_of (BadSources fault) = 11
 status_of (BadJournal fault) = 12
 
 -- the name of a text, if there is such a text
 abbrev pub name_at : Names → Which → Option (List ℕ)
 name_at names Sky = names.sky
 name_at names Catalogue = names.catalogue
+name_at names Sources = names.sources
 name_at names Script = names.script
 name_at names Journal = names.journal
 
@@ -41,9 +43,10 @@ name_in (Some form) which = name_of (names_of form) which
 abbrev pub outcome_line : Outcome → Option Form → List ℕ
 outcome_line (Done ends) form = []
 outcome_line Usage form =
-    codes "usage: qserv load SKY CSV; query SKY CSV SCRIPT WORKERS; explain SKY CSV SCRIPT; demo COUNT SEED WORKERS; trace SKY CSV SCRIPT WORKERS; check JOURNAL; classes SKY CSV SCRIPT WORKERS\n"
+    codes "usage: qserv load SKY CSV; query SKY CSV SCRIPT WORKERS; explain SKY CSV SCRIPT; demo COUNT SEED WORKERS; sources SKY CSV SOURCES SCRIPT WORKERS; trace SKY CSV SCRIPT WORKERS; check JOURNAL; classes SKY CSV SCRIPT WORKERS\n"
 outcome_line (BadSky fault) form = sky_line fault
-outcome_line (BadCatalogue fault) form = catalogue_line fault
+outcome_line (BadCatalogue fault) form = table_line (codes "catalogue") fault
+outcome_line (BadSources fault) form = table_line (codes "sources") fault
 outcome_line (BadScript fault) form = script_line fault
 outcome_line (TooLong which) form = name_in form which ++ codes ": too long\n"
 outcome_line (ShelfFault which) form = name_in form which ++ codes ": cannot be read\n"

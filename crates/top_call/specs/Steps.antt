@@ -1,22 +1,18 @@
--- The meaning of each step of the top call, from the fetch of one text to the writing of a job.
-use Rattle.std.specs.Prelude.{◌≡◌, ◌<◌, ◌≤◌, ℕ, List, false, length, Option, Ok, Err}
+-- The meaning of each step of the top call but for the work on a script: the fetch of a text, and the writing of a job.
+use Rattle.std.specs.Prelude.{◌≡◌, ◌<◌, ◌≤◌, ℕ, List, false, length, Option}
 use Rattle.sky_io.specs.Shelves.{ShelfState, GivesText, GrewBy, named_text, times}
 use Rattle.sky_io.specs.Sinks.{SinkState, Appended, AppendedPart, Rose, Flushed}
 use Rattle.sky_io.specs.declared.sink.Put.TheVariants as Put
-use Rattle.demo_rules.specs.DemoTexts.{demo_script}
 use Rattle.chunk_store.specs.Survey.{Survey}
-use Rattle.session_script.specs.Scripts.{script_of}
-use Rattle.session_script.specs.Views.{ScriptView}
 use Rattle.session_rules.specs.declared.end.EndKind.{EndKind}
-use Rattle.top_call.specs.Words.{Demo, names_from}
-use Rattle.top_call.specs.Reached.{IfObservable, IsCatalogueFault, IsLong, IsScriptOf, IsSkyFault, Texts, limit_of}
-use Rattle.top_call.specs.Jobs.{Job, Runs, EndsFit, IsSurveyOf, job_on, Writes}
-use Rattle.top_call.specs.Explained.{ExplainedOf, IsStop, shown}
-use Rattle.top_call.specs.declared.task.Task.{Task}
+use Rattle.top_call.specs.Words.{Names, names_from}
+use Rattle.top_call.specs.Reached.{IfObservable, IsCatalogueFault, IsLong, IsSkyFault, IsSourcesFault, Texts, limit_of}
+use Rattle.top_call.specs.Jobs.{Job, EndsFit, IsSurveyOf, Writes}
+use Rattle.top_call.specs.Explained.{IsStop, shown}
 use Rattle.top_call.specs.declared.outcome.Which.{Which}
-use Rattle.top_call.specs.declared.outcome.Which.TheVariants.{Sky, Catalogue, Script}
+use Rattle.top_call.specs.declared.outcome.Which.TheVariants.{Sky, Catalogue, Sources, Script}
 use Rattle.top_call.specs.declared.outcome.Outcome.{Outcome}
-use Rattle.top_call.specs.declared.outcome.Outcome.TheVariants.{Done, BadSky, BadCatalogue, BadScript, TooLong}
+use Rattle.top_call.specs.declared.outcome.Outcome.TheVariants.{Done, BadSky, BadCatalogue, BadSources, TooLong}
 use Rattle.top_call.specs.declared.outcome.Outcome.TheVariants.{ShelfFault, SinkFault, Memory}
 
 -- The text was given, and the shelf is as it was.
@@ -67,15 +63,19 @@ abbrev pub IsCatalogueStop : List ℕ → ShelfState → ShelfState → Outcome 
 IsCatalogueStop name old new (BadCatalogue fault) = IsRead (OfNamed name (λ text. IsCatalogueFault text fault)) old new
 IsCatalogueStop name old new outcome = IsWholeStop name Catalogue old new outcome
 
+-- the reason for which a source table was not read
+abbrev pub IsSourcesStop : List ℕ → ShelfState → ShelfState → Outcome → Type 0
+IsSourcesStop name old new (BadSources fault) = IsRead (OfNamed name (λ text. IsSourcesFault text fault)) old new
+IsSourcesStop name old new outcome = IsWholeStop name Sources old new outcome
+
 -- the shelf alone explains the outcome of a command with these names: over any sink that is not touched
-abbrev pub IsShelfStop : (sky catalogue : List ℕ) → Option (List ℕ) → ShelfState → ShelfState → Outcome → Type 0
-IsShelfStop sky catalogue script old new outcome =
-    (sink : SinkState) → IsStop (names_from sky catalogue script) (shown old new sink sink) outcome
+abbrev pub IsShelfStop : Names → ShelfState → ShelfState → Outcome → Type 0
+IsShelfStop names old new outcome = (sink : SinkState) → IsStop names (shown old new sink sink) outcome
 
 -- the shelf alone explains the outcome of any command with a sky plan and a catalogue of these names
 abbrev pub IsSurveyStop : (sky catalogue : List ℕ) → ShelfState → ShelfState → Outcome → Type 0
 IsSurveyStop sky catalogue old new outcome =
-    (script : Option (List ℕ)) → IsShelfStop sky catalogue script old new outcome
+    (sources script : Option (List ℕ)) → IsShelfStop (names_from sky catalogue sources script) old new outcome
 
 -- The named texts are a survey and this text of a script, which is within its limit.
 pub record AreGiven (sky catalogue script : List ℕ) (survey : Survey) (text : List ℕ) (old new : ShelfState) : Type 0 where
@@ -111,32 +111,3 @@ abbrev pub IsFlushed : List EndKind → SinkState → SinkState → Outcome → 
 IsFlushed ends old new (Done reported) = (reported ≡ ends) × Flushed old new Put.Done
 IsFlushed ends old new (SinkFault reported) = (reported ≡ ends) × Flushed old new Put.Failed
 IsFlushed ends old new _ = ⊥
-
--- The text is read as a script, and the outcome is that of the writing of its job.
-pub record IsTaskAsRead (task : Task) (survey : Survey) (text : List ℕ) (old new : SinkState) (outcome : Outcome) : Type 0 where
-  pub view : ScriptView
-  pub same : view.text ≡ text
-  pub steps : script_of text ≡ Ok view.steps
-  pub work : IsWritten (job_on task survey view) old new outcome
-
--- the outcome of the work on the text of a script: the text has a fault, or it is read and worked on
-abbrev pub IsTaskOver : Task → Survey → List ℕ → SinkState → SinkState → Outcome → Type 0
-IsTaskOver task survey text old new (BadScript fault) = (script_of text ≡ Err fault) × (new ≡ old)
-IsTaskOver task survey text old new Memory = new ≡ old
-IsTaskOver task survey text old new outcome = IsTaskAsRead task survey text old new outcome
-
--- The outcome is that of the writing of the job on the demo's script over a survey.
-pub record IsDemoWritten (workers : ℕ) (survey : Survey) (old new : SinkState) (outcome : Outcome) : Type 0 where
-  pub view : ScriptView
-  pub read : IsScriptOf demo_script view
-  pub work : IsWritten (Runs workers survey view) old new outcome
-
--- the outcome of the work on the demo's script over a survey
-abbrev pub IsDemoOver : (workers : ℕ) → Survey → SinkState → SinkState → Outcome → Type 0
-IsDemoOver workers survey old new Memory = new ≡ old
-IsDemoOver workers survey old new outcome = IsDemoWritten workers survey old new outcome
-
--- whatever the shelf, the outcome is that of the demo, and the shelf is as it was
-abbrev pub IsDemo : (count seed workers : ℕ) → SinkState → SinkState → Outcome → Type 0
-IsDemo count seed workers old new outcome =
-    (shelf : ShelfState) → ExplainedOf (Demo count seed workers) (shown shelf shelf old new) outcome

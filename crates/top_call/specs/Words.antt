@@ -18,6 +18,8 @@ pub data Form : Type 0 where
   Load : (sky catalogue : List ℕ) → Form
   -- to answer or to explain the queries of a script over them
   Asks : (task : Task) (sky catalogue script : List ℕ) → Form
+  -- to answer, with a number of workers, the queries of a script over the objects of a catalogue and their sources
+  AsksSources : (workers : ℕ) (sky catalogue sources script : List ℕ) → Form
   -- to check whether a journal is right
   Check : (journal : List ℕ) → Form
   -- to answer the queries of the demo's script with a number of workers, over its sky plan and a number of objects
@@ -28,20 +30,26 @@ pub data Form : Type 0 where
 pub record Names : Type 0 where
   pub sky : Option (List ℕ)
   pub catalogue : Option (List ℕ)
+  pub sources : Option (List ℕ)
   pub script : Option (List ℕ)
   pub journal : Option (List ℕ)
 
--- the names of a sky plan and a catalogue, and of a script if there is one
-abbrev pub names_from : (sky catalogue : List ℕ) → Option (List ℕ) → Names
-names_from sky catalogue script =
-    record { sky = Some sky; catalogue = Some catalogue; script = script; journal = None }
+-- the names of a sky plan and a catalogue, and of a source table and a script if there are such
+abbrev pub names_from : (sky catalogue : List ℕ) → (sources script : Option (List ℕ)) → Names
+names_from sky catalogue sources script =
+    record { sky = Some sky; catalogue = Some catalogue; sources = sources; script = script; journal = None }
+
+-- the names of a command that has no text of a sky plan, a catalogue, a source table or a script
+abbrev pub names_without : Option (List ℕ) → Names
+names_without journal = record { sky = None; catalogue = None; sources = None; script = None; journal = journal }
 
 -- the names of the texts of a command
 abbrev pub names_of : Form → Names
-names_of (Load sky catalogue) = names_from sky catalogue None
-names_of (Asks task sky catalogue script) = names_from sky catalogue (Some script)
-names_of (Check journal) = record { sky = None; catalogue = None; script = None; journal = Some journal }
-names_of (Demo count seed workers) = record { sky = None; catalogue = None; script = None; journal = None }
+names_of (Load sky catalogue) = names_from sky catalogue None None
+names_of (Asks task sky catalogue script) = names_from sky catalogue None (Some script)
+names_of (AsksSources workers sky catalogue sources script) = names_from sky catalogue (Some sources) (Some script)
+names_of (Check journal) = names_without (Some journal)
+names_of (Demo count seed workers) = names_without None
 
 -- the workers beside the czar, if the task has any, are at most 16
 abbrev pub IsManned : Task → Type 0
@@ -92,14 +100,23 @@ abbrev pub form_of_five : (word sky catalogue script workers : List ℕ) → Opt
 form_of_five word sky catalogue script workers =
     option_map (λ task. Asks task sky catalogue script) (option_and_then (task_of word) (workers_by workers))
 
--- the commands `check JOURNAL`, `load SKY CSV`, `explain SKY CSV SCRIPT`, `demo COUNT SEED WORKERS`, and with SKY CSV SCRIPT
--- WORKERS `query`, `classes` and `trace`, whose numbers are 1 to 10 digits and whose WORKERS is 0 to 16; None for all other
--- arguments
+-- the command of six arguments: to answer the queries of the named script over the objects and their sources
+abbrev pub form_of_six : (word sky catalogue sources script workers : List ℕ) → Option Form
+form_of_six word sky catalogue sources script workers =
+    if bytes_eq word (codes "sources")
+    then option_map (λ count. AsksSources count sky catalogue sources script) (workers_by workers)
+    else None
+
+-- the commands `check JOURNAL`, `load SKY CSV`, `explain SKY CSV SCRIPT`, `demo COUNT SEED WORKERS`, with SKY CSV SCRIPT WORKERS
+-- `query`, `classes` and `trace`, and `sources SKY CSV SOURCES SCRIPT WORKERS`, whose numbers are 1 to 10 digits and whose
+-- WORKERS is 0 to 16; None for all other arguments
 abbrev pub form_of : List (List ℕ) → Option Form
 form_of (word ∷ journal ∷ []) = if bytes_eq word (codes "check") then Some (Check journal) else None
 form_of (word ∷ sky ∷ catalogue ∷ []) = if bytes_eq word (codes "load") then Some (Load sky catalogue) else None
 form_of (word ∷ second ∷ third ∷ fourth ∷ []) = form_of_four word second third fourth
 form_of (word ∷ sky ∷ catalogue ∷ script ∷ workers ∷ []) = form_of_five word sky catalogue script workers
+form_of (word ∷ sky ∷ catalogue ∷ sources ∷ script ∷ workers ∷ []) =
+    form_of_six word sky catalogue sources script workers
 form_of _ = None
 
 -- the bytes of each argument

@@ -4,7 +4,7 @@ ghost use Rattle.std.specs.Prelude.{◌≡◌, ◌≤◌, ◌^◌, IfOk};
 ghost use Rattle.table_rules.specs.declared.limits.TheConstants.{ROWS_MOST};
 ghost use Rattle.demo_rules.specs.declared.limits.TheConstants.{SEED_MOST};
 ghost use Rattle.top_call.specs.Jobs.{IsDemoSurvey};
-ghost use Rattle.top_call.specs.Steps.{IsDemo, IsDemoOver};
+ghost use Rattle.top_call.specs.ScriptWork.{IsDemo, IsDemoOver};
 ghost use Rattle.session_rules.specs.declared.limits.TheConstants.{WORKERS_MOST};
 
 use crate::outcome::Outcome;

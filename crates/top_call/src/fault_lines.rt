@@ -2,7 +2,7 @@
 ghost use Rattle.std.specs.Prelude.{◌≡◌, ◌++◌, codes};
 ghost use Rattle.std.specs.Fmt.{signed_decimal};
 ghost use Rattle.sky_io.specs.Sinks.{Wrote};
-ghost use Rattle.top_call.specs.FaultLines.{catalogue_line, journal_line, numbered, place, row_line, sky_line, valued};
+ghost use Rattle.top_call.specs.FaultLines.{journal_line, load_line, numbered, place, row_line, sky_line, table_line, valued};
 
 use scan_history::HistoryFault;
 use sky_io::{Put, Sink};
@@ -23,14 +23,22 @@ pub fn put_sky_fault<K: Sink>(sink: &mut K, fault: &SkyFault) -> Put
     }
 }
 
-/// Writes the line of a catalogue's fault. Does not allocate.
-pub fn put_catalogue_fault<K: Sink>(sink: &mut K, fault: &LoadFault) -> Put
-    ensures { Wrote (K.state sink.old) (K.state sink.new) (catalogue_line fault.now) result }
+/// Writes the line of the fault of a table's text, by the word for the table. Does not allocate.
+pub fn put_table_fault<K: Sink>(sink: &mut K, table: &[u8], fault: &LoadFault) -> Put
+    ensures { Wrote (K.state sink.old) (K.state sink.new) (table_line table.now fault.now) result }
+{
+    match sink.put(table) {
+        Put::Failed => Put::Failed,
+        Put::Done => put_load_fault(sink, fault),
+    }
+}
+
+// Writes the line of the fault of a table's text, after the word for the table.
+fn put_load_fault<K: Sink>(sink: &mut K, fault: &LoadFault) -> Put
+    ensures { Wrote (K.state sink.old) (K.state sink.new) (load_line fault.now) result }
 {
     match fault {
-        LoadFault::Header { field } => {
-            put_numbered(sink, b"catalogue header: field ", *field, b"\n")
-        }
+        LoadFault::Header { field } => put_numbered(sink, b" header: field ", *field, b"\n"),
         LoadFault::FieldCount { row, count } => put_in_row(sink, *row, b": ", *count, b" fields\n"),
         LoadFault::Number { row, field } => put_in_row(
             sink,
@@ -40,9 +48,9 @@ pub fn put_catalogue_fault<K: Sink>(sink: &mut K, fault: &LoadFault) -> Put
             b" is not a number\n",
         ),
         LoadFault::Range { row, field, value } => put_range(sink, *row, *field, value),
-        LoadFault::Length { row } => put_numbered(sink, b"catalogue row ", *row, b": length\n"),
+        LoadFault::Length { row } => put_numbered(sink, b" row ", *row, b": length\n"),
         LoadFault::Repeated { row, id } => put_repeated(sink, *row, id),
-        LoadFault::TooManyRows => sink.put(b"catalogue: too many rows\n"),
+        LoadFault::TooManyRows => sink.put(b": too many rows\n"),
     }
 }
 
@@ -83,7 +91,7 @@ fn put_in_row<K: Sink>(sink: &mut K, row: u32, thing: &[u8], n: u32, behind: &[u
     ensures { Wrote (K.state sink.old) (K.state sink.new)
         (row_line row (numbered thing.now n behind.now)) result }
 {
-    match put_place(sink, b"catalogue row ", row) {
+    match put_place(sink, b" row ", row) {
         Put::Failed => Put::Failed,
         Put::Done => put_numbered(sink, thing, n, behind),
     }
@@ -124,9 +132,9 @@ fn put_field_value<K: Sink>(sink: &mut K, field: u32, value: &i128) -> Put
 // Writes the row and the field of a value that is out of range.
 fn put_range<K: Sink>(sink: &mut K, row: u32, field: u32, value: &i128) -> Put
     ensures { Wrote (K.state sink.old) (K.state sink.new)
-        (catalogue_line (LoadFault.Range row field value.now)) result }
+        (load_line (LoadFault.Range row field value.now)) result }
 {
-    match put_place(sink, b"catalogue row ", row) {
+    match put_place(sink, b" row ", row) {
         Put::Failed => Put::Failed,
         Put::Done => put_field_value(sink, field, value),
     }
@@ -137,7 +145,7 @@ fn put_repeated<K: Sink>(sink: &mut K, row: u32, id: &i64) -> Put
     ensures { Wrote (K.state sink.old) (K.state sink.new)
         (row_line row (valued (codes ": repeated id ") id.now)) result }
 {
-    match put_place(sink, b"catalogue row ", row) {
+    match put_place(sink, b" row ", row) {
         Put::Failed => Put::Failed,
         Put::Done => put_valued(sink, b": repeated id ", &i128::from(*id)),
     }

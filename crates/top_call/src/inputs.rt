@@ -1,22 +1,26 @@
-//! The texts of a command, each fetched and read before the next is fetched: sky, catalogue, script.
+//! The texts of a command, each fetched and read before the next is fetched: sky, catalogue, sources, script.
 //!
 //! A text is fetched to one byte past its limit: one that has this byte is refused as too long. The raw texts of the
-//! sky plan and of the catalogue are dropped before the next is fetched. The store is built before the script is
+//! sky plan, the catalogue and the sources are dropped before the next is fetched. The store is built before the script is
 //! fetched, so a script that arrives late, through a pipe, is answered at once. A script borrows its text, so its text
 //! is returned raw, and its owner reads it.
-ghost use Rattle.std.specs.Prelude.{◌≡◌, ◌≤◌, ◌^◌, IfOk, IfErr, length, Some};
+ghost use Rattle.std.specs.Prelude.{◌≡◌, ◌≤◌, ◌^◌, IfOk, IfErr, length, None, Some};
 ghost use Rattle.catalogue_load.specs.Catalogue.{catalogue_of};
-ghost use Rattle.top_call.specs.Jobs.{IsSurveyOf};
-ghost use Rattle.top_call.specs.Reached.{IsCatalogueOf, IsSkyOf, limit_of};
+ghost use Rattle.top_call.specs.Words.{names_from};
+ghost use Rattle.top_call.specs.Jobs.{AreTablesOf, IsSurveyOf, tables_of};
+ghost use Rattle.top_call.specs.Reached.{IsCatalogueOf, IsSkyOf, IsSourcesOf, limit_of};
 ghost use Rattle.top_call.specs.Steps.{AreGiven, IsCatalogueStop, IsFetchFault, IsGiven, IsRead, IsShelfStop};
-ghost use Rattle.top_call.specs.Steps.{IsSkyStop, IsSurveyStop, IsWhole, IsWholeStop, OfNamed};
+ghost use Rattle.top_call.specs.Steps.{IsSkyStop, IsSourcesStop, IsSurveyStop, IsWhole, IsWholeStop, OfNamed};
 
 use crate::outcome::{Outcome, Which};
+use crate::words::{ScriptNames, SourceNames};
 use catalogue_load::load;
 use chunk_store::Store;
 use sky_io::{Fetch, Shelf, Stop};
 use sky_plan::SkyPlan;
 use sky_row::Rows;
+use source_load::load_sources;
+use source_row::Sources;
 use std::alloc::Global;
 use std::thread::Threads;
 use text_rules::limits::{SCRIPT_TEXT_MOST, SKY_TEXT_MOST, TEXT_MOST};
@@ -37,8 +41,13 @@ pub fn fetch_survey<R: Threads + Sync, S: Shelf>(
         (IsSurveyStop sky.now catalogue.now (S.state shelf.old) (S.state shelf.new)) }
 {
     let plan = fetch_sky(alloc, shelf, sky)?;
-    let rows = fetch_catalogue(alloc, rt, threads, shelf, catalogue)?;
-    stored(alloc, rt, threads, plan, rows)
+    match fetch_catalogue(alloc, rt, threads, shelf, catalogue) {
+        Ok(rows) => stored(alloc, rt, threads, plan, rows),
+        Err(outcome) => {
+            drop(plan);
+            Err(outcome)
+        }
+    }
 }
 
 /// Fetches the texts of these names, reads the sky plan and the catalogue, and builds the store of its rows. Then it
@@ -49,18 +58,18 @@ pub fn fetch_all<R: Threads + Sync, S: Shelf>(
     rt: &R,
     threads: u32,
     shelf: &mut S,
-    sky: &str,
-    catalogue: &str,
-    script: &str,
+    names: &ScriptNames<'_>,
 ) -> Result<(Store, Vec<u8>), Outcome>
-    ensures ok { IfOk result (λ given. AreGiven sky.now catalogue.now script.now
+    ensures ok { IfOk result (λ given.
+        AreGiven names.now.sky.now names.now.catalogue.now names.now.script.now
         given.0 given.1.items (S.state shelf.old) (S.state shelf.new)) }
-    ensures err { IfErr result (IsShelfStop sky.now catalogue.now (Some script.now)
+    ensures err { IfErr result (IsShelfStop
+        (names_from names.now.sky.now names.now.catalogue.now None (Some names.now.script.now))
         (S.state shelf.old) (S.state shelf.new)) }
 {
-    match fetch_survey(alloc, rt, threads, shelf, sky, catalogue) {
+    match fetch_survey(alloc, rt, threads, shelf, names.sky, names.catalogue) {
         Err(outcome) => Err(outcome),
-        Ok(store) => match fetch_whole(alloc, shelf, script, SCRIPT_TEXT_MOST, Which::Script) {
+        Ok(store) => match fetch_script(alloc, shelf, names.script) {
             Err(outcome) => {
                 drop(store);
                 Err(outcome)
@@ -68,6 +77,45 @@ pub fn fetch_all<R: Threads + Sync, S: Shelf>(
             Ok(text) => Ok((store, text)),
         },
     }
+}
+
+/// Fetches the texts of these names up to that of the source table, reads them, and builds the store of the catalogue's
+/// rows before the source table is fetched. The given number of threads read the catalogue and build. Allocates memory.
+/// If it stops, the shelf alone explains the outcome.
+pub fn fetch_tables<R: Threads + Sync, S: Shelf>(
+    alloc: Global,
+    rt: &R,
+    threads: u32,
+    shelf: &mut S,
+    names: &SourceNames<'_>,
+) -> Result<(Store, Sources), Outcome>
+    ensures ok { IfOk result (λ given. IsRead (AreTablesOf
+        names.now.sky.now names.now.catalogue.now names.now.sources.now (tables_of given.0 given.1))
+        (S.state shelf.old) (S.state shelf.new)) }
+    ensures err { IfErr result (IsShelfStop (names_from names.now.sky.now
+        names.now.catalogue.now (Some names.now.sources.now) (Some names.now.script.now))
+        (S.state shelf.old) (S.state shelf.new)) }
+{
+    match fetch_survey(alloc, rt, threads, shelf, names.sky, names.catalogue) {
+        Err(outcome) => Err(outcome),
+        Ok(store) => match fetch_sources(alloc, shelf, names.sources) {
+            Err(outcome) => {
+                drop(store);
+                Err(outcome)
+            }
+            Ok(sources) => Ok((store, sources)),
+        },
+    }
+}
+
+/// Fetches the whole of the script's text of this name. Allocates. If it stops, the shelf alone explains the outcome.
+pub fn fetch_script<S: Shelf>(alloc: Global, shelf: &mut S, name: &str) -> Result<Vec<u8>, Outcome>
+    ensures ok { IfOk result (λ text.
+        IsWhole name.now Which.Script text.items (S.state shelf.old) (S.state shelf.new)) }
+    ensures err { IfErr result
+        (IsWholeStop name.now Which.Script (S.state shelf.old) (S.state shelf.new)) }
+{
+    fetch_whole(alloc, shelf, name, SCRIPT_TEXT_MOST, Which::Script)
 }
 
 /// Fetches the whole of the journal's text of this name. Allocates. If it stops, the shelf alone explains the outcome.
@@ -127,6 +175,20 @@ fn fetch_catalogue<R: Threads + Sync, S: Shelf>(
     match load(rt, alloc, threads, text.as_slice()) {
         Ok(rows) => Ok(rows),
         Err(Stop::Bad(fault)) => Err(Outcome::BadCatalogue { fault }),
+        Err(Stop::Memory) => Err(Outcome::Memory),
+    }
+}
+
+// Fetches and reads the source table.
+fn fetch_sources<S: Shelf>(alloc: Global, shelf: &mut S, name: &str) -> Result<Sources, Outcome>
+    ensures ok { IfOk result (λ table. IsRead (OfNamed name.now (λ text. IsSourcesOf text table))
+        (S.state shelf.old) (S.state shelf.new)) }
+    ensures err { IfErr result (IsSourcesStop name.now (S.state shelf.old) (S.state shelf.new)) }
+{
+    let text = fetch_whole(alloc, shelf, name, TEXT_MOST, Which::Sources)?;
+    match load_sources(alloc, text.as_slice()) {
+        Ok(sources) => Ok(sources),
+        Err(Stop::Bad(fault)) => Err(Outcome::BadSources { fault }),
         Err(Stop::Memory) => Err(Outcome::Memory),
     }
 }

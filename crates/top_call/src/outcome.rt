@@ -13,6 +13,7 @@ use table_rules::LoadFault;
 pub enum Which {
     Sky,
     Catalogue,
+    Sources,
     Script,
     Journal,
 }
@@ -28,6 +29,8 @@ pub enum Outcome {
     BadSky { fault: SkyFault },
     /// The catalogue is not accepted; its first fault.
     BadCatalogue { fault: LoadFault },
+    /// The source table is not accepted; its first fault.
+    BadSources { fault: LoadFault },
     /// The script is not accepted; its first fault.
     BadScript { fault: ScriptFault },
     /// A text is longer than its limit.
@@ -56,6 +59,7 @@ pub fn status(outcome: &Outcome) -> u8
         Outcome::ShelfFault { .. } => 7,
         Outcome::SinkFault { .. } => 8,
         Outcome::Memory => 9,
+        Outcome::BadSources { .. } => 11,
         Outcome::BadJournal { .. } => 12,
     }
 }

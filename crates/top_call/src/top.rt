@@ -9,9 +9,10 @@ use crate::demo::run_demo;
 use crate::inputs::{fetch_all, fetch_journal, fetch_survey};
 use crate::journal_check::check_journal;
 use crate::outcome::Outcome;
+use crate::sources::run_sources;
 use crate::task::Task;
 use crate::threads::{processors, threads_of};
-use crate::words::{Form, read_words};
+use crate::words::{Form, ScriptNames, read_words};
 use crate::work::{do_task, report};
 use sky_io::{Gate, Shelf, Sink};
 use std::alloc::Global;
@@ -19,8 +20,8 @@ use std::sync::Wait;
 use std::thread::Threads;
 
 /// Executes the command that the arguments give: reports how the rows are distributed over the chunks, answers or
-/// explains the queries of a script, or checks a journal. The texts are fetched from the shelf one by one. The chunks
-/// are built before the script is fetched. All texts are accepted and all answers computed before the first byte is
+/// explains the queries of a script, answers them over objects and their sources, or checks a journal. The texts are
+/// fetched from the shelf one by one. The chunks are built before the script is fetched. All texts are accepted and all answers computed before the first byte is
 /// written to the sink.
 ///
 /// Allocates memory for the texts, the rows and their chunks, and the answers; writing does not allocate. Queries are
@@ -65,12 +66,10 @@ fn run_form<R: Threads + Wait + Sync, S: Shelf, K: Sink, G: Gate + Sync>(
 {
     match form {
         Form::Load { sky, catalogue } => run_load(alloc, rt, sky, catalogue, shelf, sink),
-        Form::Asks {
-            task,
-            sky,
-            catalogue,
-            script,
-        } => run_task(alloc, rt, *task, sky, catalogue, script, shelf, sink, gate),
+        Form::Asks { task, names } => run_task(alloc, rt, *task, names, shelf, sink, gate),
+        Form::AsksSources { workers, names } => {
+            run_sources(alloc, rt, *workers, names, shelf, sink, gate)
+        }
         Form::Check { journal } => run_check(alloc, journal, shelf, sink),
         Form::Demo {
             count,
@@ -104,27 +103,18 @@ fn run_task<R: Threads + Wait + Sync, S: Shelf, K: Sink, G: Gate + Sync>(
     alloc: Global,
     rt: &R,
     task: Task,
-    sky: &str,
-    catalogue: &str,
-    script: &str,
+    names: &ScriptNames<'_>,
     shelf: &mut S,
     sink: &mut K,
     gate: &G,
 ) -> Outcome
     requires { IsManned task }
-    ensures { ExplainedOf (Asks task sky.now catalogue.now script.now)
+    ensures { ExplainedOf
+        (Asks task names.now.sky.now names.now.catalogue.now names.now.script.now)
         (shown (S.state shelf.old) (S.state shelf.new) (K.state sink.old) (K.state sink.new))
         result }
 {
-    match fetch_all(
-        alloc,
-        rt,
-        threads_of(rt, task),
-        shelf,
-        sky,
-        catalogue,
-        script,
-    ) {
+    match fetch_all(alloc, rt, threads_of(rt, task), shelf, names) {
         Ok((store, text)) => do_task(alloc, rt, task, store, text.as_slice(), sink, gate),
         Err(outcome) => outcome,
     }

@@ -2,7 +2,7 @@
 ghost use Rattle.std.specs.Prelude.{◌≡◌, ◌≤◌, ◌^◌, [], ◌∷◌, None, Some, IfNone, IfSome};
 ghost use Rattle.text_rules.specs.Numbers.{natural};
 ghost use Rattle.top_call.specs.declared.limits.TheConstants.{WORD_DIGITS_MOST};
-ghost use Rattle.top_call.specs.Words.{IsManned, bytes_of, demo_by, form_of, form_of_five, form_of_four, number_between, task_of, workers_by};
+ghost use Rattle.top_call.specs.Words.{IsManned, bytes_of, demo_by, form_of, form_of_five, form_of_four, form_of_six, number_between, task_of, workers_by};
 ghost use Rattle.session_rules.specs.declared.limits.TheConstants.{WORKERS_MOST};
 ghost use Rattle.top_call.specs.WordForms.{IsWithin, asked_by};
 
@@ -12,6 +12,23 @@ use demo_rules::limits::SEED_MOST;
 use session_rules::limits::WORKERS_MOST;
 use sky_text::read_natural;
 use table_rules::limits::ROWS_MOST;
+
+/// The names of the texts of a command on a script.
+#[derive(Clone, Copy)]
+pub struct ScriptNames<'a> {
+    pub sky: &'a str,
+    pub catalogue: &'a str,
+    pub script: &'a str,
+}
+
+/// The names of the texts of a command on a script over objects and their sources.
+#[derive(Clone, Copy)]
+pub struct SourceNames<'a> {
+    pub sky: &'a str,
+    pub catalogue: &'a str,
+    pub sources: &'a str,
+    pub script: &'a str,
+}
 
 /// A command, with the names of the texts as the arguments give them.
 #[derive(Clone, Copy)]
@@ -24,9 +41,12 @@ pub enum Form<'a> {
     /// To answer or to explain the queries of a script over them.
     Asks {
         task: Task,
-        sky: &'a str,
-        catalogue: &'a str,
-        script: &'a str,
+        names: ScriptNames<'a>,
+    },
+    /// To answer them over the objects of a catalogue and their sources, with the given number of workers.
+    AsksSources {
+        workers: u32,
+        names: SourceNames<'a>,
     },
     /// To check whether a journal is right.
     Check {
@@ -53,6 +73,9 @@ pub fn read_words(words: &[String]) -> Option<Form<'_>>
         [word, second, third, fourth] => read_four(word, second, third, fourth),
         [word, sky, catalogue, script, workers] => {
             read_five(word, sky, catalogue, script, workers)
+        }
+        [word, sky, catalogue, sources, script, workers] => {
+            read_six(word, sky, catalogue, sources, script, workers)
         }
         _ => None,
     }
@@ -96,9 +119,11 @@ fn read_four<'a>(word: &str, second: &'a str, third: &'a str, fourth: &'a str) -
     if word == "explain" {
         return Some(Form::Asks {
             task: Task::Explain,
-            sky: second,
-            catalogue: third,
-            script: fourth,
+            names: ScriptNames {
+                sky: second,
+                catalogue: third,
+                script: fourth,
+            },
         });
     }
     if word != "demo" {
@@ -155,9 +180,42 @@ fn read_five<'a>(
     let task = read_task(word, workers)?;
     Some(Form::Asks {
         task,
-        sky,
-        catalogue,
-        script,
+        names: ScriptNames {
+            sky,
+            catalogue,
+            script,
+        },
+    })
+}
+
+// Returns the command `sources SKY CSV SOURCES SCRIPT WORKERS`.
+fn read_six<'a>(
+    word: &str,
+    sky: &'a str,
+    catalogue: &'a str,
+    sources: &'a str,
+    script: &'a str,
+    workers: &str,
+) -> Option<Form<'a>>
+    ensures none { IfNone result (
+        form_of_six word.now sky.now catalogue.now sources.now script.now workers.now ≡ None) }
+    ensures form { IfSome result (λ form.
+        form_of_six word.now sky.now catalogue.now sources.now script.now workers.now
+        ≡ Some (asked_by form)) }
+    ensures within { IfSome result IsWithin }
+{
+    if word != "sources" {
+        return None;
+    }
+    let workers = read_between(workers.as_bytes(), 0, WORKERS_MOST)?;
+    Some(Form::AsksSources {
+        workers,
+        names: SourceNames {
+            sky,
+            catalogue,
+            sources,
+            script,
+        },
     })
 }
 

@@ -10,7 +10,8 @@ ghost use Rattle.transcript_rules.specs.Transcripts.{FitEnds};
 ghost use Rattle.czar.specs.Ends.{EndsShow, kind_of};
 ghost use Rattle.czar.specs.Plans.{ArePlans};
 ghost use Rattle.top_call.specs.Jobs.{Explains, Reports, Runs, job_on};
-ghost use Rattle.top_call.specs.Steps.{IsFlushed, IsTaskOver, IsWritten};
+ghost use Rattle.top_call.specs.ScriptWork.{IsTaskOver};
+ghost use Rattle.top_call.specs.Steps.{IsFlushed, IsWritten};
 ghost use Rattle.top_call.specs.Words.{IsManned};
 
 use crate::ends::{kinds_of, no_ends};

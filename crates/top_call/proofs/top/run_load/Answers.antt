@@ -13,4 +13,4 @@ returns-in-Ok g c =
 pub returns-in-Err : goal.returns-in-Err
 returns-in-Err g c =
     stop_explained (Load c.args.sky.now c.args.catalogue.now) _ _
-    (c.in-Err.ensures.err None (g.K.Sink.state c.args.sink.now))
+    (c.in-Err.ensures.err None None (g.K.Sink.state c.args.sink.now))

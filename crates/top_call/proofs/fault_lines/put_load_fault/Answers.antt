@@ -1,5 +1,5 @@
 use Rattle.top_call.proofs.FaultLines.{reported_of}
-use Rattle.top_call.proofs.fault_lines.put_catalogue_fault.Goals as goal
+use Rattle.top_call.proofs.fault_lines.put_load_fault.Goals as goal
 
 pub returns-in-Header : goal.returns-in-Header
 returns-in-Header g c = reported_of _ _ _ _ _ c.in-Header.is c.put_numbered.ensures
