@@ -1,2 +1,3 @@
+mod LostAlone
 pub mod Takes
 pub mod TwoBoards

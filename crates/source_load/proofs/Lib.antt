@@ -1,3 +1,2 @@
 pub mod SourceFirsts
-pub mod SourceHeaders
 pub mod SourceOrders

@@ -1,3 +1,3 @@
 pub mod SourceText
 pub mod SourceFields
-pub mod Gathering
+pub mod GatheredSources

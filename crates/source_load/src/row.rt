@@ -9,7 +9,6 @@ ghost use Rattle.table_rules.specs.Records.{faults_by_itself, number_in};
 ghost use Rattle.record_text.specs.Faults.{faults_from, first_of};
 ghost use Rattle.source_rules.specs.Sources.{IsSource};
 ghost use Rattle.source_rules.specs.SourceRecords.{source_form, source_of};
-ghost use Rattle.text_rules.specs.declared.limits.TheConstants.{TEXT_MOST};
 ghost use Rattle.table_rules.specs.declared.limits.TheConstants.{ID_MOST};
 ghost use Rattle.source_rules.specs.declared.limits.TheConstants.{SOURCE_COLUMNS_MOST, SOURCE_FIRST_COLUMNS};
 
@@ -20,39 +19,10 @@ use sky_io::Stop;
 use source_rules::limits::SOURCE_FIRST_COLUMNS;
 use table_rules::LoadFault;
 
-/// Returns the ids of a record with this number, and reads its extra values into `cells`, if the record has `width`
-/// fields, as the header has.
-pub(crate) fn read_source(
-    cells: &mut Vec<Option<i64>>,
-    width: usize,
-    row: u32,
-    fields: &ByteRecord,
-) -> Result<(i64, i64), Stop<LoadFault>>
-    requires two { SOURCE_FIRST_COLUMNS ≤ width }
-    requires few { width ≤ SOURCE_COLUMNS_MOST }
-    requires small { length (fields_of fields.now) ≤ TEXT_MOST + 1 }
-    ensures none { OnOk result (
-        faults_by_itself source_form width row (fields_of fields.now) ≡ []) }
-    ensures ok { IfOk result (λ ids. source_of (fields_of fields.now)
-        ≡ record { id = ids.0; object = ids.1; further = cells.new.items }) }
-    ensures limits { OnOk result (IsSource (source_of (fields_of fields.now))) }
-    ensures wide { OnOk result (SOURCE_FIRST_COLUMNS + length cells.new.items ≡ width) }
-    ensures bad { IfErr result (λ stop. IfBad stop (λ fault.
-        first_of (faults_by_itself source_form width row (fields_of fields.now)) ≡ Some fault)) }
-{
-    let count = fields.len();
-    if count != width {
-        return Err(Stop::Bad(LoadFault::FieldCount {
-            row,
-            count: count as u32,
-        }));
-    }
-    read_full_source(cells, row, fields)
-}
-
-/// Returns the ids of a record that has as many fields as the header, and reads its extra values into `cells`.
+/// Returns the ids of a record with this number, which has as many fields as the header, and reads its extra values into
+/// `cells`.
 #[tactic(auto, using(crate::proofs::SourceFirsts::own_none, crate::proofs::SourceFirsts::own_ids, crate::proofs::SourceFirsts::own_behind))]
-fn read_full_source(
+pub(crate) fn read_source(
     cells: &mut Vec<Option<i64>>,
     row: u32,
     fields: &ByteRecord,
@@ -64,6 +34,8 @@ fn read_full_source(
     ensures ok { IfOk result (λ ids. source_of (fields_of fields.now)
         ≡ record { id = ids.0; object = ids.1; further = cells.new.items }) }
     ensures limits { OnOk result (IsSource (source_of (fields_of fields.now))) }
+    ensures wide { OnOk result (
+        SOURCE_FIRST_COLUMNS + length cells.new.items ≡ length (fields_of fields.now)) }
     ensures bad { IfErr result (λ stop. IfBad stop (λ fault. first_of
         (faults_by_itself source_form (length (fields_of fields.now)) row (fields_of fields.now)) ≡ Some fault)) }
 {
@@ -94,6 +66,8 @@ fn with_cells(
     ensures ok { IfOk result (λ ids. source_of (fields_of fields.now)
         ≡ record { id = ids.0; object = ids.1; further = cells.new.items }) }
     ensures limits { OnOk result (IsSource (source_of (fields_of fields.now))) }
+    ensures wide { OnOk result (
+        SOURCE_FIRST_COLUMNS + length cells.new.items ≡ length (fields_of fields.now)) }
     ensures bad { IfErr result (λ stop. IfBad stop (λ fault. first_of
         (faults_from row SOURCE_FIRST_COLUMNS (fields_of fields.now)) ≡ Some fault)) }
 {
