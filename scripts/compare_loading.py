@@ -4,9 +4,9 @@
     scripts/compare_loading.py FOLDER [--program FILE] [--texts N] [--seed SEED]
 
 The program reads a text of at least 64 KiB in parts, one a thread, cut after line feeds, and builds its chunks by threads too. So
-each text here is longer than that. It is read here byte by byte, as docs/FORMATS.md describes it, and its rows are validated one
-by one; `flat_answers.py` says what is to be answered and reported over them. The program answers three queries over each text
-with 0, 1, 3 and 16 workers, and reports its chunks: all must write the same bytes, or the same fault, with the same status.
+each text here is longer than that. It is read here byte by byte and row by row (`table_texts.py`); `flat_answers.py` says what is
+to be answered and reported over them. The program answers three queries over each text with 0, 1, 3 and 16 workers, and reports its
+chunks: all must write the same bytes, or the same fault, with the same status.
 
 - Swept: five short pieces of a text, one of LF, one of CR, one of CR LF, one of all three with empty lines, and one with quotes,
   each in the middle of a text of lines. The text grows at its end, so that with 3 workers the cut is looked for from each byte of
@@ -14,6 +14,7 @@ with 0, 1, 3 and 16 workers, and reports its chunks: all must write the same byt
 - Cases: a byte order mark in front of the text and of a row, no line feed at the end, lines fewer than threads, no line feed at
   all, a header alone, empty lines alone, a header in quotes, a quote in each of 20 places, a fault of each kind in each of 20
   places, two faults, an id that repeats in another part, ids that rise, fall and are shuffled, NULL from a row on.
+- Ended: a text without its last bytes, and one without its first, for each number of them up to two lines; with 3 workers.
 - Random: N texts (20) of up to 16,000 rows, some with a changed byte.
 
 FILE is the built program, by default .qserv/qserv, where ./qserv leaves it. The texts sky, csv and script of the last text, or
@@ -28,6 +29,7 @@ import sys
 
 import flat_answers
 import random_worlds
+import table_texts
 
 HERE = os.path.dirname(os.path.abspath(__file__))
 sys.path.append(os.path.join(HERE, "..", "bench"))
@@ -40,106 +42,9 @@ QUERIES = [
     "SELECT objectId,x,y,z,flux FROM Object WHERE flux IS NULL OR flux>=0 ORDER BY objectId LIMIT 4000",
     "SELECT kind,COUNT(*),MIN(flux),MAX(z) FROM Object GROUP BY kind",
 ]
-FIRST = [b"objectId", b"x", b"y", b"z"]
 HEADER = b"objectId,x,y,z,flux,kind\n"
 WORKERS = [0, 1, 3, 16]
-IDS, COORDINATE, EXTRA = (1 << 63) - 1, 268435472, 1 << 50
-EDGE = 1 << 28
 LONG = 1 << 16
-
-
-# ---- the reader
-
-
-def records(text):
-    """The records of a text, each a list of fields: the rules of csv, a byte at a time."""
-    if text.startswith(b"\xef\xbb\xbf"):
-        text = text[3:]
-    fields, field, state = [], bytearray(), "start"
-    for byte in text:
-        if state == "start" and byte in b"\r\n":
-            continue
-        if state == "quoted":
-            if byte == 34:
-                state = "closed"
-            else:
-                field.append(byte)
-        elif state == "closed" and byte == 34:
-            field.append(byte)
-            state = "quoted"
-        elif byte == 44:
-            fields.append(bytes(field))
-            field, state = bytearray(), "field"
-        elif byte in b"\r\n":
-            yield [*fields, bytes(field)]
-            fields, field, state = [], bytearray(), "start"
-        elif byte == 34 and state in ("start", "field"):
-            state = "quoted"
-        else:
-            field.append(byte)
-            state = "inside"
-    if state != "start":
-        yield [*fields, bytes(field)]
-
-
-def number(field):
-    """The number of a field, or None."""
-    digits = field[1:] if field.startswith(b"-") else field
-    if not 1 <= len(digits) <= 19 or not all(48 <= byte <= 57 for byte in digits):
-        return None
-    return -int(digits) if field.startswith(b"-") else int(digits)
-
-
-def is_name(name):
-    letters = b"abcdefghijklmnopqrstuvwxyzABCDEFGHIJKLMNOPQRSTUVWXYZ_"
-    return 1 <= len(name) <= 32 and name[0] in letters and all(byte in letters + b"0123456789" for byte in name)
-
-
-def header_fault(header):
-    """The number of the first field of a header that is wrong, or None."""
-    for col in range(max(4, len(header))):
-        if col < 4:
-            right = col < len(header) and header[col] == FIRST[col]
-        else:
-            right = col < 16 and is_name(header[col]) and header[col] not in header[:col]
-        if not right:
-            return col + 1
-    return None
-
-
-def row_fault(record, width):
-    """What is wrong with a record, whatever the ids of others are, or None."""
-    if len(record) != width:
-        return f"{len(record)} fields"
-    for col, field in enumerate(record):
-        if col >= 4 and field == b"":
-            continue
-        value = number(field)
-        if value is None:
-            return f"field {col + 1} is not a number"
-        least, most = (0, IDS) if col == 0 else (-COORDINATE, COORDINATE) if col < 4 else (-EXTRA, EXTRA)
-        if not least <= value <= most:
-            return f"field {col + 1} out of range: {value}"
-    x, y, z = (number(field) for field in record[1:4])
-    return None if (EDGE - 16) ** 2 <= x * x + y * y + z * z <= (EDGE + 16) ** 2 else "length"
-
-
-def read(text):
-    """The names and the rows of a catalogue in ascending id, or the line of its first fault."""
-    found = list(records(text))
-    wrong = header_fault(found[0] if found else [])
-    if wrong:
-        return f"catalogue header: field {wrong}"
-    ids, rows = set(), []
-    for place, record in enumerate(found[1:], 1):
-        fault = row_fault(record, len(found[0]))
-        if not fault and number(record[0]) in ids:
-            fault = f"repeated id {number(record[0])}"
-        if fault:
-            return f"catalogue row {place}: {fault}"
-        ids.add(number(record[0]))
-        rows.append([None if field == b"" else number(field) for field in record])
-    return [name.decode() for name in found[0]], sorted(rows)
 
 
 # ---- texts
@@ -250,6 +155,16 @@ def cases(draw):
     yield "a fault before a quote", HEADER + b"".join([*rows[:9], b"1,2,3\n", *rows[9:5000], b'"', *rows[5000:]])
 
 
+def ended(draw):
+    """A text of lines without its last bytes, and without its first."""
+    lines = [HEADER, *Rows(draw).lines(2 * LONG)]
+    text = b"".join(lines)
+    for count in range(len(lines[-1]) + len(lines[-2]) + 1):
+        yield f"{count} bytes cut from the end", text[: len(text) - count]
+    for count in range(len(lines[0]) + len(lines[1]) + 1):
+        yield f"{count} bytes cut from the front", text[count:]
+
+
 def random_texts(draw, count):
     for number_of in range(count):
         rows = Rows(draw).lines(draw.choice([LONG, 3 * LONG, 9 * LONG]))
@@ -272,7 +187,7 @@ class Wanted:
 
     def of(self, text):
         """Status, transcript, report and line on standard error."""
-        made = read(text)
+        made = table_texts.read(text)
         if isinstance(made, str):
             return 4, "", "", made + "\n"
         if made != self.made:
@@ -305,6 +220,7 @@ def main():
     draw, wanted, counts = random.Random(words.seed), Wanted(), collections.Counter()
     texts = [(name, text, [0, 3] if odd else [1, 3, 16]) for name, text, odd in swept(draw)]
     texts += [(name, text, WORKERS) for name, text in [*cases(draw), *random_texts(draw, words.texts)]]
+    texts += [(name, text, [3]) for name, text in ended(draw)]
     for name, text, workers in texts:
         if differs(words.program, words.folder, name, text, workers, wanted, counts):
             print(f"{name} differs; its texts are in {words.folder}")

@@ -1,5 +1,5 @@
 #!/usr/bin/env python3
-"""Cuts each text of the example, and a journal, at each byte, and compares what the built program does with each part with what
+"""Cuts each text of the example, a source table with its script, and a journal, at each byte, and compares what the built program does with each part with what
 it has to do.
 
     scripts/cut_texts.py [PROGRAM]
@@ -7,9 +7,10 @@ it has to do.
 PROGRAM is the built program, by default crates/qserv_cli/out/qserv_cli, where the whole check leaves it.
 
 Of a cut both parts are texts: the bytes before it, and those after it. The program is given each part in the place of the whole
-text, the two others as they are: it reports, explains and answers. A part of the journal it checks. What it has to do is computed
-here from the rules in docs/FORMATS.md: the first fault of the text (`text_faults.py`), or what is written for the sky, the table
-and the script that the text contains (`flat_answers.py`, `session_ends.py`), or for the journal (`journals.py`). The status,
+text, the others as they are: it reports, explains and answers, with sources and without. A part of the journal it checks. What it
+has to do is computed here from the rules in docs/FORMATS.md: the first fault of the text (`text_faults.py`), or what is written for the
+sky, the tables and the script that the text contains (`flat_answers.py`, `flat_children.py`, `session_ends.py`), or for the journal
+(`journals.py`). The status,
 standard output and standard error are compared byte by byte, so nothing is on standard output unless the status is 0.
 
 It prints the first runs that ended otherwise, and then how many ended how. The status is 0 where none ended otherwise, and 1
@@ -25,9 +26,11 @@ import sys
 import tempfile
 
 import flat_answers
+import flat_children
 import journals
 import session_ends
 import text_faults
+import worked_children
 import worked_runs
 from random_worlds import Chunk
 
@@ -36,6 +39,11 @@ PROGRAM = os.path.join(HERE, "..", "crates", "qserv_cli", "out", "qserv_cli")
 EXAMPLES = os.path.join(HERE, "..", "examples")
 NAMES = {"sky": "sky.txt", "csv": "catalogue.csv", "script": "script.sql"}
 FORMS = [["load", "sky", "csv"], ["explain", "sky", "csv", "script"], ["query", "sky", "csv", "script", "0"], ["check", "journal"]]
+FORMS += [["sources", "sky", "csv", "measured", "children", "0"]]
+# a script over the example's catalogue and five sources
+CHILDREN = f"""{worked_children.GAINS}
+SELECT s.t AS k,s.sourceId {worked_children.JOINED} AND (o.kind=1 OR s.flux<12) ORDER BY k DESC LIMIT 2
+"""
 # how many runs that differ are printed; far more seconds than a run takes
 SHOWN, SECONDS = 5, 60
 
@@ -56,6 +64,16 @@ def world_of(sky, csv):
     return World(plan, text_faults.table_of(csv))
 
 
+@functools.lru_cache(maxsize=8)
+def children_of(sky, csv, measured):
+    return flat_children.Children(world_of(sky, csv), *text_faults.sources_of(measured))
+
+
+@functools.cache
+def child_block_of(sky, csv, measured, line):
+    return session_ends.asked(line, children_of(sky, csv, measured), flat_children.ChildBound)[0]
+
+
 @functools.cache
 def block_of(sky, csv, line):
     """What is written for a query that no line cancels."""
@@ -72,16 +90,20 @@ def wanted(form, texts):
     if form[0] == "check":
         status, out, err = journals.told(texts["journal"].encode("latin-1"))
         return status, out.decode("latin-1"), err.decode("latin-1")
-    places = texts["sky"], texts["csv"]
+    # what makes a world, what makes a query's lines over it, and of which texts
+    world_by, made = world_of, {"query": block_of, "explain": explained}.get(form[0])
+    places, script = [texts["sky"], texts["csv"]], "script"
+    if form[0] == "sources":
+        world_by, made, script = children_of, child_block_of, "children"
+        places.append(texts["measured"])
     try:
-        world = world_of(*places)
+        world = world_by(*places)
         if form[0] == "load":
             return 0, flat_answers.report(world), ""
-        # the example's script neither waits nor cancels, so each of its steps is a query
-        lines = [line for word, line in session_ends.steps_of(text_faults.script_of(texts["script"])) if word == "query"]
+        # the scripts neither wait nor cancel, so each of their steps is a query
+        lines = [line for word, line in session_ends.steps_of(text_faults.script_of(texts[script])) if word == "query"]
     except text_faults.Faulty as fault:
         return fault.status, "", fault.line + "\n"
-    made = block_of if form[0] == "query" else explained
     return 0, flat_answers.text_of(made(*places, line) for line in lines), ""
 
 
@@ -114,7 +136,7 @@ def parts_of(text):
 
 def compare(program, folder):
     """How many runs ended with each status, and how those ended that ended otherwise."""
-    texts = {"journal": worked_runs.BOARD}
+    texts = {"journal": worked_runs.BOARD, "measured": worked_children.FIVE, "children": CHILDREN}
     for name, file_name in NAMES.items():
         with open(os.path.join(EXAMPLES, file_name), encoding="latin-1", newline="") as file:
             texts[name] = file.read()

@@ -1,7 +1,7 @@
 #!/usr/bin/env python3
 """Runs the built program again and again, each time with another of its requests for memory, or for threads, refused.
 
-    scripts/fail_allocations.py FOLDER [--program FILE] [--workers N ..] [--session] [--processes N]
+    scripts/fail_allocations.py FOLDER [--program FILE] [--workers N ..] [--session | --long] [--processes N]
 
 The run is small: six rows, and a script with a query of every kind and one of every refusal. Each form of the command line
 is run: load, explain, check, query, classes, trace, demo and sources, the last five with each number of workers (0). So are query and
@@ -21,24 +21,30 @@ It prints how many runs of each form ended how, and each run that ended otherwis
 The right texts are computed here from the flat table. With --session the script also waits and cancels. Between the program
 and the C library is a small library in C that refuses the requests; it is compiled with cc into a folder that goes again.
 
+With --long the runs are of load and query alone, over 17,000 shuffled rows: with workers this catalogue is read in parts, put in
+order and stored by several threads. Which request is the Nth depends then on how the threads run.
+
 FILE is the built program, by default .qserv/qserv, where ./qserv leaves it. FOLDER is made where it isn't there, and gets the
 texts sky, csv, script and journal, the catalogue and scripts of the worked rows, measured and joins for sources, and one, many and
-asked for the chunk of 150 rows.
+asked for the chunk of 150 rows; with --long wide, long and few.
 """
 import collections
 import concurrent.futures
 import functools
 import os
+import random
 import subprocess
 import sys
 import tempfile
 
 import compare_answers
+import compare_loading
 import flat_answers
 import journals
 import random_journals
 import random_worlds
 import session_ends
+import worked_children
 import worked_runs
 
 # bench/ is on the path since compare_answers was imported
@@ -142,12 +148,20 @@ WORKED = {
     "steps": ["SELECT objectId FROM Object", "SELECT COUNT(*) FROM Object", "SELECT MAX(flux) FROM Object", "cancel 2", "wait 1"],
 }
 # a chunk of 150 rows, and what is asked of it
+# the answered rows of sources, and one of every refusal
+JOINS = worked_children.ROWS[: -len(worked_children.REFUSED)] + worked_children.ROWS[-8:]
 ONE = "overlap 16\nstripe -268435472 1 1 1\n"
 MANY = [[id, EDGE, 7 * id, 0, id % 5, None if id == 100 else id] for id in range(1, 151)]
 ASKED = [
     "SELECT COUNT(*),COUNT(g),SUM(g),MIN(y),MAX(objectId) FROM Object",
     "SELECT objectId,g,y FROM Object WHERE objectId>=98 ORDER BY g LIMIT 4",
     "SELECT flux,COUNT(g) FROM Object GROUP BY flux",
+]
+# enough rows for threads to read them, to put them in order and to store them
+LONG = 17_000
+FEW = [
+    "SELECT COUNT(*),COUNT(flux),SUM(flux),MIN(objectId),MAX(x) FROM Object",
+    "SELECT objectId,x,flux FROM Object WHERE flux>=0 ORDER BY objectId LIMIT 9",
 ]
 KINDS = ["right text", "right but for queries out of memory", "out of memory, nothing written"]
 # more threads than any of the runs starts, and a number that no request has
@@ -202,8 +216,9 @@ def sessions(world, script):
 
 def joined(workers):
     """The ends that the queries over objects and their sources may have."""
-    blocks = [(block.splitlines(), not block.startswith("refused")) for _, block in worked_runs.JOINS]
-    return session_ends.chosen([("query", query) for query, _ in worked_runs.JOINS], blocks, workers, True)
+    # a query that is refused has no chunks to be scanned, and one whose plan is empty
+    blocks = [(block, not block[-1].startswith("refused") and not block[-1].endswith(" 0 chunks")) for _, block in JOINS]
+    return session_ends.chosen([("query", query) for query, _ in JOINS], blocks, workers, True)
 
 
 def forms(world, script, workers):
@@ -225,6 +240,19 @@ def forms(world, script, workers):
             if texts[2] in ("script", "steps"):
                 found.append(traced(["trace", *texts, str(number)], over, asked, number))
     return found
+
+
+def long_forms(world, workers):
+    """The forms that are run over the long catalogue."""
+    yield written(["load", "wide", "long"], [{"told": flat_answers.report(world)}])
+    for number in workers:
+        yield written(["query", "wide", "long", "few", str(number)], session_ends.choices(world, FEW, number, True))
+
+
+def long_rows():
+    """The rows of the long catalogue in ascending id."""
+    drawn = compare_loading.Rows(random.Random(7))
+    return [[None if value == "" else value for value in drawn.row()] for _ in range(LONG)]
 
 
 def lines_of(rows):
@@ -291,6 +319,7 @@ def main():
     parser = program_words.parser(__doc__, processes=os.cpu_count())
     parser.add_argument("--workers", type=int, nargs="+", default=[0])
     parser.add_argument("--session", action="store_true")
+    parser.add_argument("--long", action="store_true")
     words = parser.parse_args()
     folder = os.path.abspath(words.folder)
     os.makedirs(folder, exist_ok=True)
@@ -298,12 +327,19 @@ def main():
     texts = {"sky": [random_worlds.SKIES[0].rstrip()], "csv": lines_of(ROWS), "script": script, **WORKED}
     texts |= {"one": [ONE.rstrip()], "many": lines_of(MANY), "asked": ASKED, "worked": lines_of(FLUX)}
     texts["journal"] = worked_runs.BOARD.splitlines()
-    texts |= {"measured": worked_runs.SOURCES.splitlines(), "joins": worked_runs.JOIN_SCRIPT.splitlines()}
+    texts |= {"measured": worked_children.FIVE.splitlines(), "joins": [query for query, _ in JOINS]}
+    if words.long:
+        rows = long_rows()
+        header, *lines = lines_of(rows)
+        texts |= {"wide": [compare_loading.SKY.rstrip()], "few": FEW, "long": [header, *random.Random(8).sample(lines, LONG)]}
+        asked = long_forms(random_worlds.World(compare_loading.SKY, NAMES, rows), words.workers)
+    else:
+        asked = forms(world, script, words.workers)
     compare_answers.write(folder, {name: "\n".join(lines) + "\n" for name, lines in texts.items()})
     wrong = 0
     with tempfile.TemporaryDirectory() as made, concurrent.futures.ThreadPoolExecutor(words.processes) as pool:
         refuser = compiled(made)
-        for form in forms(world, script, words.workers):
+        for form in asked:
             ends = [end for is_one in (True, False) for end in numbered(pool, words, form, folder, refuser, is_one)]
             ends += pool.map(functools.partial(with_threads, words, form, folder, refuser), range(THREADS))
             counts = collections.Counter(ends)

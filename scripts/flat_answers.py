@@ -8,7 +8,7 @@ only plans, explanations and reports speak of chunks. `compare_answers.py` compa
 import collections
 
 from sql_texts import read
-from sql_trees import MOST, Among, Area, Chord, Col, Compare, Int, Item, Refused
+from sql_trees import COORDINATE, FURTHER, IDS, MOST, Among, Area, Chord, Col, Compare, Int, Item, Refused
 
 
 # ---- binding
@@ -16,6 +16,8 @@ from sql_trees import MOST, Among, Area, Chord, Col, Compare, Int, Item, Refused
 
 class Binder:
     """The checks of a tree over the names of the table's columns, in their order; then the query is bound."""
+
+    known_tables = ("Object",)
 
     def __init__(self, line, query, schema):
         self.line, self.query, self.schema = line, query, schema
@@ -34,7 +36,7 @@ class Binder:
         self.check_join()
         self.check_areas()
         for expr in self.exprs():
-            expr.bound(self.schema)
+            expr.bound(self.size)
         self.check_order()
         for col in [*self.columns(), *([self.query.order] if self.query.order else [])]:
             col.second = self.is_join and col.table == self.qualifiers[1]
@@ -50,8 +52,13 @@ class Binder:
     def is_known(self, col):
         return col.name in self.schema and (col.table is None or col.table in self.qualifiers)
 
+    def size(self, col):
+        """The largest size of a column's values."""
+        at = self.schema.index(col.name)
+        return IDS if at == 0 else COORDINATE if at < 4 else FURTHER
+
     def check_names(self):
-        unknown = [(name.at, name.end) for name, _ in self.query.tables if name.text != "Object"]
+        unknown = [(name.at, name.end) for name, _ in self.query.tables if name.text not in self.known_tables]
         unknown += [(col.at, col.end) for col in self.columns() if not self.is_known(col)]
         named = [name for chord in self.chords for name in (chord.left, chord.right)]
         unknown += [(name.at, name.end) for name in named if name.text not in self.qualifiers]
@@ -130,8 +137,8 @@ class Bound(Binder):
 
     def __init__(self, line, world):
         super().__init__(line, read(line), world.names)
-        self.check()
         self.world = world
+        self.check()
         self.alias_item = self.found_alias()
 
     def found_alias(self):

@@ -4,9 +4,9 @@
     scripts/memory_checkers.py [PROGRAM] [--threads] [--scripts N] [--seed SEED] [--workers N ..] [--processes N]
     scripts/memory_checkers.py [PROGRAM] --why
 
-The example is reported, explained, answered by `query`, by `classes` and by `sources` and traced with each number of workers, a small demo is
-drawn, and a journal is checked. Then come N (200) random scripts that wait and cancel, each over a world of its own
-(`random_sessions.py`), with each number of workers, by `query` and by `classes` in turns.
+The example is reported, explained, answered by `query`, by `classes` and by `sources` and traced with each number of workers, a small
+demo is drawn, and a journal is checked. Then come N (200) random scripts that wait and cancel, each over a world of its own
+(`random_sessions.py`, `random_children.py`), with each number of workers, by `query`, by `classes` and by `sources` in turns.
 
 PROGRAM is the built program, by default crates/qserv_cli/out/qserv_cli, where the whole check leaves it. It runs under valgrind's
 memcheck, with 0, 2 and 16 workers. Whatever memcheck reports fails: a read or a write outside of what was allocated, a decision
@@ -40,6 +40,7 @@ import sys
 import tempfile
 
 import compare_answers
+import random_children
 import random_sessions
 import worked_runs
 
@@ -114,10 +115,11 @@ def worlds(words, folder):
     for number in range(words.scripts):
         draw, own = random.Random(f"{words.seed} {number}"), os.path.join(folder, str(number))
         os.mkdir(own)
-        world = random_sessions.world_of(draw)
-        texts = {"sky": world.sky.text, "csv": world.catalogue(draw), "script": random_sessions.script_of(draw, world)}
-        compare_answers.write(own, texts)
-        yield from ((own, form) for form in asked(words.workers, ("query", "classes")[number % 2]))
+        command = ("query", "classes", "sources")[number % 3]
+        kind = random_children.CHILDREN if command == "sources" else random_sessions.OBJECTS
+        world, texts = kind.world(draw, number)
+        compare_answers.write(own, {**texts, "script": random_sessions.script_of(draw, world, kind.asker)})
+        yield from ((own, [command, *kind.texts, str(workers)]) for workers in words.workers)
 
 
 # ---- why helgrind and drd do not serve

@@ -38,6 +38,9 @@ import program_words
 OF_A_WORLD = 10
 SECONDS = 60
 TEXTS = ["sky", "csv", "script"]
+# the texts of a session in the order of the words; a world of a number and its texts but the script; who writes the queries; a query's
+# block and whether it has chunks to be scanned; and what else is compared of a world, if anything is
+Kind = collections.namedtuple("Kind", "texts world asker asked further")
 MANY_CHUNKS = "overlap 1000\n" + "".join(f"stripe {low} 64 2 2\n" for low in (-268435472, -1000000, 0, 1000000))
 
 
@@ -60,7 +63,7 @@ def query_line(draw, asker):
     pick = draw.random()
     if pick < 0.03:
         return draw.choice(["cancel two", "wait  1", "Cancel 1", "wait 1 ", "cancel 1234567890"])
-    words = ["SELECT", "COUNT", "(", "*", ")", "FROM", "Object"] if pick < 0.2 else asker.query()
+    words = asker.short() if pick < 0.2 else asker.query()
     return asker.text(asker.changed(words) if pick > 0.93 else words)
 
 
@@ -80,9 +83,9 @@ def step_lines(draw, asker, count):
                 yield f"{draw.choice(['cancel', 'cancel', 'wait'])} {zeros}{named}"
 
 
-def script_of(draw, world):
+def script_of(draw, world, make=random_worlds.Asker):
     """The text of a session."""
-    asker = random_worlds.Asker(draw, world)
+    asker = make(draw, world)
     count = draw.randrange(60, 90) if draw.random() < 0.005 else draw.randrange(1, 8)
     text = ""
     for line in step_lines(draw, asker, count):
@@ -94,11 +97,10 @@ def script_of(draw, world):
 # ---- running
 
 
-def told(program, folder, command, workers):
-    """What the program writes by a command for the texts in a folder, or why that is of no use."""
-    words = [program, command, *TEXTS, str(workers)]
+def told(program, folder, run):
+    """What the program writes by the words of a run for the texts in a folder, or why that is of no use."""
     try:
-        ended = subprocess.run(words, cwd=folder, capture_output=True, timeout=SECONDS)
+        ended = subprocess.run([program, *run], cwd=folder, capture_output=True, timeout=SECONDS)
     except subprocess.TimeoutExpired:
         return None, f"did not end within {SECONDS} seconds"
     if ended.returncode or ended.stderr:
@@ -106,9 +108,9 @@ def told(program, folder, command, workers):
     return ended.stdout.decode("latin-1"), None
 
 
-def judged(program, folder, command, workers, found):
-    """How the queries end by a command with this many workers, and what is wrong with that, if anything is."""
-    text, why = told(program, folder, command, workers)
+def judged(program, folder, run, found):
+    """How the queries end by the words of a run, and what is wrong with that, if anything is."""
+    text, why = told(program, folder, run)
     if why:
         return [], why
     ended = session_ends.ends_told(text, found)
@@ -132,34 +134,46 @@ def runs_of(words):
     return [(command, number) for command in words.commands for number in words.workers]
 
 
-def run_session(words, folder, world, script, counts):
+def run_session(words, kind, folder, world, script, counts):
     """Runs a session by each command with each number of workers; says what differs, if anything does."""
     compare_answers.write(folder, {"script": script})
     steps = session_ends.steps_of(compare_answers.queries_of(script))
-    blocks = [session_ends.asked(text, world) for word, text in steps if word == "query"]
+    blocks = [kind.asked(text, world, counts) for word, text in steps if word == "query"]
     for command, number in runs_of(words):
         found = session_ends.chosen(steps, blocks, number)
-        ended, why = judged(words.program, folder, command, number, found)
+        ended, why = judged(words.program, folder, [command, *kind.texts, str(number)], found)
         if why:
             return f"{command}, {number} workers: {why}"
         counted(counts, (command, number), found, ended)
     return None
 
 
-def run_world(number, words):
+def run_world(number, words, kind):
     """Runs the sessions of a world, of which each is drawn from the seed and its own number."""
     folder = os.path.join(words.folder, multiprocessing.current_process().name)
     os.makedirs(folder, exist_ok=True)
     draw, counts = random.Random(f"{words.seed} {number}"), collections.Counter()
-    world = world_of(draw) if number % 4 else wide_world_of(draw)
-    texts = {"sky": world.sky.text, "csv": world.catalogue(draw)}
+    world, texts = kind.world(draw, number)
     compare_answers.write(folder, texts)
     for at in range(number * OF_A_WORLD, min((number + 1) * OF_A_WORLD, words.sessions)):
-        script = script_of(draw, world)
-        why = run_session(words, folder, world, script, counts)
+        script = script_of(draw, world, kind.asker)
+        why = run_session(words, kind, folder, world, script, counts)
         if why:
             return counts, {**texts, "script": script}, f"session {at + 1}, {why}"
-    return counts, None, None
+    wrong = kind.further and kind.further(words, folder, draw, world, texts, counts)
+    return (counts, *wrong) if wrong else (counts, None, None)
+
+
+def world_and_texts(draw, number):
+    world = world_of(draw) if number % 4 else wide_world_of(draw)
+    return world, {"sky": world.sky.text, "csv": world.catalogue(draw)}
+
+
+def asked(line, world, counts):
+    return session_ends.asked(line, world)
+
+
+OBJECTS = Kind(TEXTS, world_and_texts, random_worlds.Asker, asked, None)
 
 
 def by_hand(words):
@@ -174,23 +188,29 @@ def by_hand(words):
             compare_answers.write(words.folder, {name: file.read()})
     compare_answers.write(words.folder, {"script": script})
     for command, workers in runs_of(words):
-        text, why = told(words.program, words.folder, command, workers)
+        text, why = told(words.program, words.folder, [command, *TEXTS, str(workers)])
         allowed = [first + "query 2\ncancelled\n" + most] + [first + count + most] * (workers > 0)
         if text not in allowed:
             return f"the session by hand, {command}, {workers} workers: {why or text}"
     return None
 
 
-def main():
-    parser = program_words.parser(__doc__, sessions=1000, seed=1, processes=os.cpu_count())
+def parsed(doc, commands):
+    """The words of a script with this text, which runs these commands."""
+    parser = program_words.parser(doc, sessions=1000, seed=1, processes=os.cpu_count())
     parser.add_argument("--workers", type=int, nargs="+", default=[0, 1, 2, 4, 16])
-    parser.add_argument("--commands", nargs="+", default=["query", "classes"], metavar="WORD")
+    parser.add_argument("--commands", nargs="+", default=commands, metavar="WORD")
     words = parser.parse_args()
     words.folder = os.path.abspath(words.folder)
-    wrong, counts = by_hand(words), collections.Counter()
+    return words
+
+
+def run_all(words, kind, wrong):
+    """Runs all sessions unless something is wrong already, and prints how they ended; the status of the script."""
+    counts = collections.Counter()
     worlds = range(0 if wrong else -(-words.sessions // OF_A_WORLD))
     with multiprocessing.Pool(words.processes) as pool:
-        for more, texts, why in pool.imap_unordered(functools.partial(run_world, words=words), worlds):
+        for more, texts, why in pool.imap_unordered(functools.partial(run_world, words=words, kind=kind), worlds):
             counts += more
             if why:
                 compare_answers.write(words.folder, texts)
@@ -200,10 +220,16 @@ def main():
         print(f"{wrong}\nits texts are in {words.folder}")
         return 1
     print(f"{words.sessions} sessions, by {' and '.join(words.commands)}, each with {' '.join(map(str, words.workers))} workers: none differs")
-    for run in runs_of(words):
-        kinds = sorted((kind, count) for (own, kind), count in counts.items() if own == run)
-        print(f"{run[0]}, {run[1]} workers: " + ", ".join(f"{count} {kind}" for kind, count in kinds))
+    for own in [*runs_of(words), None]:
+        kinds = sorted((kind, count) for (run, kind), count in counts.items() if run == own)
+        if kinds:
+            print((f"{own[0]}, {own[1]} workers: " if own else "") + ", ".join(f"{count} {kind}" for kind, count in kinds))
     return 0
+
+
+def main():
+    words = parsed(__doc__, ["query", "classes"])
+    return run_all(words, OBJECTS, by_hand(words))
 
 
 if __name__ == "__main__":

@@ -51,8 +51,8 @@ def large(draw):
     return made(draw, sky, draw.choice([1, 2, 3, 4, 12]), sorted(ids))
 
 
-def made(draw, sky, further, ids):
-    """A world with these ids: NULLs, and few or many distinct values, or mostly the largest."""
+def values(draw):
+    """What draws extra values: NULLs, and few or many distinct values, or mostly the largest."""
     is_extreme, most = draw.random() < 0.3, draw.choice([1, 3, 30, 1000])
 
     def value():
@@ -62,7 +62,12 @@ def made(draw, sky, further, ids):
             return draw.choice([FURTHER, -FURTHER, FURTHER - 1, 1 - FURTHER])
         return draw.randint(-most, most)
 
-    plan = places.Sky(sky)
+    return value
+
+
+def made(draw, sky, further, ids):
+    """A world with these ids."""
+    value, plan = values(draw), places.Sky(sky)
     rows = [[number, *position(draw, plan), *(value() for _ in range(further))] for number in ids]
     return World(sky, ["objectId", "x", "y", "z"] + FURTHER_NAMES[:further], rows)
 
@@ -78,7 +83,8 @@ def position(draw, sky):
 class Asker(Writer):
     """Writes queries that mostly bind over a world, as lists of words."""
 
-    junk = 0.004
+    # how often a name is unknown, and how often the items are a star where nothing is grouped
+    junk, star = 0.004, 0.12
 
     def __init__(self, draw, world):
         super().__init__(draw)
@@ -180,7 +186,8 @@ class Asker(Writer):
         value = self.listed(numbers) if self.chance(0.1) else [str(numbers[0])]
         return words + ["="] + value if self.chance(0.9) else value + ["="] + words
 
-    def chord(self):
+    def joining(self):
+        """The test that makes a join of two tables."""
         reach = min(chunk.overlap for chunk in self.world.chunks.values()) ** 2
         names = self.rand.sample(self.aliases, 2) if self.is_join else ["a", "b"]
         if self.chance(0.03):
@@ -194,7 +201,7 @@ class Asker(Writer):
         parts += [self.wrapped(self.ids()) for _ in range(rand.choice([0] * 12 + [1] if self.few else [0, 0, 0, 0, 1, 2]))]
         for _ in range(rand.choice([0, 0, 1] if self.few else [0, 1, 1, 2])):
             parts.append(["(", *self.cond(1), ")"] if self.chance(0.7) else self.neg(1))
-        parts += [self.wrapped(self.chord())] * (self.chance(0.98) if self.is_join else self.chance(0.01))
+        parts += [self.wrapped(self.joining())] * (self.chance(0.98) if self.is_join else self.chance(0.01))
         rand.shuffle(parts)
         words = []
         for part in parts:
@@ -202,6 +209,10 @@ class Asker(Writer):
         return words
 
     # -- the whole query
+
+    def short(self):
+        """A query that is drawn often."""
+        return ["SELECT", "COUNT", "(", "*", ")", "FROM", "Object"]
 
     def tables(self):
         """FROM, with aliases of all kinds."""
@@ -235,7 +246,7 @@ class Asker(Writer):
         is_grouping = not self.is_join and self.chance(0.45)
         keys = [self.col() for _ in range(self.rand.choice([0, 0, 1, 1, 1, 2, 2, 3, 4]))] if is_grouping else []
         items = self.several(lambda: self.item(keys if is_grouping else None), lambda: [","], most=4)
-        items = ["*"] if self.chance(0.01 if is_grouping else 0.12) else items
+        items = ["*"] if self.chance(0.01 if is_grouping else self.star) else items
         words = ["SELECT", *items, *tables, *self.where()]
         for key in keys:
             words += [","] if "GROUP" in words else ["GROUP", "BY"]

@@ -24,10 +24,10 @@ def steps_of(lines):
     return [(match[1], int(match[2])) if match else ("query", line) for line, match in matches]
 
 
-def asked(line, world):
+def asked(line, world, bind=flat_answers.Bound):
     """The lines that a query's block has where the query isn't cancelled, and whether it has chunks to be scanned."""
     try:
-        bound = flat_answers.Bound(line, world)
+        bound = bind(line, world)
         bound.check_radius()
     except Refused as refusal:
         return [str(refusal)], False

@@ -43,7 +43,7 @@ class Int:
     def worth(self, pick):
         return self.n
 
-    def bound(self, schema):
+    def bound(self, size):
         return self.n
 
     def columns(self):
@@ -64,9 +64,8 @@ class Col:
     def worth(self, pick):
         return pick[1 if self.second else 0][self.name]
 
-    def bound(self, schema):
-        at = schema.index(self.name)
-        return IDS if at == 0 else COORDINATE if at < 4 else FURTHER
+    def bound(self, size):
+        return size(self)
 
     def columns(self):
         return [self]
@@ -82,8 +81,8 @@ class Bracket:
     def worth(self, pick):
         return self.inner.worth(pick)
 
-    def bound(self, schema):
-        return self.inner.bound(schema)
+    def bound(self, size):
+        return self.inner.bound(size)
 
     def columns(self):
         return self.inner.columns()
@@ -113,13 +112,13 @@ class Expr:
             return None
         return sum(-value if sign == "-" else value for (sign, _), value in zip(self.prods, values))
 
-    def bound(self, schema):
-        """The bound of the whole; raises where that of some beginning of a sum or product is too large."""
+    def bound(self, size):
+        """The bound of the whole, by the largest size of each column; raises if that of a prefix of a sum or product is too large."""
         total = 0
         for _, factors in self.prods:
             product = 1
             for _, atom in factors:
-                product = fit(product * atom.bound(schema))
+                product = fit(product * atom.bound(size))
             total = fit(total + product)
         return total
 

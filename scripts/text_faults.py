@@ -1,11 +1,11 @@
-"""What a sky plan, a catalogue and a script are as whole texts: what they contain, or their first fault.
+"""What a sky plan, a catalogue, a source table and a script are as whole texts: what they contain, or their first fault.
 
 Written from the rules in docs/FORMATS.md alone, for texts whose characters are bytes. A fault carries the exit status of a run
 that is given the text, and its line on standard error. Sizes of whole texts, and too many rows, are not inspected.
 """
 import re
 
-import compare_loading
+import table_texts
 from compare_places import BOTTOM, END, Sky
 from session_ends import steps_of
 
@@ -95,15 +95,20 @@ def sky_of(text):
     return Sky("\n".join(line for line in lines if not is_comment(line)))
 
 
-# ---- catalogues
+# ---- catalogues and source tables
 
 
-def table_of(text):
+def table_of(text, form=table_texts.CATALOGUE, status=4):
     """The names of the columns that a catalogue has, and its rows by ascending id."""
-    found = compare_loading.read(text.encode("latin-1"))
+    found = table_texts.read(text.encode("latin-1"), form)
     if isinstance(found, str):
-        raise Faulty(4, found)
+        raise Faulty(status, found)
     return found
+
+
+def sources_of(text):
+    """The same of a source table."""
+    return table_of(text, table_texts.SOURCES, 11)
 
 
 # ---- scripts

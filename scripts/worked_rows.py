@@ -10,10 +10,10 @@ The rows are in the files scripts/worked/*.rows. A line `[FORMS: SKY CSV]` begin
 indented lines after it are its block; lines with a # at their head say why it is so. The queries of a part are one script:
 it is answered with 0, 1, 4 and 16 workers, by `classes` with 0 and 4, and explained. A few texts are too long to be written down, and are made here.
 Runs of other kinds are in scripts/worked_runs.py: sky plans and catalogues with their reports or their first faults, scripts
-that wait and cancel, scripts over objects and their sources, the demo, words of no form, and an outcome of each status that a run can be brought to. Texts at each
+that wait and cancel, the demo, words of no form, and an outcome of each status that a run can be brought to. Texts at each
 limit, and one beyond it, are in scripts/worked_limits.py. A larger sky, whose
 rows are drawn, is in scripts/worked_world.py, catalogues of certain lengths in scripts/worked_lanes.py, as many queries and
-chunks as there may be in scripts/worked_laps.py, runs over pipes in scripts/worked_streams.py, and what the demo of 20,000 objects
+chunks as there may be in scripts/worked_laps.py, runs of `sources` in scripts/worked_children.py, runs over pipes in scripts/worked_streams.py, and what the demo of 20,000 objects
 and that of as many as there may be have to write in scripts/worked_demo.py.
 
 It prints a line for each run that ended otherwise, with the row and with what is wanted, and then how many rows it has
@@ -29,6 +29,7 @@ import subprocess
 import sys
 import tempfile
 
+import worked_children
 import worked_lanes
 import worked_limits
 import worked_runs
@@ -245,7 +246,7 @@ def compare(program, folder):
     for name, text in texts.items():
         write(folder, name, text)
     found = [is_full_told(program, folder), are_streams_told(program, folder), are_traces_checked(program, folder)]
-    runs = worked_runs.RUNS + worked_limits.runs()
+    runs = worked_runs.RUNS + worked_limits.runs() + worked_children.runs()
     rows = len(runs) + 3 + len(worked_runs.TRACED)
     for run in runs:
         found.append(is_told(program, folder, run))

@@ -1,8 +1,8 @@
 """Runs of the program over texts of a few lines, or at their limits, and what they write, found by hand: scripts/worked_rows.py
 makes them.
 
-The texts of the folder scripts/worked/ are there for each run; those that a run has of its own have the names sky, csv, sources,
-script and journal.
+The texts of the folder scripts/worked/ are there for each run; those that a run has of its own have the names sky, csv, script and
+journal.
 """
 import collections
 
@@ -331,71 +331,6 @@ STEPS += [
     for workers in ("0", "4")
 ]
 
-# ---- sources
-
-JOINED = ["sources", *QUERY[1:3], "sources", "script"]
-# measurements of the objects 1, 4 and 5, and one of an object that there is not
-SOURCES = "sourceId,objectId,flux,t\n101,1,11,1\n102,4,41,1\n103,1,12,2\n104,99,5,2\n105,5,51,2\n"
-GAINS = "SELECT o.objectId,s.sourceId,s.flux-o.flux FROM Object o,Source s WHERE o.objectId=s.objectId"
-GAINED = "o.objectId,s.sourceId,s.flux-o.flux\n"
-# queries, and their blocks
-JOINS = [
-    (GAINS, GAINED + "1,101,1\n1,103,2\n4,102,1\n5,105,1\n4 rows, 3 chunks\n"),
-    (GAINS + " AND area_cap(268435456,0,0,0)", GAINED + "1,101,1\n1,103,2\n2 rows, 2 chunks\n"),
-    (GAINS + " AND o.objectId=4", GAINED + "4,102,1\n1 rows, 1 chunks\n"),
-    ("SELECT o.x FROM Object o,Source s WHERE o.x=s.flux", "refused: join form\n"),
-    # a condition on the source alone, a descending order with a tie, and a limit
-    (GAINS + " AND s.t=2 ORDER BY s.flux DESC LIMIT 1", GAINED + "5,105,1\n1 rows, 3 chunks\n"),
-    (GAINS + " ORDER BY s.t DESC", GAINED + "1,103,2\n5,105,1\n1,101,1\n4,102,1\n4 rows, 3 chunks\n"),
-    # the sides in the other order; no object has the id 99
-    ("SELECT s.sourceId FROM Object o,Source s WHERE s.objectId=o.objectId AND s.objectId=99", "s.sourceId\n0 rows, 3 chunks\n"),
-    # each is one check further than the one before it
-    ("SELECT s.mag FROM Source s,Object o WHERE o.objectId=s.objectId", "refused: unknown name s.mag\n"),
-    ("SELECT s.t FROM Source s,Object o WHERE o.objectId=s.objectId AND NOT area_band(0,1)", "refused: join form\n"),
-    (GAINS + " AND NOT area_band(0,1) AND s.flux*s.flux*s.flux>0", "refused: area form area_band\n"),
-    (GAINS + " AND s.flux*s.flux*s.flux>0 ORDER BY s.mag", "refused: expression too wide\n"),
-    (GAINS + " ORDER BY s.mag", "refused: unknown order key s.mag\n"),
-    # one table, the same column with brackets, a second join condition, an aggregate, and all columns
-    ("SELECT objectId FROM Object", "refused: join form\n"),
-    ("SELECT s.t FROM Object o,Source s WHERE (o.objectId)=s.objectId", "refused: join form\n"),
-    (GAINS + " AND s.objectId=o.objectId", "refused: join form\n"),
-    ("SELECT COUNT(*) FROM Object o,Source s WHERE o.objectId=s.objectId", "refused: join form\n"),
-    ("SELECT * FROM Object o,Source s WHERE o.objectId=s.objectId", "refused: join form\n"),
-]
-JOIN_SCRIPT = "".join(query + "\n" for query, _ in JOINS)
-OF_JOINS = "".join(f"query {number}\n{block}" for number, (_, block) in enumerate(JOINS, 1))
-RELATED = [done([*JOINED, workers], OF_JOINS, sources=SOURCES, script=JOIN_SCRIPT) for workers in ["0", "1", "4", "16"]]
-# a NULL, sources in no order, and none
-NULLS = "sourceId,objectId,flux\n7,4,\n5,1,3\n6,4,2\n"
-OF_NULLS = "query 1\ns.sourceId,s.flux\n7,NULL\n6,2\n5,3\n3 rows, 3 chunks\n"
-FLUXES = "SELECT s.sourceId,s.flux FROM Object o,Source s WHERE o.objectId=s.objectId ORDER BY s.flux\n"
-RELATED += [
-    done([*JOINED, "4"], OF_NULLS, sources=NULLS, script=FLUXES),
-    done([*JOINED, "4"], "query 1\ns.sourceId,s.flux\n0 rows, 3 chunks\n", sources="sourceId,objectId,flux", script=FLUXES),
-    done([*JOINED, "0"], "query 1\ncancelled\n", sources=SOURCES, script=GAINS + "\ncancel 1\n"),
-]
-SOURCE_FAULTS = [
-    ("", "header: field 1"),
-    ("sourceId", "header: field 2"),
-    ("objectId,sourceId\n", "header: field 1"),
-    ("sourceId,objectId,objectId\n", "header: field 3"),
-    (f"sourceId,objectId,{FURTHER},m\n", "header: field 15"),
-    ("sourceId,objectId\n1\n", "row 1: 1 fields"),
-    ("sourceId,objectId\n1,\n", "row 1: field 2 is not a number"),
-    ("sourceId,objectId\n1,2\n2,-1\n", "row 2: field 2 out of range: -1"),
-    ("sourceId,objectId,flux\n1,2,1125899906842625\n", "row 1: field 3 out of range: 1125899906842625"),
-    (SOURCES + "101,4,41,1\n", "row 6: repeated id 101"),
-]
-RELATED += [fault([*JOINED, "0"], 11, "sources " + line, sources=text, script="") for text, line in SOURCE_FAULTS]
-RELATED += [
-    # the texts are judged in their order
-    fault(["sources", "sky.txt", "catalogue.csv", "none", "none", "0"], 7, "none: cannot be read"),
-    fault([*JOINED[:4], "none", "0"], 7, "none: cannot be read", sources=SOURCES),
-    fault(["sources", "sky.txt", "sky.txt", "none", "none", "0"], 4, "catalogue header: field 1"),
-    fault([*JOINED, "0"], 5, "script line 1: unknown query 9", sources=SOURCES, script="wait 9\n"),
-    fault([*JOINED, "0"], 6, "sources: too long", sources=536870913, script=""),
-]
-
 # ---- the demo
 
 # its one object is drawn around the south pole
@@ -454,10 +389,6 @@ NO_FORMS = [
     ["checks", "sky.txt"],
     *([word, *QUERY[1:]] for word in ANSWERING),
     [*EXPLAIN, "0"],
-    JOINED,
-    ["sources", *QUERY[1:], "0"],
-    [*JOINED, "17"],
-    ["source", *JOINED[1:], "0"],
     # no number of workers: one too many, a minus, no digit, a digit too many
     *([word, *QUERY[1:], workers] for word in ANSWERING for workers in ["17", "-1", "", "00000000000"]),
     # a row too many, no seed and a seed too many, a worker too many, no number, no digit, a digit too many
@@ -606,7 +537,7 @@ TRACED_SCRIPT = THREE + "cancel 2\nwait 1\n"
 TRACED_QUERIES = 3
 TRACED = ["0", "4"]
 
-RUNS = SKIES + CATALOGUES + STEPS + RELATED + DEMOS + STATUSES + JOURNALS
+RUNS = SKIES + CATALOGUES + STEPS + DEMOS + STATUSES + JOURNALS
 RUNS.append(done(["load", "sky", "csv"], worked_world.report(), sky=worked_world.SKY, csv=worked_world.CSV))
 # whatever is written to the full device fails
 OUTPUT_FAILED = fault(["load", *TEXTS], 8, "output failed")

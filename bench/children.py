@@ -1,0 +1,242 @@
+#!/usr/bin/env python3
+"""Measures what sources cost: their loading, and queries that join them with their objects, beside PostgreSQL and numpy.
+
+    bench/children.py FOLDER [--program FILE] [--rows N] [--sources N] [--times N]
+
+FILE is the built program, by default .qserv/qserv, where ./qserv leaves it. Writes into FOLDER, once, the demo's catalogue of N rows
+(1,000,000) and a table of N sources (4,000,000) of four fields, whose objects are drawn. Then it measures, each as the least of N times
+(5):
+
+- loading: the user time of one row of the sources, beyond a table without rows, and of one row of the catalogue;
+- the join with one source in a hundred, and the sources of one object: the time of one query beyond an empty script, from scripts that
+  have it several times. With no workers that is user time; with 3 workers it is time by the clock.
+
+Each answer is compared with one from the flat lists. If initdb, pg_ctl and psql are on the PATH, PostgreSQL loads the two tables into
+FOLDER, with an index of each id and of the sources' objectId, and its execution time of the same queries is printed beside; by root it is
+run as the user nobody. If python3 has numpy, so is what two of its calls take, searchsorted and lexsort, without any text. What is
+missing is skipped with a line. The status is 1 if an answer is another, or a line misses what is aimed at. Only figures of an idle
+machine count.
+"""
+import array
+import collections
+import itertools
+import os
+import re
+import resource
+import shutil
+import subprocess
+import sys
+import time
+
+import demo_files
+import program_words
+
+# one flux in a hundred is above this
+LEAST = 98999
+JOINED = "FROM Object o,Source s WHERE o.objectId=s.objectId"
+TEXTS = ["sky.txt", "catalogue.csv", "measured.csv"]
+# a query, how often it is in its script, and the milliseconds aimed at; both numbers of workers have the same aim
+Line = collections.namedtuple("Line", "name query often most")
+WORKERS = [0, 3]
+
+
+def lines_of(rows):
+    return [
+        Line("one source in a hundred", f"SELECT o.objectId,s.sourceId {JOINED} AND s.flux>{LEAST}", 8, 60),
+        Line("the sources of one object", f"SELECT o.objectId,s.sourceId {JOINED} AND o.objectId={rows // 2}", 200, 1),
+    ]
+
+
+# ---- the texts
+
+
+def columns(rows, sources):
+    """The objectIds, fluxes and times of the sources, whose ids are 1, 2 and so on."""
+    draws, found = demo_files.draws(7), [array.array("q") for _ in range(3)]
+    for _ in range(sources):
+        for column, value in zip(found, (next(draws) % rows + 1, next(draws) % 100000, next(draws) % 1000)):
+            column.append(value)
+    return found
+
+
+def write_texts(folder, rows, measured):
+    """The demo's texts, the sources, an empty script, and tables without rows."""
+    if not os.path.exists(os.path.join(folder, "measured.csv")):
+        demo_files.write_all(rows, 1, folder)
+        with open(os.path.join(folder, "measured.part"), "w", encoding="ascii") as file:
+            file.write("sourceId,objectId,flux,t\n")
+            file.writelines("%d,%d,%d,%d\n" % row for row in zip(itertools.count(1), *measured))
+        os.rename(os.path.join(folder, "measured.part"), os.path.join(folder, "measured.csv"))
+    demo_files.write(folder, "none.sql", "")
+    demo_files.write(folder, "no_rows.csv", "objectId,x,y,z,flux,kind\n")
+    demo_files.write(folder, "no_sources.csv", "sourceId,objectId,flux,t\n")
+
+
+def wanted(line, measured):
+    """The lines of the answer's rows, from the flat lists; each id up to the number of rows is an object's."""
+    objects, fluxes, _ = measured
+    if "flux" in line.query:
+        found = [(objects[at], at + 1) for at, flux in enumerate(fluxes) if flux > LEAST]
+    else:
+        one = int(line.query.rpartition("=")[2])
+        found = [(one, at + 1) for at, own in enumerate(objects) if own == one]
+    return ["%d,%d" % pair for pair in sorted(found)]
+
+
+# ---- the program
+
+
+def run(words, form):
+    """What the program writes by these words, and its user seconds and those by the clock."""
+    before, began = resource.getrusage(resource.RUSAGE_CHILDREN).ru_utime, time.monotonic()
+    told = subprocess.run([words.program, *form], cwd=words.folder, capture_output=True, text=True, check=True).stdout
+    return told, resource.getrusage(resource.RUSAGE_CHILDREN).ru_utime - before, time.monotonic() - began
+
+
+def least(words, form):
+    """What the program writes, and the least user seconds and seconds by the clock."""
+    runs = [run(words, form) for _ in range(words.times)]
+    return runs[0][0], min(user for _, user, _ in runs), min(clock for *_, clock in runs)
+
+
+def loading(words):
+    """Prints what a row of each table takes to be loaded; whether the sources keep the catalogue's pace."""
+    forms = [["query", "sky.txt", csv, "none.sql", "0"] for csv in ("no_rows.csv", "catalogue.csv")]
+    forms += [["sources", *TEXTS[:2], csv, "none.sql", "0"] for csv in ("no_sources.csv", "measured.csv")]
+    nothing, objects, no_sources, sources = (least(words, form)[1] for form in forms)
+    row, source = 1e9 * (objects - nothing) / words.rows, 1e9 * (sources - no_sources) / words.sources
+    print(f"| loading, ns a row of the catalogue | {row:.0f} | | |")
+    print(f"| loading, ns a source | {source:.0f} | {row:.0f} | |", flush=True)
+    return source <= row
+
+
+def answers(told):
+    """The lines of the rows of each block."""
+    return [block.split("\n")[2:-2] for block in told.split("query ")[1:]]
+
+
+def joining(words, line, rows, others):
+    """Prints a query's line for each number of workers; whether it answers right and in time."""
+    demo_files.write(words.folder, "asked.sql", f"{line.query}\n" * line.often)
+    is_right = True
+    for workers in WORKERS:
+        nothing, told = (least(words, ["sources", *TEXTS, script, str(workers)]) for script in ("none.sql", "asked.sql"))
+        at = 2 if workers else 1
+        cost = 1000 * (told[at] - nothing[at]) / line.often
+        is_same = answers(told[0]) == [rows] * line.often
+        beside = ", ".join(f"{name} {took:.2f}" for name, took in others[workers])
+        print(f"| {line.name}, {workers} workers, ms | {cost:.2f} | {line.most} | {beside} |{'' if is_same else ' WRONG'}", flush=True)
+        is_right = is_right and is_same and cost <= line.most
+    return is_right
+
+
+# ---- PostgreSQL
+
+
+class Postgres:
+    """A server of its own in a folder, with the two tables."""
+
+    def __init__(self, words):
+        self.folder = os.path.join(words.folder, "postgres")
+        self.base, self.who = os.path.join(self.folder, "base"), {"user": "nobody"} if os.getuid() == 0 else {}
+        os.makedirs(self.folder, exist_ok=True)
+        if self.who:
+            shutil.chown(self.folder, "nobody")
+        if not os.path.exists(self.base):
+            self.call(["initdb", "-D", self.base, "-U", "bench", "--auth=trust"])
+        options = f"-k {self.folder} -c listen_addresses= -c shared_buffers=1GB -c work_mem=256MB -c fsync=off"
+        self.call(["pg_ctl", "-D", self.base, "-w", "-l", os.path.join(self.folder, "log"), "-o", options, "start"])
+        try:
+            self.load(words)
+        except BaseException:
+            self.stop()
+            raise
+
+    def call(self, line):
+        subprocess.run(line, cwd=self.folder, stdout=subprocess.DEVNULL, check=True, **self.who)
+
+    def stop(self):
+        self.call(["pg_ctl", "-D", self.base, "-w", "-m", "fast", "stop"])
+
+    def ask(self, text):
+        line = ["psql", "-h", self.folder, "-U", "bench", "-d", "postgres", "-qAt", "-v", "ON_ERROR_STOP=1"]
+        return subprocess.run(line, input=text, capture_output=True, text=True, check=True).stdout
+
+    def load(self, words):
+        if self.ask("SELECT to_regclass('Source') IS NULL;").strip() == "f":
+            return
+        self.ask("CREATE TABLE Object (objectId bigint,x bigint,y bigint,z bigint,flux bigint,kind bigint);")
+        for name, text in (("Object", "catalogue.csv"), ("Source", "measured.csv")):
+            if name == "Source":
+                self.ask("CREATE TABLE Source (sourceId bigint,objectId bigint,flux bigint,t bigint);")
+            self.ask(f"\\copy {name} FROM '{os.path.join(words.folder, text)}' CSV HEADER\n")
+        self.ask("ALTER TABLE Object ADD PRIMARY KEY (objectId); ALTER TABLE Source ADD PRIMARY KEY (sourceId);")
+        self.ask("CREATE INDEX ON Source (objectId); ANALYZE;")
+
+    def took(self, line, workers, times):
+        """Its milliseconds for a query."""
+        head = f"SET max_parallel_workers_per_gather={workers}; SET parallel_setup_cost=0; SET parallel_tuple_cost=0;\n"
+        asked = f"EXPLAIN (ANALYZE,TIMING OFF) {line.query} ORDER BY o.objectId,s.sourceId;\n"
+        return min(map(float, re.findall(r"Execution Time: ([0-9.]+) ms", self.ask(head + asked * times))))
+
+
+def by_postgres(words, lines):
+    """For each line and number of workers PostgreSQL's milliseconds, or nothing without it."""
+    if not all(map(shutil.which, ("initdb", "pg_ctl", "psql"))):
+        print("PostgreSQL is skipped: there is no initdb, pg_ctl or psql here")
+        return {}
+    server = Postgres(words)
+    try:
+        return {(line, workers): server.took(line, workers, words.times) for line in lines for workers in WORKERS}
+    finally:
+        server.stop()
+
+
+# ---- numpy
+
+
+def by_numpy(words, lines, measured):
+    """For each line numpy's milliseconds, which has no workers, or nothing without it."""
+    try:
+        import numpy
+    except ImportError:
+        print("numpy is skipped: python3 has none here")
+        return {}
+    ids, found = numpy.arange(1, words.rows + 1), {}
+    objects, fluxes = (numpy.array(column) for column in measured[:2])
+    for line in lines:
+        runs = []
+        for _ in range(words.times):
+            began = time.monotonic()
+            if "flux" in line.query:
+                at = numpy.flatnonzero(fluxes > LEAST)
+            else:
+                at = numpy.flatnonzero(objects == words.rows // 2)
+            own = objects[at]
+            near = numpy.minimum(numpy.searchsorted(ids, own), len(ids) - 1)
+            at = at[ids[near] == own]
+            at = at[numpy.lexsort((at, objects[at]))]
+            runs.append(1000 * (time.monotonic() - began))
+        if ["%d,%d" % (objects[place], place + 1) for place in at] != wanted(line, measured):
+            sys.exit("numpy has another answer")
+        found[line, 0] = min(runs)
+    return found
+
+
+def main():
+    words = program_words.parser(__doc__, rows=1_000_000, sources=4_000_000, times=5).parse_args()
+    words.folder = os.path.abspath(words.folder)
+    os.makedirs(words.folder, exist_ok=True)
+    measured, lines = columns(words.rows, words.sources), lines_of(words.rows)
+    write_texts(words.folder, words.rows, measured)
+    others = {"PostgreSQL": by_postgres(words, lines), "numpy": by_numpy(words, lines, measured)}
+    print(f"| {words.rows} objects, {words.sources} sources | measured | at most | others, ms |\n|---|---|---|---|")
+    is_right = loading(words)
+    for line in lines:
+        beside = [[(name, took[line, workers]) for name, took in others.items() if (line, workers) in took] for workers in WORKERS]
+        is_right = joining(words, line, wanted(line, measured), dict(zip(WORKERS, beside))) and is_right
+    return 0 if is_right else 1
+
+
+if __name__ == "__main__":
+    sys.exit(main())
