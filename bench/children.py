@@ -8,8 +8,10 @@ FILE is the built program, by default .qserv/qserv, where ./qserv leaves it. Wri
 (5):
 
 - loading: the user time of one row of the sources, beyond a table without rows, and of one row of the catalogue;
-- the join with one source in a hundred, and the sources of one object: the time of one query beyond an empty script, from scripts that
-  have it several times. With no workers that is user time; with 3 workers it is time by the clock.
+- the join with one source in a hundred, and the sources of one object: the time by the clock from the script, which comes when
+  everything is loaded, to the last line of the transcript, with no workers and with 3. A script has its query several times, and the
+  time is that of one. Of the chunks of the demo's sky the two at the poles have a quarter of all objects each, and the 32 others a
+  sixty-fourth; one object is measured in each kind.
 
 Each answer is compared with one from the flat lists. If initdb, pg_ctl and psql are on the PATH, PostgreSQL loads the two tables into
 FOLDER, with an index of each id and of the sources' objectId, and its execution time of the same queries is printed beside; by root it is
@@ -28,6 +30,7 @@ import subprocess
 import sys
 import time
 
+import classes
 import demo_files
 import program_words
 
@@ -40,10 +43,18 @@ Line = collections.namedtuple("Line", "name query often most")
 WORKERS = [0, 3]
 
 
+def object_at(rows, is_polar):
+    """The first object from the middle of the catalogue on that is in a stripe at a pole, or in none."""
+    after = rows // 2 - 1
+    return next(row[0] for row in demo_files.rows(rows - after, 1, after) if (abs(row[3]) > 1 << 27) == is_polar)
+
+
 def lines_of(rows):
+    polar, other = (f"SELECT o.objectId,s.sourceId {JOINED} AND o.objectId={object_at(rows, is_polar)}" for is_polar in (True, False))
     return [
         Line("one source in a hundred", f"SELECT o.objectId,s.sourceId {JOINED} AND s.flux>{LEAST}", 8, 60),
-        Line("the sources of one object", f"SELECT o.objectId,s.sourceId {JOINED} AND o.objectId={rows // 2}", 200, 1),
+        Line("the sources of one object", other, 200, 1),
+        Line("the sources of one object at a pole", polar, 100, 1),
     ]
 
 
@@ -67,6 +78,8 @@ def write_texts(folder, rows, measured):
             file.write("sourceId,objectId,flux,t\n")
             file.writelines("%d,%d,%d,%d\n" % row for row in zip(itertools.count(1), *measured))
         os.rename(os.path.join(folder, "measured.part"), os.path.join(folder, "measured.csv"))
+    if not os.path.exists(os.path.join(folder, "pipe")):
+        os.mkfifo(os.path.join(folder, "pipe"))
     demo_files.write(folder, "none.sql", "")
     demo_files.write(folder, "no_rows.csv", "objectId,x,y,z,flux,kind\n")
     demo_files.write(folder, "no_sources.csv", "sourceId,objectId,flux,t\n")
@@ -87,23 +100,17 @@ def wanted(line, measured):
 
 
 def run(words, form):
-    """What the program writes by these words, and its user seconds and those by the clock."""
-    before, began = resource.getrusage(resource.RUSAGE_CHILDREN).ru_utime, time.monotonic()
-    told = subprocess.run([words.program, *form], cwd=words.folder, capture_output=True, text=True, check=True).stdout
-    return told, resource.getrusage(resource.RUSAGE_CHILDREN).ru_utime - before, time.monotonic() - began
-
-
-def least(words, form):
-    """What the program writes, and the least user seconds and seconds by the clock."""
-    runs = [run(words, form) for _ in range(words.times)]
-    return runs[0][0], min(user for _, user, _ in runs), min(clock for *_, clock in runs)
+    """The user seconds of a run by these words."""
+    before = resource.getrusage(resource.RUSAGE_CHILDREN).ru_utime
+    subprocess.run([words.program, *form], cwd=words.folder, stdout=subprocess.DEVNULL, check=True)
+    return resource.getrusage(resource.RUSAGE_CHILDREN).ru_utime - before
 
 
 def loading(words):
     """Prints what a row of each table takes to be loaded; whether the sources keep the catalogue's pace."""
     forms = [["query", "sky.txt", csv, "none.sql", "0"] for csv in ("no_rows.csv", "catalogue.csv")]
     forms += [["sources", *TEXTS[:2], csv, "none.sql", "0"] for csv in ("no_sources.csv", "measured.csv")]
-    nothing, objects, no_sources, sources = (least(words, form)[1] for form in forms)
+    nothing, objects, no_sources, sources = (min(run(words, form) for _ in range(words.times)) for form in forms)
     row, source = 1e9 * (objects - nothing) / words.rows, 1e9 * (sources - no_sources) / words.sources
     print(f"| loading, ns a row of the catalogue | {row:.0f} | | |")
     print(f"| loading, ns a source | {source:.0f} | {row:.0f} | |", flush=True)
@@ -115,15 +122,31 @@ def answers(told):
     return [block.split("\n")[2:-2] for block in told.split("query ")[1:]]
 
 
+def asking(words, workers, script, count):
+    """The lines that the program writes for a script, this many, and the milliseconds by the clock from the script to the last of them.
+    The script is a named pipe, which the program opens when everything is loaded."""
+    form = [words.program, "sources", *TEXTS, "pipe", str(workers)]
+    with subprocess.Popen(form, cwd=words.folder, stdout=subprocess.PIPE) as process:
+        script_end = classes.opened(os.path.join(words.folder, "pipe"), process)
+        # the script is shorter than what a pipe holds
+        os.write(script_end, script.encode())
+        began = time.perf_counter()
+        os.close(script_end)
+        pieces, lines = [], 0
+        while lines < count:
+            pieces.append(os.read(process.stdout.fileno(), 1 << 20))
+            lines = lines + pieces[-1].count(b"\n") if pieces[-1] else count
+        took = 1000 * (time.perf_counter() - began)
+        return b"".join(pieces).decode(), took
+
+
 def joining(words, line, rows, others):
     """Prints a query's line for each number of workers; whether it answers right and in time."""
-    demo_files.write(words.folder, "asked.sql", f"{line.query}\n" * line.often)
-    is_right = True
+    is_right, count = True, line.often * (len(rows) + 3)
     for workers in WORKERS:
-        nothing, told = (least(words, ["sources", *TEXTS, script, str(workers)]) for script in ("none.sql", "asked.sql"))
-        at = 2 if workers else 1
-        cost = 1000 * (told[at] - nothing[at]) / line.often
-        is_same = answers(told[0]) == [rows] * line.often
+        runs = [asking(words, workers, f"{line.query}\n" * line.often, count) for _ in range(words.times)]
+        cost = min(took for _, took in runs) / line.often
+        is_same = all(answers(told) == [rows] * line.often for told, _ in runs)
         beside = ", ".join(f"{name} {took:.2f}" for name, took in others[workers])
         print(f"| {line.name}, {workers} workers, ms | {cost:.2f} | {line.most} | {beside} |{'' if is_same else ' WRONG'}", flush=True)
         is_right = is_right and is_same and cost <= line.most
@@ -211,7 +234,7 @@ def by_numpy(words, lines, measured):
             if "flux" in line.query:
                 at = numpy.flatnonzero(fluxes > LEAST)
             else:
-                at = numpy.flatnonzero(objects == words.rows // 2)
+                at = numpy.flatnonzero(objects == int(line.query.rpartition("=")[2]))
             own = objects[at]
             near = numpy.minimum(numpy.searchsorted(ids, own), len(ids) - 1)
             at = at[ids[near] == own]
