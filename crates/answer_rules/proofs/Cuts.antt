@@ -3,7 +3,7 @@ use Rattle.std.proofs.Common.{◌≡◌, ◌⊎◌, inl, inr, ℤ, Option, None,
 use Rattle.sql_bound.specs.declared.query.Shape.{Shape}
 use Rattle.sql_bound.specs.declared.query.Shape.TheVariants.{Rows, Pairs, Groups}
 use Rattle.answer_rules.specs.PieceLaws.{CutPieceFinishes}
-use Rattle.answer_rules.specs.Rewriting.{chunk_limit_of}
+use Rattle.answer_rules.specs.ChunkQueries.{chunk_limit_of}
 use Rattle.answer_rules.specs.SoundChunks.{CutIsSound}
 use Rattle.answer_rules.proofs.Finishing.{piece_finishes}
 use Rattle.answer_rules.proofs.SoundChunks.{chunk_is_sound}

@@ -21,7 +21,7 @@ use Rattle.value_rules.proofs.Trees.{trees}
 use Rattle.answer_rules.specs.declared.rewritten.ChunkItem.{ChunkItem}
 use Rattle.answer_rules.specs.declared.rewritten.ChunkOrder.{ChunkOrder}
 use Rattle.answer_rules.specs.PieceLaws.{IsPushed}
-use Rattle.answer_rules.specs.Rewriting.{chunk_items_of, chunk_order_of, expr_of, key_expr, of_col, row_order_of}
+use Rattle.answer_rules.specs.ChunkQueries.{chunk_items_of, chunk_order_of, expr_of, key_expr, of_col, row_order_of}
 use Rattle.answer_rules.proofs.KeysInRange.{bound_below_most}
 use Rattle.answer_rules.specs.SoundChunks.{is_sound_part, is_sound_chunk_order, ChunkIsSound}
 

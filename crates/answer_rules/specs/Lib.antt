@@ -1,3 +1,4 @@
+pub mod ChunkQueries
 pub mod Picks
 pub mod InOrder
 pub mod Ranks

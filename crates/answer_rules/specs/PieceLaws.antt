@@ -19,7 +19,8 @@ use Rattle.answer_rules.specs.Parts.{add_own_sums, gathered}
 use Rattle.scan_rules.specs.Numbers.{has}
 use Rattle.answer_rules.specs.Pieces.{PieceView, OfRows, OfGroups, PieceFor}
 use Rattle.answer_rules.specs.Rows.{limit_of}
-use Rattle.answer_rules.specs.Rewriting.{chunk_query_of, merge_plan_of}
+use Rattle.answer_rules.specs.ChunkQueries.{chunk_query_of}
+use Rattle.answer_rules.specs.Rewriting.{merge_plan_of}
 
 -- no chunk is in both sets
 abbrev pub AreDisjoint : List ℕ → List ℕ → Type 0

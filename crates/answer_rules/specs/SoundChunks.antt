@@ -10,7 +10,7 @@ use Rattle.answer_rules.specs.declared.rewritten.ChunkItem.TheVariants.{Plain, C
 use Rattle.answer_rules.specs.declared.rewritten.ChunkOrder.{ChunkOrder}
 use Rattle.answer_rules.specs.declared.rewritten.ChunkQuery.{ChunkQuery}
 use Rattle.answer_rules.specs.PieceLaws.{IsPushed, limited}
-use Rattle.answer_rules.specs.Rewriting.{chunk_query_of}
+use Rattle.answer_rules.specs.ChunkQueries.{chunk_query_of}
 
 -- the item may occur in a chunk query of this shape: an expression of a row or a pair, or an aggregate of a grouped
 -- query

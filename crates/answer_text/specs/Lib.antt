@@ -1,4 +1,2 @@
 pub mod Report
 pub mod Examples
-pub mod Parted
-pub mod Explaining

@@ -4,7 +4,7 @@ ghost use Rattle.sky_io.specs.Sinks.{Wrote};
 ghost use Rattle.transcript_rules.specs.Blocks.{number_line};
 ghost use Rattle.transcript_rules.specs.RefusalLines.{line};
 
-use crate::pieces::put_number_line;
+use column_text::pieces::put_number_line;
 use sky_io::{Put, Sink};
 
 /// Writes the block of query `number`, which was cancelled. Does not allocate.

@@ -6,9 +6,9 @@ ghost use Rattle.transcript_rules.specs.Blocks.{number_line};
 ghost use Rattle.transcript_rules.specs.RefusalLines.{bind_words, quoted, radius_words, refusal_line, refusal_words};
 ghost use Rattle.transcript_rules.specs.RefusalLines.{sql_words, total_words};
 
-use crate::pieces::{put_led_count, put_number_line};
 use answer_rules::{Radius, TotalOut};
 use bind_rules::BindFault;
+use column_text::pieces::{put_led_count, put_number_line};
 use sky_io::{Put, Sink};
 use sky_text::put_int;
 use sql_rules::SqlFault;

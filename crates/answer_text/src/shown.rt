@@ -7,9 +7,9 @@ ghost use Rattle.transcript_rules.specs.Blocks.{number_line};
 ghost use Rattle.transcript_rules.specs.RefusalLines.{line};
 ghost use Rattle.transcript_rules.specs.Tables.{by_commas, headings, table_lines};
 
-use crate::columns::put_star;
-use crate::pieces::put_number_line;
 use crate::values::put_answer;
+use column_text::columns::put_star;
+use column_text::pieces::put_number_line;
 use partial_merge::Table;
 use sky_io::{Put, Sink};
 use sky_row::Schema;

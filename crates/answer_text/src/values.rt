@@ -5,10 +5,10 @@ ghost use Rattle.std.specs.List.{flat_map};
 ghost use Rattle.sky_io.specs.Sinks.{Wrote};
 ghost use Rattle.sql_rules.specs.PrintedExprs.{behind_each};
 ghost use Rattle.transcript_rules.specs.Tables.{by_commas, count_line, row_line, value_text};
-ghost use Rattle.partial_merge.specs.Tables.{IsShort};
+ghost use Rattle.answer_table.specs.Tables.{IsShort};
 
-use crate::pieces::put_counted;
 use answer_rules::Value;
+use column_text::pieces::put_counted;
 use partial_merge::Table;
 use sky_io::{Put, Sink};
 use sky_text::{put_count, put_decimal4, put_int};

@@ -6,7 +6,7 @@ use Rattle.std.specs.Str.{bytes_eq}
 use Rattle.std.proofs.lemmas.List.Sums.{fold-append}
 use Rattle.sql_tree.specs.declared.name.Name.{Name}
 use Rattle.bind_rules.specs.Forms.{ChordAt, chord_by, names_both, pairs_both}
-use Rattle.bind_checks.specs.Walks.{Founds}
+use Rattle.query_walks.specs.Walks.{Founds}
 use Rattle.bind_checks.specs.declared.forms.AnyChord.{AnyChord}
 use Rattle.bind_checks.specs.declared.forms.Chords.TheVariants.{Nowhere, Again}
 use Rattle.bind_checks.specs.declared.forms.ChordsMet.{ChordsMet}

@@ -1,12 +1,5 @@
-pub mod Loops
-pub mod AreaParts
 pub mod ChordLaws
-pub mod Gathered
 pub mod QualifiedLaws
-pub mod TestWalks
-pub mod Walked
-pub mod Firsts
 pub mod Unknowns
 pub mod CondParts
 pub mod Narrow
-pub mod Anys

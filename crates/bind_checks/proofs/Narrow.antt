@@ -19,7 +19,7 @@ use Rattle.bind_rules.specs.Widths.{width_at_factor, width_at_prod, width_at_sig
 use Rattle.bind_rules.proofs.Folds.{fold_int, fold_col, fold_bracket}
 use Rattle.bind_checks.specs.Narrow.{atom_width, capped, factor_width, narrow, narrow_both, narrow_factor}
 use Rattle.bind_checks.specs.Narrow.{narrow_from_left, narrow_signed, prod_width, signed_width}
-use Rattle.bind_checks.proofs.Loops.{drop_at}
+use Rattle.query_walks.proofs.Loops.{drop_at}
 
 -- ---- two parts
 

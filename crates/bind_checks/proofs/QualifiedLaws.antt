@@ -25,13 +25,15 @@ use Rattle.bind_rules.specs.Mentions.{mentions_of_cond, mentions_of_where, colum
 use Rattle.bind_rules.specs.Mentions.{mentions_at_cond, mentions_at_conj, mentions_at_neg, mentions_at_pred}
 use Rattle.bind_rules.specs.Widths.{Exprs, all_exprs, exprs_at_pred, exprs_in, exprs_of}
 use Rattle.bind_rules.proofs.Inductions.{cond_induction}
-use Rattle.bind_checks.specs.Firsts.{first_place}
-use Rattle.bind_checks.specs.Parts.{conj_mentions, neg_mentions, pred_mentions, conj_exprs, neg_exprs, pred_exprs}
+use Rattle.query_walks.specs.Firsts.{first_place}
+use Rattle.bind_checks.specs.Parts.{conj_mentions, neg_mentions, pred_mentions}
+use Rattle.query_walks.specs.Parts.{conj_exprs, neg_exprs, pred_exprs}
 use Rattle.bind_checks.specs.Qualified.{are_qualified, all_qualified, is_bare}
-use Rattle.bind_checks.proofs.Anys.{any_append}
+use Rattle.query_walks.proofs.Anys.{any_append}
 use Rattle.bind_checks.proofs.CondParts.{group_mentions, compare_mentions, between_mentions, among_mentions}
-use Rattle.bind_checks.proofs.CondParts.{null_mentions, area_mentions, chord_mentions, group_exprs, compare_exprs}
-use Rattle.bind_checks.proofs.CondParts.{between_exprs, among_exprs, null_exprs, area_exprs, chord_exprs}
+use Rattle.bind_checks.proofs.CondParts.{null_mentions, area_mentions, chord_mentions}
+use Rattle.query_walks.proofs.CondParts.{group_exprs, compare_exprs}
+use Rattle.query_walks.proofs.CondParts.{between_exprs, among_exprs, null_exprs, area_exprs, chord_exprs}
 
 -- ---- expressions
 

@@ -8,7 +8,7 @@ use Rattle.sql_tree.specs.declared.query.Query.{Query}
 use Rattle.bind_rules.specs.declared.fault.BindFault.TheVariants as fault
 use Rattle.bind_rules.specs.Mentions.{Mention, Column, mentions_of}
 use Rattle.bind_rules.specs.Names.{Known, is_unknown, span_of, unknown_by}
-use Rattle.bind_checks.specs.Firsts.{first_place}
+use Rattle.query_walks.specs.Firsts.{first_place}
 use Rattle.bind_checks.specs.Unknowns.{unknown_at}
 
 -- of a column, by whether it is sought

@@ -1,10 +1,6 @@
-pub mod Walks
 pub mod Faults
-pub mod Behind
-pub mod Gathering
 pub mod LoneChord
 pub mod Qualified
-pub mod Firsts
 pub mod Parts
 pub mod Unknowns
 pub mod Narrow

@@ -7,17 +7,9 @@ use Rattle.sql_tree.specs.declared.cond.Pred.{Pred}
 use Rattle.sql_tree.specs.declared.cond.Pred.TheFolds.{fold-Conj, fold-Neg, fold-Pred}
 use Rattle.sql_tree.specs.declared.query.Item.{Item}
 use Rattle.sql_tree.specs.declared.query.Query.{Query}
-use Rattle.text_rules.specs.Readings.{joined}
-use Rattle.bind_rules.specs.Mentions.{Cols, Mentions, Table, expr_of, item_exprs, mentioned}
-use Rattle.bind_rules.specs.Mentions.{mentions_at_cond, mentions_at_conj, mentions_at_neg, mentions_at_pred}
-use Rattle.bind_rules.specs.Mentions.{mentions_of_where}
+use Rattle.bind_rules.specs.Mentions.{Cols, Mentions, Table, expr_of, item_exprs, mentioned, mentions_at_cond, mentions_at_conj, mentions_at_neg, mentions_at_pred, mentions_of_where}
 use Rattle.bind_rules.specs.Columns.{tables}
 use Rattle.bind_rules.specs.Names.{plain_columns}
-use Rattle.bind_rules.specs.Widths.{Exprs, exprs_at_pred}
-
--- the expressions of an item
-abbrev pub exprs_of_item : Item → Exprs
-exprs_of_item i = expr_of i.what
 
 -- the columns of an item outside of an aggregate
 abbrev pub plain_columns_of : Item → Cols
@@ -41,24 +33,6 @@ neg_mentions =
 unfoldable pub pred_mentions : Pred → Mentions
 pred_mentions =
     fold-Pred Mentions Mentions Mentions Mentions mentions_at_pred mentions_at_cond mentions_at_conj mentions_at_neg
-
--- the expressions of a conjunction
-unfoldable pub conj_exprs : Conj → Exprs
-conj_exprs =
-    fold-Conj Exprs Exprs Exprs Exprs exprs_at_pred (λ c. c.first ++ joined c.rest) (λ c. c.first ++ joined c.rest)
-    (λ n. n.pred)
-
--- the expressions of a predicate with or without NOT
-unfoldable pub neg_exprs : Neg → Exprs
-neg_exprs =
-    fold-Neg Exprs Exprs Exprs Exprs exprs_at_pred (λ c. c.first ++ joined c.rest) (λ c. c.first ++ joined c.rest)
-    (λ n. n.pred)
-
--- the expressions of a predicate
-unfoldable pub pred_exprs : Pred → Exprs
-pred_exprs =
-    fold-Pred Exprs Exprs Exprs Exprs exprs_at_pred (λ c. c.first ++ joined c.rest) (λ c. c.first ++ joined c.rest)
-    (λ n. n.pred)
 
 -- what a query mentions before WHERE
 abbrev pub mentions_before_where : Query → Mentions

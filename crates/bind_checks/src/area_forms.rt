@@ -3,10 +3,9 @@ ghost use Rattle.std.specs.Prelude.{◌≡◌, option_to_list};
 ghost use Rattle.std.specs.Option.{option_map};
 ghost use Rattle.bind_rules.specs.declared.fault.BindFault.TheVariants as fault;
 ghost use Rattle.bind_rules.specs.Forms.{area_form, bad_area};
-ghost use Rattle.bind_checks.specs.Gathering.{test_of};
+ghost use Rattle.query_walks.specs.Gathering.{test_of};
 
-use crate::arguments::area_test;
-use crate::tests_in::{Gather, TestRef, walk};
+use query_walks::{Gather, TestRef, area_test, walk};
 use sql_token::Span;
 use sql_tree::Query;
 
@@ -35,7 +34,7 @@ struct FirstBad {
 impl Gather for FirstBad {
     ghost use Rattle.std.specs.Prelude.{true};
     ghost use Rattle.bind_rules.specs.Forms.{bad_area};
-    ghost use Rattle.bind_checks.specs.Behind.{first_behind};
+    ghost use Rattle.query_walks.specs.Behind.{first_behind};
 
     ghost kept = { λ _. true };
 

@@ -127,7 +127,7 @@ fn unknown_in_three<C: Columns>(
 }
 
 // Checks a name in a chord test, which must be the qualifier of a table.
-#[tactic(auto, unfolding(crate::specs::Firsts::first_place))]
+#[tactic(auto, unfolding(query_walks::specs::Firsts::first_place))]
 fn unknown_side<C: Columns>(columns: &C, name: &Name) -> Option<Span>
     ensures { result ≡ unknown_at (C.known columns.now)
         (Side name.now ∷ []) }

@@ -5,12 +5,12 @@ ghost use Rattle.std.specs.List.{list_all};
 ghost use Rattle.std.specs.Str.{bytes_eq};
 ghost use Rattle.bind_rules.specs.declared.fault.BindFault.TheVariants as fault;
 ghost use Rattle.bind_rules.specs.Forms.{chord_by, chords_of, is_join_form, join_form, names_both, pairs_both};
-ghost use Rattle.bind_checks.specs.Gathering.{test_of};
+ghost use Rattle.query_walks.specs.Gathering.{test_of};
 ghost use Rattle.bind_checks.specs.LoneChord.{chords_met, is_lone, with_one};
 
 use crate::grouping::is_grouped;
 use crate::qualified::is_query_qualified;
-use crate::tests_in::{Gather, TestRef, walk};
+use query_walks::{Gather, TestRef, walk};
 use sql_tree::{Name, Query, TableRef};
 
 // Returns whether both names have the same text.

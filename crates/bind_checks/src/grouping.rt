@@ -8,11 +8,12 @@ ghost use Rattle.bind_rules.specs.Columns.{is_same_column};
 ghost use Rattle.bind_rules.specs.Mentions.{items_of};
 ghost use Rattle.bind_rules.specs.Names.{has_keys, is_aggregate, is_grouped, is_key, not_grouped};
 ghost use Rattle.bind_rules.specs.Names.{plain_columns, ungrouped};
-ghost use Rattle.bind_checks.specs.Firsts.{first_place};
+ghost use Rattle.query_walks.specs.Firsts.{first_place};
 ghost use Rattle.bind_checks.specs.Parts.{plain_columns_of};
 
-use crate::column_search::{ColumnTest, first_column};
 use crate::columns::{is_join, is_same_column};
+use query_walks::ColumnTest;
+use query_walks::column_search::first_column;
 use sql_token::Span;
 use sql_tree::{Col, Item, ItemKind, Query, Selection};
 
@@ -93,7 +94,7 @@ impl ColumnTest for NoKey<'_> {
 }
 
 // Searches an item, outside of an aggregate.
-#[tactic(auto, unfolding(crate::specs::Firsts::first_place))]
+#[tactic(auto, unfolding(query_walks::specs::Firsts::first_place))]
 fn ungrouped_in_item(query: &Query, item: &Item) -> Option<Span>
     ensures { result ≡
         first_place col_span (λ c. not (is_key query.now c)) (plain_columns_of item.now) }

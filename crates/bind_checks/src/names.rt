@@ -11,8 +11,8 @@ ghost use Rattle.bind_checks.specs.Unknowns.{unknown_at};
 
 use crate::columns::Columns;
 use crate::cond_names::unknown_in_where;
-use crate::item_exprs::expr_of;
 use crate::unknown::{unknown_in_columns, unknown_in_expr};
+use query_walks::item_exprs::expr_of;
 use sql_token::Span;
 use sql_tree::{Item, Query, Selection, TableRef};
 
@@ -54,7 +54,7 @@ fn unknown_in_selection<C: Columns>(columns: &C, items: &Selection) -> Option<Sp
 }
 
 // Checks a table's name.
-#[tactic(auto, unfolding(crate::specs::Firsts::first_place))]
+#[tactic(auto, unfolding(query_walks::specs::Firsts::first_place))]
 fn unknown_table<C: Columns>(columns: &C, table: &TableRef) -> Option<Span>
     ensures { result ≡ unknown_at (C.known columns.now) (Table table.now.name ∷ []) }
 {

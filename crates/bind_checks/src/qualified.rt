@@ -4,8 +4,9 @@ ghost use Rattle.std.specs.List.{list_all};
 ghost use Rattle.bind_rules.specs.Mentions.{columns_in, columns_of};
 ghost use Rattle.bind_checks.specs.Qualified.{are_qualified, is_bare};
 
-use crate::column_search::{ColumnTest, first_column, first_of_columns};
-use crate::expr_search::{ExprTest, is_in_query};
+use query_walks::ColumnTest;
+use query_walks::column_search::{first_column, first_of_columns};
+use query_walks::expr_search::{ExprTest, is_in_query};
 use sql_tree::{Col, Expr, Query};
 
 // The test of a column that it has no qualifier.

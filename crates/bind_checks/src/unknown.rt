@@ -3,8 +3,9 @@ ghost use Rattle.std.specs.Prelude.{◌≡◌, map, not};
 ghost use Rattle.bind_rules.specs.Mentions.{Column, mentioned};
 ghost use Rattle.bind_checks.specs.Unknowns.{unknown_at};
 
-use crate::column_search::{ColumnTest, first_column, first_of_columns};
 use crate::columns::Columns;
+use query_walks::ColumnTest;
+use query_walks::column_search::{first_column, first_of_columns};
 use sql_token::Span;
 use sql_tree::{Col, Expr};
 

@@ -5,8 +5,8 @@ ghost use Rattle.bind_rules.specs.Checks.{too_wide_by};
 ghost use Rattle.bind_rules.specs.Widths.{is_too_wide};
 
 use crate::columns::Columns;
-use crate::expr_search::{ExprTest, is_in_query};
 use crate::expr_widths::is_too_wide;
+use query_walks::expr_search::{ExprTest, is_in_query};
 use sql_tree::{Expr, Query};
 
 // The test of an expression that it may have a number above 2^100.

@@ -3,7 +3,7 @@ use Rattle.std.proofs.Common.{◌≡◌, ◌∙◌, refl, sym, ap, List, [], ◌
 use Rattle.std.specs.List.{fold, flat_map}
 use Rattle.std.proofs.lemmas.List.Sums.{fold-append}
 use Rattle.bind_rules.specs.Tops.{Found, Test}
-use Rattle.bind_checks.specs.Behind.{top_only}
+use Rattle.query_walks.specs.Behind.{top_only}
 use Rattle.child_bind_rules.specs.JoinCondition.{is_single, join_condition_by}
 use Rattle.child_bind.specs.Joins.{is_once, joins_met, one_more}
 use Rattle.child_bind.specs.declared.join_condition.Joins.TheVariants.{Nowhere, Again}

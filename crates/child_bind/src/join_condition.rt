@@ -1,6 +1,6 @@
 //! The join condition of a query: the one conjunct of WHERE that equates the ids of its two tables.
 ghost use Rattle.std.specs.Prelude.{◌≡◌, ◌&&◌};
-ghost use Rattle.bind_checks.specs.Gathering.{test_of};
+ghost use Rattle.query_walks.specs.Gathering.{test_of};
 ghost use Rattle.child_bind.specs.Joins.{one_more};
 ghost use Rattle.child_bind_rules.specs.JoinCondition.{equates, has_join_condition, is_id_of, is_join_condition, is_same_name};
 
@@ -83,7 +83,7 @@ struct JoinsMet<'a> {
 
 impl<'a> Gather for JoinsMet<'a> {
     ghost use Rattle.std.specs.Prelude.{true};
-    ghost use Rattle.bind_checks.specs.Behind.{top_only};
+    ghost use Rattle.query_walks.specs.Behind.{top_only};
     ghost use Rattle.child_bind.specs.Joins.{joins_met};
     ghost use Rattle.child_bind_rules.specs.JoinCondition.{join_condition_by};
 

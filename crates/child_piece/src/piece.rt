@@ -5,7 +5,7 @@
 
 ghost use Rattle.std.specs.Prelude.{◌≡◌, [], IfOk, None, OnErr, OnOk};
 ghost use Rattle.answer_rules.specs.Pieces.{OfRows};
-ghost use Rattle.partial_merge.specs.Multisets.{out_row};
+ghost use Rattle.partial_rows.specs.Multisets.{out_row};
 ghost use Rattle.partial_merge.specs.Joining.{AbsorbsRows, IsOfRows, MayAbsorbRows, TakesRow};
 ghost use Rattle.child_piece.specs.ChildAnswers.{IsChildAnswer, MayFinishChild};
 

@@ -9,8 +9,8 @@ use Rattle.answer_rules.specs.Ranks.{row_order}
 use Rattle.sql_bound.specs.declared.query.Bound.{Bound}
 use Rattle.value_rules.specs.Values.{Pick}
 use Rattle.answer_rules.specs.Rows.{bound_lines, item_value, out_row}
-use Rattle.partial_merge.specs.declared.rank.Rank.{Rank}
-use Rattle.partial_merge.specs.Multisets.{out_row as ranked}
+use Rattle.partial_rows.specs.declared.rank.Rank.{Rank}
+use Rattle.partial_rows.specs.Multisets.{out_row as ranked}
 use Rattle.partial_merge.specs.Joining.{IsOfRows, TakesRow}
 use Rattle.child_rules.specs.ChildPieces.{HasAllRows, rows_of_picks}
 use Rattle.child_rules.proofs.Joined.{kept_all}

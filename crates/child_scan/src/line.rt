@@ -7,7 +7,7 @@ ghost use Rattle.value_rules.specs.Sound.{has_col};
 ghost use Rattle.value_rules.specs.Values.{cell_of, pair};
 ghost use Rattle.answer_rules.specs.Ranks.{rank_class, rank_value};
 ghost use Rattle.answer_rules.specs.Rows.{bound_lines, goes_down, item_value, key_value, order_value, out_row};
-ghost use Rattle.partial_merge.specs.Multisets.{out_row as ranked};
+ghost use Rattle.partial_rows.specs.Multisets.{out_row as ranked};
 ghost use Rattle.child_scan.specs.SoundPairs.{IsSoundPair, is_pair_key, is_pair_item, is_pair_order};
 ghost use Rattle.child_scan.specs.Lines.{with_cells};
 ghost use Rattle.table_rules.specs.declared.limits.TheConstants.{FIRST_COLUMNS};

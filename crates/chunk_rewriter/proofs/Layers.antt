@@ -10,7 +10,7 @@ use Rattle.sql_bound.specs.declared.expr.BoundExpr.{BoundExpr, out-BoundExpr, ro
 use Rattle.sql_bound.specs.declared.expr.BoundFactor.{BoundFactor, out-BoundFactor, roll-BoundFactor}
 use Rattle.sql_bound.specs.declared.expr.BoundProd.{BoundProd, out-BoundProd, roll-BoundProd}
 use Rattle.sql_bound.specs.declared.expr.BoundSigned.{BoundSigned, out-BoundSigned, roll-BoundSigned}
-use Rattle.answer_rules.specs.Rewriting.{of_col}
+use Rattle.answer_rules.specs.ChunkQueries.{of_col}
 use Rattle.sql_bound.specs.declared.cond.BoundAll.{BoundAll, out-BoundAll, roll-BoundAll}
 use Rattle.sql_bound.specs.declared.cond.BoundAny.{BoundAny, out-BoundAny, roll-BoundAny}
 use Rattle.sql_bound.specs.declared.cond.BoundCond.{BoundCond, out-BoundCond, roll-BoundCond}

@@ -6,7 +6,8 @@ use Rattle.std.proofs.lemmas.List.{drop_all, length-append}
 use Rattle.sql_bound.specs.declared.expr.BoundCol.{BoundCol}
 use Rattle.sql_bound.specs.declared.query.BoundItem.{BoundItem}
 use Rattle.sql_bound.specs.declared.query.Shape.{Shape}
-use Rattle.answer_rules.specs.Rewriting.{chunk_items_of, key_place, merged_at, merged_from}
+use Rattle.answer_rules.specs.ChunkQueries.{chunk_items_of}
+use Rattle.answer_rules.specs.Rewriting.{key_place, merged_at, merged_from}
 use Rattle.answer_rules.specs.declared.rewritten.ChunkItem.{ChunkItem}
 use Rattle.answer_rules.specs.declared.rewritten.MergeItem.{MergeItem}
 use Rattle.value_rules.specs.Sound.{same_col}

@@ -2,7 +2,8 @@
 
 ghost use Rattle.std.specs.Prelude.{◌≡◌, IfOk};
 ghost use Rattle.std.specs.List.{flat_map};
-ghost use Rattle.answer_rules.specs.Rewriting.{chunk_items_of, chunk_query_of, merge_plan_of, merged_from, rewritten};
+ghost use Rattle.answer_rules.specs.ChunkQueries.{chunk_items_of, chunk_query_of};
+ghost use Rattle.answer_rules.specs.Rewriting.{merge_plan_of, merged_from, rewritten};
 
 use crate::cond::copied_conds;
 use crate::items::cut_items;

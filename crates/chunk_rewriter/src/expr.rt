@@ -2,7 +2,7 @@
 //! the list is dropped as one.
 
 ghost use Rattle.std.specs.Prelude.{◌≡◌, IfOk};
-ghost use Rattle.answer_rules.specs.Rewriting.{of_col};
+ghost use Rattle.answer_rules.specs.ChunkQueries.{of_col};
 ghost use Rattle.sql_bound.specs.declared.expr.BoundAtom.TheVariants.{Bracket};
 
 use sql_bound::{BoundAtom, BoundCol, BoundExpr, BoundFactor, BoundProd, BoundSigned};

@@ -2,8 +2,9 @@
 
 ghost use Rattle.std.specs.Prelude.{◌≡◌, ◌+◌, [], ◌∷◌, ◌++◌, IfOk, OnOk, length};
 ghost use Rattle.std.specs.List.{flat_map};
-ghost use Rattle.answer_rules.specs.Rewriting.{chunk_items_of, group_merged, group_parts, merged_at, merged_from};
-ghost use Rattle.answer_rules.specs.Rewriting.{row_parts};
+ghost use Rattle.answer_rules.specs.ChunkQueries.{chunk_items_of, group_parts};
+ghost use Rattle.answer_rules.specs.Rewriting.{group_merged, merged_at, merged_from};
+ghost use Rattle.answer_rules.specs.ChunkQueries.{row_parts};
 ghost use Rattle.answer_rules.specs.declared.rewritten.ChunkItem.TheVariants.{CountOf, Sum};
 
 use crate::expr::copied_expr;

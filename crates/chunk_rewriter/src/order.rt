@@ -1,8 +1,9 @@
 //! The orders of a chunk query and of a merge.
 
 ghost use Rattle.std.specs.Prelude.{◌≡◌, IfOk, option_map};
-ghost use Rattle.answer_rules.specs.Rewriting.{chunk_order_of, group_key_of, key_expr, key_place, merge_key_of};
-ghost use Rattle.answer_rules.specs.Rewriting.{row_order_of};
+ghost use Rattle.answer_rules.specs.ChunkQueries.{chunk_order_of, key_expr};
+ghost use Rattle.answer_rules.specs.Rewriting.{group_key_of, key_place, merge_key_of};
+ghost use Rattle.answer_rules.specs.ChunkQueries.{row_order_of};
 ghost use Rattle.std.specs.Option.{option_and_then};
 ghost use Rattle.value_rules.specs.Sound.{same_col};
 

@@ -1,7 +1,7 @@
 //! The query of each chunk.
 
 ghost use Rattle.std.specs.Prelude.{◌≡◌, IfOk};
-ghost use Rattle.answer_rules.specs.Rewriting.{chunk_limit_of};
+ghost use Rattle.answer_rules.specs.ChunkQueries.{chunk_limit_of};
 
 use crate::cond::copied_conds;
 use crate::expr::copied_expr;

@@ -21,9 +21,10 @@ use Rattle.answer_rules.specs.Pieces.{PieceView, OfRows, OfGroups, PieceBy, Piec
 use Rattle.answer_rules.specs.Ranks.{row_order}
 use Rattle.answer_rules.specs.Rows.{limit_of, out_row}
 use Rattle.answer_rules.proofs.Covering.{found_in_one}
-use Rattle.chunk_scan.specs.Lines.{IsOfRowsOver, IsPieceBy, IsPieceOver}
-use Rattle.chunk_scan.specs.Selection.{selection}
-use Rattle.chunk_scan.proofs.Found.{found_rows}
+use Rattle.chunk_row_scan.specs.Lines.{IsOfRowsOver}
+use Rattle.chunk_scan.specs.Lines.{IsPieceBy, IsPieceOver}
+use Rattle.chunk_filter.specs.Selection.{selection}
+use Rattle.chunk_filter.proofs.Found.{found_rows}
 
 -- a query that is no join looks at the rows
 plain_picks : (shape : Shape) (table : List Obj) → is_paired shape ≡ false → picks shape table ≡ map row table

@@ -1,22 +1,13 @@
--- What a piece holds of some rows of the table.
+-- What a piece holds of some rows of the table, by the shape of the chunk query.
 use Rattle.std.specs.Prelude.{◌≡◌, List, map}
 use Rattle.table_rules.specs.Objects.{Obj}
 use Rattle.value_rules.specs.Values.{row}
 use Rattle.answer_rules.specs.declared.rewritten.ChunkQuery.{ChunkQuery}
-use Rattle.answer_rules.specs.Keeps.{KeepsFirst}
-use Rattle.answer_rules.specs.Pieces.{PieceView, OfRows, OfGroups, chunk_lines}
+use Rattle.answer_rules.specs.Pieces.{PieceView, OfGroups}
 use Rattle.answer_rules.specs.Parts.{partials_of}
-use Rattle.answer_rules.specs.Ranks.{row_order}
 use Rattle.sql_bound.specs.declared.query.Shape.{Shape}
 use Rattle.sql_bound.specs.declared.query.Shape.TheVariants.{Rows, Pairs, Groups}
-use Rattle.answer_rules.specs.Rows.{limit_of, out_row}
-
--- the piece is of these rows, in any order; with a LIMIT n it may lack rows that are none of the first n
-abbrev pub IsOfRowsOver : ChunkQuery → List Obj → PieceView → Type 0
-IsOfRowsOver cq objects (OfRows pushed rows) =
-    (pushed ≡ limit_of cq.limit)
-    × KeepsFirst row_order (limit_of cq.limit) (map (λ o. out_row (chunk_lines cq) (row o)) objects) rows
-IsOfRowsOver cq objects (OfGroups parts) = ⊥
+use Rattle.chunk_row_scan.specs.Lines.{IsOfRowsOver}
 
 -- the piece is of these rows: as rows, or as the aggregate states of their groups
 abbrev pub IsPieceBy : Shape → ChunkQuery → List Obj → PieceView → Type 0

@@ -13,11 +13,11 @@ ghost use Rattle.sky_row.specs.Columns.{objects_at};
 ghost use Rattle.value_rules.specs.Sound.{is_paired};
 ghost use Rattle.chunk_scan.specs.Lines.{IsPieceOver};
 
-use crate::group_piece::piece_of_groups;
-use crate::row_piece::row_piece;
-use crate::scratch::Scratch;
-use crate::selection::selection;
 use answer_rules::ChunkQuery;
+use chunk_filter::Scratch;
+use chunk_filter::selection::selection;
+use chunk_group_scan::group_piece::piece_of_groups;
+use chunk_row_scan::row_piece::row_piece;
 use chunk_store::Store;
 use column_block::Block;
 use partial_merge::Piece;

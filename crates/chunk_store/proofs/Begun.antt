@@ -2,9 +2,9 @@
 use Rattle.std.proofs.Common.{◌≡◌, ◌∙◌, sym, ap, subst, ℕ, ◌+◌, ◌<◌, arith, suc, List, [], ◌∷◌, ◌++◌, length, map, take, drop, get_or, below_more}
 use Rattle.std.proofs.lemmas.List.{get_or_append_left, get_or_push, drop_more, length_push, map-append, take-append-drop}
 use Rattle.std.proofs.Math.Seq.{append_snoc}
-use Rattle.sky_row.specs.Columns.{Parts, no_rows}
-use Rattle.sky_row.specs.Filling.{AreBegun}
-use Rattle.sky_row.proofs.Filling.{none_begun}
+use Rattle.column_lists.specs.Columns.{Parts, no_rows}
+use Rattle.column_lists.specs.Filling.{AreBegun}
+use Rattle.column_lists.proofs.Filling.{none_begun}
 
 -- the places of a chunk's rows, by its number among the chunks
 abbrev places_of : List (List ℕ) → List ℕ → ℕ → List ℕ

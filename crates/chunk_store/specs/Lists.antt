@@ -9,8 +9,9 @@ use Rattle.sky_rules.specs.Bounds.{in_chunk, in_sub}
 use Rattle.overlap_tables.specs.Overlaps.{in_full_overlap}
 use Rattle.chunk_rules.specs.Filled.{filled_chunks}
 use Rattle.chunk_rules.specs.Places.{passes}
-use Rattle.sky_row.specs.Columns.{Parts, no_rows, objects_at}
-use Rattle.sky_row.specs.Filling.{AreBegun}
+use Rattle.column_lists.specs.Columns.{Parts, no_rows}
+use Rattle.sky_row.specs.Columns.{objects_at}
+use Rattle.column_lists.specs.Filling.{AreBegun}
 use Rattle.column_block.specs.Blocks.{Stored}
 use Rattle.chunk_store.specs.Places.{chunk_block}
 

@@ -8,8 +8,9 @@
 ghost use Rattle.std.specs.Thread.{IsSync};
 ghost use Rattle.std.specs.Prelude.{◌≡◌, ◌<◌, ◌≤◌, [], IfOk, OnOk, All, AllPairs, drop, get_or, length, map, take};
 ghost use Rattle.std.specs.List.{Contains};
-ghost use Rattle.sky_row.specs.Columns.{AreAligned, AreRows, objects_at, objects_of};
-ghost use Rattle.sky_row.specs.Filling.{AreBegun};
+ghost use Rattle.column_lists.specs.Columns.{AreAligned, AreRows, objects_of};
+ghost use Rattle.sky_row.specs.Columns.{objects_at};
+ghost use Rattle.column_lists.specs.Filling.{AreBegun};
 ghost use Rattle.chunk_store.specs.Lists.{AreBegunBlocks, AreThere, block_at};
 
 use crate::lists::Lists;

@@ -3,8 +3,9 @@ ghost use Rattle.std.specs.Prelude.{◌≡◌, ◌+◌, ◌<◌, ◌≤◌, leng
 ghost use Rattle.sky_vector.specs.Points.{IsWithin};
 ghost use Rattle.table_rules.specs.Objects.{IsRow};
 ghost use Rattle.table_rules.specs.declared.limits.TheConstants.{FIRST_COLUMNS};
-ghost use Rattle.sky_row.specs.Columns.{AreRows, column_in, objects_at, objects_of};
-ghost use Rattle.sky_row.specs.Filling.{AreBegun};
+ghost use Rattle.column_lists.specs.Columns.{AreRows, objects_of};
+ghost use Rattle.sky_row.specs.Columns.{column_in, objects_at};
+ghost use Rattle.column_lists.specs.Filling.{AreBegun};
 
 use sky_io::Memory;
 use sky_row::{Column, Lists, Rows};
@@ -20,7 +21,7 @@ pub struct Block {
 
 impl Model for Block {
     ghost use Rattle.std.specs.Prelude.{length};
-    ghost use Rattle.sky_row.specs.Columns.{AreRows, objects_of};
+    ghost use Rattle.column_lists.specs.Columns.{AreRows, objects_of};
     ghost use Rattle.column_block.specs.Blocks.{Stored};
 
     ghost Value = { Stored };

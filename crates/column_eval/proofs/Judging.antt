@@ -11,9 +11,9 @@ use Rattle.table_rules.specs.Objects.{Obj}
 use Rattle.value_rules.specs.Formulas.{Formula, And, Or, all_from, any_from, negated_if, formula_of, formula_of_all}
 use Rattle.value_rules.specs.Formulas.{formula_of_any, formula_of_pred}
 use Rattle.value_rules.specs.Sound.{is_sound_formula}
-use Rattle.column_eval.specs.declared.flags.Flags.{Flags}
-use Rattle.column_eval.specs.Flags.{AreAnd, AreFlags, AreNegated, AreOr}
-use Rattle.column_eval.proofs.Flagged.{flags_and, flags_negated, flags_or}
+use Rattle.column_vectors.specs.declared.flags.Flags.{Flags}
+use Rattle.column_vectors.specs.Flags.{AreAnd, AreFlags, AreNegated, AreOr}
+use Rattle.column_vectors.proofs.Flagged.{flags_and, flags_negated, flags_or}
 
 -- ---- conjunctions
 

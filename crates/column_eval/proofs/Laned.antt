@@ -5,10 +5,10 @@ use Rattle.sky_row.specs.Columns.{no_row}
 use Rattle.table_rules.specs.Objects.{Obj, IsRow}
 use Rattle.value_rules.specs.Terms.{Term, Minus, Plus, Less, Times}
 use Rattle.value_rules.specs.Widths.{most, width_at}
-use Rattle.column_eval.specs.declared.lane.Lane.{Lane}
-use Rattle.column_eval.specs.Lanes.{AreLanesJoined, CanJoin, IsLane, IsSigned, IsSmall, numbers_of, with_sign}
-use Rattle.column_eval.specs.Totals.{number_on, is_known}
-use Rattle.column_eval.proofs.Totals.{known_both, known_minus, number_size}
+use Rattle.column_vectors.specs.declared.lane.Lane.{Lane}
+use Rattle.column_vectors.specs.Lanes.{AreLanesJoined, CanJoin, IsLane, IsSigned, IsSmall, numbers_of, with_sign}
+use Rattle.column_vectors.specs.Totals.{number_on, is_known}
+use Rattle.column_vectors.proofs.Totals.{known_both, known_minus, number_size}
 
 -- an operation that makes a third term of two
 pub record Makes (op : ℤ → ℤ → ℤ) (t u w : Term) : Type 0 where

@@ -1,9 +1,9 @@
 -- Expressions that are a column alone, and the numbers of such a column.
-use Rattle.std.proofs.Common.{◌≡◌, ◌≢◌, ◌∙◌, ℕ, ◌<◌, ◌≤◌, ℤ, pos, nat_abs, false, refl, sym, ap, subst, arith, List, [], length, get_or, map, Option, Some, None, All}
-use Rattle.std.specs.Prelude.{IfNone, IfSome, IsTrue, if◌then◌else◌, is_some}
-use Rattle.std.proofs.lemmas.List.{get_or-map, get_or_default, length-map, same_lists}
+use Rattle.std.proofs.Common.{◌≡◌, ◌≢◌, ◌∙◌, ℕ, ◌<◌, ◌≤◌, ℤ, nat_abs, false, sym, ap, subst, arith, List, [], length, get_or, map, Option, Some, None, All}
+use Rattle.std.specs.Prelude.{IfNone, IfSome, if◌then◌else◌}
+use Rattle.std.proofs.lemmas.List.{get_or-map, length-map}
 use Rattle.expr_eval.proofs.Layers.{factor_parts, product_parts, sum_parts}
-use Rattle.sky_row.specs.Columns.{column_in, no_row, or_zero}
+use Rattle.sky_row.specs.Columns.{column_in, no_row}
 use Rattle.sql_bound.specs.Trees.{factor, just, product, sum}
 use Rattle.sql_bound.specs.declared.expr.BoundAtom.TheVariants.{Col}
 use Rattle.sql_bound.specs.declared.expr.BoundCol.{BoundCol}
@@ -17,22 +17,7 @@ use Rattle.value_rules.specs.Values.{cell_of, row, value_at, value_of}
 use Rattle.value_rules.specs.Widths.{IsOfSize}
 use Rattle.value_rules.proofs.Parts.{term_col}
 use Rattle.value_rules.proofs.Ranges.{row_is_within}
-use Rattle.column_eval.specs.PickedColumns.{first_col}
-
-some_is : (v : Option ℤ) → IsTrue (is_some v) → Some (or_zero v) ≡ v
-some_is None h = absurd cc
-some_is (Some z) h = refl
-
--- where each row has a value, the numbers are all of them
-pub some_numbers : (column : List (Option ℤ)) → All (λ v. IsTrue (is_some v)) column → map Some (map or_zero column) ≡ column
-some_numbers column all =
-    same_lists (map Some (map or_zero column)) column (length-map (map or_zero column) Some ∙ length-map column or_zero)
-    (λ k d low.
-    let within : k < length (map or_zero column) = omega (arith, low, length-map (map or_zero column) Some) in
-    let there : k < length column = omega (arith, within, length-map column or_zero) in
-    get_or-map Some (map or_zero column) k (pos 0) d within
-    ∙ (ap Some (get_or-map or_zero column k None (pos 0) there)
-    ∙ (some_is (get_or column k None) (all k None there) ∙ get_or_default column k None d there)))
+use Rattle.column_vectors.specs.PickedColumns.{first_col}
 
 -- its values are those of the expression
 pub column_values : (e : BoundExpr) (col : ℕ) (objects : List Obj) (values : List ℤ) → term_of e ≡ Column (first_col col)

@@ -13,8 +13,8 @@ use Rattle.value_rules.proofs.Ranges.{narrow, width_le_widest}
 use Rattle.value_rules.specs.Sound.{is_sound_at}
 use Rattle.value_rules.specs.Terms.{Term, SignedTerm, Minus, Times, sum_from, product_from, term_of, term_of_atom, term_of_factor, term_of_prod, term_of_signed}
 use Rattle.value_rules.specs.Widths.{most, width_at}
-use Rattle.column_eval.specs.declared.lane.Lane.{Lane}
-use Rattle.column_eval.specs.Lanes.{AreLanesJoined, CanJoin, IsLane, IsSigned, IsSmall, numbers_of, with_sign}
+use Rattle.column_vectors.specs.declared.lane.Lane.{Lane}
+use Rattle.column_vectors.specs.Lanes.{AreLanesJoined, CanJoin, IsLane, IsSigned, IsSmall, numbers_of, with_sign}
 use Rattle.column_eval.proofs.Laned.{lanes_are, lanes_can, lane_signed, lane_small, makes_product, makes_sum, sum_width, with_term}
 
 -- what is sound is not too wide

@@ -6,10 +6,10 @@ ghost use Rattle.table_rules.specs.declared.limits.TheConstants.{FIRST_COLUMNS, 
 ghost use Rattle.value_rules.specs.Sound.{has_col, is_sound_expr};
 ghost use Rattle.value_rules.specs.Terms.{Column, term_of};
 ghost use Rattle.value_rules.specs.Values.{row, value_of};
-ghost use Rattle.column_eval.specs.PickedColumns.{first_col};
+ghost use Rattle.column_vectors.specs.PickedColumns.{first_col};
 
-use crate::leaf::numbers_if_whole;
 use column_block::Block;
+use column_vectors::leaf::numbers_if_whole;
 use sql_bound::{BoundAtom, BoundCol, BoundExpr};
 use table_rules::limits::FIRST_COLUMNS;
 

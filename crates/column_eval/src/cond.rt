@@ -7,16 +7,15 @@ ghost use Rattle.value_rules.specs.Formulas.{formula_of, formula_of_all, formula
 ghost use Rattle.value_rules.specs.Sound.{has_col, is_sound_cond};
 ghost use Rattle.value_rules.specs.Truth.{truth_of};
 ghost use Rattle.value_rules.specs.Values.{row};
-ghost use Rattle.column_eval.specs.Flags.{AreFlags};
+ghost use Rattle.column_vectors.specs.Flags.{AreFlags};
 ghost use Rattle.column_eval.specs.Seen.{IsSoundTest};
 
 use crate::area::area;
-use crate::flags::{Flags, joined_by_and, joined_by_or, negated_if};
 use crate::picked::Picked;
 use crate::pred::{among, between, compare, is_null};
-use crate::scratch::Scratch;
-use crate::truth_list::TruthList;
 use column_block::Block;
+use column_vectors::flags::{Flags, joined_by_and, joined_by_or, negated_if};
+use column_vectors::{Scratch, TruthList};
 use sky_io::Memory;
 use sql_bound::{BoundAll, BoundAny, BoundCond, BoundPred};
 

@@ -6,18 +6,17 @@ ghost use Rattle.table_rules.specs.declared.limits.TheConstants.{FIRST_COLUMNS};
 ghost use Rattle.value_rules.specs.Sound.{has_col, is_sound_expr};
 ghost use Rattle.value_rules.specs.Terms.{Column, Number, term_of, term_of_atom, term_of_factor, term_of_prod};
 ghost use Rattle.value_rules.specs.Values.{row, value_of};
-ghost use Rattle.column_eval.specs.Lanes.{AreLanesJoined, CanJoin, IsLane, IsSigned, IsSmall, numbers_of, with_sign};
+ghost use Rattle.column_vectors.specs.Lanes.{AreLanesJoined, CanJoin, IsLane, IsSigned, IsSmall, numbers_of, with_sign};
 ghost use Rattle.column_eval.specs.Seen.{IsSoundFor};
 
 use crate::alone::whole_column;
-use crate::join::{Less, Plus, Times};
-use crate::lane::{Lane, lanes_joined};
-use crate::leaf::literal;
 use crate::picked::Picked;
-use crate::picked_column::PickedColumn;
-use crate::scratch::Scratch;
-use crate::value_list::ValueList;
 use column_block::Block;
+use column_vectors::join::{Less, Plus, Times};
+use column_vectors::lane::{Lane, lanes_joined};
+use column_vectors::leaf::literal;
+use column_vectors::picked_column::PickedColumn;
+use column_vectors::{Scratch, ValueList};
 use sky_io::Memory;
 use sql_bound::{BoundAtom, BoundCol, BoundExpr, BoundFactor, BoundProd, Int};
 

@@ -6,9 +6,9 @@ use Rattle.chunk_store.proofs.lists.Lists.TheSendSync as lists
 use Rattle.chunk_store.proofs.store.Store.TheSendSync as store
 use Rattle.sky_plan.proofs.plan.SkyPlan.TheSendSync as sky_plan
 use Rattle.sky_plan.proofs.stripe.Stripe.TheSendSync as stripe
-use Rattle.sky_row.proofs.column.Column.TheSendSync as column
+use Rattle.column_lists.proofs.column.Column.TheSendSync as column
 use Rattle.sky_row.proofs.columns.Columns.TheSendSync as columns
-use Rattle.sky_row.proofs.lists.Lists.TheSendSync as lists_of_sky_row
+use Rattle.column_lists.proofs.lists.Lists.TheSendSync as lists_of_sky_row
 use Rattle.sky_row.proofs.rows.Rows.TheSendSync as rows
 use Rattle.sky_row.proofs.schema.Schema.TheSendSync as schema
 use Rattle.sky_vector.proofs.direction.Dir.TheSendSync as dir

@@ -12,7 +12,7 @@ use Rattle.answer_rules.specs.Coverage.{AreInTheSky}
 use Rattle.answer_rules.specs.Finish.{finished}
 use Rattle.answer_rules.specs.Plans.{is_needed, plan_of, radius_refusal, Reaches}
 use Rattle.answer_rules.specs.Pieces.{PieceView, PieceFor}
-use Rattle.answer_rules.specs.Rewriting.{chunk_query_of}
+use Rattle.answer_rules.specs.ChunkQueries.{chunk_query_of}
 use Rattle.answer_rules.specs.SoundChunks.{IsSoundChunk}
 use Rattle.answer_rules.specs.declared.rewritten.Rewritten.{Rewritten}
 use Rattle.answer_rules.specs.declared.value.Value.{Value}

@@ -4,8 +4,8 @@ use Rattle.value_rules.specs.Values.{Pick}
 use Rattle.answer_rules.specs.Pieces.{chunk_lines, chunk_value}
 use Rattle.answer_rules.specs.Rows.{out_row}
 use Rattle.answer_rules.specs.declared.rewritten.ChunkQuery.{ChunkQuery}
-use Rattle.partial_merge.specs.Multisets.{out_row as ranked}
-use Rattle.partial_merge.specs.declared.rank.Rank.{Rank}
+use Rattle.partial_rows.specs.Multisets.{out_row as ranked}
+use Rattle.partial_rows.specs.declared.rank.Rank.{Rank}
 use Rattle.near_join.specs.Gains.{with_cells}
 
 -- the rank of a pair with the values of the items is its row

@@ -19,9 +19,10 @@ use Rattle.table_rules.specs.Objects.{Catalogue, IsCatalogue, IsRow, Obj}
 use Rattle.overlap_tables.specs.Overlaps.{in_full_overlap}
 use Rattle.chunk_rules.specs.Places.{passes, places_by}
 use Rattle.chunk_store.specs.Places.{chunk_rows, full_overlap_rows}
-use Rattle.sky_row.specs.Columns.{IsGathered, no_row, objects_at}
-use Rattle.sky_row.proofs.Gathering.{point_same}
-use Rattle.sky_row.proofs.Presence.{gathered_is}
+use Rattle.column_lists.specs.Columns.{IsGathered}
+use Rattle.sky_row.specs.Columns.{no_row, objects_at}
+use Rattle.column_lists.proofs.Gathering.{point_same}
+use Rattle.column_lists.proofs.Presence.{gathered_is}
 use Rattle.answer_rules.specs.Coverage.{AreInTheSky}
 use Rattle.near_join.specs.Strips.{StripView, IsListed, IsChunkStrip, IsSubStrip, IsWhole, height_in, heights_at, in_strip, is_near_row, object_at, row_in}
 use Rattle.near_join.specs.Walk.{in_reach, reach_objects}

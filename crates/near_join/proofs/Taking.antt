@@ -6,8 +6,8 @@ use Rattle.std.proofs.lemmas.List.Elements.{All-map}
 use Rattle.std.proofs.lemmas.List.FromFn.{filter_of_map_range_with_len_more}
 use Rattle.sky_rules.specs.Bounds.{Bounds, near_bounds, near_sides}
 use Rattle.table_rules.specs.Objects.{Obj}
-use Rattle.sky_row.specs.Columns.{IsGathered}
-use Rattle.sky_row.proofs.Presence.{gathered_is}
+use Rattle.column_lists.specs.Columns.{IsGathered}
+use Rattle.column_lists.proofs.Presence.{gathered_is}
 use Rattle.near_join.specs.Strips.{StripView, IsListed, is_near_row, object_at, row_in}
 use Rattle.near_join.specs.Windows.{IsBetween}
 use Rattle.near_join.proofs.Filters.{filter_of_map, filter_same}

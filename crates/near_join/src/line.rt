@@ -7,7 +7,7 @@ ghost use Rattle.value_rules.specs.Values.{pair};
 ghost use Rattle.answer_rules.specs.Pieces.{chunk_down, chunk_key, chunk_lines, chunk_value};
 ghost use Rattle.answer_rules.specs.Ranks.{rank_class, rank_value};
 ghost use Rattle.answer_rules.specs.Rows.{out_row};
-ghost use Rattle.partial_merge.specs.Multisets.{out_row as ranked};
+ghost use Rattle.partial_rows.specs.Multisets.{out_row as ranked};
 ghost use Rattle.near_join.specs.Gains.{with_cells};
 ghost use Rattle.near_join.specs.Sound.{IsSoundLine, is_sound_item, is_sound_key};
 ghost use Rattle.table_rules.specs.declared.limits.TheConstants.{FIRST_COLUMNS};

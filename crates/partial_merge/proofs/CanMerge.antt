@@ -33,7 +33,8 @@ use Rattle.answer_rules.specs.Keys.{Key, key_of, key_order, keys_in, of_key}
 use Rattle.answer_rules.specs.Parts.{Part, Sums, count_part, part_over, partials_of, sums_over}
 use Rattle.answer_rules.specs.Picks.{found}
 use Rattle.answer_rules.specs.Pieces.{PieceView, OfRows, OfGroups, PieceBy, PieceFor}
-use Rattle.answer_rules.specs.Rewriting.{chunk_items_of, chunk_query_of, group_merged, group_parts, merged_from}
+use Rattle.answer_rules.specs.ChunkQueries.{chunk_items_of, chunk_query_of, group_parts}
+use Rattle.answer_rules.specs.Rewriting.{group_merged, merged_from}
 use Rattle.answer_rules.specs.Small.{IsSmallGroup, IsSmallPart}
 use Rattle.answer_rules.proofs.Apart.{each_filter, each_map}
 use Rattle.answer_rules.proofs.Cuts.{cut_is_sound}
@@ -41,9 +42,10 @@ use Rattle.answer_rules.proofs.Grouping.{climb_put_each}
 use Rattle.answer_rules.proofs.KeysInRange.{key_item_is_in_range}
 use Rattle.answer_rules.proofs.Orders.{each_weaker}
 use Rattle.answer_rules.proofs.Smallness.{piece_is_small}
-use Rattle.partial_merge.specs.Groups.{Gathered, group_by}
+use Rattle.partial_groups.specs.Groups.{Gathered, group_by}
 use Rattle.partial_merge.specs.Joining.{MayFinish}
-use Rattle.partial_merge.specs.Merging.{CanFinish, CanMerge, IsOnKey, MayMerge}
+use Rattle.partial_merge.specs.Merging.{CanFinish, CanMerge}
+use Rattle.partial_groups.specs.Merging.{IsOnKey, MayMerge}
 use Rattle.partial_merge.proofs.Standing.{may_finish_apart}
 
 -- ---- the parts of some rows, at their places

@@ -20,7 +20,7 @@ use Rattle.answer_rules.specs.Parts.{way_of}
 use Rattle.answer_rules.specs.Picks.{found}
 use Rattle.partial_merge.specs.declared.contents.Contents.{Contents}
 use Rattle.partial_merge.specs.declared.contents.Contents.TheVariants as contents
-use Rattle.partial_merge.specs.Groups.{Gathered, HaveWays, MayGather}
+use Rattle.partial_groups.specs.Groups.{Gathered, HaveWays, MayGather}
 use Rattle.partial_merge.specs.Contents.{IsCombined, MayCombine, rows_of, view_in}
 use Rattle.partial_merge.specs.Joining.{AbsorbsRows, IsOfRows, Joins, MayAbsorbRows, MayFinish, MayJoin}
 

@@ -9,7 +9,7 @@ use Rattle.answer_rules.specs.Pieces.{PieceView, OfRows, OfGroups}
 use Rattle.answer_rules.specs.Ranks.{row_order}
 use Rattle.partial_merge.specs.declared.contents.Contents.{Contents}
 use Rattle.partial_merge.specs.declared.contents.Contents.TheVariants as contents
-use Rattle.partial_merge.specs.Groups.{MayGather}
+use Rattle.partial_groups.specs.Groups.{MayGather}
 
 -- what callers see
 abbrev pub view_in : Contents → PieceView

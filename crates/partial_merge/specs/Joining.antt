@@ -15,11 +15,12 @@ use Rattle.answer_rules.specs.Parts.{Sums, add_own_sums}
 use Rattle.answer_rules.specs.PieceLaws.{AreDisjoint}
 use Rattle.answer_rules.specs.Pieces.{PieceView, OfRows, OfGroups, PieceFor}
 use Rattle.answer_rules.specs.Ranks.{row_order}
-use Rattle.answer_rules.specs.Rewriting.{chunk_query_of, merge_plan_of}
+use Rattle.answer_rules.specs.ChunkQueries.{chunk_query_of}
+use Rattle.answer_rules.specs.Rewriting.{merge_plan_of}
 use Rattle.answer_rules.specs.Small.{IsSmallGroup}
-use Rattle.partial_merge.specs.declared.rank.Rank.{Rank}
-use Rattle.partial_merge.specs.Multisets.{ComesBeforeNone, out_row}
-use Rattle.partial_merge.specs.Groups.{MayGather}
+use Rattle.partial_rows.specs.declared.rank.Rank.{Rank}
+use Rattle.partial_rows.specs.Multisets.{ComesBeforeNone, out_row}
+use Rattle.partial_groups.specs.Groups.{MayGather}
 
 -- Both represent one chunk query of one base, over disjoint sets of chunks.
 pub record MayJoin (mine other : PieceView) : Type 0 where

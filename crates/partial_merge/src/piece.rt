@@ -16,10 +16,10 @@ ghost use Rattle.answer_rules.specs.Pieces.{OfRows};
 ghost use Rattle.answer_rules.specs.Ranks.{row_order};
 ghost use Rattle.answer_rules.specs.Rows.{limit_of};
 ghost use Rattle.partial_merge.specs.Contents.{rows_of};
-ghost use Rattle.partial_merge.specs.Multisets.{out_row};
+ghost use Rattle.partial_rows.specs.Multisets.{out_row};
 ghost use Rattle.partial_merge.specs.Joining.{AbsorbsRows, IsNoneOfFirst, IsOfRows, IsReportedLate, Joins};
 ghost use Rattle.partial_merge.specs.Joining.{MayAbsorbRows, MayFinish, MayJoin, MayTakeGroup, TakesRow, with_group};
-ghost use Rattle.partial_merge.specs.Groups.{group_by};
+ghost use Rattle.partial_groups.specs.Groups.{group_by};
 ghost use Rattle.partial_merge.specs.Sizes.{IsWithin, size_of};
 ghost use Rattle.sky_io.specs.Stops.{IfBad};
 
@@ -27,11 +27,11 @@ use crate::contents::{
     Contents, combine_contents, count, finish, finish_rows, is_too_late, no_rows, nothing,
     push_group, push_row,
 };
-use crate::key::Key;
-use crate::rank::Rank;
-use crate::table::Table;
-use crate::tally::Tally;
 use answer_rules::{ChunkQuery, MergePlan, TotalOut};
+use answer_table::Table;
+use group_key::Key;
+use partial_groups::Tally;
+use partial_rows::Rank;
 use sky_io::{Memory, Stop};
 use sky_row::Rows;
 use sky_vector::Num;

@@ -16,6 +16,10 @@ pub record AllAnswered {P : Type 0} (refused : ℕ → ℕ → Type 0) (task : T
   pub full : length entries ≡ length task.queries
   pub none : NoneIsRefused refused task entries (length task.queries)
 
+-- the engine refused each piece of the task
+pub record RefusesAll (refused : ℕ → ℕ → Type 0) (task : TaskState) : Type 0 where
+  pub each : (turn : ℕ) → turn < length task.queries → refused (query_of task.queries turn) task.chunk
+
 -- there is no entry, as the engine had no memory for the list of the task's pieces
 pub record NoneListed {P : Type 0} (unlisted : TaskState → Type 0) (task : TaskState) (entries : List (Option P)) : Type 0 where
   pub empty : entries ≡ []

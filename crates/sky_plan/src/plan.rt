@@ -5,11 +5,10 @@ ghost use Rattle.sky_vector.specs.Points.{IsAdmissible};
 ghost use Rattle.sky_vector.specs.Pos.{point};
 ghost use Rattle.sky_rules.specs.Laws.{IsOnlyPlace};
 ghost use Rattle.sky_rules.specs.Limits.{IsSky, IsStripe};
-ghost use Rattle.sky_rules.specs.Partition.{chunk_count, chunks_in, greatest_overlap, least_overlap};
-ghost use Rattle.sky_rules.specs.Partition.{overlap_at, site_of, sky_bottom, sky_end, sub_count};
+ghost use Rattle.sky_rules.specs.Partition.{chunk_count, chunks_in, greatest_overlap, least_overlap, overlap_at, site_of, sky_bottom, sky_end, sub_count};
 ghost use Rattle.sky_rules.specs.declared.limits.TheConstants.{OVERLAP_MOST};
-ghost use Rattle.sky_rules.specs.Bounds.{in_chunk, in_sub, sub_bounds_of, bounds_of};
-ghost use Rattle.sky_plan.specs.Plans.{AreFirsts, CoversOverlaps, HasChunk, stripe_numbered};
+ghost use Rattle.sky_rules.specs.Bounds.{in_chunk, sub_bounds_of, bounds_of};
+ghost use Rattle.sky_plan.specs.Plans.{CoversOverlaps, HasChunk, stripe_numbered};
 ghost use Rattle.sky_plan.specs.Places.{IsOnlyChunk, SubHolds};
 ghost use Rattle.sky_plan.specs.Regions.{bounds_shown};
 ghost use Rattle.sky_plan.specs.Sites.{SpansHeight, end_numbered, site_numbered};
@@ -17,7 +16,7 @@ ghost use Rattle.sky_plan.specs.Sites.{SpansHeight, end_numbered, site_numbered}
 use crate::heights::stripes_below;
 use crate::region::Region;
 use crate::site::Site;
-use crate::stripe::Stripe;
+use crate::stripe::{Stripe, greatest_of};
 use crate::sub_place::SubPlace;
 use sky_io::Memory;
 use sky_rules::limits::SKY_END;
@@ -25,17 +24,6 @@ use sky_vector::Pos;
 use std::alloc::Global;
 use std::marker::Model;
 use wedge_rules::wedge_of;
-
-/// Returns the greatest overlap radius of these stripes.
-fn greatest_of(stripes: &[Stripe]) -> u32
-    ensures { result ≡ greatest_overlap (record { stripes = stripes.now }) }
-{
-    stripes
-        .iter()
-        .map(|stripe| stripe.overlap)
-        .max()
-        .unwrap_or(0)
-}
 
 /// A partition of the sky within the limits: at least 1 stripe, lowest first.
 #[derive(Drop)]

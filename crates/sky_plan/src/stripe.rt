@@ -1,6 +1,7 @@
 //! A stripe of the sky: the height at which it begins, and its division.
 
 ghost use Rattle.std.specs.Prelude.{◌≡◌};
+ghost use Rattle.sky_rules.specs.Partition.{greatest_overlap};
 
 use std::marker::Model;
 
@@ -58,4 +59,15 @@ impl Stripe {
     {
         self.overlap
     }
+}
+
+/// Returns the greatest overlap radius of these stripes.
+pub(crate) fn greatest_of(stripes: &[Stripe]) -> u32
+    ensures { result ≡ greatest_overlap (record { stripes = stripes.now }) }
+{
+    stripes
+        .iter()
+        .map(|stripe| stripe.overlap)
+        .max()
+        .unwrap_or(0)
 }

@@ -7,13 +7,12 @@ ghost use Rattle.std.specs.Prelude.{IfOk, IsTrue, OnErr, OnOk, get_or, slice_get
 ghost use Rattle.sky_vector.specs.Points.{IsWithin, is_admissible};
 ghost use Rattle.sky_vector.specs.Pos.{point};
 ghost use Rattle.table_rules.specs.Objects.{IsRow};
-ghost use Rattle.sky_row.specs.Columns.{AreListed, AreRows, column_in, no_row, objects_at, objects_of};
+ghost use Rattle.sky_row.specs.Columns.{AreListed, column_in, no_row, objects_at};
+ghost use Rattle.column_lists.specs.Columns.{AreRows, objects_of};
 ghost use Rattle.table_rules.specs.declared.limits.TheConstants.{FIRST_COLUMNS, ROWS_MOST};
 
-use crate::column::Column;
-use crate::lists::Lists;
-use crate::row::Row;
 use crate::schema::Schema;
+use column_lists::{Column, Lists, Row};
 use sky_io::Memory;
 use sky_vector::Pos;
 use std::alloc::Global;
@@ -30,7 +29,8 @@ pub struct Columns {
 
 impl Model for Columns {
     ghost use Rattle.table_rules.specs.Objects.{Catalogue};
-    ghost use Rattle.sky_row.specs.Columns.{AreColumns, objects_of};
+    ghost use Rattle.sky_row.specs.Columns.{AreColumns};
+    ghost use Rattle.column_lists.specs.Columns.{objects_of};
 
     ghost Value = { Catalogue };
 
@@ -193,7 +193,7 @@ impl Columns {
 }
 
 /// Appends the row.
-#[tactic(auto, using(crate::proofs::Rowed::one_more))]
+#[tactic(auto, using(column_lists::proofs::Rowed::one_more))]
 fn push_row(lists: &mut Lists, row: &Row) -> Result<(), Memory>
     requires are { AreRows lists.old }
     requires wide { length row.now.further ≡ length lists.old.further }

@@ -2,7 +2,7 @@
 use Rattle.std.proofs.Common.{◌≡◌, ◌∙◌, refl, sym, ap, ℕ, ◌<◌, arith, ℤ, pos, Bool, true, false, ◌&&◌, ◌⊎◌, inl, inr, List, length, get_or, map, Option, None, Some}
 use Rattle.std.specs.Option.{is_some}
 use Rattle.std.proofs.lemmas.List.{get_or-map}
-use Rattle.sky_row.specs.Columns.{or_zero}
+use Rattle.column_lists.specs.Columns.{or_zero}
 use Rattle.sql_tree.specs.declared.cond.Cmp.{Cmp}
 use Rattle.value_rules.specs.Truth.{compares}
 use Rattle.lane_filter.specs.Tests.{IsKeptBy, is_from_to}

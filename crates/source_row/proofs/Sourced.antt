@@ -9,9 +9,11 @@ use Rattle.std.proofs.lemmas.List.Elements.{All-push}
 use Rattle.std.proofs.lemmas.Simd.{map-map}
 use Rattle.table_rules.specs.Objects.{Obj, cell}
 use Rattle.table_rules.specs.declared.limits.TheConstants.{FURTHER_COLUMNS_MOST, ROWS_MOST}
-use Rattle.sky_row.specs.Columns.{Parts, AreAligned, AreAscending, no_row, objects_of, row_at}
-use Rattle.sky_row.proofs.Gathering.{cells_are, cells_count}
-use Rattle.sky_row.proofs.Rowed.{aligned_more, one_more, objects_are, ids_are as row_ids, xs_are, column_is as row_column}
+use Rattle.column_lists.specs.Columns.{Parts, AreAligned, objects_of, row_at}
+use Rattle.sky_row.specs.Columns.{AreAscending, no_row}
+use Rattle.column_lists.proofs.Gathering.{cells_are, cells_count}
+use Rattle.column_lists.proofs.Rowed.{aligned_more, one_more}
+use Rattle.sky_row.proofs.Rowed.{objects_are, ids_are as row_ids, xs_are, column_is as row_column}
 use Rattle.source_rules.specs.Sources.{Source, IsSource, IsSourceTable, source_cell}
 use Rattle.source_row.specs.SourceColumns.{SourceParts, AreEven, AreSourceColumns, no_source, no_sources, parts_at, source_at, source_behind, source_column, sources_at, sources_in}
 

@@ -2,7 +2,7 @@
 use Rattle.std.specs.Prelude.{◌≡◌, ℕ, ◌<◌, ◌≤◌, List, [], ◌∷◌, ◌++◌, length, map, replicate, get_or, All, Option, None, ℤ, pos}
 use Rattle.std.specs.List.{range_with_len}
 use Rattle.table_rules.specs.declared.limits.TheConstants.{FURTHER_COLUMNS_MOST, ROWS_MOST}
-use Rattle.sky_row.specs.Columns.{cells_behind, cells_in}
+use Rattle.column_lists.specs.Columns.{cells_behind, cells_in}
 use Rattle.source_rules.specs.Sources.{Source, IsSource, source_cell}
 
 -- The columns of sources: their ids, those of their objects, and a list for each extra column.

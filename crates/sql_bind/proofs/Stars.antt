@@ -4,7 +4,7 @@ use Rattle.std.proofs.lemmas.List.{drop_all}
 use Rattle.sql_bound.specs.declared.query.BoundItem.{BoundItem}
 use Rattle.sql_bound.specs.declared.query.BoundItem.TheVariants as item
 use Rattle.bind_rules.specs.Binding.{columns_from, just_column}
-use Rattle.bind_checks.proofs.Loops.{drop_there}
+use Rattle.query_walks.proofs.Loops.{drop_there}
 
 columns_there : (second : Bool) (at : ℕ) (names : List (List ℕ)) → at < length names → columns_from second at (drop at names) ≡ item.Plain (just_column second at) ∷ columns_from second (at + 1) (drop (at + 1) names)
 columns_there second at names low = ap (columns_from second at) (drop_there names at [] low)

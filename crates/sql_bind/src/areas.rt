@@ -3,7 +3,7 @@ ghost use Rattle.std.specs.Prelude.{◌≡◌, ◌++◌, option_to_list, IfOk, I
 ghost use Rattle.std.specs.List.{flat_map};
 ghost use Rattle.bind_rules.specs.IdTests.{areas_by};
 ghost use Rattle.bind_rules.specs.Tops.{top_tests};
-ghost use Rattle.bind_checks.specs.Gathering.{test_of};
+ghost use Rattle.query_walks.specs.Gathering.{test_of};
 
 use bind_checks::{Gather, TestRef, area_test, walk};
 use sql_bound::{AreaTest, Areas};
@@ -21,7 +21,7 @@ struct AreaList {
 impl Gather for AreaList {
     ghost use Rattle.std.specs.Prelude.{◌++◌};
     ghost use Rattle.bind_rules.specs.IdTests.{areas_by};
-    ghost use Rattle.bind_checks.specs.Behind.{top_only};
+    ghost use Rattle.query_walks.specs.Behind.{top_only};
 
     ghost kept = { λ s. s.is_whole };
 

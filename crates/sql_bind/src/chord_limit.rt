@@ -3,7 +3,7 @@ ghost use Rattle.std.specs.Prelude.{◌≡◌, ◌-ℤ◌, if◌then◌else◌, 
 ghost use Rattle.std.specs.List.{flat_map};
 ghost use Rattle.bind_rules.specs.Binding.{chord_limit, first_or};
 ghost use Rattle.bind_rules.specs.Tops.{top_tests};
-ghost use Rattle.bind_checks.specs.Gathering.{test_of};
+ghost use Rattle.query_walks.specs.Gathering.{test_of};
 
 use bind_checks::{Gather, TestRef, walk};
 use sql_tree::{Int, Query};
@@ -35,7 +35,7 @@ struct FirstLimit {
 impl Gather for FirstLimit {
     ghost use Rattle.std.specs.Prelude.{true};
     ghost use Rattle.bind_rules.specs.Binding.{chord_limit};
-    ghost use Rattle.bind_checks.specs.Behind.{first_behind, top_only};
+    ghost use Rattle.query_walks.specs.Behind.{first_behind, top_only};
 
     ghost kept = { λ _. true };
 

@@ -41,7 +41,7 @@ fn any_with(
 
 // Binds the conjunctions of a condition after the first.
 #[cycle(whole)]
-#[tactic(auto, using(bind_checks::proofs::Loops::there_none, bind_checks::proofs::Loops::there_more, bind_checks::proofs::Loops::there_stops, bind_checks::proofs::Loops::there_end))]
+#[tactic(auto, using(query_walks::proofs::Loops::there_none, query_walks::proofs::Loops::there_more, query_walks::proofs::Loops::there_stops, query_walks::proofs::Loops::there_end))]
 fn whole_conjs<C: Columns>(
     alloc: Global,
     columns: &C,
@@ -91,7 +91,7 @@ fn all_with(
 
 // Binds the predicates of a conjunction after the first.
 #[cycle(whole)]
-#[tactic(auto, using(bind_checks::proofs::Loops::there_none, bind_checks::proofs::Loops::there_more, bind_checks::proofs::Loops::there_stops, bind_checks::proofs::Loops::there_end))]
+#[tactic(auto, using(query_walks::proofs::Loops::there_none, query_walks::proofs::Loops::there_more, query_walks::proofs::Loops::there_stops, query_walks::proofs::Loops::there_end))]
 fn whole_negs<C: Columns>(
     alloc: Global,
     columns: &C,

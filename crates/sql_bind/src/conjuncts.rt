@@ -74,7 +74,7 @@ fn add_plain(found: &mut BoundConds, pred: BoundPred) -> Result<(), AllocError>
 
 // Adds the conjuncts of each part.
 #[cycle(top)]
-#[tactic(auto, using(crate::proofs::CondLayers::conj_conjuncts, bind_checks::proofs::Loops::then_rest))]
+#[tactic(auto, using(crate::proofs::CondLayers::conj_conjuncts, query_walks::proofs::Loops::then_rest))]
 fn add_conj<C: Columns>(
     alloc: Global,
     columns: &C,
@@ -89,7 +89,7 @@ fn add_conj<C: Columns>(
 
 // Adds the conjuncts of the parts after the first.
 #[cycle(top)]
-#[tactic(auto, using(bind_checks::proofs::Loops::flat_more))]
+#[tactic(auto, using(query_walks::proofs::Loops::flat_more))]
 fn add_negs<C: Columns>(
     alloc: Global,
     columns: &C,

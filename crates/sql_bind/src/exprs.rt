@@ -26,7 +26,7 @@ pub(crate) fn bound_expr<C: Columns>(
 
 // Binds the products of a sum after the first.
 #[cycle(bind)]
-#[tactic(auto, using(bind_checks::proofs::Loops::map_more))]
+#[tactic(auto, using(query_walks::proofs::Loops::map_more))]
 fn bound_signeds<C: Columns>(
     alloc: Global,
     columns: &C,
@@ -71,7 +71,7 @@ fn bound_prod<C: Columns>(alloc: Global, columns: &C, prod: &Prod) -> Result<Bou
 
 // Binds the factors of a product after the first.
 #[cycle(bind)]
-#[tactic(auto, using(bind_checks::proofs::Loops::map_more))]
+#[tactic(auto, using(query_walks::proofs::Loops::map_more))]
 fn bound_factors<C: Columns>(
     alloc: Global,
     columns: &C,

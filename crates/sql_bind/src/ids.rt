@@ -4,7 +4,7 @@ ghost use Rattle.std.specs.Prelude.{◌≡◌, ◌∷◌, ◌++◌, [], true, If
 ghost use Rattle.std.specs.List.{flat_map};
 ghost use Rattle.bind_rules.specs.IdTests.{ids_by, int_of, is_lone_column, lone_of};
 ghost use Rattle.bind_rules.specs.Tops.{Equals, Listed, top_tests};
-ghost use Rattle.bind_checks.specs.Gathering.{test_of};
+ghost use Rattle.query_walks.specs.Gathering.{test_of};
 ghost use Rattle.sql_bind.specs.LoneParts.{lone_of_atom, lone_of_factor, lone_of_prod};
 
 use crate::ints::values_of;
@@ -172,7 +172,7 @@ struct IdList<'a, T> {
 impl<'a, T: ColumnTest> Gather for IdList<'a, T> {
     ghost use Rattle.std.specs.Prelude.{◌++◌};
     ghost use Rattle.bind_rules.specs.IdTests.{ids_by};
-    ghost use Rattle.bind_checks.specs.Behind.{top_only};
+    ghost use Rattle.query_walks.specs.Behind.{top_only};
 
     ghost kept = { λ s. s.is_whole };
 

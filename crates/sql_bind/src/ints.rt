@@ -18,7 +18,7 @@ fn push_int(ints: &mut Ids, int: &SignedInt) -> Result<(), AllocError>
 }
 
 /// Returns the ints of a list. Allocates memory for them.
-#[tactic(auto, using(bind_checks::proofs::Loops::map_more))]
+#[tactic(auto, using(query_walks::proofs::Loops::map_more))]
 pub(crate) fn values_of(alloc: Global, list: &IntList) -> Result<Ids, AllocError>
     ensures { IfOk result (λ ints. ints ≡ values_of list.now) }
 {

@@ -80,7 +80,7 @@ fn bound_item<C: Columns>(
 }
 
 /// Binds the items of a list. Allocates memory for them.
-#[tactic(auto, using(bind_checks::proofs::Loops::map_more))]
+#[tactic(auto, using(query_walks::proofs::Loops::map_more))]
 pub fn listed_items<C: Columns>(
     alloc: Global,
     columns: &C,

@@ -11,7 +11,7 @@ use sqlite_items::Items;
 use std::alloc::{AllocError, Global};
 
 // Binds columns.
-#[tactic(auto, using(bind_checks::proofs::Loops::map_more))]
+#[tactic(auto, using(query_walks::proofs::Loops::map_more))]
 fn bound_cols<C: Columns>(alloc: Global, columns: &C, cols: &[Col]) -> Result<ColList, AllocError>
     ensures { IfOk result (λ keys. keys ≡ map (C.means columns.now) cols.now) }
 {

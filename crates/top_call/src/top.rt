@@ -21,8 +21,8 @@ use std::thread::Threads;
 
 /// Executes the command that the arguments give: reports how the rows are distributed over the chunks, answers or
 /// explains the queries of a script, answers them over objects and their sources, or checks a journal. The texts are
-/// fetched from the shelf one by one. The chunks are built before the script is fetched. All texts are accepted and all answers computed before the first byte is
-/// written to the sink.
+/// fetched from the shelf one by one. The chunks are built before the script is fetched. All texts are accepted and all
+/// answers computed before the first byte is written to the sink.
 ///
 /// Allocates memory for the texts, the rows and their chunks, and the answers; writing does not allocate. Queries are
 /// answered by this thread and as many workers as the arguments ask for, and these read the catalogue too. To report and

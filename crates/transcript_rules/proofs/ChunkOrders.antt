@@ -15,8 +15,10 @@ use Rattle.sql_bound.specs.declared.query.Shape.{Shape}
 use Rattle.sql_bound.specs.declared.query.Shape.TheVariants.{Rows, Pairs, Groups}
 use Rattle.sql_rules.specs.PrintedExprs.{Bytes, text_if}
 use Rattle.value_rules.specs.Sound.{IsSound, is_sound_item, is_sound_order}
-use Rattle.answer_rules.specs.Rewriting.{chunk_items_of, chunk_order_of, chunk_query_of, expr_of, key_expr, merge_key_of}
-use Rattle.answer_rules.specs.Rewriting.{merge_plan_of, merged_from, row_order_of, row_parts}
+use Rattle.answer_rules.specs.ChunkQueries.{chunk_items_of, chunk_order_of, chunk_query_of, expr_of, key_expr}
+use Rattle.answer_rules.specs.Rewriting.{merge_key_of}
+use Rattle.answer_rules.specs.Rewriting.{merge_plan_of, merged_from}
+use Rattle.answer_rules.specs.ChunkQueries.{row_order_of, row_parts}
 use Rattle.answer_rules.specs.declared.rewritten.ChunkOrder.{ChunkOrder}
 use Rattle.answer_rules.specs.declared.rewritten.MergeItem.{MergeItem}
 use Rattle.answer_rules.specs.declared.rewritten.MergeKey.TheVariants.{ChunkKey}

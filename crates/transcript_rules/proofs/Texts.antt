@@ -37,8 +37,9 @@ use Rattle.bind_rules.specs.Tops.{top_tests}
 use Rattle.bind_rules.specs.Names.{is_aggregate, is_grouped, has_keys}
 use Rattle.answer_rules.specs.declared.rewritten.ChunkItem.{ChunkItem}
 use Rattle.answer_rules.specs.declared.rewritten.ChunkItem.TheVariants as part
-use Rattle.answer_rules.specs.Rewriting.{row_parts, group_parts, chunk_items_of, expr_of, key_expr, row_order_of}
-use Rattle.answer_rules.specs.Rewriting.{chunk_order_of, order_column, of_col, id_col, columns_of, chunk_query_of}
+use Rattle.answer_rules.specs.ChunkQueries.{row_parts, group_parts, chunk_items_of, expr_of, key_expr, row_order_of}
+use Rattle.answer_rules.specs.ChunkQueries.{chunk_order_of, of_col, id_col, chunk_query_of}
+use Rattle.answer_rules.specs.Rewriting.{order_column, columns_of}
 use Rattle.transcript_rules.specs.Tables.{qualified, star_columns}
 use Rattle.transcript_rules.specs.ChunkLines.{item_texts, id_texts, order_texts, part_texts, row_texts, group_texts}
 use Rattle.transcript_rules.specs.ChunkLines.{chunk_texts}

@@ -9,7 +9,8 @@ use Rattle.value_rules.specs.Sound.{IsSound}
 use Rattle.bind_rules.specs.Binding.{bound_of}
 use Rattle.answer_rules.specs.Answers.{flat_answer}
 use Rattle.answer_rules.specs.Plans.{plan_of}
-use Rattle.answer_rules.specs.Rewriting.{chunk_query_of, columns_of, merge_plan_of}
+use Rattle.answer_rules.specs.ChunkQueries.{chunk_query_of}
+use Rattle.answer_rules.specs.Rewriting.{columns_of, merge_plan_of}
 use Rattle.answer_rules.specs.declared.value.Value.{Value}
 use Rattle.session_rules.specs.Ends.{has_work}
 use Rattle.session_rules.specs.declared.end.EndKind.TheVariants.{Answered, Refused, Cancelled, Spent}

@@ -6,7 +6,8 @@ use Rattle.table_rules.specs.Objects.{Catalogue}
 use Rattle.sky_rules.specs.Partition.{Partition}
 use Rattle.sql_rules.specs.PrintedExprs.{Bytes}
 use Rattle.answer_rules.specs.Plans.{plan_of}
-use Rattle.answer_rules.specs.Rewriting.{chunk_query_of, merge_plan_of}
+use Rattle.answer_rules.specs.ChunkQueries.{chunk_query_of}
+use Rattle.answer_rules.specs.Rewriting.{merge_plan_of}
 use Rattle.session_script.specs.Views.{ScriptView, query_lines}
 use Rattle.transcript_rules.specs.declared.refusal.Refusal.{Refusal}
 use Rattle.transcript_rules.specs.Refusals.{Understood, understood, early_refusal}

@@ -1,6 +1,6 @@
 use Rattle.sky_io.proofs.Writes.{under_fail, under_more}
 use Rattle.transcript_rules.specs.Tables.{row_line}
-use Rattle.answer_text.proofs.Parting.{next_found}
+use Rattle.column_text.proofs.Parting.{next_found}
 use Rattle.answer_text.proofs.values.put_rows.Goals as goal
 
 pub returns-in-Failed : goal.returns-in-Failed

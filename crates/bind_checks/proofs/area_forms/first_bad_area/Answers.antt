@@ -4,8 +4,8 @@ use Rattle.bind_rules.specs.declared.fault.BindFault.TheVariants as fault
 use Rattle.bind_rules.specs.Forms.{bad_area, area_form}
 use Rattle.bind_rules.specs.Tops.{tests_in}
 use Rattle.bind_checks.specs.declared.area_forms.FirstBad.{FirstBad}
-use Rattle.bind_checks.specs.Behind.{first_behind}
-use Rattle.bind_checks.proofs.Gathered.{firsts}
+use Rattle.query_walks.specs.Behind.{first_behind}
+use Rattle.query_walks.proofs.Gathered.{firsts}
 use Rattle.bind_checks.proofs.area_forms.first_bad_area.Goals as goal
 
 pub returns : goal.returns

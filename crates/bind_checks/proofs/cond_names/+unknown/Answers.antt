@@ -3,7 +3,7 @@ use Rattle.bind_checks.specs.Parts.{conj_mentions, neg_mentions}
 use Rattle.bind_checks.proofs.CondParts.{area_mentions, among_mentions, between_mentions, chord_mentions, compare_mentions}
 use Rattle.bind_checks.proofs.CondParts.{cond_mentions_parts, conj_mentions_parts, group_mentions, neg_mentions_parts}
 use Rattle.bind_checks.proofs.CondParts.{null_mentions}
-use Rattle.bind_checks.proofs.Firsts.{first_here, first_later, first_of_none, first_at_end, next_part}
+use Rattle.query_walks.proofs.Firsts.{first_here, first_later, first_of_none, first_at_end, next_part}
 use Rattle.bind_checks.proofs.cond_names.+unknown.Goals as goal
 
 pub unknown_in_cond-returns-in-Some : goal.unknown_in_cond-returns-in-Some

@@ -1,5 +1,5 @@
 use Rattle.std.proofs.Common.{◌∙◌, sym}
-use Rattle.bind_checks.proofs.Firsts.{first_here, first_later}
+use Rattle.query_walks.proofs.Firsts.{first_here, first_later}
 use Rattle.bind_checks.proofs.cond_names.unknown_in_three.Goals as goal
 
 pub returns-in-Some : goal.returns-in-Some

@@ -1,4 +1,4 @@
-use Rattle.bind_checks.proofs.Firsts.{first_of_none}
+use Rattle.query_walks.proofs.Firsts.{first_of_none}
 use Rattle.bind_checks.proofs.cond_names.unknown_in_where.Goals as goal
 
 pub returns-in-None : goal.returns-in-None

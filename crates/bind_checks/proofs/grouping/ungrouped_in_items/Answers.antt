@@ -1,5 +1,5 @@
 use Rattle.bind_checks.specs.Parts.{plain_columns_of}
-use Rattle.bind_checks.proofs.Firsts.{each_here, each_later, first_of_each_at_end}
+use Rattle.query_walks.proofs.Firsts.{each_here, each_later, first_of_each_at_end}
 use Rattle.bind_checks.proofs.grouping.ungrouped_in_items.Goals as goal
 
 pub returns-in-Some : goal.returns-in-Some

@@ -2,7 +2,7 @@ use Rattle.std.proofs.Common.{◌≡◌, drop, not}
 use Rattle.std.specs.List.{flat_map}
 use Rattle.sql_tree.specs.Spans.{col_span}
 use Rattle.bind_rules.specs.Names.{is_key}
-use Rattle.bind_checks.specs.Firsts.{first_place}
+use Rattle.query_walks.specs.Firsts.{first_place}
 use Rattle.bind_checks.specs.Parts.{plain_columns_of}
 use Rattle.bind_checks.proofs.grouping.ungrouped_in_items.Given as goal
 

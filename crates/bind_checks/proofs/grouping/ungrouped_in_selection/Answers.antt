@@ -1,8 +1,8 @@
 use Rattle.std.proofs.Common.{◌∙◌, sym}
 use Rattle.std.specs.List.{flat_map}
-use Rattle.bind_checks.specs.Firsts.{first_place}
+use Rattle.query_walks.specs.Firsts.{first_place}
 use Rattle.bind_checks.specs.Parts.{plain_columns_of}
-use Rattle.bind_checks.proofs.Firsts.{first_here, first_later}
+use Rattle.query_walks.proofs.Firsts.{first_here, first_later}
 use Rattle.bind_checks.proofs.grouping.ungrouped_in_selection.Goals as goal
 
 pub returns-in-Some : goal.returns-in-Some

@@ -1,6 +1,6 @@
 use Rattle.std.proofs.Common.{◌∙◌, sym}
 use Rattle.bind_rules.specs.Mentions.{expr_of, items_of, mentioned}
-use Rattle.bind_checks.proofs.Firsts.{first_here, first_later, flat_twice}
+use Rattle.query_walks.proofs.Firsts.{first_here, first_later, flat_twice}
 use Rattle.bind_checks.proofs.names.unknown_before_where.Goals as goal
 
 pub returns-in-Some : goal.returns-in-Some

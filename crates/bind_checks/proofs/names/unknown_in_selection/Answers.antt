@@ -1,7 +1,7 @@
 use Rattle.std.proofs.Common.{◌∙◌, sym}
 use Rattle.std.specs.List.{flat_map}
 use Rattle.bind_checks.specs.Parts.{item_mentions}
-use Rattle.bind_checks.proofs.Firsts.{first_here, first_later, first_of_none}
+use Rattle.query_walks.proofs.Firsts.{first_here, first_later, first_of_none}
 use Rattle.bind_checks.proofs.names.unknown_in_selection.Goals as goal
 
 pub returns-in-Star : goal.returns-in-Star

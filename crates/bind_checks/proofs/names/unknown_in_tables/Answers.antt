@@ -1,7 +1,7 @@
 use Rattle.std.proofs.Common.{◌∙◌, [], ◌∷◌, sym, map}
 use Rattle.std.specs.Option.{option_to_list}
 use Rattle.bind_rules.specs.Mentions.{Table}
-use Rattle.bind_checks.proofs.Firsts.{first_here, first_later}
+use Rattle.query_walks.proofs.Firsts.{first_here, first_later}
 use Rattle.bind_checks.proofs.names.unknown_in_tables.Goals as goal
 
 pub returns-in-Some : goal.returns-in-Some

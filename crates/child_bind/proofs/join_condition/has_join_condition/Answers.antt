@@ -1,6 +1,6 @@
 use Rattle.std.proofs.Common.{refl, sym, ap, ◌∙◌}
 use Rattle.bind_rules.specs.Tops.{tests_in}
-use Rattle.bind_checks.proofs.Walked.{tops_only}
+use Rattle.query_walks.proofs.Walked.{tops_only}
 use Rattle.child_bind_rules.specs.JoinCondition.{join_condition_by}
 use Rattle.child_bind.specs.Joins.{is_once, joins_met}
 use Rattle.child_bind.specs.declared.join_condition.Joins.TheVariants.{Nowhere}

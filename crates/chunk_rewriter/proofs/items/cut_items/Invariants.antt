@@ -1,6 +1,7 @@
 use Rattle.std.proofs.Common.{◌≡◌, ◌++◌, drop, length}
 use Rattle.std.specs.List.{flat_map}
-use Rattle.answer_rules.specs.Rewriting.{chunk_items_of, merged_from}
+use Rattle.answer_rules.specs.ChunkQueries.{chunk_items_of}
+use Rattle.answer_rules.specs.Rewriting.{merged_from}
 use Rattle.chunk_rewriter.proofs.items.cut_items.Given as goal
 
 abbrev pub invariant-loop-item : goal.invariant-loop-item

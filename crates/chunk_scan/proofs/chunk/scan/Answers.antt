@@ -5,8 +5,8 @@ use Rattle.sky_row.specs.Columns.{objects_at}
 use Rattle.column_block.specs.Blocks.{Stored}
 use Rattle.chunk_store.proofs.ChunkBlocks.{chunk_taken}
 use Rattle.chunk_scan.specs.Lines.{IsPieceOver}
-use Rattle.chunk_scan.specs.Selection.{selection}
-use Rattle.chunk_scan.proofs.Found.{block_ascends, block_few, block_is, places_few, rows_len}
+use Rattle.chunk_filter.specs.Selection.{selection}
+use Rattle.chunk_filter.proofs.Found.{block_ascends, block_few, block_is, places_few, rows_len}
 use Rattle.chunk_scan.proofs.Scanned.{scanned}
 use Rattle.chunk_scan.proofs.chunk.scan.Goals as goal
 

@@ -1,7 +1,7 @@
 use Rattle.std.proofs.Common.{◌≡◌, ◌∷◌, ◌∙◌, ◌<◌, ◌+◌, ap, arith, get_or, [], rules, length}
 use Rattle.std.specs.Vec.Iter.{into_iter_items}
 use Rattle.sky_row.specs.Columns.{objects_at}
-use Rattle.sky_row.proofs.Rowed.{places_there}
+use Rattle.column_lists.proofs.Rowed.{places_there}
 use Rattle.column_block.proofs.Storing.{stored_same}
 use Rattle.chunk_store.specs.Lists.{block_at}
 use Rattle.chunk_store.proofs.Begun.{next_begun, next_block, this_begun}

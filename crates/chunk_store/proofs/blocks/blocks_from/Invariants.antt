@@ -1,7 +1,7 @@
 use Rattle.std.proofs.Common.{◌≡◌, ◌++◌, ◌+◌, ◌<◌, ℕ, [], drop, get_or, map, length, vec_capacity}
 use Rattle.std.specs.Vec.Iter.{into_iter_items, into_iter_len}
-use Rattle.sky_row.specs.Columns.{no_rows}
-use Rattle.sky_row.specs.Filling.{AreBegun}
+use Rattle.column_lists.specs.Columns.{no_rows}
+use Rattle.column_lists.specs.Filling.{AreBegun}
 use Rattle.chunk_store.specs.Lists.{block_at}
 use Rattle.chunk_store.proofs.blocks.blocks_from.Given as goal
 

@@ -1,6 +1,6 @@
 use Rattle.std.proofs.Common.{◌≡◌, ◌<◌, ℕ, [], get_or, length, vec_capacity}
-use Rattle.sky_row.specs.Columns.{no_rows}
-use Rattle.sky_row.specs.Filling.{AreBegun}
+use Rattle.column_lists.specs.Columns.{no_rows}
+use Rattle.column_lists.specs.Filling.{AreBegun}
 use Rattle.chunk_store.proofs.blocks.empty_blocks.Given as goal
 
 abbrev pub invariant-loop-chunk : goal.invariant-loop-chunk

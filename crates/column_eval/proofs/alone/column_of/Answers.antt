@@ -1,6 +1,6 @@
 use Rattle.std.proofs.Common.{rules, arith, ap, length}
 use Rattle.std.proofs.lemmas.List.{nil_from_length}
-use Rattle.column_eval.specs.PickedColumns.{first_col}
+use Rattle.column_vectors.specs.PickedColumns.{first_col}
 use Rattle.column_eval.proofs.SingleColumns.{column_is, column_none, column_parts}
 use Rattle.column_eval.proofs.alone.column_of.Goals.{then-len-gt0-via-then-len-gt0, then-len-gt0-via-else-len-gt0+then-len-gt0-2, then-len-gt0-via-else-len-gt0+else-len-gt0-2+then-factor}
 use Rattle.column_eval.proofs.alone.column_of.Goals as goal

@@ -1,5 +1,5 @@
 use Rattle.std.proofs.Common.{◌≡◌, length, replicate, rules, true}
-use Rattle.column_eval.proofs.Flagged.{flags_area}
+use Rattle.column_vectors.proofs.Flagged.{flags_area}
 use Rattle.column_eval.proofs.area.area.Goals as goal
 
 pub returns : goal.returns

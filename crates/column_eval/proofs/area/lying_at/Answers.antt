@@ -1,7 +1,7 @@
 use Rattle.std.proofs.Common.{◌≤◌, sym, subst, get_or, length, pos, rules, FitsSigned, w32}
 use Rattle.std.proofs.lemmas.Int.{to_z-of_z}
-use Rattle.column_eval.specs.Flags.{area_at}
-use Rattle.column_eval.proofs.Masked.{mask_more}
+use Rattle.column_vectors.specs.Flags.{area_at}
+use Rattle.column_vectors.proofs.Masked.{mask_more}
 use Rattle.column_eval.proofs.area.lying_at.Goals as goal
 
 pub loop-place-preserved : goal.loop-place-preserved

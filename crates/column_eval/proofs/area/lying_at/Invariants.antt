@@ -1,6 +1,6 @@
 use Rattle.std.proofs.Common.{◌≤◌, get_or, length, vec_capacity}
-use Rattle.column_eval.specs.Flags.{area_at}
-use Rattle.column_eval.specs.Masks.{IsMask}
+use Rattle.column_vectors.specs.Flags.{area_at}
+use Rattle.column_vectors.specs.Masks.{IsMask}
 use Rattle.column_eval.proofs.area.lying_at.Given as goal
 
 abbrev pub invariant-loop-place : goal.invariant-loop-place

@@ -4,8 +4,8 @@ use Rattle.table_rules.specs.Objects.{IsRow}
 use Rattle.value_rules.specs.Formulas.{formula_of}
 use Rattle.value_rules.specs.Truth.{truth_of}
 use Rattle.value_rules.specs.Values.{row}
-use Rattle.column_eval.proofs.Flagged.{flags_truths}
-use Rattle.column_eval.proofs.Reading.{rows_there}
+use Rattle.column_vectors.proofs.Flagged.{flags_truths}
+use Rattle.column_vectors.proofs.Reading.{rows_there}
 use Rattle.column_eval.proofs.cond.truths.Goals as goal
 
 pub one-requires-clause-rows : goal.one-requires-clause-rows

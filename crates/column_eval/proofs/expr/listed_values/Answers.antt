@@ -4,7 +4,7 @@ use Rattle.table_rules.specs.Objects.{IsRow}
 use Rattle.value_rules.specs.Sound.{has_col}
 use Rattle.value_rules.specs.Terms.{term_of}
 use Rattle.value_rules.specs.Values.{row, value_of}
-use Rattle.column_eval.proofs.Reading.{lane_values, rows_there}
+use Rattle.column_vectors.proofs.Reading.{lane_values, rows_there}
 use Rattle.column_eval.proofs.Sums.{sum_small}
 use Rattle.column_eval.proofs.expr.listed_values.Goals as goal
 

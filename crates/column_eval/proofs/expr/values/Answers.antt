@@ -1,6 +1,6 @@
 use Rattle.std.proofs.Common.{◌∙◌, Some, ap, map}
 use Rattle.value_rules.specs.Values.{row, value_of}
-use Rattle.column_eval.proofs.PickedColumns.{is_picked_column, picked_values}
+use Rattle.column_vectors.proofs.PickedColumns.{is_picked_column, picked_values}
 use Rattle.column_eval.proofs.expr.values.Goals as goal
 
 pub new-requires : goal.new-requires

@@ -1,6 +1,6 @@
 use Rattle.value_rules.specs.Formulas.{Among}
 use Rattle.value_rules.specs.Terms.{term_of}
-use Rattle.column_eval.proofs.Flagged.{flags_among, flags_negated}
+use Rattle.column_vectors.proofs.Flagged.{flags_among, flags_negated}
 use Rattle.column_eval.proofs.pred.among.Goals as goal
 
 pub returns : goal.returns

@@ -1,7 +1,7 @@
 use Rattle.sql_tree.specs.declared.cond.Cmp.TheVariants.{AtMost}
 use Rattle.value_rules.specs.Formulas.{And, Compares}
 use Rattle.value_rules.specs.Terms.{term_of}
-use Rattle.column_eval.proofs.Flagged.{flags_and, flags_compared, flags_negated}
+use Rattle.column_vectors.proofs.Flagged.{flags_and, flags_compared, flags_negated}
 use Rattle.column_eval.proofs.pred.between.Goals as goal
 
 pub returns : goal.returns

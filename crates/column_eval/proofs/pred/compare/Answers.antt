@@ -1,5 +1,5 @@
 use Rattle.value_rules.specs.Terms.{term_of}
-use Rattle.column_eval.proofs.Flagged.{flags_compared}
+use Rattle.column_vectors.proofs.Flagged.{flags_compared}
 use Rattle.column_eval.proofs.pred.compare.Goals as goal
 
 pub returns : goal.returns

@@ -1,6 +1,6 @@
 use Rattle.std.proofs.Common.{◌≡◌, length, replicate, rules, true}
 use Rattle.value_rules.specs.Terms.{term_of}
-use Rattle.column_eval.proofs.Flagged.{flags_null, flags_present}
+use Rattle.column_vectors.proofs.Flagged.{flags_null, flags_present}
 use Rattle.column_eval.proofs.pred.is_null.Goals as goal
 
 pub returns : goal.returns

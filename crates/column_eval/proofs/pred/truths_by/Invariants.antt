@@ -1,6 +1,6 @@
 use Rattle.std.proofs.Common.{◌≤◌, get_or, length, pos, vec_capacity}
 use Rattle.value_rules.specs.Truth.{compares}
-use Rattle.column_eval.specs.Masks.{IsMask}
+use Rattle.column_vectors.specs.Masks.{IsMask}
 use Rattle.column_eval.proofs.pred.truths_by.Given as goal
 
 abbrev pub invariant-loop-i : goal.invariant-loop-i

@@ -2,8 +2,8 @@ use Rattle.std.proofs.Common.{◌∙◌, ◌≤◌, ap, sym, subst, get_or, leng
 use Rattle.std.specs.Int.{w128}
 use Rattle.std.proofs.lemmas.Int.{to_z-of_z}
 use Rattle.value_rules.specs.Truth.{compares}
-use Rattle.column_eval.specs.Lanes.{numbers_of}
-use Rattle.column_eval.proofs.Masked.{mask_more}
+use Rattle.column_vectors.specs.Lanes.{numbers_of}
+use Rattle.column_vectors.proofs.Masked.{mask_more}
 use Rattle.column_eval.proofs.pred.truths_of_wide.Goals as goal
 
 pub loop-i-preserved : goal.loop-i-preserved

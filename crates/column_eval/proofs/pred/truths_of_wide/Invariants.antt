@@ -1,7 +1,7 @@
 use Rattle.std.proofs.Common.{◌≤◌, get_or, length, pos, vec_capacity}
 use Rattle.value_rules.specs.Truth.{compares}
-use Rattle.column_eval.specs.Lanes.{numbers_of}
-use Rattle.column_eval.specs.Masks.{IsMask}
+use Rattle.column_vectors.specs.Lanes.{numbers_of}
+use Rattle.column_vectors.specs.Masks.{IsMask}
 use Rattle.column_eval.proofs.pred.truths_of_wide.Given as goal
 
 abbrev pub invariant-loop-i : goal.invariant-loop-i

@@ -1,6 +1,6 @@
 use Rattle.std.proofs.Common.{◌<◌, ℕ, List, length, refl, sym, subst}
 use Rattle.std.specs.Prelude.{All}
-use Rattle.sky_row.specs.Columns.{IsGathered}
+use Rattle.column_lists.specs.Columns.{IsGathered}
 use Rattle.near_join.proofs.Sweeping.{column_at, column_there}
 use Rattle.near_join.proofs.strip.gathered.Goals as goal
 

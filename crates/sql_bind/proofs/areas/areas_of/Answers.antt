@@ -2,10 +2,10 @@ use Rattle.std.proofs.Common.{true, refl, ap, ◌∙◌, ◌++◌}
 use Rattle.std.specs.List.{flat_map}
 use Rattle.bind_rules.specs.IdTests.{areas_by}
 use Rattle.bind_rules.specs.Tops.{tests_in}
-use Rattle.bind_checks.specs.Behind.{top_only}
+use Rattle.query_walks.specs.Behind.{top_only}
 use Rattle.sql_bind.specs.declared.areas.AreaList.{AreaList}
-use Rattle.bind_checks.proofs.Gathered.{appended}
-use Rattle.bind_checks.proofs.Walked.{tops_only}
+use Rattle.query_walks.proofs.Gathered.{appended}
+use Rattle.query_walks.proofs.Walked.{tops_only}
 use Rattle.sql_bind.proofs.areas.areas_of.Goals as goal
 
 pub returns-then-is_whole : goal.returns-then-is_whole

@@ -4,9 +4,9 @@ use Rattle.std.specs.List.{flat_map}
 use Rattle.bind_rules.specs.Binding.{chord_limit}
 use Rattle.bind_rules.specs.Tops.{tests_in, top_tests}
 use Rattle.sql_bind.specs.declared.chord_limit.FirstLimit.{FirstLimit}
-use Rattle.bind_checks.specs.Behind.{first_behind, top_only}
-use Rattle.bind_checks.proofs.Gathered.{firsts, first_or_some, first_or_none}
-use Rattle.bind_checks.proofs.Walked.{tops_only}
+use Rattle.query_walks.specs.Behind.{first_behind, top_only}
+use Rattle.query_walks.proofs.Gathered.{firsts, first_or_some, first_or_none}
+use Rattle.query_walks.proofs.Walked.{tops_only}
 use Rattle.sql_bind.proofs.chord_limit.chord_limit.Goals as goal
 
 pub returns-in-Some : goal.returns-in-Some

@@ -2,10 +2,10 @@ use Rattle.std.proofs.Common.{refl, ap, ◌∙◌, ◌++◌}
 use Rattle.std.specs.List.{flat_map}
 use Rattle.bind_rules.specs.IdTests.{ids_by}
 use Rattle.bind_rules.specs.Tops.{tests_in}
-use Rattle.bind_checks.specs.Behind.{top_only}
+use Rattle.query_walks.specs.Behind.{top_only}
 use Rattle.sql_bind.specs.declared.ids.IdList.{IdList}
-use Rattle.bind_checks.proofs.Gathered.{appended_by}
-use Rattle.bind_checks.proofs.Walked.{tops_only}
+use Rattle.query_walks.proofs.Gathered.{appended_by}
+use Rattle.query_walks.proofs.Walked.{tops_only}
 use Rattle.sql_bind.proofs.ids.ids_of.Goals as goal
 
 pub returns-then-is_whole : goal.returns-then-is_whole

@@ -1,7 +1,8 @@
 use Rattle.std.proofs.Common.{◌≡◌, ◌∙◌, ap, sym, subst, length}
-use Rattle.sky_row.specs.Columns.{AreRows, objects_of, rows_at}
-use Rattle.sky_row.proofs.Filling.{filled_whole}
-use Rattle.sky_row.proofs.Rowed.{objects_are, rows_at_places, width_at_places}
+use Rattle.column_lists.specs.Columns.{AreRows, objects_of, rows_at}
+use Rattle.column_lists.proofs.Filling.{filled_whole}
+use Rattle.sky_row.proofs.Rowed.{objects_are}
+use Rattle.column_lists.proofs.Rowed.{rows_at_places, width_at_places}
 use Rattle.column_block.proofs.Storing.{stored_same}
 use Rattle.column_block.proofs.block.Block.finish.Goals as goal
 

@@ -2,7 +2,7 @@ use Rattle.std.proofs.Common.{◌≡◌, ◌∙◌, ap, sym, subst, length}
 use Rattle.std.specs.Prelude.{All}
 use Rattle.table_rules.specs.Objects.{IsRow}
 use Rattle.column_block.specs.Blocks.{Stored}
-use Rattle.sky_row.proofs.Rowed.{objects_count, rows_are, rows_are_wide}
+use Rattle.column_lists.proofs.Rowed.{objects_count, rows_are, rows_are_wide}
 use Rattle.column_block.proofs.block.Block.len.Goals as goal
 
 pub returns-clause-count : goal.returns-clause-count

@@ -1,5 +1,5 @@
 use Rattle.std.proofs.Common.{◌≤◌, ap, subst, vec_capacity}
-use Rattle.column_eval.proofs.Reading.{lying_rows, picked_count}
+use Rattle.column_vectors.proofs.Reading.{lying_rows, picked_count}
 use Rattle.column_eval.proofs.picked.Picked.lying.Goals as goal
 
 pub lying-requires-clause-room : goal.lying-requires-clause-room

@@ -1,5 +1,5 @@
 use Rattle.std.proofs.Common.{◌+◌, ◌<◌, ap, subst, sym}
-use Rattle.column_eval.proofs.Reading.{read_rows}
+use Rattle.column_vectors.proofs.Reading.{read_rows}
 use Rattle.column_eval.proofs.picked.Picked.read.Goals as goal
 
 pub read-requires-clause-col : goal.read-requires-clause-col

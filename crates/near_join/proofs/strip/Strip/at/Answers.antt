@@ -2,7 +2,7 @@ use Rattle.std.proofs.Common.{◌≡◌, ◌∙◌, ap, arith, length, sym, subs
 use Rattle.std.proofs.lemmas.Int.{to_z-of_z}
 use Rattle.std.specs.Prelude.{All}
 use Rattle.sky_vector.specs.Points.{IsWithin}
-use Rattle.sky_row.proofs.Gathering.{point_same}
+use Rattle.column_lists.proofs.Gathering.{point_same}
 use Rattle.near_join.specs.Strips.{IsWhole}
 use Rattle.near_join.proofs.strip.Strip.at.Goals as goal
 

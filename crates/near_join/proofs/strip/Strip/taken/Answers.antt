@@ -1,7 +1,7 @@
 use Rattle.std.proofs.Common.{◌≡◌, ◌∙◌, ◌<◌, ℕ, ℤ, List, ap, length, map, get_or, sym, subst}
 use Rattle.std.specs.Prelude.{All}
-use Rattle.sky_row.specs.Columns.{IsGathered}
-use Rattle.sky_row.proofs.Presence.{gathered_is}
+use Rattle.column_lists.specs.Columns.{IsGathered}
+use Rattle.column_lists.proofs.Presence.{gathered_is}
 use Rattle.near_join.specs.Strips.{IsWhole, StripView}
 use Rattle.near_join.proofs.Taking.{taken_listed}
 use Rattle.near_join.proofs.strip.Strip.taken.Goals as goal

@@ -1,6 +1,8 @@
 use Rattle.std.proofs.Common.{◌∙◌, ap, sym, subst}
-use Rattle.sky_row.specs.Columns.{AreColumns, objects_at, objects_of}
-use Rattle.sky_row.proofs.Rowed.{columns_at_places, objects_are, places_there}
+use Rattle.sky_row.specs.Columns.{AreColumns, objects_at}
+use Rattle.column_lists.specs.Columns.{objects_of}
+use Rattle.sky_row.proofs.Rowed.{columns_at_places, objects_are}
+use Rattle.column_lists.proofs.Rowed.{places_there}
 use Rattle.sky_row.proofs.columns.Columns.at_by.Goals as goal
 
 pub at_by-requires-clause-there : goal.at_by-requires-clause-there

@@ -1,7 +1,9 @@
 use Rattle.std.proofs.Common.{◌≡◌, ◌++◌, ◌∙◌, ◌+◌, ◌≤◌, ap, ap₂, arith, length, subst, sym}
-use Rattle.sky_row.specs.Columns.{AreColumns, objects_of}
-use Rattle.sky_row.proofs.Appended.{columns_of_both, objects_behind}
-use Rattle.sky_row.proofs.Rowed.{objects_count}
+use Rattle.sky_row.specs.Columns.{AreColumns}
+use Rattle.column_lists.specs.Columns.{objects_of}
+use Rattle.sky_row.proofs.Appended.{columns_of_both}
+use Rattle.column_lists.proofs.Appended.{objects_behind}
+use Rattle.column_lists.proofs.Rowed.{objects_count}
 use Rattle.sky_row.proofs.columns.Columns.followed_by.Goals as goal
 
 pub invariant_of-result : goal.invariant_of-result

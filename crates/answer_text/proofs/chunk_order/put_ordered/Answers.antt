@@ -1,9 +1,0 @@
-use Rattle.std.proofs.Common.{codes}
-use Rattle.sky_io.proofs.Writes.{wrote_one, wrote_two}
-use Rattle.answer_text.proofs.chunk_order.put_ordered.Goals as goal
-
-pub returns-in-Failed : goal.returns-in-Failed
-returns-in-Failed g c = wrote_one _ _ (codes " ORDER BY ") _ c.in-Failed.ensures
-
-pub returns-in-Done : goal.returns-in-Done
-returns-in-Done g c = wrote_two _ _ _ (codes " ORDER BY ") _ _ c.in-Done.ensures c.put_key_and_ids.ensures

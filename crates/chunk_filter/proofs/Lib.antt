@@ -1,0 +1,10 @@
+pub mod Values
+pub mod Found
+pub mod Places
+pub mod Narrowing
+pub mod Masks
+pub mod Kernels
+pub mod Vectorizing
+pub mod Beyond
+pub mod IdRows
+pub mod IdTests

@@ -1,0 +1,4 @@
+pub mod Values
+pub mod Asking
+pub mod Selection
+pub mod Ids

@@ -1,0 +1,11 @@
+pub mod Groups
+pub mod Sounding
+pub mod Joining
+pub mod Marking
+pub mod Sizing
+pub mod GroupStates
+pub mod Running
+pub mod Apart
+pub mod Stretches
+pub mod Dealing
+pub mod Prefetching

@@ -1,0 +1,4 @@
+pub mod Rows
+pub mod Computing
+pub mod Cutoffs
+pub mod Skipping

@@ -1,0 +1,3 @@
+pub mod Lines
+pub mod Computed
+pub mod Cutoffs

@@ -1,7 +1,0 @@
-use Rattle.std.proofs.Common.{◌≡◌, ℤ, List, length}
-use Rattle.column_eval.specs.Aggregates.{numbers_between}
-use Rattle.column_eval.specs.Lanes.{values_in}
-use Rattle.column_eval.proofs.aggregate.count.Given as goal
-
-abbrev pub invariant-loop-i : goal.invariant-loop-i
-invariant-loop-i l = (numbers : List ℤ) → l.count ≡ length (numbers_between (values_in numbers l.known) l.fn.from l.i)

@@ -1,0 +1,7 @@
+use Rattle.std.proofs.Common.{◌≡◌, ℤ, List, length}
+use Rattle.column_vectors.specs.Aggregates.{numbers_between}
+use Rattle.column_vectors.specs.Lanes.{values_in}
+use Rattle.column_vectors.proofs.aggregate.count.Given as goal
+
+abbrev pub invariant-loop-i : goal.invariant-loop-i
+invariant-loop-i l = (numbers : List ℤ) → l.count ≡ length (numbers_between (values_in numbers l.known) l.fn.from l.i)

@@ -1,0 +1,7 @@
+pub mod Totals
+pub mod Masks
+pub mod Lanes
+pub mod Flags
+pub mod Aggregates
+pub mod PickedColumns
+pub mod Sources

@@ -1,0 +1,4 @@
+pub mod ChunkItems
+pub mod Places
+pub mod KeyTexts
+pub mod KeyPlaces

@@ -1,0 +1,14 @@
+use Rattle.std.proofs.Common.{codes, ap, length}
+use Rattle.sql_rules.specs.PrintedExprs.{behind_each}
+use Rattle.column_text.proofs.Parting.{as_text}
+use Rattle.explain_text.proofs.Places.{id_places, ids_within}
+use Rattle.explain_text.proofs.chunk_order.put_ids.Goals as goal
+
+pub put_places-requires : goal.put_places-requires
+put_places-requires g c =
+    rw (c.item_count.ensures.count, c.id_end.ensures) (ids_within (length c.args.chunk.now.items) c.args.chunk.now.shape)
+
+pub returns : goal.returns
+returns g c =
+    as_text _ _ _ _ _ (ap (behind_each (codes ",")) (id_places (length c.args.chunk.now.items) c.args.chunk.now.shape))
+    (rw (c.item_count.ensures.count, c.id_end.ensures) at c.put_places.ensures)

@@ -1,0 +1,9 @@
+use Rattle.std.proofs.Common.{codes}
+use Rattle.sky_io.proofs.Writes.{wrote_one, wrote_two}
+use Rattle.explain_text.proofs.chunk_query.put_sub_tables.Goals as goal
+
+pub returns-in-Failed : goal.returns-in-Failed
+returns-in-Failed g c = wrote_one _ _ (codes "Object_c_s") _ c.in-Failed.ensures
+
+pub returns-in-Done : goal.returns-in-Done
+returns-in-Done g c = wrote_two _ _ _ (codes "Object_c_s") _ _ c.in-Done.ensures c.put_two_aliases.ensures

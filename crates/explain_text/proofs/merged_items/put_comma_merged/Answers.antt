@@ -1,0 +1,9 @@
+use Rattle.std.proofs.Common.{codes}
+use Rattle.sky_io.proofs.Writes.{wrote_one, wrote_two}
+use Rattle.explain_text.proofs.merged_items.put_comma_merged.Goals as goal
+
+pub returns-in-Failed : goal.returns-in-Failed
+returns-in-Failed g c = wrote_one _ _ (codes ",") _ c.in-Failed.ensures
+
+pub returns-in-Done : goal.returns-in-Done
+returns-in-Done g c = wrote_two _ _ _ (codes ",") _ _ c.in-Done.ensures c.put_merged.ensures

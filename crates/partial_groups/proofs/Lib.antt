@@ -1,0 +1,12 @@
+pub mod Tabling
+pub mod Appending
+pub mod Summing
+pub mod Consolidating
+pub mod Rise
+pub mod Lining
+pub mod Totalling
+pub mod Owning
+pub mod Increasing
+pub mod Gaining
+pub mod Firsts
+pub mod Walking

@@ -1,0 +1,5 @@
+pub mod Groups
+pub mod Adding
+pub mod Sharing
+pub mod Merging
+pub mod Lines

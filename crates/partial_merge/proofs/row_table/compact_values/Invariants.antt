@@ -1,7 +1,0 @@
-use Rattle.std.proofs.Common.{◌≡◌, take}
-use Rattle.std.specs.List.{flat_map}
-use Rattle.partial_merge.specs.CompactRows.{compact_values}
-use Rattle.partial_merge.proofs.row_table.compact_values.Given as goal
-
-abbrev pub invariant-loop-row : goal.invariant-loop-row
-invariant-loop-row l = l.values.items ≡ flat_map (compact_values l.cells l.items l.width) (take l.row-index l.compact)

@@ -1,4 +1,0 @@
-//! Limits of pieces.
-
-/// The number of values that are stored in a key itself. GROUP BY names no more columns.
-pub const SHORT_KEY_MOST: usize = 4;

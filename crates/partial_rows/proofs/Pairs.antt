@@ -1,0 +1,183 @@
+-- Pairs whose values are their own two ids: in a multiset with other rows, in order, and in a table.
+use Rattle.std.proofs.Common.{◌≡◌, ℕ, ◌+◌, ◌-◌, ◌*◌, ◌^◌, ◌<◌, ◌≤◌, ℤ, Bool, true, false, List, [], ◌∷◌, ◌++◌, append_assoc, append-nil, map, length, length-append, take, get_or, Option, Some, None, refl, sym, ap, subst, ◌∙◌, arith, count_by, is_eq, is_lt, IsPermutation, IsSorted}
+use Rattle.std.specs.Cmp.{IsTotalOrder}
+use Rattle.std.specs.List.{All, AllByRecursion as Each, flat_map}
+use Rattle.std.specs.Bool.{OnTrue}
+use Rattle.std.specs.Prelude.{IfSome}
+use Rattle.std.proofs.lemmas.Grind.{flat_map-append}
+use Rattle.std.proofs.lemmas.Cmp.{int_cmp_total, on_total, then_total}
+use Rattle.std.proofs.lemmas.List.{length-map, map-append, take-map, take_more}
+use Rattle.std.proofs.lemmas.List.Elements.{All-from_recursion, recursion_from_All}
+use Rattle.std.proofs.lemmas.List.Sorted.{IsPermutation-append_comm, IsPermutation-append_left, IsPermutation-append_right, IsPermutation-map, IsPermutation-middle, IsPermutation-refl, IsPermutation-sym, IsPermutation-to_front, IsPermutation-trans, length_permutation}
+use Rattle.answer_rules.specs.declared.rewritten.MergeItem.{MergeItem}
+use Rattle.answer_rules.specs.declared.rewritten.MergePlan.{MergePlan}
+use Rattle.answer_rules.specs.declared.row.OutRow.{OutRow}
+use Rattle.answer_rules.specs.declared.value.Value.{Value}
+use Rattle.answer_rules.specs.Finish.{column_value, merged_rows}
+use Rattle.answer_rules.specs.InOrder.{first, in_order}
+use Rattle.answer_rules.specs.Keeps.{AreApart, IsLate, KeepsFirst}
+use Rattle.answer_rules.specs.Ranks.{row_order}
+use Rattle.answer_rules.specs.Rows.{limit_of}
+use Rattle.answer_rules.proofs.Apart.{each_map}
+use Rattle.answer_rules.proofs.Ascending.{sorted_ascends}
+use Rattle.answer_rules.proofs.Keeping.{first_kept, keeps_all, keeps_joined, keeps_reordered}
+use Rattle.answer_rules.proofs.Orders.{count-append}
+use Rattle.answer_rules.proofs.Sorting.{Ascends, only_order}
+use Rattle.answer_rules.proofs.Totals.{row_total}
+use Rattle.partial_rows.specs.declared.id_pair.IdPair.{IdPair}
+use Rattle.partial_rows.specs.declared.row_buffer.RowBuffer.{RowBuffer}
+use Rattle.partial_rows.specs.declared.row_buffer.RowBuffer.TheVariants as buffer
+use Rattle.partial_rows.specs.declared.rank.Rank.{Rank}
+use Rattle.partial_rows.specs.declared.ranked.Ranked.{Ranked}
+use Rattle.partial_rows.specs.Multisets.{ComesBeforeNone, IsTooLate, out_row, pushed_in, ranked_at, rows_in}
+use Rattle.partial_rows.specs.Rows.{row_of}
+use Rattle.partial_rows.specs.Pairs.{pair_order, pair_row, pair_values}
+use Rattle.answer_table.specs.Tables.{IsShort, table_of}
+use Rattle.partial_rows.proofs.Putting.{too_late}
+use Rattle.partial_rows.proofs.Vacuuming.{keeps_itself, keeps_same}
+use Rattle.partial_rows.proofs.Tabling.{columns_short}
+use Rattle.answer_table.proofs.Tabling.{flat_long, flat_short, flat_table, map_map}
+
+-- ---- beside the other rows
+
+row_among : {X : Type 0} (xs ys : List X) (x : X) → IsPermutation ((xs ++ x ∷ []) ++ ys) ((xs ++ ys) ++ x ∷ [])
+row_among xs ys x =
+    let front : IsPermutation ((xs ++ ys) ++ x ∷ []) (x ∷ (xs ++ ys)) = IsPermutation-to_front (xs ++ ys) x in
+    let middle : IsPermutation (xs ++ x ∷ ys) (x ∷ (xs ++ ys)) = IsPermutation-middle xs x ys in
+    subst (λ l. IsPermutation l ((xs ++ ys) ++ x ∷ [])) (sym (append_assoc xs (x ∷ []) ys)) (IsPermutation-trans _ _ _ middle (IsPermutation-sym _ _ front))
+
+swap_middle : {X : Type 0} (a b c d : List X) → IsPermutation ((a ++ b) ++ (c ++ d)) ((a ++ c) ++ (b ++ d))
+swap_middle a b c d =
+    let inner : IsPermutation (b ++ (c ++ d)) (c ++ (b ++ d)) = rw (← append_assoc b c d) (rw (← append_assoc c b d) (IsPermutation-append_left d _ _ (IsPermutation-append_comm b c))) in
+    rw (append_assoc a b (c ++ d)) (rw (append_assoc a c (b ++ d)) (IsPermutation-append_right a _ _ inner))
+
+-- another row is put
+pub row_kept : (limit : Option ℕ) (old new pairs : List OutRow) (row : OutRow) → KeepsFirst row_order limit (old ++ row ∷ []) new → KeepsFirst row_order limit ((old ++ pairs) ++ row ∷ []) (new ++ pairs)
+row_kept limit old new pairs row k =
+    keeps_reordered row_order limit _ _ _ _ (row_among old pairs row) (IsPermutation-refl (new ++ pairs))
+    (keeps_joined row_order limit (old ++ row ∷ []) pairs new pairs k (keeps_itself limit pairs))
+
+-- a pair is put
+pub pair_kept : (limit : Option ℕ) (rows : List OutRow) (ids : List IdPair) (pair : IdPair) → KeepsFirst row_order limit ((rows ++ map pair_row ids) ++ pair_row pair ∷ []) (rows ++ map pair_row (ids ++ pair ∷ []))
+pair_kept limit rows ids pair =
+    keeps_same limit ((rows ++ map pair_row ids) ++ pair_row pair ∷ []) (rows ++ map pair_row (ids ++ pair ∷ []))
+    (ap (λ l. rows ++ l) (map-append pair_row ids (pair ∷ [])) ∙ sym (append_assoc rows (map pair_row ids) (pair_row pair ∷ [])))
+
+-- the rows and the pairs of two multisets
+pub both_kept : (limit : Option ℕ) (mine theirs new : List OutRow) (ids more : List IdPair) → KeepsFirst row_order limit (mine ++ theirs) new → KeepsFirst row_order limit ((mine ++ map pair_row ids) ++ (theirs ++ map pair_row more)) (new ++ map pair_row (ids ++ more))
+both_kept limit mine theirs new ids more k =
+    let pairs : List OutRow = map pair_row ids ++ map pair_row more in
+    subst (λ (l : List OutRow). KeepsFirst row_order limit ((mine ++ map pair_row ids) ++ (theirs ++ map pair_row more)) (new ++ l)) (sym (map-append pair_row ids more))
+    (keeps_reordered row_order limit _ _ _ _ (swap_middle mine theirs (map pair_row ids) (map pair_row more)) (IsPermutation-refl (new ++ pairs))
+    (keeps_joined row_order limit (mine ++ theirs) pairs new pairs k (keeps_itself limit pairs)))
+
+-- a multiset can be counted
+pub multiset_long : (cells : List (Option ℤ)) (ranks : List Ranked) (ids : List IdPair) → length (map (row_of cells) ranks ++ map pair_row ids) ≡ length ranks + length ids
+multiset_long cells ranks ids = omega (arith, length-append (map (row_of cells) ranks) (map pair_row ids), length-map ranks (row_of cells), length-map ids pair_row)
+
+pub kept_few : (limit : Option ℕ) (full kept : List OutRow) → KeepsFirst row_order limit full kept → length kept ≤ length full
+kept_few limit full kept k = omega (arith, length_permutation full (k.left_out ++ kept) k.all, length-append k.left_out kept)
+
+pub row_few : (cells now : List (Option ℤ)) (limit : Option ℕ) (old new : List Ranked) (ids : List IdPair) (row : OutRow) (many : ℕ) → many ≡ length (map (row_of cells) old ++ map pair_row ids) → many + 1 ≤ 2 ^ 64 - 1 → KeepsFirst row_order limit (map (row_of cells) old ++ row ∷ []) (map (row_of now) new) → length new + length ids ≤ 2 ^ 64 - 1
+row_few cells now limit old new ids row many h l k =
+    let fewer : length (map (row_of now) new) ≤ length (map (row_of cells) old ++ row ∷ []) = kept_few limit _ _ k in
+    omega (arith, h, l, multiset_long cells old ids, fewer, length-append (map (row_of cells) old) (row ∷ []), length-map old (row_of cells), length-map new (row_of now))
+
+pub both_few : (cells more now : List (Option ℤ)) (limit : Option ℕ) (mine theirs new : List Ranked) (ids others : List IdPair) (many that : ℕ) → many ≡ length (map (row_of cells) mine ++ map pair_row ids) → that ≡ length (map (row_of more) theirs ++ map pair_row others) → many + that ≤ 2 ^ 64 - 1 → KeepsFirst row_order limit (map (row_of cells) mine ++ map (row_of more) theirs) (map (row_of now) new) → length new + length (ids ++ others) ≤ 2 ^ 64 - 1
+both_few cells more now limit mine theirs new ids others many that h t l k =
+    let fewer : length (map (row_of now) new) ≤ length (map (row_of cells) mine ++ map (row_of more) theirs) = kept_few limit _ _ k in
+    omega (arith, h, t, l, multiset_long cells mine ids, multiset_long more theirs others, fewer, length-append (map (row_of cells) mine) (map (row_of more) theirs), length-map mine (row_of cells), length-map theirs (row_of more), length-map new (row_of now), length-append ids others)
+
+-- a row that is none of the first n
+pub late_for_all : (cells : List (Option ℤ)) (rank : Rank) (k : RowBuffer) (ids : List IdPair) (late : Bool) → OnTrue late (IsTooLate (ranked_at rank 0 0) k)
+    → OnTrue late ((values : List (Option ℤ)) → KeepsFirst row_order (pushed_in k) ((rows_in cells k ++ map pair_row ids) ++ out_row rank values ∷ []) (rows_in cells k ++ map pair_row ids))
+late_for_all cells rank k ids true h = λ values. row_kept (pushed_in k) (rows_in cells k) (rows_in cells k) (map pair_row ids) (out_row rank values) (too_late cells values rank k h)
+late_for_all cells rank k ids false h = tt
+
+each_unmap : {X Y : Type 0} (P : Y → Type 0) (f : X → Y) (xs : List X) → Each P (map f xs) → Each (λ x. P (f x)) xs
+each_unmap P f [] h = tt
+each_unmap P f (x ∷ xs) h = (h.0, each_unmap P f xs h.1)
+
+-- and it is reported as one if n are kept and it comes before none of them
+pub reported_late : (cells : List (Option ℤ)) (rank : Rank) (k : RowBuffer) (ids : List IdPair) (late : Bool)
+    → IfSome (pushed_in k) (λ n. ids ≡ []) → (IsTooLate (ranked_at rank 0 0) k → late ≡ true)
+    → IfSome (pushed_in k) (λ n. n ≤ length (rows_in cells k ++ map pair_row ids) → ComesBeforeNone rank (rows_in cells k ++ map pair_row ids) → late ≡ true)
+reported_late cells rank (buffer.All unlimited) ids late none reported = tt
+reported_late cells rank (buffer.First limit heap) ids late none reported = λ few before.
+    let rows : rows_in cells (buffer.First limit heap) ++ map pair_row ids ≡ rows_in cells (buffer.First limit heap) = ap (λ (l : List IdPair). rows_in cells (buffer.First limit heap) ++ map pair_row l) none ∙ append-nil (rows_in cells (buffer.First limit heap)) in
+    reported (
+      omega (arith, few, ap length rows, length-map heap.data.items (row_of cells)),
+      each_unmap (λ m. is_lt (row_order (out_row rank []) m) ≡ false) (row_of cells) heap.data.items (subst (ComesBeforeNone rank) rows before),
+    )
+
+-- some of the rows that are apart are apart
+pub front_apart : (xs ys : List OutRow) → AreApart row_order (xs ++ ys) → AreApart row_order xs
+front_apart xs ys h x =
+    let both : count_by (λ y. is_eq (row_order x y)) (xs ++ ys) ≡ count_by (λ y. is_eq (row_order x y)) xs + count_by (λ y. is_eq (row_order x y)) ys = count-append (λ y. is_eq (row_order x y)) xs ys in
+    omega (arith, h x, both)
+
+pub back_apart : (xs ys : List OutRow) → AreApart row_order (xs ++ ys) → AreApart row_order ys
+back_apart xs ys h x =
+    let both : count_by (λ y. is_eq (row_order x y)) (xs ++ ys) ≡ count_by (λ y. is_eq (row_order x y)) xs + count_by (λ y. is_eq (row_order x y)) ys = count-append (λ y. is_eq (row_order x y)) xs ys in
+    omega (arith, h x, both)
+
+-- with a limit there are no pairs
+pub none_joined : (limit : Option ℕ) (ids more : List IdPair) → IfSome limit (λ n. ids ≡ []) → IfSome limit (λ n. more ≡ []) → IfSome limit (λ n. ids ++ more ≡ [])
+none_joined None ids more h k = tt
+none_joined (Some n) ids more h k = ap (λ l. l ++ more) h ∙ k
+
+-- ---- put among the other rows
+
+none_late : {X : Type 0} (P : X → Type 0) (xs : List X) → ((x : X) → P x → ⊥) → Each P xs → xs ≡ []
+none_late P [] f h = refl
+none_late P (x ∷ xs) f h = absurd (f x h.0)
+
+-- without a limit all are kept
+pub all_left : (full kept : List OutRow) → KeepsFirst row_order None full kept → IsPermutation full kept
+all_left full kept k =
+    subst (λ (l : List OutRow). IsPermutation full (l ++ kept)) (none_late (IsLate row_order None kept) k.left_out (λ x h. h) (recursion_from_All (IsLate row_order None kept) k.left_out k.late)) k.all
+
+-- the rows of an answer may come in any order
+pub merged_any : (merge : MergePlan) (full kept : List OutRow) → AreApart row_order full → IsPermutation full kept → merged_rows merge kept ≡ merged_rows merge full
+merged_any merge full kept h p =
+    ap (map (λ (r : OutRow). map (column_value r.cells) merge.items))
+    (first_kept row_order row_total (limit_of merge.limit) full kept h (keeps_all row_order (limit_of merge.limit) full kept p))
+
+-- ---- in order
+
+pair_total : IsTotalOrder pair_order
+pair_total = then_total (on_total (λ (p : IdPair). p.first) int_cmp_total) (on_total (λ (p : IdPair). p.second) int_cmp_total)
+
+pairs_ascend : (pairs : List IdPair) → Ascends pair_order pairs → Ascends row_order (map pair_row pairs)
+pairs_ascend [] h = tt
+pairs_ascend (p ∷ pairs) h = (each_map (λ y. is_lt (row_order y (pair_row p)) ≡ false) pair_row pairs h.0, pairs_ascend pairs h.1)
+
+-- sorted pairs are the rows in order
+pub sorted_pairs : (pairs sorted : List IdPair) → AreApart row_order (map pair_row pairs) → IsPermutation pairs sorted → IsSorted pair_order sorted → map pair_row sorted ≡ in_order row_order (map pair_row pairs)
+sorted_pairs pairs sorted apart p s =
+    only_order row_order row_total (map pair_row pairs) (map pair_row sorted) apart (IsPermutation-map pair_row pairs sorted p)
+    (pairs_ascend sorted (sorted_ascends pair_order pair_total sorted s))
+
+-- the first of them
+pub first_pairs : (limit : Option ℕ) (pairs : List IdPair) → map pair_row (first limit pairs) ≡ first limit (map pair_row pairs)
+first_pairs None pairs = refl
+first_pairs (Some n) pairs = sym (take-map pair_row n pairs)
+
+-- ---- their table
+
+pub pairs_long : (items : List MergeItem) (pairs : List IdPair) → length (flat_map (pair_values items) pairs) ≡ length pairs * length items
+pairs_long items pairs = flat_long (pair_values items) (length items) (λ p. length-map items (column_value (pair_row p).cells)) pairs
+
+pub pairs_short : (items : List MergeItem) (pairs : List IdPair) → All IsShort (flat_map (pair_values items) pairs)
+pairs_short items pairs = All-from_recursion IsShort _ (flat_short (pair_values items) (λ p. columns_short (pair_row p).cells items) pairs)
+
+pub pairs_table : (items : List MergeItem) (pairs : List IdPair) → table_of (length pairs) (length items) (flat_map (pair_values items) pairs) ≡ map (λ r. map (column_value r.cells) items) (map pair_row pairs)
+pairs_table items pairs =
+    flat_table (pair_values items) (length items) (λ p. length-map items (column_value (pair_row p).cells)) pairs
+    ∙ sym (map_map pair_row (λ r. map (column_value r.cells) items) pairs)
+
+-- the values of one pair more
+pub one_pair_more : (items : List MergeItem) (pairs : List IdPair) (i : ℕ) (d : IdPair) (old new : List Value) → i < length pairs → new ≡ old ++ pair_values items (get_or pairs i d) → old ≡ flat_map (pair_values items) (take i pairs) → new ≡ flat_map (pair_values items) (take (i + 1) pairs)
+one_pair_more items pairs i d old new l e g =
+    e ∙ ap (λ vs. vs ++ pair_values items (get_or pairs i d)) g ∙ ap (λ vs. flat_map (pair_values items) (take i pairs) ++ vs) (sym (append-nil (pair_values items (get_or pairs i d))))
+    ∙ sym (flat_map-append (pair_values items) (take i pairs) (get_or pairs i d ∷ [])) ∙ ap (flat_map (pair_values items)) (sym (take_more pairs i d l))

@@ -1,0 +1,6 @@
+pub mod Cells
+pub mod Rows
+pub mod CompactRows
+pub mod Pairs
+pub mod Views
+pub mod Multisets

@@ -1,0 +1,70 @@
+//! The table of pairs whose values are their own two ids: they are sorted, and the first of them are written.
+
+ghost use Rattle.std.specs.Prelude.{◌≡◌, ◌++◌, map, IfOk, OnOk};
+ghost use Rattle.std.specs.List.{flat_map};
+ghost use Rattle.answer_rules.specs.Finish.{column_value, merged_rows};
+ghost use Rattle.answer_rules.specs.Keeps.{AreApart};
+ghost use Rattle.answer_rules.specs.Ranks.{row_order};
+ghost use Rattle.partial_rows.specs.Pairs.{pair_row, pair_values};
+
+use crate::id_pair::IdPair;
+use answer_rules::{MergeItem, MergePlan, Value};
+use answer_table::Table;
+use answer_table::lists::cut;
+use answer_table::values::{put, shown, values_room};
+use sky_io::Memory;
+use std::alloc::Global;
+
+/// Returns a merged item of a pair.
+fn column(pair: &IdPair, item: &MergeItem) -> Value
+    ensures { result ≡ column_value (pair_row pair.now).cells item.now }
+{
+    match item {
+        MergeItem::Column(n) => shown(pair.value(*n)),
+        _ => Value::Null,
+    }
+}
+
+/// Appends the merged items of a pair.
+fn put_pair(values: &mut Vec<Value>, pair: &IdPair, items: &[MergeItem]) -> Result<(), Memory>
+    ensures { OnOk result (values.new.items ≡ values.old.items ++ pair_values items.now pair.now) }
+{
+    for item in items {
+        put(values, column(pair, item))?;
+    }
+    Ok(())
+}
+
+/// Returns the values of the answer's rows.
+fn pair_values(alloc: Global, pairs: &[IdPair], items: &[MergeItem]) -> Result<Vec<Value>, Memory>
+    ensures { IfOk result (λ values. values.items ≡ flat_map (pair_values items.now) pairs.now) }
+{
+    let mut values = values_room(alloc, pairs.len(), items.len())?;
+    for pair in pairs {
+        put_pair(&mut values, pair, items)?;
+    }
+    Ok(values)
+}
+
+/// Returns the table of these pairs. Allocates memory for it.
+fn pair_table(alloc: Global, pairs: &[IdPair], items: &[MergeItem]) -> Result<Table, Memory>
+    ensures { IfOk result (λ table. table ≡ map (λ r. map (column_value r.cells) items.now)
+        (map pair_row pairs.now)) }
+{
+    let values = pair_values(alloc, pairs, items)?;
+    Ok(Table::of(values, items.len(), pairs.len()))
+}
+
+/// Returns the table of pairs in any order. Allocates memory for the table.
+pub(crate) fn sorted_pair_table(
+    alloc: Global,
+    mut pairs: Vec<IdPair>,
+    merge: &MergePlan,
+) -> Result<Table, Memory>
+    requires { AreApart row_order (map pair_row pairs.items) }
+    ensures { IfOk result (λ table. table ≡ merged_rows merge.now (map pair_row pairs.items)) }
+{
+    pairs.sort_unstable();
+    cut(&mut pairs, merge.limit);
+    pair_table(alloc, pairs.as_slice(), merge.items.as_slice())
+}

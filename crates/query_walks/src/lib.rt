@@ -1,0 +1,18 @@
+//! Walks over a written query: over its columns, its tests and its expressions. Does not allocate.
+//!
+//! A walk calls a test that its caller gives, and ends at the first place that meets it (`column_search`,
+//! `expr_search`, `cond_search`); or it gathers the tests of WHERE (`tests_in`). What callers make of a gathered test
+//! is here too: an int as a number, and the test of an area function with its arguments (`arguments`). Below:
+//! `sql_tree` for the written query, `bind_rules` for what is searched for. No faults: the checks are above.
+#![tactic(auto)]
+
+mod arguments;
+pub mod column_search;
+mod cond_search;
+pub mod expr_search;
+pub mod item_exprs;
+pub mod tests_in;
+
+pub use arguments::{area_test, int_value};
+pub use column_search::ColumnTest;
+pub use tests_in::{Gather, TestRef, walk};
