@@ -41,7 +41,7 @@ pub fn class_worker<R: Wait, P: Work, E: Engine<P>, G: Gate>(
     ensures lawful { (class : Class) →
         IsLawful P.asks (board_at (seat_at pair class) (seat_at result class).seen) }
     ensures lost { (class : Class) → LosesOnly
-        (MayLose (E.refused engine.now) (E.unlisted engine.now) P.refuses
+        (MayLose (E.refused engine.now) (E.unlisted engine.now (E.refused engine.now)) P.refuses
         (P.stands (E.root engine.now)))
         (seat_at pair class).mine (seat_at result class).mine }
 {

@@ -35,7 +35,8 @@ fn alone<R: Wait, P: Work, B: Boards<P>, E: Engine<P>, G: Gate>(
     ensures ran { Ran P.stands (B.has scan.now.boards.now) (B.home scan.now.boards.now) (B.at seat)
         (B.at result.2) plans.items ends.items result.1.items steps.now result.0 }
     ensures manned { (p : B.Place) → MannedBy P.asks
-        (MayLose (E.refused scan.now.engine.now) (E.unlisted scan.now.engine.now)
+        (MayLose (E.refused scan.now.engine.now)
+        (E.unlisted scan.now.engine.now (E.refused scan.now.engine.now))
         P.refuses (P.stands (E.root scan.now.engine.now))) 0
         (B.at seat p) (B.at result.2 p) }
 {
@@ -54,13 +55,14 @@ fn alone<R: Wait, P: Work, B: Boards<P>, E: Engine<P>, G: Gate>(
 }
 
 /// Runs a worker, which has a participant of each board.
-fn beside<R: Wait, P: Work, B: Boards<P>, E: Engine<P>, G: Gate>(
+fn run_worker<R: Wait, P: Work, B: Boards<P>, E: Engine<P>, G: Gate>(
     scan: &Scan<'_, R, B, E, G>,
     seat: B::Seat,
 ) -> B::Seat
     requires { AreWorkers (B.turn scan.now.boards.now) (E.root scan.now.engine.now) (B.at seat) }
     ensures { (p : B.Place) → Served P.asks
-        (MayLose (E.refused scan.now.engine.now) (E.unlisted scan.now.engine.now)
+        (MayLose (E.refused scan.now.engine.now)
+        (E.unlisted scan.now.engine.now (E.refused scan.now.engine.now))
         P.refuses (P.stands (E.root scan.now.engine.now)))
         (B.at seat p) (B.at result p) }
 {
@@ -100,7 +102,8 @@ where
     ensures ran { Ran P.stands (B.has scan.now.boards.now) (B.home scan.now.boards.now) (B.at seat)
         (B.at result.2) plans.items ends.items result.1.items steps.now result.0 }
     ensures manned { (p : B.Place) → MannedBy P.asks
-        (MayLose (E.refused scan.now.engine.now) (E.unlisted scan.now.engine.now)
+        (MayLose (E.refused scan.now.engine.now)
+        (E.unlisted scan.now.engine.now (E.refused scan.now.engine.now))
         P.refuses (P.stands (E.root scan.now.engine.now))) workers
         (B.at seat p) (B.at result.2 p) }
 {
@@ -117,10 +120,10 @@ where
                 (B.at other) }
             ensures { (p : B.Place) → Served P.asks
                 (MayLose (E.refused scan.entry.now.engine.now)
-                (E.unlisted scan.entry.now.engine.now) P.refuses
+                (E.unlisted scan.entry.now.engine.now (E.refused scan.entry.now.engine.now)) P.refuses
                 (P.stands (E.root scan.entry.now.engine.now)))
                 (B.at other p) (B.at result p) }
-        { beside(scan, other) },
+        { run_worker(scan, other) },
         move || -> (Outcome, Vec<Option<End<P>>>, B::Seat)
             requires shared { IsSync R.row }
             requires may { MayRun P.asks P.stands (B.turn scan.now.boards.now)
@@ -133,7 +136,7 @@ where
                 ends.items result.1.items steps.entry.now result.0 }
             ensures manned { (p : B.Place) → MannedBy P.asks
                 (MayLose (E.refused scan.entry.now.engine.now)
-                (E.unlisted scan.entry.now.engine.now) P.refuses
+                (E.unlisted scan.entry.now.engine.now (E.refused scan.entry.now.engine.now)) P.refuses
                 (P.stands (E.root scan.entry.now.engine.now))) (workers - 1)
                 (B.at seat p) (B.at result.2 p) }
         { manned(scan, seat, plans, ends, steps, workers - 1) },
@@ -173,7 +176,8 @@ where
     ensures ran { Ran P.stands (B.has scan.now.boards.now) (B.home scan.now.boards.now) (B.at seat)
         (B.at result.2) plans.items ends.items result.1.items steps.now result.0 }
     ensures manned { (p : B.Place) → MannedBy P.asks
-        (MayLose (E.refused scan.now.engine.now) (E.unlisted scan.now.engine.now)
+        (MayLose (E.refused scan.now.engine.now)
+        (E.unlisted scan.now.engine.now (E.refused scan.now.engine.now))
         P.refuses (P.stands (E.root scan.now.engine.now))) workers
         (B.at seat p) (B.at result.2 p) }
 {

@@ -46,7 +46,8 @@ fn whole<R: Wait, P: Work, B: Boards<P>, E: Engine<P>, G: Gate>(
     ensures learns { Learns P.stands (B.home scan.now.boards.now) (B.at seat) (B.at result.1)
         ends.old ends.new }
     ensures stays { (p : B.Place) → Stays P.asks
-        (MayLose (E.refused scan.now.engine.now) (E.unlisted scan.now.engine.now)
+        (MayLose (E.refused scan.now.engine.now)
+        (E.unlisted scan.now.engine.now (E.refused scan.now.engine.now))
         P.refuses (P.stands (E.root scan.now.engine.now)))
         (B.at seat p) (B.at result.1 p) }
 {
@@ -75,7 +76,8 @@ pub fn close<R: Wait, P: Work, B: Boards<P>, E: Engine<P>, G: Gate>(
     ensures closed { (p : B.Place) → is_closed (B.at result p).seen ≡ true }
     ensures known { (p : B.Place) → Knows seat_of (B.at result p) }
     ensures stays { (p : B.Place) → Stays P.asks
-        (MayLose (E.refused scan.now.engine.now) (E.unlisted scan.now.engine.now)
+        (MayLose (E.refused scan.now.engine.now)
+        (E.unlisted scan.now.engine.now (E.refused scan.now.engine.now))
         P.refuses (P.stands (E.root scan.now.engine.now)))
         (B.at seat p) (B.at result p) }
 {
@@ -99,7 +101,8 @@ pub fn czar<R: Wait, P: Work, B: Boards<P>, E: Engine<P>, G: Gate>(
     ensures closed { (p : B.Place) → is_closed (B.at result.1 p).seen ≡ true }
     ensures knows { (p : B.Place) → Knows seat_of (B.at result.1 p) }
     ensures stays { (p : B.Place) → Stays P.asks
-        (MayLose (E.refused scan.now.engine.now) (E.unlisted scan.now.engine.now)
+        (MayLose (E.refused scan.now.engine.now)
+        (E.unlisted scan.now.engine.now (E.refused scan.now.engine.now))
         P.refuses (P.stands (E.root scan.now.engine.now)))
         (B.at seat p) (B.at result.1 p) }
 {

@@ -46,7 +46,8 @@ pub fn await_end<R: Wait, P: Work, B: Boards<P>, E: Engine<P>, G: Gate>(
     ensures learns { Learns P.stands (B.home scan.now.boards.now) (B.at seat) (B.at result.1)
         ends.old ends.new }
     ensures stays { (p : B.Place) → Stays P.asks
-        (MayLose (E.refused scan.now.engine.now) (E.unlisted scan.now.engine.now)
+        (MayLose (E.refused scan.now.engine.now)
+        (E.unlisted scan.now.engine.now (E.refused scan.now.engine.now))
         P.refuses (P.stands (E.root scan.now.engine.now)))
         (B.at seat p) (B.at result.1 p) }
 {
@@ -81,7 +82,8 @@ fn cancel_line<R: Wait, P: Work, B: Boards<P>, E: Engine<P>, G: Gate>(
         → GoingAll (B.has scan.now.boards.now) plan (done ++ CancelStep q ∷ []) (B.at result)
         (known_in ends.now) }
     ensures stays { (p : B.Place) → Stays P.asks
-        (MayLose (E.refused scan.now.engine.now) (E.unlisted scan.now.engine.now)
+        (MayLose (E.refused scan.now.engine.now)
+        (E.unlisted scan.now.engine.now (E.refused scan.now.engine.now))
         P.refuses (P.stands (E.root scan.now.engine.now)))
         (B.at seat p) (B.at result p) }
 {
@@ -118,7 +120,8 @@ fn query_line<R: Wait, P: Work, B: Boards<P>, E: Engine<P>, G: Gate>(
     ensures fit { AllFit P.stands P.asks (B.suits scan.now.boards.now) (B.at result.1) plans.new }
     ensures len { length plans.new ≡ length plans.old }
     ensures stays { (p : B.Place) → Stays P.asks
-        (MayLose (E.refused scan.now.engine.now) (E.unlisted scan.now.engine.now)
+        (MayLose (E.refused scan.now.engine.now)
+        (E.unlisted scan.now.engine.now (E.refused scan.now.engine.now))
         P.refuses (P.stands (E.root scan.now.engine.now)))
         (B.at seat p) (B.at result.1 p) }
 {
@@ -160,7 +163,8 @@ fn line<R: Wait, P: Work, B: Boards<P>, E: Engine<P>, G: Gate>(
     ensures learns { Learns P.stands (B.home scan.now.boards.now) (B.at seat) (B.at result.1)
         ends.old ends.new }
     ensures stays { (p : B.Place) → Stays P.asks
-        (MayLose (E.refused scan.now.engine.now) (E.unlisted scan.now.engine.now)
+        (MayLose (E.refused scan.now.engine.now)
+        (E.unlisted scan.now.engine.now (E.refused scan.now.engine.now))
         P.refuses (P.stands (E.root scan.now.engine.now)))
         (B.at seat p) (B.at result.1 p) }
 {
@@ -192,7 +196,8 @@ pub fn all_lines<R: Wait, P: Work, B: Boards<P>, E: Engine<P>, G: Gate>(
     ensures learns { Learns P.stands (B.home scan.now.boards.now) (B.at seat) (B.at result.1)
         ends.old ends.new }
     ensures stays { (p : B.Place) → Stays P.asks
-        (MayLose (E.refused scan.now.engine.now) (E.unlisted scan.now.engine.now)
+        (MayLose (E.refused scan.now.engine.now)
+        (E.unlisted scan.now.engine.now (E.refused scan.now.engine.now))
         P.refuses (P.stands (E.root scan.now.engine.now)))
         (B.at seat p) (B.at result.1 p) }
 {
@@ -228,7 +233,8 @@ pub fn all_ends<R: Wait, P: Work, B: Boards<P>, E: Engine<P>, G: Gate>(
     ensures learns { Learns P.stands (B.home scan.now.boards.now) (B.at seat) (B.at result.1)
         ends.old ends.new }
     ensures stays { (p : B.Place) → Stays P.asks
-        (MayLose (E.refused scan.now.engine.now) (E.unlisted scan.now.engine.now)
+        (MayLose (E.refused scan.now.engine.now)
+        (E.unlisted scan.now.engine.now (E.refused scan.now.engine.now))
         P.refuses (P.stands (E.root scan.now.engine.now)))
         (B.at seat p) (B.at result.1 p) }
 {

@@ -130,7 +130,8 @@ where
         (seen_of (B.home scan.now.boards.now) (B.at result.1)) ends.items) }
     ensures spent { IfOk result.0 (λ ends.
         SpendsOnly
-        (MayLose (E.refused scan.now.engine.now) (E.unlisted scan.now.engine.now)
+        (MayLose (E.refused scan.now.engine.now)
+        (E.unlisted scan.now.engine.now (E.refused scan.now.engine.now))
         P.refuses (P.stands (E.root scan.now.engine.now)))
         ends.items) }
     ensures made { IfOk result.0 (λ ends. (p : B.Place) → (B.at result.1 p).made ≡ 1 + workers) }

@@ -37,7 +37,8 @@ fn work<R: Wait, P: Work, B: Boards<P>, E: Engine<P>, G: Gate>(
     ensures observed { (p : B.Place) →
         (B.at result p ≡ B.at seat p) ⊎ Observed P.asks (B.at seat p) (B.at result p) }
     ensures lost { (p : B.Place) → LosesOnly
-        (MayLose (E.refused scan.now.engine.now) (E.unlisted scan.now.engine.now)
+        (MayLose (E.refused scan.now.engine.now)
+        (E.unlisted scan.now.engine.now (E.refused scan.now.engine.now))
         P.refuses (P.stands (E.root scan.now.engine.now)))
         (B.at seat p).mine (B.at result p).mine }
 {
@@ -71,7 +72,8 @@ pub fn try_start<R: Wait, P: Work, B: Boards<P>, E: Engine<P>, G: Gate>(
     ensures room { TriesWithRoom (B.at result.1 (B.home scan.now.boards.now q)) q planned.chunks
         result.0 }
     ensures stays { (p : B.Place) → Stays P.asks
-        (MayLose (E.refused scan.now.engine.now) (E.unlisted scan.now.engine.now)
+        (MayLose (E.refused scan.now.engine.now)
+        (E.unlisted scan.now.engine.now (E.refused scan.now.engine.now))
         P.refuses (P.stands (E.root scan.now.engine.now)))
         (B.at seat p) (B.at result.1 p) }
 {
@@ -114,7 +116,8 @@ pub fn start<R: Wait, P: Work, B: Boards<P>, E: Engine<P>, G: Gate>(
     ensures room { StartsWithRoom (B.at result.1 (B.home scan.now.boards.now q)) q planned.chunks
         result.0 }
     ensures stays { (p : B.Place) → Stays P.asks
-        (MayLose (E.refused scan.now.engine.now) (E.unlisted scan.now.engine.now)
+        (MayLose (E.refused scan.now.engine.now)
+        (E.unlisted scan.now.engine.now (E.refused scan.now.engine.now))
         P.refuses (P.stands (E.root scan.now.engine.now)))
         (B.at seat p) (B.at result.1 p) }
 {
@@ -146,7 +149,8 @@ pub fn cancel<R: Wait, P: Work, B: Boards<P>, E: Engine<P>, G: Gate>(
         → GoingAll (B.has scan.now.boards.now) plan done (B.at seat) ends
         → GoingAll (B.has scan.now.boards.now) plan (done ++ CancelStep q ∷ []) (B.at result) ends }
     ensures stays { (p : B.Place) → Stays P.asks
-        (MayLose (E.refused scan.now.engine.now) (E.unlisted scan.now.engine.now)
+        (MayLose (E.refused scan.now.engine.now)
+        (E.unlisted scan.now.engine.now (E.refused scan.now.engine.now))
         P.refuses (P.stands (E.root scan.now.engine.now)))
         (B.at seat p) (B.at result p) }
 {
@@ -170,7 +174,8 @@ pub fn ask_end<R: Wait, P: Work, B: Boards<P>, E: Engine<P>, G: Gate>(
         (over_root P.stands (B.home scan.now.boards.now) (B.at result.1))
         (seen_of (B.home scan.now.boards.now) (B.at result.1) q) q) }
     ensures stays { (p : B.Place) → Stays P.asks
-        (MayLose (E.refused scan.now.engine.now) (E.unlisted scan.now.engine.now)
+        (MayLose (E.refused scan.now.engine.now)
+        (E.unlisted scan.now.engine.now (E.refused scan.now.engine.now))
         P.refuses (P.stands (E.root scan.now.engine.now)))
         (B.at seat p) (B.at result.1 p) }
 {
@@ -202,7 +207,8 @@ pub fn end_of<R: Wait, P: Work, B: Boards<P>, E: Engine<P>, G: Gate>(
         (over_root P.stands (B.home scan.now.boards.now) (B.at result.1))
         (seen_of (B.home scan.now.boards.now) (B.at result.1) q) q) }
     ensures stays { (p : B.Place) → Stays P.asks
-        (MayLose (E.refused scan.now.engine.now) (E.unlisted scan.now.engine.now)
+        (MayLose (E.refused scan.now.engine.now)
+        (E.unlisted scan.now.engine.now (E.refused scan.now.engine.now))
         P.refuses (P.stands (E.root scan.now.engine.now)))
         (B.at seat p) (B.at result.1 p) }
 {

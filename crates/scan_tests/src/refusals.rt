@@ -48,7 +48,7 @@ impl<'a, R: Wait> Engine<Mark> for Refuser<'a, R> {
 
     ghost refused = { λ engine q chunk. q ≡ 3 };
 
-    ghost unlisted = { λ engine task. ⊥ };
+    ghost unlisted = { λ engine refused task. ⊥ };
 
     fn scratch(&self) {}
 

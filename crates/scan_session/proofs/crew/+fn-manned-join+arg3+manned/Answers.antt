@@ -43,7 +43,7 @@ returns-clause-manned g t c p =
     let served = c.join-other.ensures.first p in
     let mid = g.B.Tasks.at c.join-other.result.1.2 p in
     let some : 1 ≤ c.args.workers = search rules in
-    let may = MayLose (g.E.Engine.refused c.args.scan.now.engine.now) (g.E.Engine.unlisted c.args.scan.now.engine.now) g.P.Work.refuses (g.P.Work.stands (g.E.Engine.root c.args.scan.now.engine.now)) in
+    let may = MayLose (g.E.Engine.refused c.args.scan.now.engine.now) (g.E.Engine.unlisted c.args.scan.now.engine.now (g.E.Engine.refused c.args.scan.now.engine.now)) g.P.Work.refuses (g.P.Work.stands (g.E.Engine.root c.args.scan.now.engine.now)) in
     let m = subst (λ s. MannedBy g.P.Work.asks may (c.args.workers - 1) s mid) (c.split-other.ensures.kept p) (c.join-other.ensures.second.1 p) in
     record {
       manned = manned_more g.P.Work.asks (g.B.Tasks.at c.args.seat p) (g.B.Tasks.at c.split-other.result p) mid (g.B.Tasks.at c.join-other.result.0 p) (g.B.Tasks.at c.join.new.seat p) (c.split-other.ensures.next p) served.worked served.lawful
@@ -85,7 +85,7 @@ returns-then-workers-eq0-clause-ran g t c = c.alone.ensures.ran
 pub returns-then-workers-eq0-clause-manned : goal.returns-then-workers-eq0-clause-manned
 returns-then-workers-eq0-clause-manned g t c p =
     let none : 0 ≡ c.args.workers = search rules in
-    subst (λ n. MannedBy g.P.Work.asks (MayLose (g.E.Engine.refused c.args.scan.now.engine.now) (g.E.Engine.unlisted c.args.scan.now.engine.now) g.P.Work.refuses (g.P.Work.stands (g.E.Engine.root c.args.scan.now.engine.now))) n (g.B.Tasks.at c.args.seat p) (g.B.Tasks.at c.alone.result.2 p)) none (c.alone.ensures.manned p)
+    subst (λ n. MannedBy g.P.Work.asks (MayLose (g.E.Engine.refused c.args.scan.now.engine.now) (g.E.Engine.unlisted c.args.scan.now.engine.now (g.E.Engine.refused c.args.scan.now.engine.now)) g.P.Work.refuses (g.P.Work.stands (g.E.Engine.root c.args.scan.now.engine.now))) n (g.B.Tasks.at c.args.seat p) (g.B.Tasks.at c.alone.result.2 p)) none (c.alone.ensures.manned p)
 
 pub fn::manned::join+arg3+FnOnce::call_once-join+arg3-requires : goal.fn::manned::join+arg3+FnOnce::call_once-join+arg3-requires
 fn::manned::join+arg3+FnOnce::call_once-join+arg3-requires g t c κs within =

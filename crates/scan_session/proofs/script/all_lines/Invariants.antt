@@ -9,7 +9,7 @@ use Rattle.scan_session.proofs.script.all_lines.Given as goal
 
 abbrev pub invariant-loop-step : goal.invariant-loop-step
 invariant-loop-step g l = record {
-  stays : (p : _) → Stays g.P.Work.asks (MayLose (g.E.Engine.refused l.fn.scan.engine.now) (g.E.Engine.unlisted l.fn.scan.engine.now) g.P.Work.refuses (g.P.Work.stands (g.E.Engine.root l.fn.scan.engine.now))) (g.B.Tasks.at l.fn.seat p) (g.B.Tasks.at l.seat p);
+  stays : (p : _) → Stays g.P.Work.asks (MayLose (g.E.Engine.refused l.fn.scan.engine.now) (g.E.Engine.unlisted l.fn.scan.engine.now (g.E.Engine.refused l.fn.scan.engine.now)) g.P.Work.refuses (g.P.Work.stands (g.E.Engine.root l.fn.scan.engine.now))) (g.B.Tasks.at l.fn.seat p) (g.B.Tasks.at l.seat p);
   learns : Learns g.P.Work.stands (g.B.Boards.home l.fn.scan.boards.now) (g.B.Tasks.at l.fn.seat) (g.B.Tasks.at l.seat) l.fn.ends l.ends;
   len : length l.plans ≡ length l.fn.ends;
   fit : AllFit g.P.Work.stands g.P.Work.asks (g.B.Boards.suits l.fn.scan.boards.now) (g.B.Tasks.at l.seat) l.plans;

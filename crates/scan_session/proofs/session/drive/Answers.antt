@@ -48,7 +48,7 @@ returns-in-Went-clause-drove g c place =
     let each : length plans ≡ query_count c.args.steps.now = search rules in
     let len : length first ≡ length plans = search rules in
     let m = c.teamed-outcome in
-    let p = session_promises g.P.Work.asks g.P.Work.stands c.args.workers (MayLose (g.E.Engine.refused c.args.scan.now.engine.now) (g.E.Engine.unlisted c.args.scan.now.engine.now) g.P.Work.refuses (g.P.Work.stands (g.E.Engine.root c.args.scan.now.engine.now))) has home (g.B.Tasks.at c.args.seat) new plans first m.result.1.items c.args.steps.now m.result.0 c.requires.numbered each len marks m.ensures.manned m.ensures.ran
+    let p = session_promises g.P.Work.asks g.P.Work.stands c.args.workers (MayLose (g.E.Engine.refused c.args.scan.now.engine.now) (g.E.Engine.unlisted c.args.scan.now.engine.now (g.E.Engine.refused c.args.scan.now.engine.now)) g.P.Work.refuses (g.P.Work.stands (g.E.Engine.root c.args.scan.now.engine.now))) has home (g.B.Tasks.at c.args.seat) new plans first m.result.1.items c.args.steps.now m.result.0 c.requires.numbered each len marks m.ensures.manned m.ensures.ran
     (λ p. (c.requires.first p).3) (λ p. (c.requires.first p).1) in
     (subst (λ (r : Outcome). Promises c.args.workers has (plan_in plans) c.args.steps.now new (known_in m.result.1.items) r) c.in-Went.is p place).0
 
@@ -64,9 +64,9 @@ returns-in-Went-clause-ends g c =
     let each : length plans ≡ query_count c.args.steps.now = search rules in
     let len : length first ≡ length plans = search rules in
     let m = c.teamed-outcome in
-    let p = session_promises g.P.Work.asks g.P.Work.stands c.args.workers (MayLose (g.E.Engine.refused c.args.scan.now.engine.now) (g.E.Engine.unlisted c.args.scan.now.engine.now) g.P.Work.refuses (g.P.Work.stands (g.E.Engine.root c.args.scan.now.engine.now))) has home (g.B.Tasks.at c.args.seat) new plans first m.result.1.items c.args.steps.now m.result.0 c.requires.numbered each len marks m.ensures.manned m.ensures.ran
+    let p = session_promises g.P.Work.asks g.P.Work.stands c.args.workers (MayLose (g.E.Engine.refused c.args.scan.now.engine.now) (g.E.Engine.unlisted c.args.scan.now.engine.now (g.E.Engine.refused c.args.scan.now.engine.now)) g.P.Work.refuses (g.P.Work.stands (g.E.Engine.root c.args.scan.now.engine.now))) has home (g.B.Tasks.at c.args.seat) new plans first m.result.1.items c.args.steps.now m.result.0 c.requires.numbered each len marks m.ensures.manned m.ensures.ran
     (λ p. (c.requires.first p).3) (λ p. (c.requires.first p).1) in
-    session_ends g.P.Work.asks g.P.Work.stands c.args.workers (MayLose (g.E.Engine.refused c.args.scan.now.engine.now) (g.E.Engine.unlisted c.args.scan.now.engine.now) g.P.Work.refuses (g.P.Work.stands (g.E.Engine.root c.args.scan.now.engine.now))) has home (g.B.Tasks.at c.args.seat) new plans first m.result.1.items c.args.steps.now m.result.0 c.requires.numbered each len marks m.ensures.manned m.ensures.ran
+    session_ends g.P.Work.asks g.P.Work.stands c.args.workers (MayLose (g.E.Engine.refused c.args.scan.now.engine.now) (g.E.Engine.unlisted c.args.scan.now.engine.now (g.E.Engine.refused c.args.scan.now.engine.now)) g.P.Work.refuses (g.P.Work.stands (g.E.Engine.root c.args.scan.now.engine.now))) has home (g.B.Tasks.at c.args.seat) new plans first m.result.1.items c.args.steps.now m.result.0 c.requires.numbered each len marks m.ensures.manned m.ensures.ran
     c.known_ends.result.items ((g.met.B.Boards g.world.𝓛 g.world.𝓜 g.world.𝓡 ((λ s x. x), (λ x. x), (λ x. x), λ x. x)).housed boards)
     (subst (λ (r : Outcome). Promises c.args.workers has (plan_in plans) c.args.steps.now new (known_in m.result.1.items) r) c.in-Went.is p) c.known_ends.ensures
 
@@ -74,7 +74,7 @@ pub returns-in-Went-clause-spent : goal.returns-in-Went-clause-spent
 returns-in-Went-clause-spent g c =
     let home = g.B.Boards.home c.args.scan.now.boards.now in
     let old = g.B.Tasks.at c.args.seat in
-    let may = MayLose (g.E.Engine.refused c.args.scan.now.engine.now) (g.E.Engine.unlisted c.args.scan.now.engine.now) g.P.Work.refuses (g.P.Work.stands (g.E.Engine.root c.args.scan.now.engine.now)) in
+    let may = MayLose (g.E.Engine.refused c.args.scan.now.engine.now) (g.E.Engine.unlisted c.args.scan.now.engine.now (g.E.Engine.refused c.args.scan.now.engine.now)) g.P.Work.refuses (g.P.Work.stands (g.E.Engine.root c.args.scan.now.engine.now)) in
     spends_only g.P.Work.asks may c.args.workers (over_root g.P.Work.stands home old) (plan_in c.args.plans.items) home old (g.B.Tasks.at c.teamed-outcome.result.2) c.known_ends.result.items
     (λ p. (c.requires.first p).3) (λ p. (c.requires.first p).2) c.teamed-outcome.ensures.manned (returns-in-Went-clause-ends g c)
 
@@ -90,7 +90,7 @@ unreachable-requires g c =
     let each : length plans ≡ query_count c.args.steps.now = search rules in
     let len : length first ≡ length plans = search rules in
     let m = c.teamed-outcome in
-    let p = session_promises g.P.Work.asks g.P.Work.stands c.args.workers (MayLose (g.E.Engine.refused c.args.scan.now.engine.now) (g.E.Engine.unlisted c.args.scan.now.engine.now) g.P.Work.refuses (g.P.Work.stands (g.E.Engine.root c.args.scan.now.engine.now))) has home (g.B.Tasks.at c.args.seat) new plans first m.result.1.items c.args.steps.now m.result.0 c.requires.numbered each len marks m.ensures.manned m.ensures.ran
+    let p = session_promises g.P.Work.asks g.P.Work.stands c.args.workers (MayLose (g.E.Engine.refused c.args.scan.now.engine.now) (g.E.Engine.unlisted c.args.scan.now.engine.now (g.E.Engine.refused c.args.scan.now.engine.now)) g.P.Work.refuses (g.P.Work.stands (g.E.Engine.root c.args.scan.now.engine.now))) has home (g.B.Tasks.at c.args.seat) new plans first m.result.1.items c.args.steps.now m.result.0 c.requires.numbered each len marks m.ensures.manned m.ensures.ran
     (λ p. (c.requires.first p).3) (λ p. (c.requires.first p).1) in
     subst (λ (r : Outcome). Promises c.args.workers has (plan_in plans) c.args.steps.now new (known_in m.result.1.items) r) c.in-Odd.is p
 

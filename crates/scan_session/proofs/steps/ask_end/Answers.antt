@@ -11,7 +11,7 @@ use Rattle.scan_session.proofs.steps.ask_end.Goals as goal
 pub returns-in-Piece-clause-goes : goal.returns-in-Piece-clause-goes
 returns-in-Piece-clause-goes g c plan done ends started planned none d =
     let asks = g.P.Work.asks in
-    let may = MayLose (g.E.Engine.refused c.args.scan.now.engine.now) (g.E.Engine.unlisted c.args.scan.now.engine.now) g.P.Work.refuses (g.P.Work.stands (g.E.Engine.root c.args.scan.now.engine.now)) in
+    let may = MayLose (g.E.Engine.refused c.args.scan.now.engine.now) (g.E.Engine.unlisted c.args.scan.now.engine.now (g.E.Engine.refused c.args.scan.now.engine.now)) g.P.Work.refuses (g.P.Work.stands (g.E.Engine.root c.args.scan.now.engine.now)) in
     let boards = c.args.scan.now.boards.now in
     let has = g.B.Boards.has boards in
     let q = c.args.q in
@@ -23,7 +23,7 @@ returns-in-Piece-clause-goes g c plan done ends started planned none d =
 pub returns-in-Piece-clause-stays : goal.returns-in-Piece-clause-stays
 returns-in-Piece-clause-stays g c =
     let asks = g.P.Work.asks in
-    let may = MayLose (g.E.Engine.refused c.args.scan.now.engine.now) (g.E.Engine.unlisted c.args.scan.now.engine.now) g.P.Work.refuses (g.P.Work.stands (g.E.Engine.root c.args.scan.now.engine.now)) in
+    let may = MayLose (g.E.Engine.refused c.args.scan.now.engine.now) (g.E.Engine.unlisted c.args.scan.now.engine.now (g.E.Engine.refused c.args.scan.now.engine.now)) g.P.Work.refuses (g.P.Work.stands (g.E.Engine.root c.args.scan.now.engine.now)) in
     let boards = c.args.scan.now.boards.now in
     let has = g.B.Boards.has boards in
     let q = c.args.q in
@@ -35,7 +35,7 @@ returns-in-Piece-clause-stays g c =
 pub returns-in-Cancelled-clause-goes : goal.returns-in-Cancelled-clause-goes
 returns-in-Cancelled-clause-goes g c plan done ends started planned none d =
     let asks = g.P.Work.asks in
-    let may = MayLose (g.E.Engine.refused c.args.scan.now.engine.now) (g.E.Engine.unlisted c.args.scan.now.engine.now) g.P.Work.refuses (g.P.Work.stands (g.E.Engine.root c.args.scan.now.engine.now)) in
+    let may = MayLose (g.E.Engine.refused c.args.scan.now.engine.now) (g.E.Engine.unlisted c.args.scan.now.engine.now (g.E.Engine.refused c.args.scan.now.engine.now)) g.P.Work.refuses (g.P.Work.stands (g.E.Engine.root c.args.scan.now.engine.now)) in
     let boards = c.args.scan.now.boards.now in
     let has = g.B.Boards.has boards in
     let q = c.args.q in
@@ -47,7 +47,7 @@ returns-in-Cancelled-clause-goes g c plan done ends started planned none d =
 pub returns-in-Cancelled-clause-stays : goal.returns-in-Cancelled-clause-stays
 returns-in-Cancelled-clause-stays g c =
     let asks = g.P.Work.asks in
-    let may = MayLose (g.E.Engine.refused c.args.scan.now.engine.now) (g.E.Engine.unlisted c.args.scan.now.engine.now) g.P.Work.refuses (g.P.Work.stands (g.E.Engine.root c.args.scan.now.engine.now)) in
+    let may = MayLose (g.E.Engine.refused c.args.scan.now.engine.now) (g.E.Engine.unlisted c.args.scan.now.engine.now (g.E.Engine.refused c.args.scan.now.engine.now)) g.P.Work.refuses (g.P.Work.stands (g.E.Engine.root c.args.scan.now.engine.now)) in
     let boards = c.args.scan.now.boards.now in
     let has = g.B.Boards.has boards in
     let q = c.args.q in
@@ -59,7 +59,7 @@ returns-in-Cancelled-clause-stays g c =
 pub returns-in-Spent-clause-goes : goal.returns-in-Spent-clause-goes
 returns-in-Spent-clause-goes g c plan done ends started planned none d =
     let asks = g.P.Work.asks in
-    let may = MayLose (g.E.Engine.refused c.args.scan.now.engine.now) (g.E.Engine.unlisted c.args.scan.now.engine.now) g.P.Work.refuses (g.P.Work.stands (g.E.Engine.root c.args.scan.now.engine.now)) in
+    let may = MayLose (g.E.Engine.refused c.args.scan.now.engine.now) (g.E.Engine.unlisted c.args.scan.now.engine.now (g.E.Engine.refused c.args.scan.now.engine.now)) g.P.Work.refuses (g.P.Work.stands (g.E.Engine.root c.args.scan.now.engine.now)) in
     let boards = c.args.scan.now.boards.now in
     let has = g.B.Boards.has boards in
     let q = c.args.q in
@@ -71,7 +71,7 @@ returns-in-Spent-clause-goes g c plan done ends started planned none d =
 pub returns-in-Spent-clause-stays : goal.returns-in-Spent-clause-stays
 returns-in-Spent-clause-stays g c =
     let asks = g.P.Work.asks in
-    let may = MayLose (g.E.Engine.refused c.args.scan.now.engine.now) (g.E.Engine.unlisted c.args.scan.now.engine.now) g.P.Work.refuses (g.P.Work.stands (g.E.Engine.root c.args.scan.now.engine.now)) in
+    let may = MayLose (g.E.Engine.refused c.args.scan.now.engine.now) (g.E.Engine.unlisted c.args.scan.now.engine.now (g.E.Engine.refused c.args.scan.now.engine.now)) g.P.Work.refuses (g.P.Work.stands (g.E.Engine.root c.args.scan.now.engine.now)) in
     let boards = c.args.scan.now.boards.now in
     let has = g.B.Boards.has boards in
     let q = c.args.q in
@@ -83,7 +83,7 @@ returns-in-Spent-clause-stays g c =
 pub returns-in-NotYet-clause-goes : goal.returns-in-NotYet-clause-goes
 returns-in-NotYet-clause-goes g c plan done ends started planned none d =
     let asks = g.P.Work.asks in
-    let may = MayLose (g.E.Engine.refused c.args.scan.now.engine.now) (g.E.Engine.unlisted c.args.scan.now.engine.now) g.P.Work.refuses (g.P.Work.stands (g.E.Engine.root c.args.scan.now.engine.now)) in
+    let may = MayLose (g.E.Engine.refused c.args.scan.now.engine.now) (g.E.Engine.unlisted c.args.scan.now.engine.now (g.E.Engine.refused c.args.scan.now.engine.now)) g.P.Work.refuses (g.P.Work.stands (g.E.Engine.root c.args.scan.now.engine.now)) in
     let boards = c.args.scan.now.boards.now in
     let has = g.B.Boards.has boards in
     let q = c.args.q in
@@ -97,7 +97,7 @@ returns-in-NotYet-clause-goes g c plan done ends started planned none d =
 pub returns-in-NotYet-clause-stays : goal.returns-in-NotYet-clause-stays
 returns-in-NotYet-clause-stays g c p =
     let asks = g.P.Work.asks in
-    let may = MayLose (g.E.Engine.refused c.args.scan.now.engine.now) (g.E.Engine.unlisted c.args.scan.now.engine.now) g.P.Work.refuses (g.P.Work.stands (g.E.Engine.root c.args.scan.now.engine.now)) in
+    let may = MayLose (g.E.Engine.refused c.args.scan.now.engine.now) (g.E.Engine.unlisted c.args.scan.now.engine.now (g.E.Engine.refused c.args.scan.now.engine.now)) g.P.Work.refuses (g.P.Work.stands (g.E.Engine.root c.args.scan.now.engine.now)) in
     let boards = c.args.scan.now.boards.now in
     let has = g.B.Boards.has boards in
     let q = c.args.q in
@@ -111,7 +111,7 @@ returns-in-NotYet-clause-stays g c p =
 pub returns-in-Gone-clause-goes : goal.returns-in-Gone-clause-goes
 returns-in-Gone-clause-goes g c plan done ends started planned none d =
     let asks = g.P.Work.asks in
-    let may = MayLose (g.E.Engine.refused c.args.scan.now.engine.now) (g.E.Engine.unlisted c.args.scan.now.engine.now) g.P.Work.refuses (g.P.Work.stands (g.E.Engine.root c.args.scan.now.engine.now)) in
+    let may = MayLose (g.E.Engine.refused c.args.scan.now.engine.now) (g.E.Engine.unlisted c.args.scan.now.engine.now (g.E.Engine.refused c.args.scan.now.engine.now)) g.P.Work.refuses (g.P.Work.stands (g.E.Engine.root c.args.scan.now.engine.now)) in
     let boards = c.args.scan.now.boards.now in
     let has = g.B.Boards.has boards in
     let q = c.args.q in
@@ -128,7 +128,7 @@ returns-in-Gone-clause-goes g c plan done ends started planned none d =
 pub returns-in-Gone-clause-stays : goal.returns-in-Gone-clause-stays
 returns-in-Gone-clause-stays g c =
     let asks = g.P.Work.asks in
-    let may = MayLose (g.E.Engine.refused c.args.scan.now.engine.now) (g.E.Engine.unlisted c.args.scan.now.engine.now) g.P.Work.refuses (g.P.Work.stands (g.E.Engine.root c.args.scan.now.engine.now)) in
+    let may = MayLose (g.E.Engine.refused c.args.scan.now.engine.now) (g.E.Engine.unlisted c.args.scan.now.engine.now (g.E.Engine.refused c.args.scan.now.engine.now)) g.P.Work.refuses (g.P.Work.stands (g.E.Engine.root c.args.scan.now.engine.now)) in
     let boards = c.args.scan.now.boards.now in
     let has = g.B.Boards.has boards in
     let q = c.args.q in
@@ -140,7 +140,7 @@ returns-in-Gone-clause-stays g c =
 pub work-requires : goal.work-requires
 work-requires g c =
     let asks = g.P.Work.asks in
-    let may = MayLose (g.E.Engine.refused c.args.scan.now.engine.now) (g.E.Engine.unlisted c.args.scan.now.engine.now) g.P.Work.refuses (g.P.Work.stands (g.E.Engine.root c.args.scan.now.engine.now)) in
+    let may = MayLose (g.E.Engine.refused c.args.scan.now.engine.now) (g.E.Engine.unlisted c.args.scan.now.engine.now (g.E.Engine.refused c.args.scan.now.engine.now)) g.P.Work.refuses (g.P.Work.stands (g.E.Engine.root c.args.scan.now.engine.now)) in
     let boards = c.args.scan.now.boards.now in
     let has = g.B.Boards.has boards in
     let q = c.args.q in
@@ -153,7 +153,7 @@ work-requires g c =
 pub returns-in-Piece-clause-whole : goal.returns-in-Piece-clause-whole
 returns-in-Piece-clause-whole g c =
     let asks = g.P.Work.asks in
-    let may = MayLose (g.E.Engine.refused c.args.scan.now.engine.now) (g.E.Engine.unlisted c.args.scan.now.engine.now) g.P.Work.refuses (g.P.Work.stands (g.E.Engine.root c.args.scan.now.engine.now)) in
+    let may = MayLose (g.E.Engine.refused c.args.scan.now.engine.now) (g.E.Engine.unlisted c.args.scan.now.engine.now (g.E.Engine.refused c.args.scan.now.engine.now)) g.P.Work.refuses (g.P.Work.stands (g.E.Engine.root c.args.scan.now.engine.now)) in
     let boards = c.args.scan.now.boards.now in
     let has = g.B.Boards.has boards in
     let q = c.args.q in

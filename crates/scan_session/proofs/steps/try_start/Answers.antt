@@ -13,7 +13,7 @@ use Rattle.scan_session.proofs.steps.try_start.Goals as goal
 pub returns-in-Attached-clause-goes : goal.returns-in-Attached-clause-goes
 returns-in-Attached-clause-goes g c plan done ends span free planned d =
     let asks = g.P.Work.asks in
-    let may = MayLose (g.E.Engine.refused c.args.scan.now.engine.now) (g.E.Engine.unlisted c.args.scan.now.engine.now) g.P.Work.refuses (g.P.Work.stands (g.E.Engine.root c.args.scan.now.engine.now)) in
+    let may = MayLose (g.E.Engine.refused c.args.scan.now.engine.now) (g.E.Engine.unlisted c.args.scan.now.engine.now (g.E.Engine.refused c.args.scan.now.engine.now)) g.P.Work.refuses (g.P.Work.stands (g.E.Engine.root c.args.scan.now.engine.now)) in
     let boards = c.args.scan.now.boards.now in
     let has = g.B.Boards.has boards in
     let q = c.args.q in
@@ -27,7 +27,7 @@ returns-in-Attached-clause-goes g c plan done ends span free planned d =
 pub returns-in-Attached-clause-stays : goal.returns-in-Attached-clause-stays
 returns-in-Attached-clause-stays g c =
     let asks = g.P.Work.asks in
-    let may = MayLose (g.E.Engine.refused c.args.scan.now.engine.now) (g.E.Engine.unlisted c.args.scan.now.engine.now) g.P.Work.refuses (g.P.Work.stands (g.E.Engine.root c.args.scan.now.engine.now)) in
+    let may = MayLose (g.E.Engine.refused c.args.scan.now.engine.now) (g.E.Engine.unlisted c.args.scan.now.engine.now (g.E.Engine.refused c.args.scan.now.engine.now)) g.P.Work.refuses (g.P.Work.stands (g.E.Engine.root c.args.scan.now.engine.now)) in
     let boards = c.args.scan.now.boards.now in
     let has = g.B.Boards.has boards in
     let q = c.args.q in
@@ -41,7 +41,7 @@ returns-in-Attached-clause-stays g c =
 pub returns-in-Full-clause-goes : goal.returns-in-Full-clause-goes
 returns-in-Full-clause-goes g c plan done ends span free planned d =
     let asks = g.P.Work.asks in
-    let may = MayLose (g.E.Engine.refused c.args.scan.now.engine.now) (g.E.Engine.unlisted c.args.scan.now.engine.now) g.P.Work.refuses (g.P.Work.stands (g.E.Engine.root c.args.scan.now.engine.now)) in
+    let may = MayLose (g.E.Engine.refused c.args.scan.now.engine.now) (g.E.Engine.unlisted c.args.scan.now.engine.now (g.E.Engine.refused c.args.scan.now.engine.now)) g.P.Work.refuses (g.P.Work.stands (g.E.Engine.root c.args.scan.now.engine.now)) in
     let boards = c.args.scan.now.boards.now in
     let has = g.B.Boards.has boards in
     let q = c.args.q in
@@ -61,7 +61,7 @@ returns-in-Full-clause-goes g c plan done ends span free planned d =
 pub returns-in-Full-clause-stays : goal.returns-in-Full-clause-stays
 returns-in-Full-clause-stays g c p =
     let asks = g.P.Work.asks in
-    let may = MayLose (g.E.Engine.refused c.args.scan.now.engine.now) (g.E.Engine.unlisted c.args.scan.now.engine.now) g.P.Work.refuses (g.P.Work.stands (g.E.Engine.root c.args.scan.now.engine.now)) in
+    let may = MayLose (g.E.Engine.refused c.args.scan.now.engine.now) (g.E.Engine.unlisted c.args.scan.now.engine.now (g.E.Engine.refused c.args.scan.now.engine.now)) g.P.Work.refuses (g.P.Work.stands (g.E.Engine.root c.args.scan.now.engine.now)) in
     let boards = c.args.scan.now.boards.now in
     let has = g.B.Boards.has boards in
     let q = c.args.q in
@@ -77,7 +77,7 @@ returns-in-Full-clause-stays g c p =
 pub returns-in-Closed-clause-stays : goal.returns-in-Closed-clause-stays
 returns-in-Closed-clause-stays g c =
     let asks = g.P.Work.asks in
-    let may = MayLose (g.E.Engine.refused c.args.scan.now.engine.now) (g.E.Engine.unlisted c.args.scan.now.engine.now) g.P.Work.refuses (g.P.Work.stands (g.E.Engine.root c.args.scan.now.engine.now)) in
+    let may = MayLose (g.E.Engine.refused c.args.scan.now.engine.now) (g.E.Engine.unlisted c.args.scan.now.engine.now (g.E.Engine.refused c.args.scan.now.engine.now)) g.P.Work.refuses (g.P.Work.stands (g.E.Engine.root c.args.scan.now.engine.now)) in
     let boards = c.args.scan.now.boards.now in
     let has = g.B.Boards.has boards in
     let q = c.args.q in
@@ -91,7 +91,7 @@ returns-in-Closed-clause-stays g c =
 pub returns-clause-stays : goal.returns-clause-stays
 returns-clause-stays g c =
     let asks = g.P.Work.asks in
-    let may = MayLose (g.E.Engine.refused c.args.scan.now.engine.now) (g.E.Engine.unlisted c.args.scan.now.engine.now) g.P.Work.refuses (g.P.Work.stands (g.E.Engine.root c.args.scan.now.engine.now)) in
+    let may = MayLose (g.E.Engine.refused c.args.scan.now.engine.now) (g.E.Engine.unlisted c.args.scan.now.engine.now (g.E.Engine.refused c.args.scan.now.engine.now)) g.P.Work.refuses (g.P.Work.stands (g.E.Engine.root c.args.scan.now.engine.now)) in
     let boards = c.args.scan.now.boards.now in
     let has = g.B.Boards.has boards in
     let q = c.args.q in
@@ -105,7 +105,7 @@ returns-clause-stays g c =
 pub returns-in-Memory-clause-stays : goal.returns-in-Memory-clause-stays
 returns-in-Memory-clause-stays g c =
     let asks = g.P.Work.asks in
-    let may = MayLose (g.E.Engine.refused c.args.scan.now.engine.now) (g.E.Engine.unlisted c.args.scan.now.engine.now) g.P.Work.refuses (g.P.Work.stands (g.E.Engine.root c.args.scan.now.engine.now)) in
+    let may = MayLose (g.E.Engine.refused c.args.scan.now.engine.now) (g.E.Engine.unlisted c.args.scan.now.engine.now (g.E.Engine.refused c.args.scan.now.engine.now)) g.P.Work.refuses (g.P.Work.stands (g.E.Engine.root c.args.scan.now.engine.now)) in
     let boards = c.args.scan.now.boards.now in
     let has = g.B.Boards.has boards in
     let q = c.args.q in
@@ -119,7 +119,7 @@ returns-in-Memory-clause-stays g c =
 pub returns-in-Closed-clause-goes : goal.returns-in-Closed-clause-goes
 returns-in-Closed-clause-goes g c plan done ends span free planned d =
     let asks = g.P.Work.asks in
-    let may = MayLose (g.E.Engine.refused c.args.scan.now.engine.now) (g.E.Engine.unlisted c.args.scan.now.engine.now) g.P.Work.refuses (g.P.Work.stands (g.E.Engine.root c.args.scan.now.engine.now)) in
+    let may = MayLose (g.E.Engine.refused c.args.scan.now.engine.now) (g.E.Engine.unlisted c.args.scan.now.engine.now (g.E.Engine.refused c.args.scan.now.engine.now)) g.P.Work.refuses (g.P.Work.stands (g.E.Engine.root c.args.scan.now.engine.now)) in
     let boards = c.args.scan.now.boards.now in
     let has = g.B.Boards.has boards in
     let q = c.args.q in
@@ -135,7 +135,7 @@ returns-in-Closed-clause-goes g c plan done ends span free planned d =
 pub returns-clause-goes : goal.returns-clause-goes
 returns-clause-goes g c plan done ends span free planned d =
     let asks = g.P.Work.asks in
-    let may = MayLose (g.E.Engine.refused c.args.scan.now.engine.now) (g.E.Engine.unlisted c.args.scan.now.engine.now) g.P.Work.refuses (g.P.Work.stands (g.E.Engine.root c.args.scan.now.engine.now)) in
+    let may = MayLose (g.E.Engine.refused c.args.scan.now.engine.now) (g.E.Engine.unlisted c.args.scan.now.engine.now (g.E.Engine.refused c.args.scan.now.engine.now)) g.P.Work.refuses (g.P.Work.stands (g.E.Engine.root c.args.scan.now.engine.now)) in
     let boards = c.args.scan.now.boards.now in
     let has = g.B.Boards.has boards in
     let q = c.args.q in
@@ -151,7 +151,7 @@ returns-clause-goes g c plan done ends span free planned d =
 pub returns-in-Full-clause-full : goal.returns-in-Full-clause-full
 returns-in-Full-clause-full g c k =
     let asks = g.P.Work.asks in
-    let may = MayLose (g.E.Engine.refused c.args.scan.now.engine.now) (g.E.Engine.unlisted c.args.scan.now.engine.now) g.P.Work.refuses (g.P.Work.stands (g.E.Engine.root c.args.scan.now.engine.now)) in
+    let may = MayLose (g.E.Engine.refused c.args.scan.now.engine.now) (g.E.Engine.unlisted c.args.scan.now.engine.now (g.E.Engine.refused c.args.scan.now.engine.now)) g.P.Work.refuses (g.P.Work.stands (g.E.Engine.root c.args.scan.now.engine.now)) in
     let boards = c.args.scan.now.boards.now in
     let has = g.B.Boards.has boards in
     let q = c.args.q in
@@ -166,7 +166,7 @@ returns-in-Full-clause-full g c k =
 pub work-requires : goal.work-requires
 work-requires g c =
     let asks = g.P.Work.asks in
-    let may = MayLose (g.E.Engine.refused c.args.scan.now.engine.now) (g.E.Engine.unlisted c.args.scan.now.engine.now) g.P.Work.refuses (g.P.Work.stands (g.E.Engine.root c.args.scan.now.engine.now)) in
+    let may = MayLose (g.E.Engine.refused c.args.scan.now.engine.now) (g.E.Engine.unlisted c.args.scan.now.engine.now (g.E.Engine.refused c.args.scan.now.engine.now)) g.P.Work.refuses (g.P.Work.stands (g.E.Engine.root c.args.scan.now.engine.now)) in
     let boards = c.args.scan.now.boards.now in
     let has = g.B.Boards.has boards in
     let q = c.args.q in
@@ -194,7 +194,7 @@ returns-in-Memory-clause-goes g c plan done ends span free planned d =
 pub returns-in-Memory-clause-room : goal.returns-in-Memory-clause-room
 returns-in-Memory-clause-room g c =
     let asks = g.P.Work.asks in
-    let may = MayLose (g.E.Engine.refused c.args.scan.now.engine.now) (g.E.Engine.unlisted c.args.scan.now.engine.now) g.P.Work.refuses (g.P.Work.stands (g.E.Engine.root c.args.scan.now.engine.now)) in
+    let may = MayLose (g.E.Engine.refused c.args.scan.now.engine.now) (g.E.Engine.unlisted c.args.scan.now.engine.now (g.E.Engine.refused c.args.scan.now.engine.now)) g.P.Work.refuses (g.P.Work.stands (g.E.Engine.root c.args.scan.now.engine.now)) in
     let boards = c.args.scan.now.boards.now in
     let has = g.B.Boards.has boards in
     let q = c.args.q in
