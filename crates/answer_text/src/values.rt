@@ -7,8 +7,10 @@ ghost use Rattle.sql_rules.specs.PrintedExprs.{behind_each};
 ghost use Rattle.transcript_rules.specs.Tables.{by_commas, count_line, row_line, value_text};
 ghost use Rattle.answer_table.specs.Tables.{IsShort};
 
+use crate::row_line::make_line;
 use answer_rules::Value;
 use column_text::pieces::put_counted;
+use line_buffer::LineBuffer;
 use partial_merge::Table;
 use sky_io::{Put, Sink};
 use sky_text::{put_count, put_decimal4, put_int};
@@ -77,8 +79,8 @@ fn put_values<K: Sink>(sink: &mut K, values: &[Value]) -> Put
     }
 }
 
-// Writes the line of a row.
-fn put_row<K: Sink>(sink: &mut K, row: &[Value]) -> Put
+// Writes the line of a row, value by value.
+fn put_row_values<K: Sink>(sink: &mut K, row: &[Value]) -> Put
     requires { All IsShort row.now }
     ensures { Wrote (K.state sink.old) (K.state sink.new) (row_line row.now) result }
 {
@@ -88,12 +90,25 @@ fn put_row<K: Sink>(sink: &mut K, row: &[Value]) -> Put
     }
 }
 
+// Writes the line of a row, which is one piece if it can be made in the buffer.
+fn put_row<K: Sink>(sink: &mut K, line: &mut LineBuffer, row: &[Value]) -> Put
+    requires { All IsShort row.now }
+    ensures { Wrote (K.state sink.old) (K.state sink.new) (row_line row.now) result }
+{
+    if make_line(line, row) {
+        sink.put(line.as_slice())
+    } else {
+        put_row_values(sink, row)
+    }
+}
+
 // Writes the lines of the rows.
 fn put_rows<K: Sink>(sink: &mut K, table: &Table) -> Put
     ensures { Wrote (K.state sink.old) (K.state sink.new) (flat_map row_line table.now) result }
 {
+    let mut line = LineBuffer::new();
     for place in 0..table.len() {
-        match put_row(sink, table.row(place)) {
+        match put_row(sink, &mut line, table.row(place)) {
             Put::Failed => return Put::Failed,
             Put::Done => {}
         }

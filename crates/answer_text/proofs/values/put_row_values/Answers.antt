@@ -1,6 +1,6 @@
 use Rattle.std.proofs.Common.{codes}
 use Rattle.sky_io.proofs.Writes.{wrote_one, wrote_two}
-use Rattle.answer_text.proofs.values.put_row.Goals as goal
+use Rattle.answer_text.proofs.values.put_row_values.Goals as goal
 
 pub returns-in-Failed : goal.returns-in-Failed
 returns-in-Failed g c = wrote_one _ _ _ _ c.in-Failed.ensures

@@ -1,0 +1,11 @@
+//! A line of text that is written from its end to its start, in a buffer of fixed size.
+//!
+//! The digits of a number are found from the last to the first. So a line that is written backward has each digit
+//! written once, in its place, and is one piece for a sink. Callers see a `LineBuffer` as its bytes. Below: `itoa` for
+//! digits. No sink, no values and no SQL. Allocates nothing.
+#![tactic(auto)]
+
+pub mod limits;
+pub mod line;
+
+pub use line::LineBuffer;
