@@ -1,9 +1,8 @@
 //! Binding a written query over the schemas of objects and of sources.
 ghost use Rattle.std.specs.Prelude.{◌≡◌, IfOk, IfErr, Ok, Err};
 ghost use Rattle.sky_io.specs.Stops.{IfBad};
-ghost use Rattle.child_bind.specs.BothSchemas.{schemas_of};
 ghost use Rattle.child_bind_rules.specs.ChildBinding.{child_bound_of, child_items, child_query};
-ghost use Rattle.child_bind_rules.specs.PairColumns.{pair_columns};
+ghost use Rattle.child_bind_rules.specs.PairColumns.{pair_columns, schemas_of};
 
 use crate::checks::child_fault;
 use crate::join_condition::IdOf;

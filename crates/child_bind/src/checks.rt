@@ -2,10 +2,9 @@
 ghost use Rattle.std.specs.Prelude.{◌≡◌};
 ghost use Rattle.std.specs.Option.{option_or};
 ghost use Rattle.bind_checks.specs.Faults.{fault_after_join};
-ghost use Rattle.child_bind.specs.BothSchemas.{schemas_of};
 ghost use Rattle.child_bind_rules.specs.ChildChecks.{child_fault};
 ghost use Rattle.child_bind_rules.specs.JoinCondition.{child_form};
-ghost use Rattle.child_bind_rules.specs.PairColumns.{pair_names, pair_size};
+ghost use Rattle.child_bind_rules.specs.PairColumns.{pair_names, pair_size, schemas_of};
 
 use crate::form::has_child_form;
 use crate::scope::ChildScope;

@@ -2,9 +2,8 @@
 ghost use Rattle.std.specs.Prelude.{◌≡◌, ◌<◌, option_to_list};
 ghost use Rattle.std.specs.Option.{option_map};
 ghost use Rattle.bind_rules.specs.Columns.{is_object_table, tables};
-ghost use Rattle.child_bind.specs.BothSchemas.{schemas_of};
 ghost use Rattle.child_bind_rules.specs.PairColumns.{column_by, is_source_table, may_be_of, pair_column};
-ghost use Rattle.child_bind_rules.specs.PairColumns.{pair_columns, pair_names, pair_size, table_column};
+ghost use Rattle.child_bind_rules.specs.PairColumns.{pair_columns, pair_names, pair_size, schemas_of, table_column};
 ghost use Rattle.child_rules.specs.Columns.{object_col, source_col};
 ghost use Rattle.source_rules.specs.SourceNames.{source_column_of};
 ghost use Rattle.source_rules.specs.declared.limits.TheConstants.{SOURCE_COLUMNS_MOST};

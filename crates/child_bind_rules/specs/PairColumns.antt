@@ -23,6 +23,10 @@ pub record Schemas : Type 0 where
   pub objects : List (List ℕ)
   pub sources : List (List ℕ)
 
+-- the schemas with these names
+abbrev pub schemas_of : (objects sources : List (List ℕ)) → Schemas
+schemas_of objects sources = record { objects = objects; sources = sources }
+
 -- the name is that of the source table
 abbrev pub is_source_table : List ℕ → Bool
 is_source_table text = bytes_eq text (codes "Source")

@@ -1,4 +1,3 @@
-pub mod Zips
 pub mod Planning
 pub mod EachPlan
 pub mod Attaching
@@ -6,7 +5,5 @@ pub mod Fitting
 pub mod Scanning
 pub mod Crossing
 pub mod Driving
-pub mod EndsOfPlans
-pub mod Pairs
 pub mod ScriptEnds
 pub mod EndBlocks

@@ -7,17 +7,18 @@ use Rattle.sql_rules.specs.PrintedExprs.{Bytes}
 use Rattle.sql_tree.specs.declared.query.Query.{Query}
 use Rattle.answer_rules.specs.Plans.{plan_of}
 use Rattle.answer_rules.specs.declared.value.Value.{Value}
-use Rattle.czar.specs.declared.end.End.{End}
-use Rattle.czar.specs.declared.end.End.TheVariants.{Answered, Refused, Cancelled, Spent}
+use Rattle.query_ends.specs.declared.end.End.{End}
+use Rattle.query_ends.specs.declared.end.End.TheVariants.{Answered, Refused, Cancelled, Spent}
 use Rattle.child_rules.specs.Children.{child_answer}
-use Rattle.child_transcripts.specs.ChildQueries.{child_refusal, child_understood, schemas_of}
+use Rattle.child_bind_rules.specs.PairColumns.{schemas_of}
+use Rattle.child_transcripts.specs.ChildQueries.{child_refusal, child_understood}
 use Rattle.child_session.specs.ChildSurvey.{ChildSurvey}
 
 -- A query that is answered: its tree, its answer over the two flat tables, and the size of its plan.
 pub record IsChildAnswered (t : ChildSurvey) (text : Bytes) (head : Query) (answer : List (List Value)) (chunks : ℕ)
     : Type 0 where
   pub bound : Bound
-  pub known : child_understood (schemas_of t.rows t.table) text ≡ Ok (record { tree = head; bound = bound })
+  pub known : child_understood (schemas_of t.rows.names t.table.names) text ≡ Ok (record { tree = head; bound = bound })
   pub rows : answer ≡ child_answer t.rows.objects t.table.sources bound
   pub count : chunks ≡ length (plan_of t.plan t.rows.objects bound)
 
@@ -25,7 +26,7 @@ pub record IsChildAnswered (t : ChildSurvey) (text : Bytes) (head : Query) (answ
 -- has no result
 abbrev pub ChildEndShows : ChildSurvey → Bytes → End → Type 0
 ChildEndShows t text (Answered head answer chunks) = IsChildAnswered t text head answer chunks
-ChildEndShows t text (Refused why) = child_refusal (schemas_of t.rows t.table) text ≡ Some why
+ChildEndShows t text (Refused why) = child_refusal (schemas_of t.rows.names t.table.names) text ≡ Some why
 ChildEndShows t text Cancelled = Unit {0}
 ChildEndShows t text Spent = Unit {0}
 

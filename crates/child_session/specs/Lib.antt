@@ -1,4 +1,5 @@
 pub mod ChildSurvey
+pub mod ChildQueryPlans
 pub mod ChildPlans
 pub mod ChildRefusals
 pub mod ChildAttached

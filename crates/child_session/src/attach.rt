@@ -4,7 +4,7 @@ ghost use Rattle.std.specs.Prelude.{◌≡◌, ◌≤◌, ◌<◌, ◌+◌, All,
 ghost use Rattle.scan_rules.specs.declared.limits.TheConstants.{QUERY_MOST};
 ghost use Rattle.turn_lock.specs.Seats.{first_seat};
 ghost use Rattle.session_script.specs.Views.{query_lines};
-ghost use Rattle.child_session.specs.ChildAttached.{CanRunChild, child_attached, child_base_of, child_board_of};
+ghost use Rattle.child_session.specs.ChildAttached.{CanRunChild, child_base_of, child_board_of};
 ghost use Rattle.child_session.specs.ChildAttached.{query_in_plan, query_values, with_child_if_planned};
 ghost use Rattle.child_session.specs.ChildPlans.{AreChildPlans};
 
@@ -15,7 +15,6 @@ use child_piece::{ChildPiece, ChildRoot, copy_of_child};
 use child_rules::ChildBound;
 use child_transcripts::laws::bound_can_be_run;
 use scan_board::{Board, Seat, SharedBoard};
-use scan_session::Planned;
 use sky_io::{Gate, Memory};
 use std::alloc::Global;
 use std::sync::Wait;
@@ -24,45 +23,12 @@ use std::thread::Threads;
 /// A board of child pieces, and the czar's participant of it.
 type BoardAndSeat<'w> = (SharedBoard<ChildPiece<'w>>, Seat<Board<ChildPiece<'w>>>);
 
-/// Returns what is attached for a query: nothing if it is refused.
-fn attached_by<'w>(
-    alloc: Global,
-    plan: &ChildPlan,
-) -> Result<Option<Planned<ChildPiece<'w>>>, Memory>
-    ensures { IfOk result (λ it. it ≡ child_attached plan.now) }
-{
-    match plan {
-        ChildPlan::Planned { bound, chunks, .. } => match chunks.copy(alloc) {
-            Ok(chunks) => Ok(Some(Planned {
-                chunks,
-                empty: ChildPiece::empty(alloc, bound),
-            })),
-            Err(Memory) => Err(Memory),
-        },
-        ChildPlan::Refused(_) => Ok(None),
-    }
-}
-
-/// Returns what is attached for each query of a script, in their order. Allocates memory.
-pub(crate) fn all_attached<'w>(
-    alloc: Global,
-    plans: &[ChildPlan],
-) -> Result<Vec<Option<Planned<ChildPiece<'w>>>>, Memory>
-    ensures { IfOk result (λ all. all.items ≡ map child_attached plans.now) }
-{
-    let mut all = Vec::new(alloc);
-    for plan in plans {
-        all.push(attached_by(alloc, plan)?)?;
-    }
-    Ok(all)
-}
-
 /// Returns the child query of a query, if it is planned.
 fn query_of(plan: &ChildPlan) -> Option<&ChildBound>
     ensures { option_map (λ query. query.now) result ≡ query_in_plan plan.now }
 {
     match plan {
-        ChildPlan::Planned { bound, .. } => Some(bound),
+        ChildPlan::Planned { query, .. } => Some(query),
         ChildPlan::Refused(_) => None,
     }
 }
@@ -95,7 +61,7 @@ fn push_query(
     ensures { OnOk result (root.new ≡ with_child_if_planned root.old q (query_in_plan plan.now)) }
 {
     match plan {
-        ChildPlan::Planned { bound, .. } => match copy_of_child(alloc, bound) {
+        ChildPlan::Planned { query, .. } => match copy_of_child(alloc, query) {
             Ok(copy) => root.push(q, copy),
             Err(Memory) => Err(Memory),
         },

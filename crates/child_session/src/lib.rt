@@ -3,23 +3,23 @@
 //!
 //! Callers see a script's plans as `AreChildPlans` (`specs/ChildPlans.antt`) and its ends as `ChildEndsShow`
 //! (`specs/ChildEnds.antt`): an answer is that over the two flat tables, whose definition does not mention chunks.
-//! Below: `sql_reader` and `child_bind` for the meaning of a query, `czar` for its chunks and for the type of its end,
-//! `scan_session` for the session over a shared board, `child_scan` for a chunk's work, `child_piece` for the merge,
-//! and `answer_text` for its text. The board, the workers and the script's waits and cancels are those of every
+//! Below: `sql_reader` and `child_bind` for the meaning of a query, `czar` for its chunks, `scan_session` for the session
+//! over a shared board, `child_scan` for a chunk's work, `child_piece` for the merge, and `query_ends` for the ends and
+//! their text. The board, the workers and the script's waits and cancels are those of every
 //! session: no loop of a session and no thread is here. Above: the top call.
 #![tactic(auto)]
 
 mod attach;
 mod engine;
+mod form;
 pub mod plan;
-mod query_ends;
 pub mod session;
 mod transcript;
 pub mod world;
 
 pub use attach::board_for;
-pub use czar::End as ChildEnd;
 pub use plan::{ChildPlan, child_plans};
+pub use query_ends::End as ChildEnd;
 pub use session::{ChildContext, drive_children, run_children};
 pub use transcript::put_child_transcript;
 pub use world::ChildWorld;

@@ -7,8 +7,8 @@ ghost use Rattle.session_rules.specs.declared.limits.TheConstants.{WORKERS_MOST}
 ghost use Rattle.session_script.specs.Views.{query_lines};
 ghost use Rattle.scan_session.specs.Crews.{Manned};
 ghost use Rattle.scan_session.specs.Drove.{Drove};
-ghost use Rattle.czar.specs.Ends.{kind_of};
-ghost use Rattle.czar.specs.Traces.{AreEndsIn};
+ghost use Rattle.query_ends.specs.Ends.{kind_of};
+ghost use Rattle.query_ends.specs.States.{AreEndsIn};
 ghost use Rattle.child_rules.specs.ChildBases.{ChildAsks};
 ghost use Rattle.child_transcripts.specs.ChildTranscripts.{ChildFitEnds};
 ghost use Rattle.child_session.specs.ChildAttached.{child_attached, child_board_of, child_chunks_planned};
@@ -18,15 +18,15 @@ ghost use Rattle.child_session.specs.ChildEnded.{AreChildEnded};
 ghost use Rattle.child_session.specs.ChildEnds.{ChildEndsShow};
 ghost use Rattle.child_session.specs.ChildPlans.{AreChildPlans};
 
-use crate::attach::{all_attached, board_for, child_queries};
+use crate::attach::{board_for, child_queries};
 use crate::engine::ChildEngine;
+use crate::form::ChildForm;
 use crate::plan::{ChildPlan, child_plans};
-use crate::query_ends::all_query_ends;
 use crate::world::ChildWorld;
 use child_piece::ChildPiece;
 use child_rules::ChildBound;
 use child_transcripts::laws::bound_can_be_run;
-use czar::End;
+use query_ends::{End, all_attached, all_query_ends};
 use scan_board::{Board, Seat, SharedBoard};
 use scan_session::{End as BoardEnd, Planned, Scan, drive};
 use session_script::Script;
@@ -113,7 +113,12 @@ pub fn drive_children<'s, R: Threads + Wait + Sync, G: Gate + Sync>(
     let _ = session.script.steps();
     let (ends, seat) = driven(session, plans.as_slice(), board, seat);
     match ends {
-        Ok(ends) => (all_query_ends(session.alloc, plans, ends), seat),
+        Ok(ends) => {
+            let form = ChildForm {
+                alloc: session.alloc,
+            };
+            (all_query_ends(session.alloc, &form, plans, ends), seat)
+        }
         Err(Memory) => {
             drop(plans);
             (Err(Memory), seat)
@@ -161,7 +166,7 @@ fn parts<'p, 's>(alloc: Global, plans: &'p [ChildPlan]) -> Result<Parts<'p, 's>,
     ensures planned { IfOk result (λ r. r.1.items ≡ map child_attached plans.now) }
 {
     let queries = child_queries(alloc, plans)?;
-    let planned = all_attached(alloc, plans)?;
+    let planned = all_attached(alloc, &ChildForm { alloc }, plans)?;
     Ok((queries, planned))
 }
 

@@ -26,7 +26,8 @@ use Rattle.child_transcripts.specs.ChildLaws.{AnsweredShowsItsAnswer, ChildAnswe
 use Rattle.child_transcripts.specs.ChildLaws.{ChildCancelledIsItsLine, ChildRefusedIsItsLine, ChildSpentIsItsLine}
 use Rattle.child_transcripts.specs.ChildLaws.{IsAnswerBlock, IsChildEnd, IsChildRefusal, OneChildBlockEach}
 use Rattle.child_transcripts.specs.ChildLaws.{RefusedHasItsChildReason}
-use Rattle.child_transcripts.specs.ChildQueries.{child_refusal, child_understood, schemas_of}
+use Rattle.child_bind_rules.specs.PairColumns.{schemas_of}
+use Rattle.child_transcripts.specs.ChildQueries.{child_refusal, child_understood}
 use Rattle.child_transcripts.specs.ChildTranscripts.{ChildFitEnds, child_blocks_of, child_judged_of}
 
 -- ---- the block of a query
@@ -102,7 +103,7 @@ answered_by : (w : ℕ) (g : Partition) (c : Catalogue) (t : SourceTable) (steps
     → IsAnswerBlock g c t k text (child_block g c t k text Answered)
 unfolding child_judged_of child_refusal
 answered_by w g c t steps k n text allowed =
-    let is = binds (child_understood (schemas_of c t) text) (none_refused (child_refusal (schemas_of c t) text) _ allowed) in
+    let is = binds (child_understood (schemas_of c.names t.names) text) (none_refused (child_refusal (schemas_of c.names t.names) text) _ allowed) in
     record { query = is.0; known = is.1; shows = child_answered g c t k text is.0 is.1 }
 
 pub answered_shows_its_answer : AnsweredShowsItsAnswer
@@ -120,7 +121,7 @@ refused_by : (w : ℕ) (g : Partition) (c : Catalogue) (t : SourceTable) (steps 
     → IsChildRefusal g c t k text (child_block g c t k text Refused)
 unfolding child_judged_of
 refused_by w g c t steps k n text allowed =
-    let is = some_refused (child_refusal (schemas_of c t) text) _ allowed in
+    let is = some_refused (child_refusal (schemas_of c.names t.names) text) _ allowed in
     record { why = is.0; refused = is.1; shows = child_refused g c t k text is.0 is.1 }
 
 pub refused_has_its_child_reason : RefusedHasItsChildReason

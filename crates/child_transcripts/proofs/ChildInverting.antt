@@ -9,10 +9,10 @@ use Rattle.bind_rules.specs.declared.fault.BindFault.{BindFault}
 use Rattle.bind_rules.proofs.Counts.{what_is_read_has_counts}
 use Rattle.transcript_rules.specs.Refusals.{Understood, with_bound, with_tree_by}
 use Rattle.child_bind_rules.specs.ChildBinding.{child_bound_of}
-use Rattle.child_bind_rules.specs.PairColumns.{Schemas}
+use Rattle.child_bind_rules.specs.PairColumns.{Schemas, schemas_of}
 use Rattle.child_bind_rules.specs.ChildLaws.{BoundIsChild}
 use Rattle.child_transcripts.specs.ChildLaws.{BoundCanBeRun}
-use Rattle.child_transcripts.specs.ChildQueries.{child_understood, schemas_of}
+use Rattle.child_transcripts.specs.ChildQueries.{child_understood}
 
 same_ok : {F : Type 0} (a b : Understood) (r : Result Understood F) → r ≡ Ok a → r ≡ Ok b → a ≡ b
 same_ok a b r e f = cc (e, f)
@@ -45,6 +45,6 @@ is_child_bound s text u known = by_tree s text (tree_of text) u refl known
 
 pub can_be_run : BoundIsChild → BoundCanBeRun
 can_be_run child c t text u rows sources known =
-    let s = schemas_of c t in
+    let s = schemas_of c.names t.names in
     let b = is_child_bound s text u known in
     child s u.tree u.bound (record { objects = rows.few_names; sources = sources.few_names }) (what_is_read_has_counts text u.tree b.read) b.bound

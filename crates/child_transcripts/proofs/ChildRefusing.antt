@@ -11,9 +11,9 @@ use Rattle.transcript_rules.specs.declared.refusal.Refusal.{Refusal}
 use Rattle.transcript_rules.specs.declared.refusal.Refusal.TheVariants.{Sql, Bind}
 use Rattle.transcript_rules.specs.Refusals.{with_bound, with_tree_by}
 use Rattle.child_bind_rules.specs.ChildBinding.{child_bound_of}
-use Rattle.child_bind_rules.specs.PairColumns.{Schemas}
+use Rattle.child_bind_rules.specs.PairColumns.{Schemas, schemas_of}
 use Rattle.child_transcripts.specs.ChildLaws.{ChildRefusedBeforeItRuns, IsGrammarOrBinding}
-use Rattle.child_transcripts.specs.ChildQueries.{child_refusal, child_understood, schemas_of}
+use Rattle.child_transcripts.specs.ChildQueries.{child_refusal, child_understood}
 
 of_binding : (q : Query) (r : Result Bound BindFault) (why : Refusal) → result_err (with_bound q r) ≡ Some why → IsGrammarOrBinding why
 of_binding q (Ok b) why is = absurd (none-some why is)
@@ -26,4 +26,4 @@ of_reading s (Err fault) why is = subst (λ (x : Refusal). IsGrammarOrBinding x)
 
 pub refused_before_it_runs : ChildRefusedBeforeItRuns
 unfolding child_refusal child_understood
-refused_before_it_runs c t text why is = of_reading (schemas_of c t) (tree_of text) why is
+refused_before_it_runs c t text why is = of_reading (schemas_of c.names t.names) (tree_of text) why is

@@ -11,7 +11,8 @@ use Rattle.transcript_rules.specs.declared.refusal.Refusal.{Refusal}
 use Rattle.transcript_rules.specs.Blocks.{lines_by, number_line, refused_lines}
 use Rattle.transcript_rules.specs.Refusals.{Understood}
 use Rattle.transcript_rules.specs.Tables.{headings, table_lines}
-use Rattle.child_transcripts.specs.ChildQueries.{child_refusal, child_understood, schemas_of}
+use Rattle.child_bind_rules.specs.PairColumns.{schemas_of}
+use Rattle.child_transcripts.specs.ChildQueries.{child_refusal, child_understood}
 
 -- the lines of a query that binds: its answer over the two flat tables, and the size of its plan
 abbrev pub child_answered_lines : Partition → Catalogue → SourceTable → Result Understood Refusal → Bytes
@@ -23,8 +24,8 @@ child_answered_lines g c t (Err why) = []
 -- the lines of a query with the given end
 abbrev pub child_end_lines : Partition → Catalogue → SourceTable → Bytes → EndKind → Bytes
 child_end_lines g c t text end =
-    lines_by (child_answered_lines g c t (child_understood (schemas_of c t) text))
-    (refused_lines text (child_refusal (schemas_of c t) text)) end
+    lines_by (child_answered_lines g c t (child_understood (schemas_of c.names t.names) text))
+    (refused_lines text (child_refusal (schemas_of c.names t.names) text)) end
 
 -- the block of query k, which has this line and this end
 unfoldable pub child_block : Partition → Catalogue → SourceTable → ℕ → Bytes → EndKind → Bytes

@@ -17,21 +17,22 @@ use Rattle.transcript_rules.specs.Refusals.{Understood}
 use Rattle.transcript_rules.specs.RefusalLines.{line, refusal_line}
 use Rattle.transcript_rules.specs.Tables.{headings, table_lines}
 use Rattle.child_transcripts.specs.ChildBlocks.{child_block}
-use Rattle.child_transcripts.specs.ChildQueries.{child_refusal, child_understood, schemas_of}
+use Rattle.child_bind_rules.specs.PairColumns.{schemas_of}
+use Rattle.child_transcripts.specs.ChildQueries.{child_refusal, child_understood}
 use Rattle.child_transcripts.specs.ChildTranscripts.{ChildFitEnds, child_blocks_of}
 
 -- a query that binds over two tables within their limits can be run
 abbrev pub BoundCanBeRun : Type 0
 BoundCanBeRun =
     (c : Catalogue) (t : SourceTable) (text : Bytes) (u : Understood) → IsCatalogue c → IsSourceTable t
-    → child_understood (schemas_of c t) text ≡ Ok u → IsChild u.bound
+    → child_understood (schemas_of c.names t.names) text ≡ Ok u → IsChild u.bound
 
 -- the block of a query that binds and ends answered is its answer's table, under the headings of its tree and with the
 -- size of its plan
 abbrev pub ChildAnsweredIsItsAnswer : Type 0
 ChildAnsweredIsItsAnswer =
     (g : Partition) (c : Catalogue) (t : SourceTable) (k : ℕ) (text : Bytes) (u : Understood)
-    → child_understood (schemas_of c t) text ≡ Ok u
+    → child_understood (schemas_of c.names t.names) text ≡ Ok u
     → child_block g c t k text Answered
     ≡ number_line k ++ table_lines (headings c.names u.tree) (child_answer c.objects t.sources u.bound)
     (length (plan_of g c.objects u.bound))
@@ -46,14 +47,14 @@ IsGrammarOrBinding (Total total) = ⊥
 -- a child query is refused for its grammar or its binding alone: it has no radius and no total
 abbrev pub ChildRefusedBeforeItRuns : Type 0
 ChildRefusedBeforeItRuns =
-    (c : Catalogue) (t : SourceTable) (text : Bytes) (why : Refusal) → child_refusal (schemas_of c t) text ≡ Some why
+    (c : Catalogue) (t : SourceTable) (text : Bytes) (why : Refusal) → child_refusal (schemas_of c.names t.names) text ≡ Some why
     → IsGrammarOrBinding why
 
 -- the block of a query that is refused and ends refused is the line of its refusal
 abbrev pub ChildRefusedIsItsLine : Type 0
 ChildRefusedIsItsLine =
     (g : Partition) (c : Catalogue) (t : SourceTable) (k : ℕ) (text : Bytes) (why : Refusal)
-    → child_refusal (schemas_of c t) text ≡ Some why
+    → child_refusal (schemas_of c.names t.names) text ≡ Some why
     → child_block g c t k text Refused ≡ number_line k ++ refusal_line text why
 
 -- the block of a query that ends cancelled is this line, whatever the query is
@@ -91,7 +92,7 @@ pub record IsChildEnd (workers : ℕ) (g : Partition) (c : Catalogue) (t : Sourc
 -- The text is the block of a query that is answered: its answer over the two flat tables, and the size of its plan.
 pub record IsAnswerBlock (g : Partition) (c : Catalogue) (t : SourceTable) (k : ℕ) (text block_text : Bytes) : Type 0 where
   pub query : Understood
-  pub known : child_understood (schemas_of c t) text ≡ Ok query
+  pub known : child_understood (schemas_of c.names t.names) text ≡ Ok query
   pub shows : block_text
       ≡ number_line k ++ table_lines (headings c.names query.tree) (child_answer c.objects t.sources query.bound)
       (length (plan_of g c.objects query.bound))
@@ -100,7 +101,7 @@ pub record IsAnswerBlock (g : Partition) (c : Catalogue) (t : SourceTable) (k : 
 pub record IsChildRefusal (g : Partition) (c : Catalogue) (t : SourceTable) (k : ℕ) (text block_text : Bytes)
     : Type 0 where
   pub why : Refusal
-  pub refused : child_refusal (schemas_of c t) text ≡ Some why
+  pub refused : child_refusal (schemas_of c.names t.names) text ≡ Some why
   pub shows : block_text ≡ number_line k ++ refusal_line text why
 
 -- a query that ends answered binds, and its block shows its answer

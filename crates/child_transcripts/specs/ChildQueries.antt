@@ -1,18 +1,12 @@
--- The understanding of a query over a child table, and its refusal. Here c is a catalogue and t a source table.
+-- The understanding of a query over a child table, and its refusal.
 use Rattle.std.specs.Prelude.{Option, Result}
 use Rattle.std.specs.Result.{result_err}
-use Rattle.table_rules.specs.Objects.{Catalogue}
-use Rattle.source_rules.specs.Sources.{SourceTable}
 use Rattle.sql_rules.specs.PrintedExprs.{Bytes}
 use Rattle.sql_rules.specs.Trees.{tree_of}
 use Rattle.transcript_rules.specs.declared.refusal.Refusal.{Refusal}
 use Rattle.transcript_rules.specs.Refusals.{Understood, with_tree_by}
 use Rattle.child_bind_rules.specs.ChildBinding.{child_bound_of}
 use Rattle.child_bind_rules.specs.PairColumns.{Schemas}
-
--- the names of the extra columns of both tables
-abbrev pub schemas_of : Catalogue → SourceTable → Schemas
-schemas_of c t = record { objects = c.names; sources = t.names }
 
 -- the tree and the bound query of a query's line over both tables, or why there are none
 unfoldable pub child_understood : Schemas → Bytes → Result Understood Refusal

@@ -13,7 +13,8 @@ use Rattle.session_rules.specs.declared.end.EndKind.{EndKind}
 use Rattle.transcript_rules.specs.Blocks.{blocks_by}
 use Rattle.transcript_rules.specs.Transcripts.{is_idle}
 use Rattle.child_transcripts.specs.ChildBlocks.{child_block}
-use Rattle.child_transcripts.specs.ChildQueries.{child_refusal, child_understood, schemas_of}
+use Rattle.child_bind_rules.specs.PairColumns.{schemas_of}
+use Rattle.child_transcripts.specs.ChildQueries.{child_refusal, child_understood}
 
 -- the blocks of a script whose queries have these ends, numbered from 1
 abbrev pub child_blocks_of : Partition → Catalogue → SourceTable → ScriptView → List EndKind → List Bytes
@@ -27,9 +28,9 @@ child_transcript g c t s ends = joined (child_blocks_of g c t s ends)
 -- the facts about a query that hold in every session; no child query has a total
 unfoldable pub child_judged_of : Partition → Catalogue → SourceTable → Bytes → Judged
 child_judged_of g c t text = record {
-  early = is_some (child_refusal (schemas_of c t) text);
+  early = is_some (child_refusal (schemas_of c.names t.names) text);
   total = false;
-  idle = is_idle g c.objects (child_understood (schemas_of c t) text);
+  idle = is_idle g c.objects (child_understood (schemas_of c.names t.names) text);
 }
 
 -- the ends fit the script with the given number of workers, over a sky plan, a catalogue and a source table

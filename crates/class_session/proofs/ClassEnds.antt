@@ -10,10 +10,10 @@ use Rattle.scan_session.specs.Plans.{Plans}
 use Rattle.scan_session.specs.declared.end.End.{End as BoardEnd}
 use Rattle.czar.specs.Driven.{IsDrivenBy}
 use Rattle.czar.specs.Ended.{AreEnded}
-use Rattle.czar.specs.Ends.{kind_of}
-use Rattle.czar.specs.Traces.{AreEndsIn}
-use Rattle.czar.specs.declared.end.End.{End}
-use Rattle.czar.specs.declared.plan.Plan.{Plan}
+use Rattle.query_ends.specs.Ends.{kind_of}
+use Rattle.query_ends.specs.States.{AreEndsIn}
+use Rattle.query_ends.specs.declared.end.End.{End}
+use Rattle.czar.specs.QueryPlans.{Plan}
 use Rattle.czar.proofs.Tracing.{session_ends_in}
 
 -- what holds anyway holds if a result is Ok

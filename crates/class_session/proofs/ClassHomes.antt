@@ -18,8 +18,8 @@ use Rattle.scan_classes.specs.Pairs.{class_of}
 use Rattle.scan_classes.specs.QueryClasses.{QueryClasses, class_in, same_class}
 use Rattle.czar.specs.Attached.{attached}
 use Rattle.czar.specs.Driven.{IsDrivenBy, chunks_planned}
-use Rattle.czar.specs.declared.plan.Plan.{Plan}
-use Rattle.czar.specs.declared.plan.Plan.TheVariants.{Planned, Refused}
+use Rattle.czar.specs.QueryPlans.{Plan}
+use Rattle.query_ends.specs.declared.plan.QueryPlan.TheVariants.{Planned, Refused}
 use Rattle.class_session.specs.ClassPlans.{class_at, class_by, class_for, classes_for, of_class}
 
 -- a plan and what is attached for it give one class

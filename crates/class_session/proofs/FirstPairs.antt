@@ -18,7 +18,7 @@ use Rattle.scan_classes.specs.declared.class.Class.TheVariants.{Short, Long}
 use Rattle.scan_classes.specs.Ends.{AllPairsHaveEnded}
 use Rattle.scan_classes.specs.Pairs.{ClassTurns, PairSeat, seat_at, turn_at}
 use Rattle.czar.specs.Attached.{base_of}
-use Rattle.czar.specs.declared.plan.Plan.{Plan}
+use Rattle.czar.specs.QueryPlans.{Plan}
 use Rattle.class_session.specs.ClassPlans.{IsFirstPair}
 
 -- two boards that were put under locks

@@ -11,8 +11,8 @@ use Rattle.scan_classes.specs.declared.class.Class.TheVariants.{Short}
 use Rattle.scan_classes.specs.Pairs.{ClassTurns, PairSeat, class_of}
 use Rattle.scan_classes.specs.QueryClasses.{same_class}
 use Rattle.czar.specs.Attached.{base_of}
-use Rattle.czar.specs.declared.plan.Plan.{Plan}
-use Rattle.czar.specs.declared.plan.Plan.TheVariants.{Planned, Refused}
+use Rattle.czar.specs.QueryPlans.{Plan}
+use Rattle.query_ends.specs.declared.plan.QueryPlan.TheVariants.{Planned, Refused}
 
 -- the class of a query by what is planned for it; one that is refused is attached to no board, and counts as short
 abbrev pub class_by : Option (List ℕ) → Class

@@ -14,9 +14,10 @@ ghost use Rattle.scan_classes.specs.declared.class.Class.{Class};
 ghost use Rattle.session_rules.specs.Numbers.{numbered_from};
 ghost use Rattle.czar.specs.Attached.{attached, chunk_query, numbered};
 ghost use Rattle.czar.specs.Driven.{IsDrivenBy, chunks_planned};
-ghost use Rattle.czar.specs.Ends.{EndsShow, kind_of};
+ghost use Rattle.query_ends.specs.Ends.{kind_of};
+ghost use Rattle.czar.specs.Ends.{EndsShow};
 ghost use Rattle.czar.specs.Plans.{ArePlans};
-ghost use Rattle.czar.specs.Traces.{AreEndsIn};
+ghost use Rattle.query_ends.specs.States.{AreEndsIn};
 ghost use Rattle.class_session.specs.ClassPlans.{IsFirstPair, class_at, classes_for, of_class};
 
 use crate::boards::{classes_of, two_boards};

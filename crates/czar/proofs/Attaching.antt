@@ -16,8 +16,8 @@ use Rattle.session_rules.specs.Numbers.{numbered_from}
 use Rattle.session_rules.proofs.Numbers.{ascend_from, below_from, from_number, holds_from, known_at, numbered_more}
 use Rattle.sql_tree.specs.declared.query.Query.{Query}
 use Rattle.czar.specs.Attached.{base_of, base_over, chunk_query, numbered}
-use Rattle.czar.specs.declared.plan.Plan.{Plan}
-use Rattle.czar.specs.declared.plan.Plan.TheVariants.{Planned, Refused}
+use Rattle.czar.specs.QueryPlans.{Plan}
+use Rattle.query_ends.specs.declared.plan.QueryPlan.TheVariants.{Planned, Refused}
 
 -- ---- the chunk queries with their numbers
 

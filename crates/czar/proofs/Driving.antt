@@ -20,7 +20,7 @@ use Rattle.scan_session.specs.declared.end.End.{End as BoardEnd}
 use Rattle.scan_session.specs.declared.end.Planned.{Planned as Attachable}
 use Rattle.czar.specs.Attached.{attached, base_of}
 use Rattle.czar.specs.Driven.{IsDriven, IsDrivenBy, IsJoined, IsOver, chunks_planned}
-use Rattle.czar.specs.declared.plan.Plan.{Plan}
+use Rattle.czar.specs.QueryPlans.{Plan}
 
 -- ---- over some boards
 

@@ -2,9 +2,7 @@ pub mod Each
 pub mod Ending
 pub mod Attaching
 pub mod Fitting
-pub mod Leaving
 pub mod ScriptEnds
-pub mod Pairs
 pub mod Driving
 pub mod Stopping
 pub mod Scanning
@@ -14,5 +12,4 @@ pub mod Planning
 pub mod Understood
 pub mod EndBlocks
 pub mod PlanBlocks
-pub mod Writing
 pub mod Tracing

@@ -1,7 +1,7 @@
 -- The plan of a query whose chunks are known.
 use Rattle.std.proofs.Common.{◌≡◌, ◌∙◌, sym, subst, ap, refl, List, ℕ, Result, Ok, Err, None, Some, IfOk}
 use Rattle.sky_io.specs.declared.Memory.{Memory}
-use Rattle.czar.specs.declared.plan.Plan.{Plan}
+use Rattle.czar.specs.QueryPlans.{Plan}
 use Rattle.table_rules.specs.Objects.{Catalogue}
 use Rattle.sky_rules.specs.Partition.{Partition}
 use Rattle.sql_tree.specs.declared.query.Query.{Query}
@@ -19,7 +19,7 @@ use Rattle.czar.specs.Plans.{IsCutOf, IsPlanBy, IsPlanOf, PlanFor}
 use Rattle.czar.specs.Understandings.{IsUnderstanding}
 use Rattle.czar.specs.declared.understanding.Understanding.{Understanding}
 use Rattle.czar.specs.declared.understanding.Understanding.TheVariants.{Known, Unknown}
-use Rattle.czar.specs.declared.plan.Plan.TheVariants.{Planned, Refused}
+use Rattle.query_ends.specs.declared.plan.QueryPlan.TheVariants.{Planned, Refused}
 
 -- the radius refusal over the chunks of the plan is that of the query
 over : (g : Partition) (c : Catalogue) (b : Bound) (chunks : List ℕ) → chunks ≡ plan_of g c.objects b

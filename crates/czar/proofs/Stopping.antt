@@ -9,7 +9,7 @@ use Rattle.answer_rules.specs.Answers.{Answer}
 use Rattle.answer_rules.specs.declared.refusal.TotalOut.{TotalOut}
 use Rattle.czar.specs.Ended.{answer_end}
 use Rattle.czar.specs.Running.{IsOutOfRange}
-use Rattle.czar.specs.declared.end.End.{End}
+use Rattle.query_ends.specs.declared.end.End.{End}
 
 -- the total out of range is its refusal
 pub stopped : (head : Query) (n : ℕ) (answer : Answer) (s : Stop TotalOut) (r : Result End Memory)

@@ -11,8 +11,10 @@ use Rattle.answer_rules.specs.Rows.{limit_of}
 use Rattle.partial_merge.specs.Roots.{shown}
 use Rattle.session_rules.specs.Numbers.{numbered_from}
 use Rattle.scan_session.specs.declared.end.Planned.{Planned as Attachable}
-use Rattle.czar.specs.declared.plan.Plan.{Plan}
-use Rattle.czar.specs.declared.plan.Plan.TheVariants.{Planned, Refused}
+use Rattle.answer_rules.specs.declared.rewritten.Rewritten.{Rewritten}
+use Rattle.query_ends.specs.Attached.{attached as attached_by}
+use Rattle.query_ends.specs.declared.plan.QueryPlan.TheVariants.{Planned, Refused}
+use Rattle.czar.specs.QueryPlans.{Plan}
 
 -- the chunk query of a query that is planned
 abbrev pub chunk_query : Plan → Option ChunkQuery
@@ -31,8 +33,10 @@ numbered queries = shown queries (λ query. query.now)
 abbrev pub base_over : Partition → Catalogue → List (ℕ × Bor ChunkQuery) → Base
 base_over g c queries = record { plan = g; rows = c; queries = numbered queries }
 
+-- the piece of a query over no chunks
+abbrev pub first_object_piece : Rewritten → PieceView
+first_object_piece query = empty_view query.chunk.shape (limit_of query.chunk.limit)
+
 -- a query with its chunks and the piece over none; nothing is attached for one that is refused
 abbrev pub attached : Plan → Option (Attachable PieceView)
-attached (Planned head query chunks) =
-    Some (record { chunks = chunks; empty = empty_view query.chunk.shape (limit_of query.chunk.limit) })
-attached (Refused why) = None
+attached = attached_by first_object_piece

@@ -1,5 +1,5 @@
 -- What a session over the board leaves, and what the end of each query depends on.
-use Rattle.std.specs.Prelude.{◌≡◌, ℕ, List, length, map}
+use Rattle.std.specs.Prelude.{◌≡◌, ℕ, List, length}
 use Rattle.table_rules.specs.Objects.{Catalogue}
 use Rattle.sky_rules.specs.Partition.{Partition, chunk_count}
 use Rattle.scan_rules.specs.Lines.{seat_of}
@@ -11,16 +11,16 @@ use Rattle.turn_lock.specs.Seats.{Knows}
 use Rattle.scan_board.specs.Calls.{BoardSeat}
 use Rattle.session_script.specs.declared.step.Step.{Step}
 use Rattle.scan_session.specs.Drove.{AreEnds}
-use Rattle.scan_session.specs.KnownEnds.{plan_in}
 use Rattle.scan_session.specs.Laws.{AreDriven}
 use Rattle.scan_session.specs.Plans.{Plans}
 use Rattle.scan_session.specs.declared.end.End.{End as BoardEnd}
-use Rattle.czar.specs.Attached.{attached, base_of}
-use Rattle.czar.specs.declared.plan.Plan.{Plan}
+use Rattle.query_ends.specs.Attached.{planned_for}
+use Rattle.czar.specs.Attached.{base_of, first_object_piece}
+use Rattle.czar.specs.QueryPlans.{Plan}
 
 -- the chunks that are planned for each query, by its plan
 abbrev pub chunks_planned : List Plan → Plans
-chunks_planned plans = plan_in (map attached plans)
+chunks_planned plans = planned_for first_object_piece plans
 
 -- These journals justify these ends, in a session with the given number of workers whose queries have these plans. Each
 -- query has the journal of its board, and what is planned for the queries of that board.

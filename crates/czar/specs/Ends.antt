@@ -1,5 +1,6 @@
 -- The ends of the queries of a script: an answer over the flat table, or the reason for which there is none.
-use Rattle.std.specs.Prelude.{◌≡◌, ℕ, List, [], ◌∷◌, None, Some, Ok, length}
+use Rattle.std.specs.Prelude.{◌≡◌, ℕ, List, None, Some, Ok, length}
+use Rattle.std.specs.List.{AllZip}
 use Rattle.table_rules.specs.Objects.{Catalogue}
 use Rattle.sky_rules.specs.Partition.{Partition}
 use Rattle.sql_rules.specs.PrintedExprs.{Bytes}
@@ -7,18 +8,9 @@ use Rattle.sql_tree.specs.declared.query.Query.{Query}
 use Rattle.answer_rules.specs.Answers.{flat_answer}
 use Rattle.answer_rules.specs.Plans.{plan_of}
 use Rattle.answer_rules.specs.declared.value.Value.{Value}
-use Rattle.session_rules.specs.declared.end.EndKind.{EndKind}
-use Rattle.session_rules.specs.declared.end.EndKind.TheVariants as kind
 use Rattle.transcript_rules.specs.Refusals.{Understood, understood, early_refusal, refusal_of}
-use Rattle.czar.specs.declared.end.End.{End}
-use Rattle.czar.specs.declared.end.End.TheVariants.{Answered, Refused, Cancelled, Spent}
-
--- how a query ended
-abbrev pub kind_of : End → EndKind
-kind_of (Answered head table chunks) = kind.Answered
-kind_of (Refused why) = kind.Refused
-kind_of Cancelled = kind.Cancelled
-kind_of Spent = kind.Spent
+use Rattle.query_ends.specs.declared.end.End.{End}
+use Rattle.query_ends.specs.declared.end.End.TheVariants.{Answered, Refused, Cancelled, Spent}
 
 -- A query that is answered: its tree, its answer over the flat table, and the size of its plan.
 pub record IsAnswered (g : Partition) (c : Catalogue) (text : Bytes) (head : Query) (table : List (List Value)) (chunks : ℕ)
@@ -40,7 +32,4 @@ EndShows g c text Spent = Unit {0}
 
 -- there is an end for each of the queries with these lines, in their order
 abbrev pub EndsShow : Partition → Catalogue → List Bytes → List End → Type 0
-EndsShow g c [] [] = Unit {0}
-EndsShow g c [] (end ∷ ends) = ⊥
-EndsShow g c (text ∷ texts) [] = ⊥
-EndsShow g c (text ∷ texts) (end ∷ ends) = EndShows g c text end × EndsShow g c texts ends
+EndsShow g c texts ends = AllZip (EndShows g c) texts ends

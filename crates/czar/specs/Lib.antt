@@ -1,3 +1,4 @@
+pub mod QueryPlans
 pub mod Understandings
 pub mod Plans
 pub mod Ends

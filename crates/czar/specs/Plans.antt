@@ -1,6 +1,7 @@
 -- The plans of the queries of a script: for each its chunk query, its merge and its chunks, or the reason for which it
 -- is refused.
-use Rattle.std.specs.Prelude.{◌≡◌, ℕ, List, [], ◌∷◌, None, Some, Ok}
+use Rattle.std.specs.Prelude.{◌≡◌, ℕ, List, None, Some, Ok}
+use Rattle.std.specs.List.{AllZip}
 use Rattle.table_rules.specs.Objects.{Catalogue}
 use Rattle.sky_rules.specs.Partition.{Partition}
 use Rattle.sql_rules.specs.PrintedExprs.{Bytes}
@@ -12,8 +13,8 @@ use Rattle.answer_rules.specs.declared.rewritten.Rewritten.{Rewritten}
 use Rattle.transcript_rules.specs.Refusals.{Understood, understood, early_refusal}
 use Rattle.czar.specs.Understandings.{IsUnderstanding}
 use Rattle.czar.specs.declared.understanding.Understanding.{Understanding}
-use Rattle.czar.specs.declared.plan.Plan.{Plan}
-use Rattle.czar.specs.declared.plan.Plan.TheVariants.{Planned, Refused}
+use Rattle.query_ends.specs.declared.plan.QueryPlan.TheVariants.{Planned, Refused}
+use Rattle.czar.specs.QueryPlans.{Plan}
 
 -- A query that can be run: its tree, its rewriting into two parts, and the chunks that it needs.
 pub record IsPlanned (g : Partition) (c : Catalogue) (text : Bytes) (head : Query) (query : Rewritten) (chunks : List ℕ)
@@ -45,7 +46,4 @@ IsCutOf tree bound chunks plan = plan ≡ Planned tree (rewritten bound) chunks
 
 -- there is a plan for each of the queries with these lines, in their order
 abbrev pub ArePlans : Partition → Catalogue → List Bytes → List Plan → Type 0
-ArePlans g c [] [] = Unit {0}
-ArePlans g c [] (plan ∷ plans) = ⊥
-ArePlans g c (text ∷ texts) [] = ⊥
-ArePlans g c (text ∷ texts) (plan ∷ plans) = PlanFor g c text plan × ArePlans g c texts plans
+ArePlans g c texts plans = AllZip (PlanFor g c) texts plans

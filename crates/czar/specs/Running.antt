@@ -19,8 +19,8 @@ use Rattle.sky_io.specs.declared.Stop.{Stop}
 use Rattle.sky_io.specs.declared.Stop.TheVariants as stop
 use Rattle.answer_rules.specs.declared.refusal.TotalOut.{TotalOut}
 use Rattle.transcript_rules.specs.declared.refusal.Refusal.TheVariants as refusal
-use Rattle.czar.specs.declared.end.End.{End}
-use Rattle.czar.specs.declared.end.End.TheVariants as end
+use Rattle.query_ends.specs.declared.end.End.{End}
+use Rattle.query_ends.specs.declared.end.End.TheVariants as end
 use Rattle.czar.specs.Plans.{IsPlanned}
 
 -- The chunk can be scanned for a chunk query of this shape: it has rows, and its overlap suffices for a join's limit.

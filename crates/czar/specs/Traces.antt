@@ -1,21 +1,19 @@
 -- What the journal of a script's session shows.
-use Rattle.std.specs.Prelude.{◌≡◌, ◌↔◌, ℕ, ◌+◌, List, Option, None, Some, Result, Ok, Err, map, count_by, is_some, slice_get}
+use Rattle.std.specs.Prelude.{◌≡◌, ℕ, List, Option, None, Some, Result, Ok, Err, map, count_by, is_some}
 use Rattle.std.specs.Prelude.{if◌then◌else◌}
 use Rattle.table_rules.specs.Objects.{Catalogue, Obj}
 use Rattle.sky_rules.specs.Partition.{Partition, chunk_count}
 use Rattle.scan_rules.specs.Lines.{closes}
-use Rattle.scan_rules.specs.Queries.{QueryState, Cancelled, Spent, state_of}
 use Rattle.scan_rules.specs.Runs.{IsRun}
 use Rattle.scan_rules.specs.declared.journal.Journal.{Journal}
-use Rattle.scan_rules.specs.declared.journal_line.JournalLine.{JournalLine}
 use Rattle.sql_rules.specs.PrintedExprs.{Bytes}
 use Rattle.answer_rules.specs.Plans.{plan_of}
 use Rattle.session_script.specs.Views.{ScriptView, query_lines}
 use Rattle.session_rules.specs.declared.end.EndKind.{EndKind}
-use Rattle.session_rules.specs.declared.end.EndKind.TheVariants as kind
 use Rattle.scan_session.specs.Drove.{Drove}
 use Rattle.scan_session.specs.KnownEnds.{at_query}
 use Rattle.scan_session.specs.Plans.{Plans}
+use Rattle.query_ends.specs.States.{AreEndsIn}
 use Rattle.transcript_rules.specs.Refusals.{Understood, understood, early_refusal}
 use Rattle.transcript_rules.specs.declared.refusal.Refusal.{Refusal}
 
@@ -32,15 +30,6 @@ planned_chunks g c text =
 -- the chunks that are planned for the queries with these lines, which are numbered from 1
 abbrev pub plans_of : Partition → Catalogue → List Bytes → Plans
 plans_of g c lines q = at_query (map (planned_chunks g c) lines) q
-
--- the end of a query that is in this state: it is Cancelled, or Spent, exactly if the state is
-pub record IsEndIn (state : QueryState) (end : EndKind) : Type 0 where
-  pub cancelled : (end ≡ kind.Cancelled) ↔ (state ≡ Cancelled)
-  pub spent : (end ≡ kind.Spent) ↔ (state ≡ Spent)
-
--- each query ended as Cancelled, or as Spent, exactly if it is in that state in the journal of its board
-abbrev pub AreEndsIn : (ℕ → List JournalLine) → List EndKind → Type 0
-AreEndsIn seen ends = (i : ℕ) (end : EndKind) → slice_get ends i ≡ Some end → IsEndIn (state_of (seen (i + 1)) (i + 1)) end
 
 -- A journal that a session of this script may leave, with the given number of workers, over a sky plan and a catalogue,
 -- if its queries have these ends.

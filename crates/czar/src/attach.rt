@@ -8,6 +8,7 @@ ghost use Rattle.session_rules.specs.Numbers.{numbered_from};
 ghost use Rattle.turn_lock.specs.Seats.{first_seat};
 ghost use Rattle.czar.specs.Attached.{attached, base_over, chunk_query, numbered};
 
+use crate::form::ObjectForm;
 use crate::plan::Plan;
 use crate::world::World;
 use answer_rules::ChunkQuery;
@@ -17,26 +18,6 @@ use scan_session::Planned;
 use sky_io::Memory;
 use std::alloc::Global;
 
-/// Returns what is attached for a query: nothing if it is refused.
-fn attached_by<'w>(alloc: Global, plan: &Plan) -> Result<Option<Planned<Piece<'w>>>, Memory>
-    ensures { IfOk result (λ it. it ≡ attached plan.now) }
-{
-    match plan {
-        Plan::Planned {
-            head: _,
-            query,
-            chunks,
-        } => match chunks.copy(alloc) {
-            Ok(chunks) => Ok(Some(Planned {
-                chunks,
-                empty: Piece::empty(alloc, &query.chunk),
-            })),
-            Err(Memory) => Err(Memory),
-        },
-        Plan::Refused(_) => Ok(None),
-    }
-}
-
 /// Returns what is attached for each query of a script, in their order. Allocates memory.
 pub fn all_attached<'w>(
     alloc: Global,
@@ -44,11 +25,7 @@ pub fn all_attached<'w>(
 ) -> Result<Vec<Option<Planned<Piece<'w>>>>, Memory>
     ensures { IfOk result (λ all. all.items ≡ map attached plans.now) }
 {
-    let mut all = Vec::new(alloc);
-    for plan in plans {
-        all.push(attached_by(alloc, plan)?)?;
-    }
-    Ok(all)
+    query_ends::all_attached(alloc, &ObjectForm { alloc }, plans)
 }
 
 /// Appends the chunk query of the query with this number, if it is planned.

@@ -16,6 +16,7 @@ use crate::world::World;
 use answer_rules::Rewritten;
 use area_analyser::{plan, radius_ok};
 use chunk_rewriter::rewrite;
+use query_ends::QueryPlan;
 use scan_rules::ChunkSet;
 use session_script::Script;
 use session_script::laws::query_lines_are_query_texts;
@@ -25,18 +26,8 @@ use sql_tree::Query;
 use std::alloc::Global;
 use transcript_rules::Refusal;
 
-/// The plan of a query, or the reason for which it is refused before it is run.
-#[derive(Drop)]
-pub enum Plan {
-    /// The query's tree, its rewriting into two parts, and the chunks that it needs.
-    Planned {
-        head: Query,
-        query: Rewritten,
-        chunks: ChunkSet,
-    },
-    /// The refusal, because of its grammar, the schema, or its radius.
-    Refused(Refusal),
-}
+/// The plan of a query over the catalogue: its rewriting into two parts is run.
+pub type Plan = QueryPlan<Rewritten>;
 
 /// Returns the plans of a script's queries, in their order; lines that wait or cancel are skipped. Allocates memory for
 /// them. Nothing is run.

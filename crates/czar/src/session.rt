@@ -13,18 +13,19 @@ ghost use Rattle.transcript_rules.specs.Transcripts.{FitEnds};
 ghost use Rattle.czar.specs.Attached.{attached, base_over, chunk_query, numbered};
 ghost use Rattle.czar.specs.Driven.{IsDriven, IsJoined, IsOver};
 ghost use Rattle.czar.specs.Ended.{AreEnded};
-ghost use Rattle.czar.specs.Ends.{EndsShow, kind_of};
+ghost use Rattle.query_ends.specs.Ends.{kind_of};
+ghost use Rattle.czar.specs.Ends.{EndsShow};
 ghost use Rattle.czar.specs.Plans.{ArePlans};
 ghost use Rattle.czar.specs.Traces.{IsTraceOf};
 
 use crate::attach::{all_attached, chunk_queries, seated};
 use crate::chunk_engine::ChunkEngine;
-use crate::end::End;
+use crate::form::ObjectForm;
 use crate::plan::{Plan, explain};
-use crate::query_ends::all_query_ends;
 use crate::world::World;
 use answer_rules::ChunkQuery;
 use partial_merge::Piece;
+use query_ends::{End, all_query_ends};
 use scan_board::{Board, Seat, SharedBoard};
 use scan_rules::Journal;
 use scan_session::{End as BoardEnd, Planned, Scan, drive};
@@ -186,7 +187,8 @@ impl<'s, 't, R: Threads + Wait + Sync, G: Gate + Sync> SessionContext<'s, 't, R,
     {
         within_limits(self.world);
         let _ = self.script.steps();
-        all_query_ends(self.alloc, plans, ends)
+        let form = ObjectForm { alloc: self.alloc };
+        all_query_ends(self.alloc, &form, plans, ends)
     }
 
     /// Drives the queries with these plans over a board of their own.

@@ -1,94 +1,16 @@
 //! The transcript of a script: the block of each query, by how it ended.
 
 ghost use Rattle.std.specs.Prelude.{map};
-ghost use Rattle.session_rules.specs.declared.end.EndKind.TheVariants.{Answered};
 ghost use Rattle.session_script.specs.Views.{query_lines};
 ghost use Rattle.sky_io.specs.Sinks.{Wrote};
-ghost use Rattle.transcript_rules.specs.Blocks.{block};
 ghost use Rattle.transcript_rules.specs.Transcripts.{transcript};
-ghost use Rattle.czar.specs.Ends.{EndShows, EndsShow, IsAnswered, kind_of};
+ghost use Rattle.query_ends.specs.Ends.{kind_of};
+ghost use Rattle.czar.specs.Ends.{EndsShow};
 
-use crate::end::End;
-use answer_text::{Blocks, Shown, put_blocks, put_cancelled, put_refusal, put_spent, put_table};
 use chunk_store::Store;
-use partial_merge::Table;
+use query_ends::{End, put_ends};
 use session_script::Script;
 use sky_io::{Put, Sink};
-use sql_tree::Query;
-
-/// Writes the block of a query that is answered; `text` is its line.
-fn put_answer<K: Sink>(
-    sink: &mut K,
-    world: &Store,
-    number: u32,
-    text: &[u8],
-    head: &Query,
-    table: &Table,
-    chunks: u32,
-) -> Put
-    requires { IsAnswered world.now.plan world.now.rows text.now head.now table.now chunks }
-    ensures { Wrote (K.state sink.old) (K.state sink.new)
-        (block world.now.plan world.now.rows number text.now Answered) result }
-{
-    let schema = world.rows().schema();
-    let shown = Shown {
-        head,
-        schema,
-        table,
-        chunks,
-    };
-    put_table(sink, number, &shown)
-}
-
-/// Writes the block of a query with this end; `text` is its line.
-fn put_end<K: Sink>(sink: &mut K, world: &Store, number: u32, text: &[u8], end: &End) -> Put
-    requires { EndShows world.now.plan world.now.rows text.now end.now }
-    ensures { Wrote (K.state sink.old) (K.state sink.new)
-        (block world.now.plan world.now.rows number text.now (kind_of end.now)) result }
-{
-    match end {
-        End::Answered {
-            head,
-            table,
-            chunks,
-        } => put_answer(sink, world, number, text, head, table, *chunks),
-        End::Refused(why) => put_refusal(sink, number, why, text),
-        End::Cancelled => put_cancelled(sink, number),
-        End::Spent => put_spent(sink, number),
-    }
-}
-
-/// A script whose queries have these ends, over a store.
-#[derive(Drop)]
-struct Transcript<'a, 't> {
-    world: &'a Store,
-    script: &'a Script<'t>,
-    ends: &'a [End],
-}
-
-impl<'a, 't> Blocks for Transcript<'a, 't> {
-    ghost use Rattle.std.specs.Prelude.{map};
-    ghost use Rattle.session_script.specs.Views.{query_lines};
-    ghost use Rattle.transcript_rules.specs.Transcripts.{blocks_of};
-    ghost use Rattle.czar.specs.Ends.{EndsShow, kind_of};
-
-    ghost blocks = { λ t. blocks_of t.world.now.plan t.world.now.rows t.script.now (map kind_of t.ends.now) };
-
-    ghost fits = { λ t. EndsShow t.world.now.plan t.world.now.rows (query_lines t.script.now) t.ends.now };
-
-    fn put_block<K: Sink>(&self, sink: &mut K, place: u32) -> Put {
-        let _ = self.script.queries();
-        let ends = self.ends;
-        let number = place + 1;
-        put_end(
-            sink,
-            self.world,
-            number,
-            self.script.text_of(number),
-            &ends[place as usize],
-        )
-    }
-}
 
 /// Writes the transcript of a script whose queries have these ends. Does not allocate.
 pub fn put_transcript<K: Sink>(
@@ -101,10 +23,6 @@ pub fn put_transcript<K: Sink>(
     ensures { Wrote (K.state sink.old) (K.state sink.new)
         (transcript world.now.plan world.now.rows script.now (map kind_of ends.now)) result }
 {
-    let transcript = Transcript {
-        world,
-        script,
-        ends,
-    };
-    put_blocks(sink, &transcript, script.queries())
+    let schema = world.rows().schema();
+    put_ends(sink, schema, script, ends)
 }

@@ -1,4 +1,4 @@
-//! The bytes of a line, to which more are added at the front.
+//! The bytes of a line, before which more are written.
 
 ghost use Rattle.std.specs.Prelude.{◌≡◌, ◌+◌, ◌<◌, ◌≤◌, ◌^◌, ◌∷◌, ◌++◌, ◌↔◌, [], codes, length, false, true, FitsSigned};
 ghost use Rattle.std.specs.Fmt.{decimal, signed_decimal};

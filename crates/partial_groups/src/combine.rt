@@ -14,8 +14,9 @@ ghost use Rattle.partial_groups.specs.Adding.{AllMayAdd, MayAdd, part_in, width_
 ghost use Rattle.partial_groups.specs.Groups.{AreAddable, IsThere, MayGather, gathered_of, group_of, most_rows, width_of};
 ghost use Rattle.partial_groups.specs.Sharing.{HaveOwnParts, KeepsRest, group_entry_in, grown};
 
+use crate::candidates::Candidates;
 use crate::consolidate::{put_alone, sum_at};
-use crate::group_cache::GroupCache;
+use crate::group_cache::{GroupCache, checked};
 use crate::group_entry::GroupEntry;
 use crate::tally::Tally;
 
@@ -96,13 +97,14 @@ fn add_to(
     add_rows(groups, place, other.rows);
 }
 
-/// Adds a group of the other aggregation table. Does not allocate.
+/// Adds a group of the other aggregation table: to the one at the candidate, if that has its key. Does not allocate.
 fn combine_one(
     groups: &mut Vec<GroupEntry>,
     tallies: &mut Vec<Tally>,
     cache: &mut GroupCache,
     more: &Vec<Tally>,
     other: &mut GroupEntry,
+    candidate: usize,
 )
     requires room { vec_len groups.old < vec_capacity groups.old }
     requires space { vec_len tallies.old + width_of other.old ≤ vec_capacity tallies.old }
@@ -122,7 +124,7 @@ fn combine_one(
     ensures more { vec_len tallies.new ≤ vec_len tallies.old + width_of other.old }
     ensures space { vec_capacity tallies.new ≡ vec_capacity tallies.old }
 {
-    match cache.find(groups, &other.key) {
+    match checked(groups, candidate, &other.key) {
         Some(place) => add_to(groups, tallies, place, more, other),
         None => put_behind(groups, tallies, cache, more, other.take()),
     }
@@ -181,7 +183,10 @@ pub(crate) fn combine_all(
         ≡ gather key_order add_own_sums (gathered_of tallies.old.items groups.old.items
         ++ gathered_of more.now.items others.items) }
 {
+    let mut candidates = Candidates::none();
     for i in 0..others.len() {
-        combine_one(groups, tallies, cache, more, &mut others[i]);
+        candidates.look_up(cache, groups, tallies, &others, i);
+        let candidate = candidates.at(i);
+        combine_one(groups, tallies, cache, more, &mut others[i], candidate);
     }
 }

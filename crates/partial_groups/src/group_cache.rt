@@ -84,7 +84,7 @@ fn is_of(groups: &Vec<GroupEntry>, place: usize, key: &Key) -> bool
 }
 
 /// Returns the position, if the group there has the key.
-fn checked(groups: &Vec<GroupEntry>, place: usize, key: &Key) -> Option<usize>
+pub(crate) fn checked(groups: &Vec<GroupEntry>, place: usize, key: &Key) -> Option<usize>
     ensures there { IfSome result (λ p. p < length groups.now.items) }
     ensures key { IfSome result (λ p.
         is_eq (key_order key.now (group_entry_in groups.now.items p).key) ≡ true) }
@@ -112,21 +112,12 @@ impl GroupCache {
     }
 
     /// Returns the cache entry for a key.
-    fn at(&self, key: &Key) -> usize {
+    pub(crate) fn at(&self, key: &Key) -> usize {
         let count = self.places.len();
         if count == 0 {
             return usize::MAX;
         }
         self.places[number(key) as usize & (count - 1)] as usize
-    }
-
-    /// Returns the position of a group with the key, if a cache entry leads to one. Does not allocate.
-    pub(crate) fn find(&self, groups: &Vec<GroupEntry>, key: &Key) -> Option<usize>
-        ensures there { IfSome result (λ p. p < length groups.now.items) }
-        ensures key { IfSome result (λ p.
-            is_eq (key_order key.now (group_entry_in groups.now.items p).key) ≡ true) }
-    {
-        checked(groups, self.at(key), key)
     }
 
     /// Stores the position of the group with the key. Does not allocate.

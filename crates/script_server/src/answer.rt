@@ -4,7 +4,8 @@ ghost use Rattle.text_rules.specs.declared.limits.TheConstants.{SCRIPT_TEXT_MOST
 ghost use Rattle.session_rules.specs.declared.limits.TheConstants.{WORKERS_MOST};
 ghost use Rattle.session_script.specs.Views.{query_lines};
 ghost use Rattle.sky_io.specs.Sinks.{Wrote};
-ghost use Rattle.czar.specs.Ends.{EndsShow, kind_of};
+ghost use Rattle.query_ends.specs.Ends.{kind_of};
+ghost use Rattle.czar.specs.Ends.{EndsShow};
 ghost use Rattle.request_loop.specs.Replies.{Answering};
 ghost use Rattle.script_server.specs.Answers.{IsAnswer, answered_text, basis_of, faulty_line};
 ghost use Rattle.script_server.specs.Steps.{AnswersScript, answered_by};

@@ -1,6 +1,6 @@
 //! How the queries of a script ended.
 ghost use Rattle.std.specs.Prelude.{◌≡◌, [], IfOk, map};
-ghost use Rattle.czar.specs.Ends.{kind_of};
+ghost use Rattle.query_ends.specs.Ends.{kind_of};
 
 use czar::End;
 use session_rules::Ends;

@@ -7,7 +7,7 @@ ghost use Rattle.std.specs.Prelude.{◌≤◌, ℕ, length, map};
 ghost use Rattle.text_rules.specs.declared.limits.TheConstants.{SCRIPT_TEXT_MOST};
 ghost use Rattle.session_rules.specs.declared.limits.TheConstants.{WORKERS_MOST};
 ghost use Rattle.session_script.specs.Views.{query_lines};
-ghost use Rattle.czar.specs.Ends.{kind_of};
+ghost use Rattle.query_ends.specs.Ends.{kind_of};
 ghost use Rattle.child_transcripts.specs.ChildTranscripts.{ChildFitEnds};
 ghost use Rattle.child_session.specs.ChildEnds.{ChildEndsShow};
 ghost use Rattle.top_call.specs.Words.{AsksSources};

@@ -7,7 +7,7 @@ ghost use Rattle.session_rules.specs.declared.limits.TheConstants.{WORKERS_MOST}
 ghost use Rattle.session_script.specs.Views.{ScriptView};
 ghost use Rattle.chunk_store.specs.Survey.{Survey};
 ghost use Rattle.transcript_rules.specs.Transcripts.{FitEnds};
-ghost use Rattle.czar.specs.Ends.{kind_of};
+ghost use Rattle.query_ends.specs.Ends.{kind_of};
 ghost use Rattle.czar.specs.Traces.{IsTraceOf};
 ghost use Rattle.top_call.specs.Jobs.{Traces};
 ghost use Rattle.top_call.specs.Steps.{IsWritten};

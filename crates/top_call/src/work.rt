@@ -7,7 +7,8 @@ ghost use Rattle.std.specs.Prelude.{◌≡◌, ◌≤◌, ◌^◌, ℕ, [], IfOk
 ghost use Rattle.text_rules.specs.declared.limits.TheConstants.{SCRIPT_TEXT_MOST};
 ghost use Rattle.session_script.specs.Views.{query_lines};
 ghost use Rattle.transcript_rules.specs.Transcripts.{FitEnds};
-ghost use Rattle.czar.specs.Ends.{EndsShow, kind_of};
+ghost use Rattle.query_ends.specs.Ends.{kind_of};
+ghost use Rattle.czar.specs.Ends.{EndsShow};
 ghost use Rattle.czar.specs.Plans.{ArePlans};
 ghost use Rattle.top_call.specs.Jobs.{Explains, Reports, Runs, job_on};
 ghost use Rattle.top_call.specs.ScriptWork.{IsTaskOver};

@@ -1,6 +1,6 @@
 use Rattle.std.proofs.Common.{rules}
 use Rattle.czar.proofs.Driving.{of_value}
-use Rattle.child_session.proofs.ScriptEnds.{ends_done, ends_drove, ends_fit, ends_in_states, ends_show, if_ok, may_all_end}
+use Rattle.child_session.proofs.ScriptEnds.{ends_drove, ends_hold, if_ok, if_so, may_all_end}
 use Rattle.child_session.proofs.session.drive_children.Goals as goal
 
 pub all_query_ends-requires : goal.all_query_ends-requires
@@ -26,22 +26,36 @@ returns-in-Err-clause-manned g c = c.driven-ends.ensures.manned
 
 pub returns-in-Ok-clause-states : goal.returns-in-Ok-clause-states
 returns-in-Ok-clause-states g c =
-    ends_in_states c.args.session.now.script.now (of_value _ c.in-Ok.is c.driven-ends.ensures.driven) (λ v. v.items) c.all_query_ends.result
-    (search rules) (search rules) c.requires.plans c.all_query_ends.ensures
+    let limits = c.within_limits.ensures in
+    if_so c.all_query_ends.result
+    (ends_hold c.args.session.now.script.now (of_value _ c.in-Ok.is c.driven-ends.ensures.driven) (λ v. v.items) c.all_query_ends.result
+    (search rules) (search rules) c.steps.ensures.numbered
+    (record { sky = limits.sky; rows = limits.rows; table = limits.table; run = c.bound_can_be_run.ensures }) c.requires.plans c.all_query_ends.ensures)
+    (λ v all. all.states)
 
 pub returns-in-Ok-clause-done : goal.returns-in-Ok-clause-done
 returns-in-Ok-clause-done g c =
-    ends_done c.args.session.now.script.now (of_value _ c.in-Ok.is c.driven-ends.ensures.driven) (λ v. v.items) c.all_query_ends.result
-    (search rules) (search rules) c.requires.plans c.all_query_ends.ensures
+    let limits = c.within_limits.ensures in
+    if_so c.all_query_ends.result
+    (ends_hold c.args.session.now.script.now (of_value _ c.in-Ok.is c.driven-ends.ensures.driven) (λ v. v.items) c.all_query_ends.result
+    (search rules) (search rules) c.steps.ensures.numbered
+    (record { sky = limits.sky; rows = limits.rows; table = limits.table; run = c.bound_can_be_run.ensures }) c.requires.plans c.all_query_ends.ensures)
+    (λ v all. all.done)
 
 pub returns-in-Ok-clause-fit : goal.returns-in-Ok-clause-fit
 returns-in-Ok-clause-fit g c =
-    ends_fit c.args.session.now.script.now (of_value _ c.in-Ok.is c.driven-ends.ensures.driven) (λ v. v.items) c.all_query_ends.result
-    (search rules) (search rules) c.steps.ensures.numbered c.requires.plans c.all_query_ends.ensures
+    let limits = c.within_limits.ensures in
+    if_so c.all_query_ends.result
+    (ends_hold c.args.session.now.script.now (of_value _ c.in-Ok.is c.driven-ends.ensures.driven) (λ v. v.items) c.all_query_ends.result
+    (search rules) (search rules) c.steps.ensures.numbered
+    (record { sky = limits.sky; rows = limits.rows; table = limits.table; run = c.bound_can_be_run.ensures }) c.requires.plans c.all_query_ends.ensures)
+    (λ v all. all.fit)
 
 pub returns-in-Ok-clause-shown : goal.returns-in-Ok-clause-shown
 returns-in-Ok-clause-shown g c =
     let limits = c.within_limits.ensures in
-    ends_show c.args.session.now.script.now (of_value _ c.in-Ok.is c.driven-ends.ensures.driven) (λ v. v.items) c.all_query_ends.result
-    (search rules) (search rules) (record { sky = limits.sky; rows = limits.rows; table = limits.table; run = c.bound_can_be_run.ensures })
-    c.requires.plans c.all_query_ends.ensures
+    if_so c.all_query_ends.result
+    (ends_hold c.args.session.now.script.now (of_value _ c.in-Ok.is c.driven-ends.ensures.driven) (λ v. v.items) c.all_query_ends.result
+    (search rules) (search rules) c.steps.ensures.numbered
+    (record { sky = limits.sky; rows = limits.rows; table = limits.table; run = c.bound_can_be_run.ensures }) c.requires.plans c.all_query_ends.ensures)
+    (λ v all. all.shown)

@@ -14,7 +14,7 @@ use Rattle.child_session.proofs.Attaching.{all_can_run, is_child_base, same_base
 use Rattle.child_session.proofs.Crossing.{board_crossing, crossing}
 use Rattle.child_session.proofs.Driving.{at_board, driven}
 use Rattle.child_session.proofs.EachPlan.{a_plan_each}
-use Rattle.child_session.proofs.Fitting.{plans_fit}
+use Rattle.child_session.proofs.Fitting.{child_plans_fit}
 use Rattle.child_session.proofs.session.driven_at.Goals as goal
 
 pub drive-requires-send-P-Root : goal.drive-requires-send-P-Root
@@ -67,7 +67,7 @@ drive-requires-clause-fit g c = λ κs lives p.
     (all_can_run c.bound_can_be_run.ensures t (query_lines s.script.now) c.args.plans.now limits.rows limits.table c.requires.plans) in
     subst (λ seat. PlansFit ChildStands ChildAsks seat.root.ring seat.root.root c.args.planned.items) (sym c.requires.seat)
     (subst (λ (all : List (Option (Attachable PieceView))). PlansFit ChildStands ChildAsks (chunk_count t.plan) (child_base_of t c.args.plans.now) all) (sym c.requires.planned)
-    (plans_fit t (query_lines s.script.now) c.args.plans.now base c.requires.plans))
+    (child_plans_fit t (query_lines s.script.now) c.args.plans.now base c.requires.plans))
 
 pub returns-clause-driven : goal.returns-clause-driven
 returns-clause-driven g c =

@@ -1,12 +1,14 @@
-use Rattle.std.proofs.Common.{sym, ◌∙◌}
-use Rattle.child_transcripts.specs.ChildTranscripts.{child_transcript}
-use Rattle.child_session.proofs.EndBlocks.{as_many_blocks}
+use Rattle.query_ends.proofs.Lines.{one_each}
+use Rattle.query_ends.proofs.Writing.{wrote_as}
+use Rattle.child_session.specs.ChildEnds.{ChildEndShows}
+use Rattle.child_session.proofs.EndBlocks.{same_transcript}
 use Rattle.child_session.proofs.transcript.put_child_transcript.Goals as goal
 
-pub put_blocks-requires-clause-count : goal.put_blocks-requires-clause-count
-put_blocks-requires-clause-count g c =
-    c.queries.ensures.count ∙ sym (as_many_blocks c.args.world.now c.args.script.now c.args.ends.now c.requires.shown)
+pub put_ends-requires-clause-each : goal.put_ends-requires-clause-each
+put_ends-requires-clause-each g c =
+    one_each (ChildEndShows c.args.world.now) c.args.script.now c.args.ends.now c.requires.shown
 
 pub returns : goal.returns
-unfolding child_transcript
-returns g c = c.put_blocks.ensures
+returns g c =
+    wrote_as _ _ _ _ _ (same_transcript c.args.world.now c.args.script.now c.args.ends.now c.requires.shown)
+    (rw (c.schema-schema.ensures, c.rows.ensures, c.store.ensures.rows) at c.put_ends.ensures)

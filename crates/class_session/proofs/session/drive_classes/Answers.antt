@@ -5,9 +5,9 @@ use Rattle.scan_classes.specs.declared.class.Class.{Class}
 use Rattle.scan_classes.specs.declared.class.Class.TheVariants.{Short}
 use Rattle.scan_classes.specs.Pairs.{seat_at}
 use Rattle.czar.specs.Driven.{chunks_planned}
-use Rattle.czar.specs.Ends.{kind_of}
-use Rattle.czar.specs.Traces.{AreEndsIn}
-use Rattle.czar.specs.declared.plan.Plan.{Plan}
+use Rattle.query_ends.specs.Ends.{kind_of}
+use Rattle.query_ends.specs.States.{AreEndsIn}
+use Rattle.czar.specs.QueryPlans.{Plan}
 use Rattle.czar.proofs.Driving.{driven, of_value}
 use Rattle.class_session.specs.ClassPlans.{class_at, of_class}
 use Rattle.class_session.proofs.ClassEnds.{ends_in_states, if_ok}

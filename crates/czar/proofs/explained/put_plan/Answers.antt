@@ -1,7 +1,7 @@
 use Rattle.std.proofs.Common.{subst, sym}
 use Rattle.transcript_rules.proofs.Steps.{told_by}
 use Rattle.czar.specs.Plans.{PlanFor}
-use Rattle.czar.proofs.Writing.{wrote_as}
+use Rattle.query_ends.proofs.Writing.{wrote_as}
 use Rattle.czar.proofs.explained.put_plan.Goals as goal
 
 pub returns-in-Planned : goal.returns-in-Planned

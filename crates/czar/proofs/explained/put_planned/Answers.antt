@@ -1,4 +1,4 @@
-use Rattle.czar.proofs.Writing.{wrote_as}
+use Rattle.query_ends.proofs.Writing.{wrote_as}
 use Rattle.czar.proofs.PlanBlocks.{planned_block}
 use Rattle.czar.proofs.explained.put_planned.Goals as goal
 

@@ -1,5 +1,5 @@
 use Rattle.std.proofs.Common.{ap}
-use Rattle.czar.specs.declared.plan.Plan.TheVariants.{Planned}
+use Rattle.query_ends.specs.declared.plan.QueryPlan.TheVariants.{Planned}
 use Rattle.czar.proofs.plan.cut_over.Goals as goal
 
 pub returns-in-Ok : goal.returns-in-Ok

@@ -1,12 +1,15 @@
-use Rattle.std.proofs.Common.{sym, ◌∙◌}
-use Rattle.transcript_rules.specs.Transcripts.{transcript}
-use Rattle.czar.proofs.EndBlocks.{as_many_blocks}
+use Rattle.session_script.specs.Views.{query_lines}
+use Rattle.query_ends.proofs.Lines.{one_each}
+use Rattle.query_ends.proofs.Writing.{wrote_as}
+use Rattle.czar.specs.Ends.{EndShows}
+use Rattle.czar.proofs.EndBlocks.{same_transcript}
 use Rattle.czar.proofs.transcript.put_transcript.Goals as goal
 
-pub put_blocks-requires-clause-count : goal.put_blocks-requires-clause-count
-put_blocks-requires-clause-count g c =
-    c.queries.ensures.count ∙ sym (as_many_blocks c.args.world.now.plan c.args.world.now.rows c.args.script.now c.args.ends.now c.requires.shown)
+pub put_ends-requires-clause-each : goal.put_ends-requires-clause-each
+put_ends-requires-clause-each g c =
+    one_each (EndShows c.args.world.now.plan c.args.world.now.rows) c.args.script.now c.args.ends.now c.requires.shown
 
 pub returns : goal.returns
-unfolding transcript
-returns g c = c.put_blocks.ensures
+returns g c =
+    wrote_as _ _ _ _ _ (same_transcript c.args.world.now.plan c.args.world.now.rows c.args.script.now c.args.ends.now c.requires.shown)
+    (rw (c.schema-schema.ensures, c.rows.ensures) at c.put_ends.ensures)

@@ -1,6 +1,6 @@
 use Rattle.std.proofs.Common.{map}
 use Rattle.sky_io.proofs.Writes.{wrote_two}
-use Rattle.czar.specs.Ends.{kind_of}
+use Rattle.query_ends.specs.Ends.{kind_of}
 use Rattle.transcript_rules.specs.Transcripts.{transcript}
 use Rattle.script_server.specs.Answers.{ok_line}
 use Rattle.script_server.proofs.answer.put_answer.Goals as goal

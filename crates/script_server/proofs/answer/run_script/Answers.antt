@@ -1,5 +1,5 @@
 use Rattle.std.proofs.Common.{map, subst, sym}
-use Rattle.czar.specs.Ends.{kind_of}
+use Rattle.query_ends.specs.Ends.{kind_of}
 use Rattle.script_server.specs.Answers.{basis_of}
 use Rattle.script_server.specs.Steps.{AnswersScript}
 use Rattle.script_server.proofs.Answering.{script_answered}

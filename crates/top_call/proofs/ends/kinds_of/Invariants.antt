@@ -1,5 +1,5 @@
 use Rattle.std.proofs.Common.{◌≡◌, ◌++◌, drop, map}
-use Rattle.czar.specs.Ends.{kind_of}
+use Rattle.query_ends.specs.Ends.{kind_of}
 use Rattle.top_call.proofs.ends.kinds_of.Given as goal
 
 abbrev pub invariant-loop-end : goal.invariant-loop-end

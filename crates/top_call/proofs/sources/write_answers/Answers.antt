@@ -1,5 +1,5 @@
 use Rattle.std.proofs.Common.{map, refl}
-use Rattle.czar.specs.Ends.{kind_of}
+use Rattle.query_ends.specs.Ends.{kind_of}
 use Rattle.top_call.specs.Jobs.{RunsChildren}
 use Rattle.top_call.proofs.Writing.{torn_as, written_as}
 use Rattle.top_call.proofs.sources.write_answers.Goals as goal

@@ -1,5 +1,5 @@
 use Rattle.std.proofs.Common.{map}
-use Rattle.czar.specs.Ends.{kind_of}
+use Rattle.query_ends.specs.Ends.{kind_of}
 use Rattle.top_call.specs.Jobs.{Traces}
 use Rattle.top_call.proofs.Traces.{trace_written}
 use Rattle.top_call.proofs.Writing.{torn_as, written_as}

@@ -1,5 +1,5 @@
 use Rattle.std.proofs.Common.{map, refl}
-use Rattle.czar.specs.Ends.{kind_of}
+use Rattle.query_ends.specs.Ends.{kind_of}
 use Rattle.top_call.specs.Jobs.{Runs}
 use Rattle.top_call.proofs.Writing.{torn_as, written_as}
 use Rattle.top_call.proofs.work.write_transcript.Goals as goal

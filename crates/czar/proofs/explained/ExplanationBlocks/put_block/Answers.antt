@@ -4,7 +4,7 @@ use Rattle.session_script.proofs.Numbered.{lines_are_texts}
 use Rattle.session_script.specs.Scripts.{query_count}
 use Rattle.session_script.specs.Views.{query_lines}
 use Rattle.transcript_rules.proofs.Blocks.{one_explained_each}
-use Rattle.czar.proofs.Writing.{wrote_as}
+use Rattle.query_ends.proofs.Writing.{wrote_as}
 use Rattle.czar.proofs.PlanBlocks.{a_plan_each, explained_there, plan_at}
 use Rattle.czar.proofs.explained.ExplanationBlocks.put_block.Goals as goal
 

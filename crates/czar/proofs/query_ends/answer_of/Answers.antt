@@ -1,6 +1,0 @@
-use Rattle.std.proofs.Common.{length}
-use Rattle.czar.proofs.Stopping.{stopped}
-use Rattle.czar.proofs.query_ends.answer_of.Goals as goal
-
-pub returns-in-Err : goal.returns-in-Err
-returns-in-Err c = stopped c.args.head (length c.args.chunks.now) _ c.in-Err.stop _ c.in-Err.ensures.out c.out_of_range.ensures
