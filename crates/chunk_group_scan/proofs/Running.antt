@@ -1,8 +1,8 @@
 -- A run of rows of one key is put into the piece of the rows before it.
-use Rattle.std.proofs.Common.{◌≡◌, ◌∙◌, sym, ap, subst, ℕ, ◌-◌, ◌<◌, ◌≤◌, arith, Bool, false, List, ◌++◌, length, get_or, map, take, slice_range}
+use Rattle.std.proofs.Common.{◌≡◌, ◌∙◌, refl, sym, ap, subst, ℕ, ◌-◌, ◌<◌, ◌≤◌, arith, Bool, false, List, [], ◌++◌, length, get_or, map, take, slice_range}
 use Rattle.std.specs.Prelude.{All}
 use Rattle.std.specs.List.{AllByRecursion}
-use Rattle.std.proofs.lemmas.List.{length-map, length-take-le, map-append}
+use Rattle.std.proofs.lemmas.List.{length-map, length-take-le, map-append, take_all}
 use Rattle.std.proofs.lemmas.List.Edits.{length-between}
 use Rattle.table_rules.specs.Objects.{Obj}
 use Rattle.sky_row.specs.Columns.{no_row}
@@ -54,3 +54,13 @@ run_more keys items objects starts from to cells parts old new order there marks
     ∙ (ap (λ p. with_group view (group_by cells (to - from) p)) are
     ∙ (ap (λ n. with_group view (group_by cells n ps)) (sym some)
     ∙ (run_put keys items xs ys cells (omega (arith, some, order)) alike ∙ ap (λ l. OfGroups (partials_of keys items l)) both))))
+
+-- all rows, without a key
+pub all_put : (items : List ChunkItem) (objects : List Obj) (n : ℕ) (cells : Key) (parts : List Part) (old new : PieceView) → 0 < n → n ≡ length objects → cells ≡ []
+    → parts ≡ map (part_over (map row (slice_range objects 0 n))) items → new ≡ with_group old (group_by cells n parts) → old ≡ OfGroups []
+    → new ≡ OfGroups (partials_of [] items (map row objects))
+all_put items objects n cells parts old new some is own are put before =
+    let less : n ≡ n - 0 = omega arith in
+    run_more [] items objects [] 0 n cells parts old new some (omega (arith, is)) (λ j low same. refl) (λ j low high. refl) own are
+    (put ∙ ap (λ m. with_group old (group_by cells m parts)) less) before
+    ∙ ap (λ l. OfGroups (partials_of [] items (map row l))) (take_all n objects (omega (arith, is)))

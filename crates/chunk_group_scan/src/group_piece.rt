@@ -1,7 +1,7 @@
 //! The piece of a grouped chunk query.
 //!
 //! Adjacent rows with the same key are a run, and a run is pushed into the piece as one group. Without keys all rows are
-//! one run, in any order, and the values of a single column may be read while they are aggregated.
+//! one group (`one_group`).
 
 ghost use Rattle.std.specs.Prelude.{◌≡◌, ◌+◌, ◌++◌, ◌<◌, ◌≤◌, ◌∷◌, [], All, IfOk, IsTrue, OnOk, false, get_or, length, map};
 ghost use Rattle.std.specs.List.{list_all};
@@ -20,6 +20,7 @@ ghost use Rattle.partial_merge.specs.Joining.{MayTakeGroup, with_group};
 
 use crate::arguments::{arguments, give_back};
 use crate::key_order::by_key;
+use crate::one_group::one_group;
 use crate::prefetched_key::{cell, copied, first_value};
 use crate::runs::{run_end, starts};
 use crate::states::fill;
@@ -49,10 +50,9 @@ pub fn piece_of_groups<'w>(
     ensures { IfOk result (λ piece. piece ≡ OfGroups (partials_of keys.now query.now.items
         (map row (objects_at block.now.objects places.now)))) }
 {
-    if keys.is_empty() {
-        group_piece(alloc, block, query, keys, places, scratch)
-    } else {
-        by_keys(alloc, block, query, keys, places, scratch)
+    match keys {
+        [] => one_group(alloc, block, query, places, scratch),
+        _ => by_keys(alloc, block, query, keys, places, scratch),
     }
 }
 
@@ -99,9 +99,8 @@ fn group_piece<'w>(
     let _count = block.len();
     let starts = starts(block, keys, places, scratch)?;
     let copied = copied(block, keys, places, starts.as_slice(), scratch)?;
-    let listed = !keys.is_empty();
     let items = query.items.as_slice();
-    let arguments = arguments(alloc, block, items, places, listed, scratch)?;
+    let arguments = arguments(alloc, block, items, places, true, scratch)?;
     let mut piece = Piece::empty(alloc, query);
     let mut cells = Vec::new(alloc);
     let mut states = Vec::new(alloc);
@@ -132,7 +131,7 @@ fn group_piece<'w>(
 }
 
 /// Pushes a group with this key and the given number of rows into the piece.
-fn push(
+pub(crate) fn push(
     alloc: Global,
     piece: &mut Piece<'_>,
     cells: &[Option<i64>],

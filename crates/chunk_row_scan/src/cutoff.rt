@@ -4,7 +4,7 @@
 //! skipped by their order keys alone, in a loop that does nothing else. Each other row is offered to the piece. If it
 //! comes too late, its order key is the next cutoff. NULL is never a cutoff, and a row with it is never skipped here.
 
-ghost use Rattle.std.specs.Prelude.{◌≡◌, ◌<◌, ◌≤◌, ℕ, IfSome, None, Some, get_or, length, true};
+ghost use Rattle.std.specs.Prelude.{◌≡◌, ◌<◌, ◌≤◌, ℕ, IfSome, None, Some, false, get_or, length, true};
 ghost use Rattle.chunk_row_scan.specs.Computed.{key_in};
 ghost use Rattle.chunk_row_scan.specs.Cutoffs.{cutoff_after, is_beyond};
 
@@ -43,7 +43,8 @@ pub(crate) fn next_within(
     }
 }
 
-/// Returns the index, from this one on, of the first key that is not beyond the cutoff, or the number of keys.
+/// Returns the index, from this one on, of the first key that is not beyond the cutoff, or the number of keys. Each
+/// direction has its own loop, which does not ask for the direction at each key.
 fn first_within(keys: &ValueList<'_>, down: bool, cutoff: i128, from: usize) -> usize
     requires { from ≤ length keys.now }
     ensures order { from ≤ result }
@@ -51,8 +52,41 @@ fn first_within(keys: &ValueList<'_>, down: bool, cutoff: i128, from: usize) -> 
     ensures beyond { (j : ℕ) → from ≤ j → j < result
         → is_beyond down (Some cutoff) (get_or keys.now j None) ≡ true }
 {
+    if down {
+        first_descending(keys, cutoff, from)
+    } else {
+        first_ascending(keys, cutoff, from)
+    }
+}
+
+/// Returns the first index for a descending order, so: of the first key that is not below the cutoff.
+#[inline(never)]
+fn first_descending(keys: &ValueList<'_>, cutoff: i128, from: usize) -> usize
+    requires { from ≤ length keys.now }
+    ensures order { from ≤ result }
+    ensures most { result ≤ length keys.now }
+    ensures beyond { (j : ℕ) → from ≤ j → j < result
+        → is_beyond true (Some cutoff) (get_or keys.now j None) ≡ true }
+{
     for j in from..keys.len() {
-        if !is_beyond(down, cutoff, keys.get(j)) {
+        if !is_beyond(true, cutoff, keys.get(j)) {
+            return j;
+        }
+    }
+    keys.len()
+}
+
+/// Returns the first index for an ascending order, so: of the first key that is not above the cutoff.
+#[inline(never)]
+fn first_ascending(keys: &ValueList<'_>, cutoff: i128, from: usize) -> usize
+    requires { from ≤ length keys.now }
+    ensures order { from ≤ result }
+    ensures most { result ≤ length keys.now }
+    ensures beyond { (j : ℕ) → from ≤ j → j < result
+        → is_beyond false (Some cutoff) (get_or keys.now j None) ≡ true }
+{
+    for j in from..keys.len() {
+        if !is_beyond(false, cutoff, keys.get(j)) {
             return j;
         }
     }
@@ -60,6 +94,7 @@ fn first_within(keys: &ValueList<'_>, down: bool, cutoff: i128, from: usize) -> 
 }
 
 /// Returns whether the order key is a number that comes after the cutoff.
+#[inline(always)]
 fn is_beyond(down: bool, cutoff: i128, key: Option<i128>) -> bool
     ensures { result ≡ is_beyond down (Some cutoff) key }
 {
@@ -70,6 +105,7 @@ fn is_beyond(down: bool, cutoff: i128, key: Option<i128>) -> bool
 }
 
 /// Returns whether the number comes after the cutoff.
+#[inline(always)]
 fn comes_after(down: bool, cutoff: i128, n: i128) -> bool
     ensures { result ≡ is_beyond down (Some cutoff) (Some n) }
 {
