@@ -21,12 +21,13 @@ It prints how many runs of each form ended how, and each run that ended otherwis
 The right texts are computed here from the flat table. With --session the script also waits and cancels. Between the program
 and the C library is a small library in C that refuses the requests; it is compiled with cc into a folder that goes again.
 
-With --long the runs are of load and query alone, over 17,000 shuffled rows: with workers this catalogue is read in parts, put in
-order and stored by several threads. Which request is the Nth depends then on how the threads run.
+With --long the runs are of load and query alone, over 17,000 shuffled rows, and of sources, over as many shuffled sources: with
+workers these tables are read in parts by several threads, which put the rows in order and store them. Which request is the Nth
+depends then on how the threads run.
 
 FILE is the built program, by default .qserv/qserv, where ./qserv leaves it. FOLDER is made where it isn't there, and gets the
 texts sky, csv, script and journal, the catalogue and scripts of the worked rows, measured and joins for sources, and one, many and
-asked for the chunk of 150 rows; with --long wide, long and few.
+asked for the chunk of 150 rows; with --long wide, long, few, long_sources and paired.
 """
 import collections
 import concurrent.futures
@@ -40,6 +41,7 @@ import tempfile
 import compare_answers
 import compare_loading
 import flat_answers
+import flat_children
 import journals
 import random_journals
 import random_worlds
@@ -165,6 +167,7 @@ FEW = [
 ]
 KINDS = ["right text", "right but for queries out of memory", "out of memory, nothing written"]
 # more threads than any of the runs starts, and a number that no request has
+PAIRED = ["SELECT o.objectId,s.sourceId,s.kind FROM Object o,Source s WHERE o.objectId=s.objectId AND s.flux>950"]
 THREADS, NEVER = 20, 1 << 62
 
 
@@ -242,22 +245,25 @@ def forms(world, script, workers):
     return found
 
 
-def long_forms(world, workers):
-    """The forms that are run over the long catalogue."""
+def long_forms(world, children, workers):
+    """The forms that are run over the long catalogue, and over the long source table."""
     yield written(["load", "wide", "long"], [{"told": flat_answers.report(world)}])
+    blocks = [(compare_loading.Joined(query, children).block(), True) for query in PAIRED]
     for number in workers:
         yield written(["query", "wide", "long", "few", str(number)], session_ends.choices(world, FEW, number, True))
+        told = session_ends.chosen([("query", query) for query in PAIRED], blocks, number, True)
+        yield written(["sources", "sky", "worked", "long_sources", "paired", str(number)], told)
 
 
-def long_rows():
-    """The rows of the long catalogue in ascending id."""
-    drawn = compare_loading.Rows(random.Random(7))
+def long_rows(kind):
+    """The rows of the long table of a kind in ascending id."""
+    drawn = kind(random.Random(7))
     return [[None if value == "" else value for value in drawn.row()] for _ in range(LONG)]
 
 
-def lines_of(rows):
-    """The lines of a catalogue, from the last row, so that they have to be put in order."""
-    names = NAMES[: len(rows[0])]
+def lines_of(rows, names=NAMES):
+    """The lines of a table, from the last row, so that they have to be put in order."""
+    names = names[: len(rows[0])]
     return [",".join(names), *(",".join("" if value is None else str(value) for value in row) for row in reversed(rows))]
 
 
@@ -329,10 +335,14 @@ def main():
     texts["journal"] = worked_runs.BOARD.splitlines()
     texts |= {"measured": worked_children.FIVE.splitlines(), "joins": [query for query, _ in JOINS]}
     if words.long:
-        rows = long_rows()
-        header, *lines = lines_of(rows)
+        rows, sources = long_rows(compare_loading.Rows), long_rows(compare_loading.Sources)
+        names = compare_loading.Sources.header.decode().rstrip().split(",")
+        (header, *lines), (other, *measured) = lines_of(rows), lines_of(sources, names)
         texts |= {"wide": [compare_loading.SKY.rstrip()], "few": FEW, "long": [header, *random.Random(8).sample(lines, LONG)]}
-        asked = long_forms(random_worlds.World(compare_loading.SKY, NAMES, rows), words.workers)
+        texts |= {"long_sources": [other, *random.Random(8).sample(measured, LONG)], "paired": PAIRED}
+        small = random_worlds.World(random_worlds.SKIES[0], NAMES[:5], FLUX)
+        children = flat_children.Children(small, names, sources)
+        asked = long_forms(random_worlds.World(compare_loading.SKY, NAMES, rows), children, words.workers)
     else:
         asked = forms(world, script, words.workers)
     compare_answers.write(folder, {name: "\n".join(lines) + "\n" for name, lines in texts.items()})

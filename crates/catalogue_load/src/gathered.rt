@@ -1,10 +1,10 @@
 //! The rows of a catalogue that are read so far.
-ghost use Rattle.std.specs.Prelude.{◌≡◌, [], IfErr, IfOk, refl};
+ghost use Rattle.std.specs.Prelude.{◌≡◌, IfErr, IfOk, refl};
 ghost use Rattle.sky_io.specs.Stops.{IfBad};
 ghost use Rattle.table_rules.specs.Objects.{IsTable, Obj};
 ghost use Rattle.table_rules.specs.Records.{catalogue_with, object_form};
 ghost use Rattle.table_rules.specs.Repeats.{IsRepeat};
-ghost use Rattle.catalogue_load.specs.Parts.{ids_in};
+ghost use Rattle.catalogue_load.specs.Parts.{ids_in, length_numberless};
 
 use crate::order::in_order;
 use crate::row::read_row;
@@ -35,25 +35,6 @@ impl Model for Gathered {
 }
 
 impl Gathered {
-    /// Creates these columns, without rows.
-    pub(crate) fn new(alloc: Global, schema: Schema) -> Result<Gathered, Memory>
-        ensures { IfOk result (λ gathered. gathered ≡ record { names = schema; objects = [] }) }
-    {
-        let columns = Columns::new(alloc, schema)?;
-        Ok(Gathered {
-            columns,
-            cells: Vec::new(alloc),
-        })
-    }
-
-    /// The columns, with the rows so far.
-    pub(crate) fn into_columns(self) -> Columns
-        ensures { result ≡ self }
-    {
-        let Gathered { columns, cells: _ } = self;
-        columns
-    }
-
     /// Returns the rows in ascending id, put in order by the given number of threads, or the first fault of an id that an
     /// earlier row has.
     pub(crate) fn into_rows<R: Threads + Sync>(
@@ -97,6 +78,8 @@ impl Gathering for Gathered {
 
     ghost named = { refl };
 
+    ghost numberless = { length_numberless };
+
     ghost both = { λ t. refl };
 
     /// Creates the columns objectId, x, y and z alone. Does not allocate.
@@ -121,7 +104,11 @@ impl Gathering for Gathered {
 
     /// Creates these columns, without rows.
     fn without_rows(alloc: Global, schema: Schema) -> Result<Gathered, Memory> {
-        Gathered::new(alloc, schema)
+        let columns = Columns::new(alloc, schema)?;
+        Ok(Gathered {
+            columns,
+            cells: Vec::new(alloc),
+        })
     }
 
     /// Returns the columns. Does not allocate.
@@ -139,6 +126,14 @@ impl Gathering for Gathered {
         let made = read_row(&mut self.cells, row, fields)?;
         self.columns.push(&made)?;
         Ok(())
+    }
+
+    /// Returns the rows with those of another part of the text after them. Allocates memory. If an allocation fails, the rows
+    /// are dropped.
+    fn followed_by(self, alloc: Global, other: &Gathered) -> Result<Gathered, Memory> {
+        let Gathered { columns, cells } = self;
+        let columns = columns.followed_by(alloc, &other.columns)?;
+        Ok(Gathered { columns, cells })
     }
 
     /// Returns the first fault of the rows and of the record after them, which has the fault `behind`; or an allocation

@@ -1,4 +1,4 @@
-//! The catalogue of a text that one thread reads.
+//! The catalogue of a text.
 ghost use Rattle.std.specs.Prelude.{◌≡◌, ◌≤◌, length, IfErr, IfOk, Ok, Err};
 ghost use Rattle.std.specs.Thread.{IsSync};
 ghost use Rattle.sky_io.specs.Stops.{IfBad};
@@ -10,7 +10,6 @@ use sky_io::Stop;
 use sky_row::Rows;
 use std::alloc::Global;
 use std::thread::Threads;
-pub(crate) use table_load::read_rest;
 use table_load::{RowSorter, load_table};
 use table_rules::LoadFault;
 
@@ -31,8 +30,11 @@ impl<'a, R: Threads + Sync> RowSorter<Gathered> for ObjectSorter<'a, R> {
     }
 }
 
-/// Reads a catalogue by this thread alone; its rows are put in order by the given number. Allocates as `load` does.
-pub(crate) fn load_alone<R: Threads + Sync>(
+/// Reads a catalogue from a text of at most 2^29 bytes by the given number of threads, this one among them: its rows in
+/// ascending id, or its first fault. A thread that can't be started costs time alone. Allocates for the rows and for those of
+/// the parts, for their ids if they don't ascend, and for the ids with their row numbers to find a fault of such rows; after
+/// an error nothing is kept.
+pub fn load<R: Threads + Sync>(
     rt: &R,
     alloc: Global,
     threads: u32,
@@ -42,5 +44,6 @@ pub(crate) fn load_alone<R: Threads + Sync>(
     ensures ok { IfOk result (λ rows. catalogue_of text.now ≡ Ok rows) }
     ensures bad { IfErr result (λ stop. IfBad stop (λ fault. catalogue_of text.now ≡ Err fault)) }
 {
-    load_table::<Gathered, ObjectSorter<'_, R>>(&ObjectSorter { rt, threads }, alloc, text)
+    let sorter = ObjectSorter { rt, threads };
+    load_table::<R, Gathered, ObjectSorter<'_, R>>(rt, threads, &sorter, alloc, text)
 }

@@ -62,6 +62,8 @@ impl Gathering for Gathered {
 
     ghost named = { refl };
 
+    ghost numberless = { λ row other fields none. refl };
+
     ghost both = { λ t. refl };
 
     /// Creates the columns sourceId and objectId alone. Does not allocate.
@@ -111,6 +113,22 @@ impl Gathering for Gathered {
         let (id, object) = read_source(&mut self.cells, row, fields)?;
         self.lists.push(id, object, self.cells.as_slice())?;
         Ok(())
+    }
+
+    /// Returns the sources with those of another part of the text after them. Allocates memory. If an allocation fails, the
+    /// sources are dropped.
+    fn followed_by(self, alloc: Global, other: &Gathered) -> Result<Gathered, Memory> {
+        let Gathered {
+            schema,
+            lists,
+            cells,
+        } = self;
+        let lists = lists.followed_by(alloc, &other.lists)?;
+        Ok(Gathered {
+            schema,
+            lists,
+            cells,
+        })
     }
 
     /// Returns the first fault of the sources and of the record after them, which has the fault `behind`; or an

@@ -8,6 +8,7 @@ use crate::gathered::Gathered;
 use sky_io::Stop;
 use source_row::Sources;
 use std::alloc::Global;
+use std::thread::Threads;
 use table_load::{RowSorter, load_table};
 use table_rules::LoadFault;
 
@@ -22,14 +23,20 @@ impl RowSorter<Gathered> for SourceSorter {
     }
 }
 
-/// Reads a source table from a text of at most 2^29 bytes: its sources in ascending id, or its first fault. Allocates
-/// memory for the sources, for sorting if the ids do not ascend, and for the ids with their row numbers to find a fault of
-/// such sources. After an error nothing is kept.
-pub fn load_sources(alloc: Global, text: &[u8]) -> Result<Sources, Stop<LoadFault>>
+/// Reads a source table from a text of at most 2^29 bytes by the given number of threads, this one among them: its sources in
+/// ascending id, or its first fault. A thread that can't be started costs time alone. Allocates memory for the sources and for
+/// those of the parts, for sorting if the ids do not ascend, and for the ids with their row numbers to find a fault of such
+/// sources. After an error nothing is kept.
+pub fn load_sources<R: Threads + Sync>(
+    rt: &R,
+    alloc: Global,
+    threads: u32,
+    text: &[u8],
+) -> Result<Sources, Stop<LoadFault>>
     requires { length text.now ≤ TEXT_MOST }
     ensures ok { IfOk result (λ all. sources_of_text text.now ≡ Ok all) }
     ensures bad { IfErr result (λ stop.
         IfBad stop (λ fault. sources_of_text text.now ≡ Err fault)) }
 {
-    load_table::<Gathered, SourceSorter>(&SourceSorter, alloc, text)
+    load_table::<R, Gathered, SourceSorter>(rt, threads, &SourceSorter, alloc, text)
 }

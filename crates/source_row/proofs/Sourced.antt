@@ -1,21 +1,22 @@
 -- Sources in columns. A source is seen as a row whose x, y and z are the id of its object, so that what holds of rows in
 -- columns holds of sources.
-use Rattle.std.proofs.Common.{◌≡◌, ◌∙◌, sym, refl, ap, subst, ℕ, ◌+◌, ◌-◌, ◌≤◌, ◌<◌, arith, suc, zero, false, List, [], ◌∷◌, ◌++◌, length, map, Option, None, Result, Ok, Err, ℤ, pos, get_or}
+use Rattle.std.proofs.Common.{◌≡◌, ◌∙◌, sym, refl, ap, ap₂, subst, ℕ, ◌+◌, ◌-◌, ◌≤◌, ◌<◌, arith, suc, zero, false, List, [], ◌∷◌, ◌++◌, length, map, Option, None, Result, Ok, Err, ℤ, pos, get_or}
 use Rattle.std.specs.Prelude.{All, OnOk, ◌==◌}
 use Rattle.std.specs.List.{range_with_len}
-use Rattle.std.proofs.lemmas.List.{length-map, get_or-map, length_push, map-append, length-replicate, get_or-replicate}
+use Rattle.std.proofs.lemmas.List.{length-map, get_or-map, length-append, length_push, map-append, get_or_default, length-replicate, get_or-replicate}
 use Rattle.std.proofs.lemmas.List.FromFn.{length-map-range_with_len, get_or-map-range_with_len}
-use Rattle.std.proofs.lemmas.List.Elements.{All-push}
+use Rattle.std.proofs.lemmas.List.Elements.{All-append, All-push}
 use Rattle.std.proofs.lemmas.Simd.{map-map}
 use Rattle.table_rules.specs.Objects.{Obj, cell}
 use Rattle.table_rules.specs.declared.limits.TheConstants.{FURTHER_COLUMNS_MOST, ROWS_MOST}
-use Rattle.column_lists.specs.Columns.{Parts, AreAligned, objects_of, row_at}
+use Rattle.column_lists.specs.Columns.{Parts, AreAligned, columns_appended, objects_of, row_at}
 use Rattle.sky_row.specs.Columns.{AreAscending, no_row}
+use Rattle.column_lists.proofs.Appended.{behind_count, column_behind, objects_behind}
 use Rattle.column_lists.proofs.Gathering.{cells_are, cells_count}
 use Rattle.column_lists.proofs.Rowed.{aligned_more, one_more}
 use Rattle.sky_row.proofs.Rowed.{objects_are, ids_are as row_ids, xs_are, column_is as row_column}
 use Rattle.source_rules.specs.Sources.{Source, IsSource, IsSourceTable, source_cell}
-use Rattle.source_row.specs.SourceColumns.{SourceParts, AreEven, AreSourceColumns, no_source, no_sources, parts_at, source_at, source_behind, source_column, sources_at, sources_in}
+use Rattle.source_row.specs.SourceColumns.{SourceParts, AreEven, AreSourceColumns, no_source, no_sources, parts_appended, parts_at, source_at, source_behind, source_column, sources_at, sources_in}
 
 -- a source as a row, and back
 abbrev to_row : Source → Obj
@@ -133,6 +134,36 @@ columns_more names p s are is wide room = record {
   rows = of_all IsSource (source_behind p s) (subst (All IsSource) (sym (one_source_more p s are.even (wide ∙ sym are.wide)))
       (All-push IsSource (sources_in p) s (of_each IsSource p are.rows) is));
 }
+
+-- the sources of both are those of the first, followed by those of the second
+pub sources_of_both : (p q : SourceParts) → AreEven p → length q.further ≡ length p.further → sources_in (parts_appended p q) ≡ sources_in p ++ sources_in q
+sources_of_both p q even wide =
+    sym (sources_are (parts_appended p q))
+    ∙ (ap (map to_source) (objects_behind (to_parts p) (to_parts q) (aligned p even) wide)
+    ∙ (map-append to_source (rows_in p) (rows_in q) ∙ ap₂ ◌++◌ (sources_are p) (sources_are q)))
+
+even_of_both : (p q : SourceParts) → AreEven p → AreEven q → length q.further ≡ length p.further → AreEven (parts_appended p q)
+even_of_both p q a b wide = record {
+  objects = omega (arith, length-append p.objects q.objects, length-append p.ids q.ids, a.objects, b.objects);
+  further = λ k d low.
+      let there : k < length p.further = omega (arith, low, behind_count p.further q.further) in
+      ap length (get_or_default (columns_appended p.further q.further) k d [] low ∙ column_behind p.further q.further k wide there)
+      ∙ omega (arith, length-append (get_or p.further k []) (get_or q.further k []), length-append p.ids q.ids, a.further k [] there, b.further k [] (omega (arith, there, wide)));
+}
+
+-- and they are columns under the names
+pub columns_of_both : (names : List (List ℕ)) (p q : SourceParts) → AreSourceColumns names p → AreSourceColumns names q → length p.ids + length q.ids ≤ ROWS_MOST
+    → AreSourceColumns names (parts_appended p q)
+columns_of_both names p q a b few =
+    let wide : length q.further ≡ length p.further = b.wide ∙ sym a.wide in
+    record {
+      few_names = a.few_names;
+      few = omega (arith, few, length-append p.ids q.ids);
+      wide = behind_count p.further q.further ∙ a.wide;
+      even = even_of_both p q a.even b.even wide;
+      rows = of_all IsSource (parts_appended p q) (subst (All IsSource) (sym (sources_of_both p q a.even wide))
+          (All-append IsSource (sources_in p) (sources_in q) (of_each IsSource p a.rows) (of_each IsSource q b.rows)));
+    }
 
 -- the source with a number is that of the row with the number
 same_source : (rows : List Obj) (place : ℕ) → to_source (get_or rows place no_row) ≡ get_or (map to_source rows) place no_source

@@ -2,7 +2,7 @@
 use Rattle.std.specs.Prelude.{◌≡◌, ℕ, ◌<◌, ◌≤◌, List, [], ◌∷◌, ◌++◌, length, map, replicate, get_or, All, Option, None, ℤ, pos}
 use Rattle.std.specs.List.{range_with_len}
 use Rattle.table_rules.specs.declared.limits.TheConstants.{FURTHER_COLUMNS_MOST, ROWS_MOST}
-use Rattle.column_lists.specs.Columns.{cells_behind, cells_in}
+use Rattle.column_lists.specs.Columns.{cells_behind, cells_in, columns_appended}
 use Rattle.source_rules.specs.Sources.{Source, IsSource, source_cell}
 
 -- The columns of sources: their ids, those of their objects, and a list for each extra column.
@@ -33,6 +33,14 @@ source_behind p s = record {
   ids = p.ids ++ s.id ∷ [];
   objects = p.objects ++ s.object ∷ [];
   further = cells_behind p.further s.further;
+}
+
+-- the columns with the sources of others after their own
+abbrev pub parts_appended : SourceParts → SourceParts → SourceParts
+parts_appended p q = record {
+  ids = p.ids ++ q.ids;
+  objects = p.objects ++ q.objects;
+  further = columns_appended p.further q.further;
 }
 
 -- the columns of the sources with these numbers

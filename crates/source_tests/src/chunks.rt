@@ -66,7 +66,7 @@ fn are_by_chunk(alloc: Global, store: &Store, sources: Sources) -> Result<bool, 
 
 #[test]
 fn a_chunk_has_the_sources_of_its_objects(rt: HostRuntime) -> Result<(), Fail> {
-    let Ok(sources) = load_sources(rt.alloc(), FIVE) else {
+    let Ok(sources) = load_sources(&rt, rt.alloc(), 1, FIVE) else {
         panic!(rt; "no sources");
     };
     let Some(store) = store_of(&rt, rt.alloc())? else {

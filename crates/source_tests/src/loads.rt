@@ -8,6 +8,7 @@ use source_load::load_sources;
 use source_row::{SourceLists, Sources};
 use std::alloc::Global;
 use std::test::Fail;
+use std::thread::Threads;
 use table_rules::LoadFault;
 
 /// Five sources of the objects 1, 4, 1, 99 and 5, the second without a flux, in no order.
@@ -15,11 +16,11 @@ const FIVE: &[u8] =
     b"sourceId,objectId,flux,t\n103,1,12,2\n102,4,,1\n101,1,11,1\n105,5,51,2\n104,99,5,2\n";
 
 // The fault of a short text, or none.
-fn fault_of(alloc: Global, text: &[u8]) -> Option<LoadFault> {
+fn fault_of<R: Threads + Sync>(rt: &R, alloc: Global, text: &[u8]) -> Option<LoadFault> {
     if text.len() > 99 {
         return None;
     }
-    match load_sources(alloc, text) {
+    match load_sources(rt, alloc, 1, text) {
         Err(Stop::Bad(fault)) => Some(fault),
         _ => None,
     }
@@ -60,7 +61,7 @@ fn flux_is(sources: &Sources) -> bool {
 
 #[test]
 fn sources_are_in_ascending_id(rt: HostRuntime) -> Result<(), Fail> {
-    let Ok(sources) = load_sources(rt.alloc(), FIVE) else {
+    let Ok(sources) = load_sources(&rt, rt.alloc(), 1, FIVE) else {
         panic!(rt; "no sources");
     };
     assert!(rt; ids_are(&sources));
@@ -103,7 +104,7 @@ fn each_fault_is_reported(rt: HostRuntime) -> Result<(), Fail> {
         ),
     ];
     for (text, want) in cases {
-        assert!(rt; fault_of(rt.alloc(), text) == Some(want), "{want:?}");
+        assert!(rt; fault_of(&rt, rt.alloc(), text) == Some(want), "{want:?}");
     }
     Ok(())
 }

@@ -8,6 +8,7 @@ ghost use Rattle.table_rules.specs.Records.{faults_by_itself};
 ghost use Rattle.table_rules.specs.Repeats.{IsFirstFault};
 ghost use Rattle.table_rules.specs.declared.limits.TheConstants.{COLUMNS_MOST, FURTHER_COLUMNS_MOST, ROWS_MOST};
 ghost use Rattle.record_text.specs.Faults.{first_of};
+ghost use Rattle.table_load.specs.InParts.{AreFaultsWithoutNumber};
 ghost use Rattle.table_load.specs.Names.{is_filled};
 
 use csv::ByteRecord;
@@ -106,6 +107,17 @@ pub trait Gathering: Drop {
         ensures bad { IfErr result (λ stop. IfBad stop (λ fault. first_of
             (faults_by_itself form (length (fields_of fields.now)) row (fields_of fields.now)) ≡ Some fault)) };
 
+    /// Returns the rows with those of another part of the text after them. Allocates memory. If an allocation fails, the rows
+    /// are dropped.
+    fn followed_by(self, alloc: Global, other: &Self) -> Result<Self, Memory>
+        requires whole { is_whole self }
+        requires other { is_whole other.now }
+        requires wide { names other.now ≡ names self }
+        requires few { length (rows self) + length (rows other.now) ≤ ROWS_MOST }
+        ensures names { IfOk result (λ both. names both ≡ names self) }
+        ensures rows { IfOk result (λ both. rows both ≡ rows self ++ rows other.now) }
+        ensures whole { IfOk result is_whole };
+
     /// Returns the first fault of the rows and of the record after them, which has the fault `behind`; or an allocation
     /// failure.
     fn first_fault(&self, alloc: Global, behind: LoadFault) -> Stop<LoadFault>
@@ -114,6 +126,9 @@ pub trait Gathering: Drop {
 
     /// Each column of every table of the form has a name that is not empty.
     ghost named: { list_all is_filled form.first ≡ true };
+
+    /// Whether a record as a whole has a fault is no matter of the number of its row.
+    ghost numberless: { AreFaultsWithoutNumber form };
 
     /// A table is its names and its rows.
     ghost both: { (t : Self.Table) → made (names_of t) (rows_of t) ≡ t };

@@ -104,7 +104,7 @@ fn read_further<G: Gathering>(
 }
 
 /// Returns the columns of a header, or its first fault. Allocates memory for the names of the extra columns.
-pub fn read_header<G: Gathering>(
+pub(crate) fn read_header<G: Gathering>(
     alloc: Global,
     header: &ByteRecord,
 ) -> Result<G::Schema, Stop<LoadFault>>

@@ -76,7 +76,7 @@ fn add<G: Gathering>(gathered: &mut G, fields: &ByteRecord) -> Result<(), Stop<L
 
 /// Reads the records that the reader has left, up to the first with a fault other than a repeated id. Appends the rows of
 /// those before it. There are no rows at first.
-pub fn read_rest<G: Gathering>(
+pub(crate) fn read_rest<G: Gathering>(
     mut reader: Reader<&[u8]>,
     mut fields: ByteRecord,
     gathered: &mut G,

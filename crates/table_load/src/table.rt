@@ -1,4 +1,4 @@
-//! The table of a text: its header, then its rows record by record, then the rows in order.
+//! The table of a text that one thread reads: its header, then its rows record by record, then the rows in order.
 ghost use Rattle.std.specs.Prelude.{◌≡◌, ◌+◌, ◌≤◌, ℕ, List, [], length, map, IfErr, IfOk, OnOk, Ok, Err, None, Some};
 ghost use Rattle.csv.specs.Reading.{default_config, records, strip_bom};
 ghost use Rattle.sky_io.specs.Stops.{IfBad};
@@ -62,9 +62,8 @@ fn rows_under<G: Gathering, S: RowSorter<G>>(
     }
 }
 
-/// Reads the table of a text of at most 2^29 bytes: its rows in ascending id, or its first fault. Allocates memory for the
-/// rows, and for what putting them in order and finding a repeated id need. After an error nothing is kept.
-pub fn load_table<G: Gathering, S: RowSorter<G>>(
+/// Reads the table of a text by this thread alone. Allocates as `load_table` does.
+pub(crate) fn load_alone<G: Gathering, S: RowSorter<G>>(
     sorter: &S,
     alloc: Global,
     text: &[u8],

@@ -80,7 +80,7 @@ pub fn fetch_all<R: Threads + Sync, S: Shelf>(
 }
 
 /// Fetches the texts of these names up to that of the source table, reads them, and builds the store of the catalogue's
-/// rows before the source table is fetched. The given number of threads read the catalogue and build. Allocates memory.
+/// rows before the source table is fetched. The given number of threads read both tables and build. Allocates memory.
 /// If it stops, the shelf alone explains the outcome.
 pub fn fetch_tables<R: Threads + Sync, S: Shelf>(
     alloc: Global,
@@ -98,7 +98,7 @@ pub fn fetch_tables<R: Threads + Sync, S: Shelf>(
 {
     match fetch_survey(alloc, rt, threads, shelf, names.sky, names.catalogue) {
         Err(outcome) => Err(outcome),
-        Ok(store) => match fetch_sources(alloc, shelf, names.sources) {
+        Ok(store) => match fetch_sources(alloc, rt, threads, shelf, names.sources) {
             Err(outcome) => {
                 drop(store);
                 Err(outcome)
@@ -179,14 +179,20 @@ fn fetch_catalogue<R: Threads + Sync, S: Shelf>(
     }
 }
 
-// Fetches and reads the source table.
-fn fetch_sources<S: Shelf>(alloc: Global, shelf: &mut S, name: &str) -> Result<Sources, Outcome>
+// Fetches the source table, and reads it by the given number of threads.
+fn fetch_sources<R: Threads + Sync, S: Shelf>(
+    alloc: Global,
+    rt: &R,
+    threads: u32,
+    shelf: &mut S,
+    name: &str,
+) -> Result<Sources, Outcome>
     ensures ok { IfOk result (λ table. IsRead (OfNamed name.now (λ text. IsSourcesOf text table))
         (S.state shelf.old) (S.state shelf.new)) }
     ensures err { IfErr result (IsSourcesStop name.now (S.state shelf.old) (S.state shelf.new)) }
 {
     let text = fetch_whole(alloc, shelf, name, TEXT_MOST, Which::Sources)?;
-    match load_sources(alloc, text.as_slice()) {
+    match load_sources(rt, alloc, threads, text.as_slice()) {
         Ok(sources) => Ok(sources),
         Err(Stop::Bad(fault)) => Err(Outcome::BadSources { fault }),
         Err(Stop::Memory) => Err(Outcome::Memory),

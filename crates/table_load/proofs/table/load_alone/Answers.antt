@@ -2,7 +2,7 @@ use Rattle.csv.specs.Reading.{default_config, records, strip_bom}
 use Rattle.csv.specs.Records.{fields_of}
 use Rattle.record_text.proofs.Firsts.{bad_by}
 use Rattle.record_text.proofs.Steps.{no_record, ok_by, reads_on, right_header, stop_by, wrong_header}
-use Rattle.table_load.proofs.table.load_table.Goals as goal
+use Rattle.table_load.proofs.table.load_alone.Goals as goal
 
 pub returns-then-not-found-clause-bad : goal.returns-then-not-found-clause-bad
 returns-then-not-found-clause-bad g c =

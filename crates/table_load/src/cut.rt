@@ -2,7 +2,7 @@
 ghost use Rattle.std.specs.Prelude.{◌≡◌, ◌≢◌, ◌<◌, ◌+◌, ◌-◌, ◌≤◌, length, get_or, All, IfSome};
 ghost use Rattle.std.specs.Bool.{OnFalse};
 ghost use Rattle.csv.specs.Reading.{strip_bom};
-ghost use Rattle.catalogue_load.specs.InParts.{AreParts};
+ghost use Rattle.table_load.specs.InParts.{AreParts};
 
 use memchr::memchr;
 

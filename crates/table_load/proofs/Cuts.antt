@@ -6,7 +6,7 @@ use Rattle.std.specs.Option.{is_some}
 use Rattle.std.proofs.lemmas.List.{take-append-drop, get_or_default}
 use Rattle.memchr.specs.Find.{IsFirstByte, is_byte}
 use Rattle.csv.specs.Reading.{is_bom, strip_bom}
-use Rattle.catalogue_load.specs.InParts.{AreParts}
+use Rattle.table_load.specs.InParts.{AreParts}
 
 -- a text whose first byte is no mark's has none
 pub no_mark : (text : List ℕ) → (get_or text 0 0 == 239) ≡ false → strip_bom text ≡ text
