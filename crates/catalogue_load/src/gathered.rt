@@ -136,8 +136,8 @@ impl Gathering for Gathered {
         Ok(Gathered { columns, cells })
     }
 
-    /// Returns the first fault of the rows and of the record after them, which has the fault `behind`; or an allocation
-    /// failure.
+    /// Returns the first fault of the rows and of the record after them, or an allocation failure. The record has the fault
+    /// `behind`.
     fn first_fault(&self, alloc: Global, behind: LoadFault) -> Stop<LoadFault> {
         let _count = self.columns.len();
         first_fault(alloc, self.columns.ids(), behind)

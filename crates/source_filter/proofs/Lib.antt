@@ -2,3 +2,4 @@ pub mod Testing
 pub mod Reading
 pub mod Keeping
 pub mod Narrowing
+pub mod Objects

@@ -34,7 +34,7 @@ narrowed_by p c t old new is by =
     (λ k low off o own. is (cell_of (child_pair o (source_at p k))) o.at ∙ off o own) by
 
 -- what fails one condition does not meet all of them
-fails_all : (conds : List BoundCond) (p : Pick) (i : ℕ) (c : BoundCond) → slice_get conds i ≡ Some c → holds c p ≡ false → meets conds p ≡ false
+pub fails_all : (conds : List BoundCond) (p : Pick) (i : ℕ) (c : BoundCond) → slice_get conds i ≡ Some c → holds c p ≡ false → meets conds p ≡ false
 fails_all [] p i c at h = absurd cc
 fails_all (d ∷ conds) p zero c at h = first (holds d p) (meets conds p) (cc (at, h))
   where

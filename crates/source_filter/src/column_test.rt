@@ -115,7 +115,7 @@ fn factor_of(e: &BoundExpr) -> Option<&BoundFactor>
 }
 
 /// Returns the column that the expression is written as, if it is one.
-fn column_of(e: &BoundExpr) -> Option<BoundCol>
+pub(crate) fn column_of(e: &BoundExpr) -> Option<BoundCol>
     ensures { IfSome result (λ col. term_of e.now ≡ Column col) }
 {
     let factor = factor_of(e)?;

@@ -6,7 +6,9 @@ ghost use Rattle.source_filter.specs.Candidates.{AreCandidates, Fails, FailsTest
 ghost use Rattle.source_filter.specs.Masks.{IsNarrowedBy};
 
 use crate::column_test::column_test;
+use crate::id_scan::{Equals, flags_of, numbers_passing};
 use crate::kernel::keep_passing;
+use crate::object::{object_in, objects_in};
 use crate::source_column::source_column;
 use crate::test::ColumnTest;
 use lane_filter::picked;
@@ -16,9 +18,45 @@ use sql_bound::BoundCond;
 use std::alloc::Global;
 
 /// Returns the numbers of the sources, ascending, that may meet the conditions with their objects. Each other source
-/// fails a condition with its object, if it has one. A source has `width` extra columns. Allocates memory for a flag and a
-/// number for each source.
+/// fails a condition with its object, if it has one. If a condition names objects by their ids, other columns are not read.
+/// A source has `width` extra columns. Allocates memory for a flag and a number for each source.
 pub fn candidates(
+    alloc: Global,
+    lists: &SourceLists,
+    width: usize,
+    conds: &[BoundCond],
+) -> Result<Vec<u32>, Memory>
+    requires even { AreEven lists.now }
+    requires width { width ≡ length lists.now.further }
+    requires few { length lists.now.ids < 2 ^ 32 }
+    ensures { IfOk result (λ numbers. AreCandidates conds.now lists.now numbers.items) }
+{
+    match object_in(conds) {
+        Some(id) => numbers_passing(alloc, &Equals { id }, lists.objects()),
+        None => of_listed(alloc, lists, width, conds),
+    }
+}
+
+/// Returns the numbers of the sources, ascending, that may meet the conditions, if none of these names one object alone.
+fn of_listed(
+    alloc: Global,
+    lists: &SourceLists,
+    width: usize,
+    conds: &[BoundCond],
+) -> Result<Vec<u32>, Memory>
+    requires even { AreEven lists.now }
+    requires width { width ≡ length lists.now.further }
+    requires few { length lists.now.ids < 2 ^ 32 }
+    ensures { IfOk result (λ numbers. AreCandidates conds.now lists.now numbers.items) }
+{
+    match objects_in(conds) {
+        Some(ids) => numbers_passing(alloc, &flags_of(ids), lists.objects()),
+        None => passing(alloc, lists, width, conds),
+    }
+}
+
+/// Returns the numbers of the sources, ascending, that pass each condition that is a test of a column of sources.
+fn passing(
     alloc: Global,
     lists: &SourceLists,
     width: usize,

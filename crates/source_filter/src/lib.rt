@@ -3,8 +3,9 @@
 //!
 //! Callers see `candidates`: the numbers of sources, ascending. Each source that is not among them fails a condition of
 //! the query with its object (`specs/Candidates.antt`). A condition that compares one column of a source with numbers
-//! (`column_test`, `source_column`) is evaluated by the kernels of `lane_filter` on all sources at once (`kernel`).
-//! Other conditions are left to the evaluator of pairs.
+//! (`column_test`, `source_column`) is evaluated by the kernels of `lane_filter` on all sources at once (`kernel`). If one
+//! names objects (`object`), their sources are found by objectId alone (`id_scan`). Other conditions are left to the
+//! evaluator of pairs.
 //!
 //! Below: `source_row` for the columns of sources, `lane_filter` for masks, and `child_rules` for the pair of a source
 //! with its object. Above: `child_scan`. No objects and no pairs are read here.
@@ -12,7 +13,9 @@
 
 mod column_test;
 mod filter;
+mod id_scan;
 mod kernel;
+mod object;
 mod source_column;
 mod test;
 

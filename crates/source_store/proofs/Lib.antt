@@ -1,3 +1,4 @@
 pub mod Listing
 pub mod Leading
+pub mod RowChunks
 pub mod ChunkColumns

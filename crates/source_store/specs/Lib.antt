@@ -1,3 +1,4 @@
 pub mod SourceSurvey
 pub mod NumbersByChunk
+pub mod RowChunks
 pub mod ChunkColumns

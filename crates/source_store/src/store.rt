@@ -42,8 +42,8 @@ impl<'w> Model for SourceStore<'w> {
 
 impl<'w> SourceStore<'w> {
     /// Creates the store of the sources of a survey. `index` is the index of the survey's rows over its plan. Allocates
-    /// memory for a number for each source, and for each column once more. If an allocation fails, the sources are
-    /// dropped.
+    /// memory for a number for each source, and for each column once more, and while it runs for the chunk of each row.
+    /// If an allocation fails, the sources are dropped.
     pub fn build(
         alloc: Global,
         store: &'w Store,
@@ -54,7 +54,7 @@ impl<'w> SourceStore<'w> {
         ensures { IfOk result (λ made. made
             ≡ record { plan = store.now.plan; objects = store.now.rows.objects; table = sources }) }
     {
-        let lists = numbers_by_chunk(alloc, index, &sources)?;
+        let lists = numbers_by_chunk(alloc, index, store.rows(), &sources)?;
         let columns = chunk_columns(alloc, &sources, &lists)?;
         Ok(SourceStore {
             store,

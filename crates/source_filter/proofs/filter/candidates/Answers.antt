@@ -1,14 +1,18 @@
-use Rattle.std.proofs.Common.{◌≡◌, ◌∙◌, Bool, List, ap}
+use Rattle.std.proofs.Common.{◌≡◌, ◌∙◌, ℤ, List, IfOk, ap, length, rules, subst, w64, FitsSigned}
+use Rattle.std.specs.Ordering.{int_eq}
+use Rattle.std.proofs.lemmas.Int.{to_z-of_z}
 use Rattle.std.proofs.lemmas.Result.{IfOk-weaker}
-use Rattle.lane_filter.specs.Tests.{places_of}
-use Rattle.source_filter.proofs.Narrowing.{narrowed_numbers, written_whole}
+use Rattle.source_filter.specs.Objects.{numbers_where}
+use Rattle.source_filter.proofs.Objects.{named_candidates}
 use Rattle.source_filter.proofs.filter.candidates.Goals as goal
 
-pub returns : goal.returns
-returns c =
-    let mask : List Bool = c.narrow_all.new.mask in
-    let whole : c.as_slice.result.now ≡ mask =
-    c.as_slice.ensures.value ∙ written_whole c.in_ok-mask.mask.items mask c.in_ok-mask.mask.len (c.narrow_all.ensures.len ∙ c.as_mut_slice.ensures.len) in
-    IfOk-weaker c.numbers_in.result _ _
-    (λ numbers is. narrowed_numbers c.args.conds.now c.args.lists.now mask numbers.items c.narrow_all.ensures.narrowed (is ∙ ap places_of whole))
-    c.numbers_in.ensures
+pub returns-in-Some : goal.returns-in-Some
+returns-in-Some c =
+    let id = c.in-Some.id in
+    let fits : FitsSigned w64 id = search rules in
+    let objects = c.objects.result.now in
+    IfOk-weaker c.numbers_passing.result _ _
+    (λ numbers is. named_candidates c.args.conds.now c.args.lists.now (λ object. int_eq object id) numbers.items c.in-Some.ensures
+    (is ∙ ap (λ (l : List ℤ). numbers_where (λ object. int_eq object id) l (length l)) c.objects.ensures) c.requires.even.objects)
+    (subst (λ (n : ℤ). IfOk c.numbers_passing.result (λ numbers. numbers.items ≡ numbers_where (λ object. int_eq object n) objects (length objects)))
+    (to_z-of_z w64 id fits) c.numbers_passing.ensures)
