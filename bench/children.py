@@ -7,7 +7,8 @@ FILE is the built program, by default .qserv/qserv, where ./qserv leaves it. Wri
 (1,000,000) and a table of N sources (4,000,000) of four fields, whose objects are drawn. Then it measures, each as the least of N times
 (5):
 
-- loading: the user time of one row of the sources, beyond a table without rows, and of one row of the catalogue;
+- loading: the user time of one row of the sources, beyond a table without rows, and of one row of the catalogue; and the time by
+  the clock of the sources, beyond a table without rows, with no workers and with 3;
 - the join with one source in a hundred, and the sources of one object: the time by the clock from the script, which comes when
   everything is loaded, to the last line of the transcript, with no workers and with 3. A script has its query several times, and the
   time is that of one. Of the chunks of the demo's sky the two at the poles have a quarter of all objects each, and the 32 others a
@@ -106,6 +107,13 @@ def run(words, form):
     return resource.getrusage(resource.RUSAGE_CHILDREN).ru_utime - before
 
 
+def clocked(words, form):
+    """The milliseconds by the clock of a run by these words."""
+    began = time.perf_counter()
+    run(words, form)
+    return 1000 * (time.perf_counter() - began)
+
+
 def loading(words):
     """Prints what a row of each table takes to be loaded; whether the sources keep the catalogue's pace."""
     forms = [["query", "sky.txt", csv, "none.sql", "0"] for csv in ("no_rows.csv", "catalogue.csv")]
@@ -114,6 +122,9 @@ def loading(words):
     row, source = 1e9 * (objects - nothing) / words.rows, 1e9 * (sources - no_sources) / words.sources
     print(f"| loading, ns a row of the catalogue | {row:.0f} | | |")
     print(f"| loading, ns a source | {source:.0f} | {row:.0f} | |", flush=True)
+    for workers in WORKERS:
+        none, all_of_them = (min(clocked(words, form[:-1] + [str(workers)]) for _ in range(words.times)) for form in forms[2:])
+        print(f"| loading the sources, {workers} workers, ms | {all_of_them - none:.0f} | | |", flush=True)
     return source <= row
 
 

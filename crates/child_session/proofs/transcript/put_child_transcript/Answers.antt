@@ -4,9 +4,10 @@ use Rattle.child_session.specs.ChildEnds.{ChildEndShows}
 use Rattle.child_session.proofs.EndBlocks.{same_transcript}
 use Rattle.child_session.proofs.transcript.put_child_transcript.Goals as goal
 
-pub put_ends-requires-clause-each : goal.put_ends-requires-clause-each
-put_ends-requires-clause-each g c =
-    one_each (ChildEndShows c.args.world.now) c.args.script.now c.args.ends.now c.requires.shown
+pub put_ends-requires : goal.put_ends-requires
+put_ends-requires g c = record {
+  each = one_each (ChildEndShows c.args.world.now) c.args.script.now c.args.ends.now c.requires.shown;
+}
 
 pub returns : goal.returns
 returns g c =

@@ -1,13 +1,13 @@
-use Rattle.session_script.specs.Views.{query_lines}
 use Rattle.query_ends.proofs.Lines.{one_each}
 use Rattle.query_ends.proofs.Writing.{wrote_as}
 use Rattle.czar.specs.Ends.{EndShows}
 use Rattle.czar.proofs.EndBlocks.{same_transcript}
 use Rattle.czar.proofs.transcript.put_transcript.Goals as goal
 
-pub put_ends-requires-clause-each : goal.put_ends-requires-clause-each
-put_ends-requires-clause-each g c =
-    one_each (EndShows c.args.world.now.plan c.args.world.now.rows) c.args.script.now c.args.ends.now c.requires.shown
+pub put_ends-requires : goal.put_ends-requires
+put_ends-requires g c = record {
+  each = one_each (EndShows c.args.world.now.plan c.args.world.now.rows) c.args.script.now c.args.ends.now c.requires.shown;
+}
 
 pub returns : goal.returns
 returns g c =
