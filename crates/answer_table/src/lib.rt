@@ -2,8 +2,7 @@
 //!
 //! Callers see a `Table` as a list of rows of values (`specs/Tables.antt`). Values are appended row by row (`values`).
 //! The steps on any list (`lists`) are here because the rows and the groups of partial results both take them.
-//! Below: `answer_rules` for values. Above: the rows and the groups of partial results, which become tables. No rows of
-//! a chunk, no keys and no order.
+//! Below: `answer_rules` for values. No rows of a chunk, no keys and no order.
 #![tactic(auto)]
 
 pub mod lists;

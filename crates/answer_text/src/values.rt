@@ -1,4 +1,6 @@
-//! The rows of an answer as text. One function writes one rule of the syntax.
+//! The lines of an answer after its headings: a line for each row, and the count of rows and chunks. One function
+//! writes one rule of the syntax. A row is written value by value if its line cannot be made in one buffer
+//! (`row_line`).
 ghost use Rattle.std.specs.Prelude.{◌≡◌, ◌++◌, All, codes, length, map};
 ghost use Rattle.std.specs.Fmt.{decimal};
 ghost use Rattle.std.specs.List.{flat_map};

@@ -20,7 +20,7 @@ fn is_same_name(a: &Name, b: &Name) -> bool
     a.text.as_slice() == b.text.as_slice()
 }
 
-// Returns whether one name is one of these two aliases, and the other name the other one.
+// Returns whether the left name is the first of these aliases, and the right name the second.
 fn is_pair(left: &Name, right: &Name, a: &Name, b: &Name) -> bool
     ensures { result ≡ (bytes_eq left.now.text a.now.text && bytes_eq right.now.text b.now.text) }
 {
@@ -46,11 +46,11 @@ fn fits(left: &Name, right: &Name, top: bool, a: &Name, b: &Name) -> bool
 // The chord tests seen so far.
 #[derive(Clone, Copy)]
 enum Chords {
-    /// There is none.
+    /// There was none.
     Nowhere,
-    /// There is one. The flag is true if it is at the top and names both aliases.
+    /// There was one. The flag is true if it is at the top and names both aliases.
     Once(bool),
-    /// There is more than one.
+    /// There was more than one.
     Again,
 }
 

@@ -3,9 +3,8 @@
 //! Callers see a `ChildPiece` as `PieceView` of `answer_rules`, and a `ChildRoot` as a `ChildBase` of `child_rules`.
 //! `ChildFor` defines what a piece represents: all rows of its query over its chunks.
 //!
-//! Below: `child_rules` for that meaning, `partial_merge` for pieces of rows, `chunk_rewriter` for copies and for the merge,
-//! `scan_core` for `Work`, by which a board combines pieces (`work`). Above: `child_scan` fills pieces, a board combines
-//! them, and `child_session` finishes them.
+//! Below: `child_rules` for that meaning, `partial_merge` for pieces of rows, `chunk_rewriter` for copies and for the
+//! merge, `scan_core` for `Work`, by which a board combines pieces (`work`). No chunk is scanned here.
 #![tactic(auto)]
 
 mod copy;

@@ -6,8 +6,7 @@
 //! object become two rows of one width (`row`), on which the evaluator computes conditions and items (`line`).
 //!
 //! Below: `source_store` for the sources of a chunk, `chunk_store` for the objects, `expr_eval` for conditions and
-//! items, and `child_piece` for the piece. Above: `child_session`, whose workers call it for each task. This crate merges
-//! nothing: an order and a LIMIT are left to the piece.
+//! items, and `child_piece` for the piece. This crate merges nothing: an order and a LIMIT are left to the piece.
 #![tactic(auto)]
 
 mod chunk;

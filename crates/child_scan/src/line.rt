@@ -1,11 +1,10 @@
 //! What a child query computes of a pair of rows: the values of its items, and the pair's sort key.
 
-ghost use Rattle.std.specs.Prelude.{◌≡◌, ◌+◌, [], IsTrue, OnOk, Some, length, map, slice_get, true};
+ghost use Rattle.std.specs.Prelude.{◌≡◌, ◌+◌, [], IsTrue, OnOk, length, map, slice_get, true};
 ghost use Rattle.std.specs.List.{list_all};
 ghost use Rattle.std.specs.Option.{option_and_then};
 ghost use Rattle.value_rules.specs.Sound.{has_col};
 ghost use Rattle.value_rules.specs.Values.{cell_of, pair};
-ghost use Rattle.answer_rules.specs.Ranks.{rank_class, rank_value};
 ghost use Rattle.answer_rules.specs.Rows.{bound_lines, goes_down, item_value, key_value, order_value, out_row};
 ghost use Rattle.partial_rows.specs.Multisets.{out_row as ranked};
 ghost use Rattle.child_scan.specs.SoundPairs.{IsSoundPair, is_pair_key, is_pair_item, is_pair_order};
@@ -13,7 +12,7 @@ ghost use Rattle.child_scan.specs.Lines.{with_cells};
 ghost use Rattle.table_rules.specs.declared.limits.TheConstants.{FIRST_COLUMNS};
 
 use expr_eval::value;
-use partial_merge::Rank;
+use partial_rows::{Rank, rank_class, rank_value};
 use sky_io::Memory;
 use sky_row::Row;
 use sky_vector::Num;
@@ -30,8 +29,8 @@ pub(crate) fn rank_of(query: &Bound, first: &Row, second: &Row) -> Rank
     let down = is_down(&query.order);
     let key = key(query, first, second);
     Rank {
-        class: class(down, &key),
-        value: number(down, &key),
+        class: rank_class(down, &key),
+        value: rank_value(down, &key),
         first: first.id(),
         second: second.id(),
     }
@@ -132,28 +131,4 @@ fn column(col: BoundCol, first: &Row, second: &Row) -> Option<Num>
 {
     let row = if col.second { second } else { first };
     Num::new(i128::from(row.value(col.col)?))
-}
-
-/// Returns the class of a key's sort key, which keeps NULL apart from the numbers.
-fn class(down: bool, key: &Option<Num>) -> u8
-    ensures { result ≡ rank_class down key.now }
-{
-    if key.is_none() == down { 1 } else { 0 }
-}
-
-/// Returns the number of a key's sort key, which is negated if the order is descending.
-fn number(down: bool, key: &Option<Num>) -> i128
-    ensures { result ≡ rank_value down key.now }
-{
-    match key {
-        None => 0,
-        Some(n) => turned(down, n),
-    }
-}
-
-/// Returns the number, or its negation if the order is descending.
-fn turned(down: bool, n: &Num) -> i128
-    ensures { result ≡ rank_value down (Some n.now) }
-{
-    if down { -n.get() } else { n.get() }
 }

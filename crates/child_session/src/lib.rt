@@ -3,10 +3,10 @@
 //!
 //! Callers see a script's plans as `AreChildPlans` (`specs/ChildPlans.antt`) and its ends as `ChildEndsShow`
 //! (`specs/ChildEnds.antt`): an answer is that over the two flat tables, whose definition does not mention chunks.
-//! Below: `sql_reader` and `child_bind` for the meaning of a query, `czar` for its chunks, `scan_session` for the session
-//! over a shared board, `child_scan` for a chunk's work, `child_piece` for the merge, and `query_ends` for the ends and
-//! their text. The board, the workers and the script's waits and cancels are those of every
-//! session: no loop of a session and no thread is here. Above: the top call.
+//! Below: `sql_reader` and `child_bind` for the meaning of a query, `czar` for its chunks, `scan_session` for the
+//! session over a shared board, `child_scan` for a chunk's work, `child_piece` for the merge, and `query_ends` for the
+//! ends and their text. The board, the workers and the script's waits and cancels are those of every session: no loop
+//! of a session and no thread is here.
 #![tactic(auto)]
 
 mod attach;

@@ -21,6 +21,7 @@ pub(crate) fn keep_asked(block: &Block, test: Predicate, mask: &mut [bool])
     ensures len { length mask.new ≡ length mask.old }
     ensures each { IsKeptBy (λ k. asks test (get_or block.now.objects k no_row)) mask.old mask.new }
 {
+    // the contract of `len` says what holds of each row
     let _ = block.len();
     match test {
         Predicate::Compare { col, op, n } => keep_compared(block, col, op, n, mask),

@@ -5,9 +5,10 @@
 //! evaluated first by the kernels of `lane_filter`, each of which clears a mask, and the numbers of the remaining rows
 //! are listed. In both cases `column_eval` evaluates the other conditions on these rows alone.
 //!
-//! What a scan reuses from one chunk to the next is in a `Scratch`. The two scans above this crate reuse the same one, so
-//! it also has vectors for keys, which no filter needs. Below: `column_block` for the columns, `lane_filter` and
-//! `column_eval` for what is computed a column at a time. No pieces: the two scans make them of the selected rows.
+//! What a scan reuses from one chunk to the next is in a `Scratch`. The scan for rows and the one for groups reuse the
+//! same one, so it also has vectors for keys, which no filter needs. Below: `column_block` for the columns,
+//! `lane_filter` and `column_eval` for what is computed a column at a time. No pieces: the two scans make them of the
+//! selected rows.
 #![tactic(auto)]
 
 mod id_rows;

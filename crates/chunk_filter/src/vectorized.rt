@@ -3,19 +3,17 @@
 //!
 //! A number is an integer, or an integer after a minus. A condition in brackets, after NOT or in OR is left to the
 //! evaluator.
-ghost use Rattle.std.specs.Prelude.{◌≡◌, ◌≤ℤ◌, ℤ, IfSome, Option, Some, false, neg_ℤ, pos, true, if◌then◌else◌};
+ghost use Rattle.std.specs.Prelude.{◌≡◌, IfSome, Some, false, true};
 ghost use Rattle.sql_tree.specs.declared.cond.Cmp.TheVariants.{AtMost};
-ghost use Rattle.sql_bound.specs.declared.expr.BoundCol.{BoundCol};
-ghost use Rattle.value_rules.specs.ColumnTests.{mirrored};
 ghost use Rattle.value_rules.specs.Formulas.{And, Compares, IsNull, formula_of, formula_of_pred, negated_if};
-ghost use Rattle.value_rules.specs.Terms.{term_of, term_of_factor};
-ghost use Rattle.value_rules.specs.Values.{value_at};
+ghost use Rattle.value_rules.specs.Terms.{term_of};
 ghost use Rattle.chunk_filter.specs.Asking.{IsVectorized};
 
 use crate::predicate::{Predicate, Vectorized};
 use crate::vectorized_area::of_area;
 use column_eval::column_of;
-use sql_bound::{BoundAtom, BoundCond, BoundExpr, BoundFactor, BoundPred};
+use expr_eval::{mirrored, number_of};
+use sql_bound::{BoundCond, BoundExpr, BoundPred};
 use sql_tree::Cmp;
 
 /// Returns what a kernel can do for the condition, if there is one for it.
@@ -106,49 +104,4 @@ fn presence(not: bool, value: &BoundExpr) -> Option<Vectorized>
     } else {
         whole(Predicate::Absent { col })
     }
-}
-
-/// Returns the comparison with its sides exchanged.
-fn mirrored(op: Cmp) -> Cmp
-    ensures { result ≡ mirrored op }
-{
-    match op {
-        Cmp::Equal => Cmp::Equal,
-        Cmp::Differs => Cmp::Differs,
-        Cmp::Less => Cmp::More,
-        Cmp::AtMost => Cmp::AtLeast,
-        Cmp::More => Cmp::Less,
-        Cmp::AtLeast => Cmp::AtMost,
-    }
-}
-
-/// Returns the expression's only factor, if it has only one.
-fn factor_of(e: &BoundExpr) -> Option<&BoundFactor>
-    ensures { IfSome result (λ factor. term_of e.now ≡ term_of_factor factor.now) }
-{
-    if e.rest.len() == 0 && e.first.rest.len() == 0 {
-        Some(&e.first.first)
-    } else {
-        None
-    }
-}
-
-/// Returns the number that the expression is written as, if it is one.
-fn number_of(e: &BoundExpr) -> Option<i64>
-    ensures { IfSome result (λ n. (cells : BoundCol → Option ℤ)
-        → value_at cells (term_of e.now) ≡ Some n) }
-{
-    let factor = factor_of(e)?;
-    match &factor.atom {
-        BoundAtom::Int(n) => Some(signed(factor.minus, n.get())),
-        _ => None,
-    }
-}
-
-/// Returns the number, or with `minus` its negation.
-fn signed(minus: bool, n: i64) -> i64
-    requires { pos 0 ≤ℤ n }
-    ensures { result ≡ if minus then neg_ℤ n else n }
-{
-    if minus { -n } else { n }
 }

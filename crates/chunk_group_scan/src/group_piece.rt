@@ -96,6 +96,7 @@ fn group_piece<'w>(
     ensures { IfOk result (λ piece. piece ≡ OfGroups (partials_of keys.now query.now.items
         (map row (objects_at block.now.objects places.now)))) }
 {
+    // the contract of `len` gives that each row is within its limits
     let _count = block.len();
     let starts = starts(block, keys, places, scratch)?;
     let copied = copied(block, keys, places, starts.as_slice(), scratch)?;

@@ -39,6 +39,7 @@ pub(crate) fn one_group<'w>(
     ensures { IfOk result (λ piece. piece ≡ OfGroups (partials_of [] query.now.items
         (map row (objects_at block.now.objects places.now)))) }
 {
+    // the contract of `len` gives that each row is within its limits
     let _count = block.len();
     let mut piece = Piece::empty(alloc, query);
     if places.is_empty() {

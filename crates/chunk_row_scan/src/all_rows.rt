@@ -40,6 +40,7 @@ pub(crate) fn all_rows<'w>(
     ensures { IfOk result (IsOfRowsOver query.now
         (objects_at block.now.objects places.now)) }
 {
+    // the contract of `len` gives that each row is within its limits
     let _count = block.len();
     let columns = columns(alloc, block, query.items.as_slice(), places, scratch)?;
     let ids = block.ids();

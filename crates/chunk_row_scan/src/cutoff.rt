@@ -59,7 +59,9 @@ fn first_within(keys: &ValueList<'_>, down: bool, cutoff: i128, from: usize) -> 
     }
 }
 
-/// Returns the first index for a descending order, so: of the first key that is not below the cutoff.
+/// Returns the first index, from this one on, whose key is not below the cutoff, for a descending order, or the number
+/// of keys.
+// not inlined, so that the compiler makes a loop for each direction and does not ask for the direction at each key
 #[inline(never)]
 fn first_descending(keys: &ValueList<'_>, cutoff: i128, from: usize) -> usize
     requires { from ≤ length keys.now }
@@ -76,7 +78,9 @@ fn first_descending(keys: &ValueList<'_>, cutoff: i128, from: usize) -> usize
     keys.len()
 }
 
-/// Returns the first index for an ascending order, so: of the first key that is not above the cutoff.
+/// Returns the first index, from this one on, whose key is not above the cutoff, for an ascending order, or the number
+/// of keys.
+// not inlined, as its counterpart for a descending order is not
 #[inline(never)]
 fn first_ascending(keys: &ValueList<'_>, cutoff: i128, from: usize) -> usize
     requires { from ≤ length keys.now }

@@ -51,6 +51,7 @@ pub(crate) fn first_rows<'w>(
     ensures { IfOk result (IsOfRowsOver query.now
         (objects_at block.now.objects places.now)) }
 {
+    // the contract of `len` gives that each row is within its limits
     let _count = block.len();
     let ids = block.ids();
     let down = is_down(&query.order);

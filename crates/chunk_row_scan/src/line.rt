@@ -1,11 +1,10 @@
 //! What a chunk query computes of a row: the values of its items, and its sort key.
 
-ghost use Rattle.std.specs.Prelude.{◌≡◌, ◌+◌, ◌++◌, ◌∷◌, [], IsTrue, OnOk, Some, length, map};
+ghost use Rattle.std.specs.Prelude.{◌≡◌, ◌+◌, ◌++◌, ◌∷◌, [], IsTrue, OnOk, length, map};
 ghost use Rattle.std.specs.List.{list_all};
 ghost use Rattle.sql_bound.specs.declared.query.Shape.TheVariants.{Rows};
 ghost use Rattle.value_rules.specs.Values.{row};
 ghost use Rattle.answer_rules.specs.Pieces.{chunk_down, chunk_value};
-ghost use Rattle.answer_rules.specs.Ranks.{rank_class, rank_value};
 ghost use Rattle.answer_rules.specs.SoundChunks.{is_sound_part};
 ghost use Rattle.chunk_row_scan.specs.Computed.{rank_by};
 ghost use Rattle.table_rules.specs.declared.limits.TheConstants.{FIRST_COLUMNS};
@@ -13,6 +12,7 @@ ghost use Rattle.table_rules.specs.declared.limits.TheConstants.{FIRST_COLUMNS};
 use answer_rules::{ChunkItem, ChunkOrder};
 use expr_eval::value;
 use partial_merge::Rank;
+use partial_rows::{rank_class, rank_value};
 use sky_io::Memory;
 use sky_row::Row;
 use sky_vector::Num;
@@ -22,8 +22,8 @@ pub(crate) fn rank_of(down: bool, key: &Option<Num>, id: i64) -> Rank
     ensures { result ≡ rank_by down key.now id }
 {
     Rank {
-        class: class(down, key),
-        value: number(down, key),
+        class: rank_class(down, key),
+        value: rank_value(down, key),
         first: id,
         second: 0,
     }
@@ -73,28 +73,4 @@ pub(crate) fn is_down(order: &Option<ChunkOrder>) -> bool
         None => false,
         Some(order) => order.down,
     }
-}
-
-/// Returns the class of a key's sort key, which keeps NULL apart from the numbers.
-fn class(down: bool, key: &Option<Num>) -> u8
-    ensures { result ≡ rank_class down key.now }
-{
-    if key.is_none() == down { 1 } else { 0 }
-}
-
-/// Returns the number of a key's sort key, which is negated if the order is descending.
-fn number(down: bool, key: &Option<Num>) -> i128
-    ensures { result ≡ rank_value down key.now }
-{
-    match key {
-        None => 0,
-        Some(n) => turned(down, n),
-    }
-}
-
-/// Returns the number, or its negation if the order is descending.
-fn turned(down: bool, n: &Num) -> i128
-    ensures { result ≡ rank_value down (Some n.now) }
-{
-    if down { -n.get() } else { n.get() }
 }

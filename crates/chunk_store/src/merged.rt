@@ -1,4 +1,5 @@
-//! A merge of two ascending lists.
+//! A merge of two ascending lists of row numbers. The rows that may be near a subchunk are in two such lists: those of
+//! its chunk, and those of the chunk's full overlap.
 
 ghost use Rattle.std.specs.Prelude.{◌≡◌, [], ◌∷◌, IfSome, IfNone};
 ghost use Rattle.chunk_store.specs.Merged.{merged, takes_first};

@@ -45,6 +45,7 @@ pub(crate) fn whole_column<'a>(block: &'a Block, e: &BoundExpr) -> Option<&'a [i
         ≡ map (λ o. value_of e.now (row o)) block.now.objects) }
     ensures fits { IfSome result (λ values. All (λ z. nat_abs z ≤ FURTHER_MOST) values.now) }
 {
+    // the contract of `len` says what holds of each row
     let _ = block.len();
     let col = column_of(e)?;
     if (col as usize) < FIRST_COLUMNS {

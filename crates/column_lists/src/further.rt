@@ -41,8 +41,9 @@ pub fn columns_at(alloc: Global, columns: &[Column], places: &[u32]) -> Result<V
     Ok(found)
 }
 
-/// Returns the columns, each with the values of its counterpart appended.
-pub(crate) fn columns_appended(
+/// Returns the columns, each with the values of the other column with the same number appended. Allocates memory for
+/// each column. If an allocation fails, the columns are dropped.
+pub fn columns_appended(
     alloc: Global,
     columns: Vec<Column>,
     others: &[Column],

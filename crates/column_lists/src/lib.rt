@@ -17,7 +17,7 @@ mod places;
 pub mod row;
 
 pub use column::Column;
-pub use further::{columns_at, empty_columns};
+pub use further::{columns_appended, columns_at, empty_columns};
 pub use lists::Lists;
 pub use places::gather;
 pub use row::Row;

@@ -26,7 +26,9 @@ use sql_tree::Query;
 use std::alloc::Global;
 use transcript_rules::Refusal;
 
-/// The plan of a query over the catalogue: its rewriting into two parts is run.
+/// The plan of a query over the catalogue: what is run is its rewriting into a chunk query and a merge. A query is
+/// refused if its text is no query, if it does not fit the schema, or if it is a join whose limit the overlap does not
+/// allow.
 pub type Plan = QueryPlan<Rewritten>;
 
 /// Returns the plans of a script's queries, in their order; lines that wait or cancel are skipped. Allocates memory for

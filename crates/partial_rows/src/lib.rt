@@ -1,10 +1,11 @@
 //! The rows of a partial result: a multiset with a sort key for each row, and its table.
 //!
-//! Callers see a `Multiset` as its rows, in any order, and its limit (`MultisetView`). It keeps either all rows
-//! (`unlimited_rows`; `compact_row` and `ranked` are its two kinds) or the first n (`heap`). Their values are in one
-//! list (`buffer_cells`, `cell`), from which the values of dropped rows are removed (`vacuum`). Pairs whose values are
-//! their own two ids have a list of their own (`id_pair`, `id_pairs`). A multiset becomes a table in `multiset_table`:
-//! its rows in `buffer_table`, such pairs in `pair_table`.
+//! Callers see a `Multiset` as its rows, in any order, and its limit (`MultisetView`). A scan makes the sort key of
+//! each row (`Rank`) from its order key. A multiset keeps either all rows (`unlimited_rows`; `compact_row` and `ranked`
+//! are its two kinds) or the first n (`heap`). Their values are in one list (`buffer_cells`, `cell`), from which the
+//! values of dropped rows are removed (`vacuum`). Pairs whose values are their own two ids have a list of their own
+//! (`id_pair`, `id_pairs`). A multiset becomes a table in `multiset_table`: its rows in `buffer_table`, such pairs in
+//! `pair_table`.
 //!
 //! Below: `answer_table` for the table, `answer_rules` for the order of rows and the lemmas. No groups, no chunks.
 #![tactic(auto)]
@@ -26,4 +27,4 @@ mod row_table;
 mod unlimited_rows;
 mod vacuum;
 
-pub use rank::Rank;
+pub use rank::{Rank, rank_class, rank_value};

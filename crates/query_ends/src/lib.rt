@@ -1,11 +1,13 @@
-//! The ends of a script's queries, whatever the form in which the queries are run: what is attached for each to the board
-//! of a session, its end by how it ended there, and the text of its end.
+//! The ends of a script's queries, whatever the form in which the queries are run.
+//!
+//! Three steps of a session are here: what is attached to its board for each query (`attach`), the end of the query by
+//! how it ended there (`finish`), and the text of its end (`end_text`).
 //!
 //! Callers see a plan as `QueryPlan`, and an end as `End`. A form of queries implements `QueryForm`: what it attaches, and
 //! how it answers from the piece over all chunks (`specs/Ended.antt`). `specs/EndTexts.antt` defines the text of an end.
 //! `proofs/ScriptEnds.antt` has what holds of the ends of every session, by what a form ensures (`Answering`). Below:
 //! `scan_session` for the ends at the board, `session_rules` and `transcript_rules` for their meaning, `answer_text` for
-//! their text. Above: `czar` has the queries of the catalogue, `child_session` those of a child table. No thread is here.
+//! their text. No thread is here.
 #![tactic(auto)]
 
 mod attach;

@@ -1,4 +1,4 @@
-//! The ints of a written list: an int as a number, and the area test of a function with such arguments.
+//! The arguments of a written area test: each is an integer with a sign, and together they make an area test or none.
 ghost use Rattle.std.specs.Prelude.{◌≡◌, ◌∷◌, map};
 ghost use Rattle.sql_tree.specs.declared.cond.AreaKind.TheVariants as area;
 ghost use Rattle.sql_bound.specs.declared.area.AreaTest.TheVariants as test;
@@ -9,7 +9,7 @@ use sky_vector::{Dir, Pos, turn};
 use sql_bound::{AreaTest, SquaredRadius};
 use sql_tree::{AreaKind, IntList, SignedInt};
 
-/// Returns the int as a number. Does not allocate.
+/// Returns the written integer as a number. Does not allocate.
 pub fn int_value(int: &SignedInt) -> i64
     ensures { result ≡ int_value int.now }
 {
@@ -17,28 +17,28 @@ pub fn int_value(int: &SignedInt) -> i64
     if int.minus { 0 - size } else { size }
 }
 
-// Returns the direction with these components.
+// Returns the direction with these components, or `None` if one is outside its limits.
 fn dir_at(dx: i64, dy: i64) -> Option<Dir>
     ensures { result ≡ dir_of dx dy }
 {
     Dir::new(dx, dy)
 }
 
-// Returns the position with these components.
+// Returns the position with these components, or `None` if one is outside its limits.
 fn pos_at(x: i64, y: i64, z: i64) -> Option<Pos>
     ensures { result ≡ pos_of x y z }
 {
     Pos::new(x, y, z)
 }
 
-// Returns the direction with these components, or `None` if one is outside its limits.
+// Returns the direction with these written components, or `None` if one is outside its limits.
 fn dir_of(dx: &SignedInt, dy: &SignedInt) -> Option<Dir>
     ensures { result ≡ dir_of (int_value dx.now) (int_value dy.now) }
 {
     dir_at(int_value(dx), int_value(dy))
 }
 
-// Returns the position with these components, or `None` if one is outside its limits.
+// Returns the position with these written components, or `None` if one is outside its limits.
 fn pos_of(x: &SignedInt, y: &SignedInt, z: &SignedInt) -> Option<Pos>
     ensures { result ≡ pos_of (int_value x.now) (int_value y.now) (int_value z.now) }
 {
@@ -58,7 +58,7 @@ pub fn area_test(kind: AreaKind, args: &IntList) -> Option<AreaTest>
     }
 }
 
-// Returns a band, from its arguments.
+// Returns the band with these arguments, or `None` if their number is wrong.
 fn band_test(lo: &SignedInt, rest: &[SignedInt]) -> Option<AreaTest>
     ensures { result ≡ area_test area.Band (int_value lo.now ∷ map int_value rest.now) }
 {
@@ -71,7 +71,7 @@ fn band_test(lo: &SignedInt, rest: &[SignedInt]) -> Option<AreaTest>
     }
 }
 
-// Returns a cap, from its arguments.
+// Returns the cap with these arguments, or `None` as `area_test` does.
 fn cap_test(x: &SignedInt, rest: &[SignedInt]) -> Option<AreaTest>
     ensures { result ≡ area_test area.Cap (int_value x.now ∷ map int_value rest.now) }
 {
@@ -91,7 +91,7 @@ fn cap_around(centre: Option<Pos>, n: i64) -> Option<AreaTest>
     }
 }
 
-// Returns a box, from its arguments.
+// Returns the box with these arguments, or `None` as `area_test` does.
 fn boxed_test(lo: &SignedInt, rest: &[SignedInt]) -> Option<AreaTest>
     ensures { result ≡ area_test area.Boxed (int_value lo.now ∷ map int_value rest.now) }
 {

@@ -1,9 +1,9 @@
 //! Reads the records of a text: the fields that tables of all forms share, and lemmas about the rows read so far.
 //!
-//! Callers see a reader as the records that it has yet to return (`specs/Standing.antt`). They see rows that were read as
-//! those of the records before the first fault other than a repeated id (`specs/Judged.antt`), whatever the form of their
-//! table. Below: the kit's `csv` splits a text into records, `sky_text` reads numbers, `table_rules` defines what records
-//! mean. Above: the readers of the object table and of the source table. No rows are stored here.
+//! Callers see a reader as the records that it has yet to return (`specs/Standing.antt`). They see rows that were read
+//! as those of the records before the first fault other than a repeated id (`specs/Judged.antt`), whatever the form of
+//! their table. Below: the kit's `csv` splits a text into records, `sky_text` reads numbers, `table_rules` defines what
+//! records mean. No rows are stored here.
 #![tactic(auto)]
 
 mod fields;

@@ -14,7 +14,8 @@ pub fn send_line<K: Sink>(sink: &mut K, line: &[u8]) -> Put
     }
 }
 
-/// Goes on after a reply, unless the sink failed.
+/// Returns how the session ends after a reply, if the sink failed at it, or `None` if the session goes on. Does not
+/// allocate.
 pub fn after_reply(put: Put) -> Option<Session>
     ensures { AfterReply put result }
 {
@@ -24,7 +25,7 @@ pub fn after_reply(put: Put) -> Option<Session>
     }
 }
 
-/// Ends after the last line.
+/// Returns how the session ends after its last line: done, or with a fault of the sink. Does not allocate.
 pub fn after_last(put: Put) -> Option<Session>
     ensures { AfterLast put result }
 {

@@ -1,4 +1,5 @@
-//! The limits of a board: each is stated here once, and definitions and code cite it.
+//! The sizes of a board. They follow from the limits of the shared scan, which `scan_rules` defines: the numbers of
+//! queries, and how many run at once.
 
 use scan_rules::limits::{QUERY_MOST, RUNNING_MOST};
 

@@ -1,7 +1,7 @@
 //! The czar's session: a script over shared boards, with workers on threads beside the czar.
 //!
-//! Callers give the plan of each query of a script, and get the end of each. There is one board or several, and each
-//! query has one (`scan_boards`). The lines that the participant at each board has seen show what was done
+//! Callers give `drive` the plan of each query of a script, and get the end of each. There is one board or several, and
+//! each query has one (`scan_boards`). The lines that the participant at each board has seen show what was done
 //! (`specs/Drove.antt`). Below: `scan_boards` for the calls, `scan_worker` for the work, `session_script` for the
 //! steps. No rows and no SQL: a piece of work is any `P: Work`.
 #![tactic(auto)]

@@ -32,7 +32,7 @@ impl Work for Mark {
     }
 }
 
-/// Refuses the pieces of query 3 and no others, and no list: it tries again until there is memory for it.
+/// Refuses the pieces of query 3 and no others. For a list it tries again until there is memory.
 #[derive(Drop)]
 struct Refuser<'a, R> {
     rt: &'a R,
@@ -47,8 +47,6 @@ impl<'a, R: Wait> Engine<Mark> for Refuser<'a, R> {
     ghost root = { λ engine. engine.root };
 
     ghost refused = { λ engine q chunk. q ≡ 3 };
-
-    ghost unlisted = { λ engine refused task. ⊥ };
 
     fn scratch(&self) {}
 

@@ -46,7 +46,7 @@ names_its {ring} before s t c queries rest run q h =
     (any_cases (names_with t q) before (line ∷ rest) h)
 
 -- a query of a list has a position there
-has_turn : (queries : List ℕ) (q : ℕ) → has queries q ≡ true → (turn : ℕ) × (turn < length queries) × (query_of queries turn ≡ q)
+pub has_turn : (queries : List ℕ) (q : ℕ) → has queries q ≡ true → (turn : ℕ) × (turn < length queries) × (query_of queries turn ≡ q)
 has_turn [] q h = absurd (false≢true h)
 has_turn (x ∷ xs) q h = ⊎_elim
     (λ t. (zero, omega arith, eqb-true x q t))

@@ -1,16 +1,14 @@
 //! The conditions that compare one column with numbers: a comparison with a number on either side, and a BETWEEN of two
 //! numbers. A number is an integer, or an integer after a minus.
-ghost use Rattle.std.specs.Prelude.{◌≡◌, ◌≤ℤ◌, ℤ, IfSome, Option, Some, false, neg_ℤ, pos, true, if◌then◌else◌};
+ghost use Rattle.std.specs.Prelude.{◌≡◌, IfSome, false, true};
 ghost use Rattle.sql_tree.specs.declared.cond.Cmp.TheVariants.{AtMost};
-ghost use Rattle.sql_bound.specs.declared.expr.BoundCol.{BoundCol};
-ghost use Rattle.value_rules.specs.ColumnTests.{mirrored};
 ghost use Rattle.value_rules.specs.Formulas.{And, Compares, formula_of, formula_of_pred, negated_if};
-ghost use Rattle.value_rules.specs.Terms.{Column, term_of, term_of_factor};
-ghost use Rattle.value_rules.specs.Values.{value_at};
+ghost use Rattle.value_rules.specs.Terms.{Column, term_of};
 ghost use Rattle.source_filter.specs.Tests.{IsColumnTest};
 
 use crate::test::{ColumnTest, Test};
-use sql_bound::{BoundAtom, BoundCol, BoundCond, BoundExpr, BoundFactor, BoundPred};
+use expr_eval::{factor_of, mirrored, number_of};
+use sql_bound::{BoundAtom, BoundCol, BoundCond, BoundExpr, BoundPred};
 use sql_tree::Cmp;
 
 /// Returns the test of a column that the condition is, if it is one.
@@ -89,31 +87,6 @@ fn between(not: bool, value: &BoundExpr, low: &BoundExpr, high: &BoundExpr) -> O
     })
 }
 
-/// Returns the comparison with its sides exchanged.
-fn mirrored(op: Cmp) -> Cmp
-    ensures { result ≡ mirrored op }
-{
-    match op {
-        Cmp::Equal => Cmp::Equal,
-        Cmp::Differs => Cmp::Differs,
-        Cmp::Less => Cmp::More,
-        Cmp::AtMost => Cmp::AtLeast,
-        Cmp::More => Cmp::Less,
-        Cmp::AtLeast => Cmp::AtMost,
-    }
-}
-
-/// Returns the expression's only factor, if it has only one.
-fn factor_of(e: &BoundExpr) -> Option<&BoundFactor>
-    ensures { IfSome result (λ factor. term_of e.now ≡ term_of_factor factor.now) }
-{
-    if e.rest.len() == 0 && e.first.rest.len() == 0 {
-        Some(&e.first.first)
-    } else {
-        None
-    }
-}
-
 /// Returns the column that the expression is written as, if it is one.
 pub(crate) fn column_of(e: &BoundExpr) -> Option<BoundCol>
     ensures { IfSome result (λ col. term_of e.now ≡ Column col) }
@@ -126,24 +99,4 @@ pub(crate) fn column_of(e: &BoundExpr) -> Option<BoundCol>
         BoundAtom::Col(col) => Some(*col),
         _ => None,
     }
-}
-
-/// Returns the number that the expression is written as, if it is one.
-fn number_of(e: &BoundExpr) -> Option<i64>
-    ensures { IfSome result (λ n. (cells : BoundCol → Option ℤ)
-        → value_at cells (term_of e.now) ≡ Some n) }
-{
-    let factor = factor_of(e)?;
-    match &factor.atom {
-        BoundAtom::Int(n) => Some(signed(factor.minus, n.get())),
-        _ => None,
-    }
-}
-
-/// Returns the number, or with `minus` its negation.
-fn signed(minus: bool, n: i64) -> i64
-    requires { pos 0 ≤ℤ n }
-    ensures { result ≡ if minus then neg_ℤ n else n }
-{
-    if minus { -n } else { n }
 }

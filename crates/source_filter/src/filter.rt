@@ -19,7 +19,8 @@ use std::alloc::Global;
 
 /// Returns the numbers of the sources, ascending, that may meet the conditions with their objects. Each other source
 /// fails a condition with its object, if it has one. If a condition names objects by their ids, other columns are not read.
-/// A source has `width` extra columns. Allocates memory for a flag and a number for each source.
+/// A source has `width` extra columns. Allocates memory for a flag and a number for each source, or, if a condition
+/// names objects, for the numbers that are returned alone.
 pub fn candidates(
     alloc: Global,
     lists: &SourceLists,

@@ -1,7 +1,7 @@
 //! The sources whose objectId passes a test.
 //!
-//! Few do. So the ids are read in blocks, and first only whether any id of the block passes: that loop has no branch, so the
-//! compiler turns it into vector code, and nothing is written for a source that does not pass.
+//! Few do. So the ids are read in blocks, and a first loop finds whether any id of the block passes. That loop has no
+//! branch, so the compiler vectorises it. For a block in which no id passes, nothing is written.
 ghost use Rattle.std.specs.Prelude.{◌≡◌, ◌<◌, ◌≤◌, ◌^◌, ◌++◌, ◌∷◌, [], ℕ, ℤ, Bool, if◌then◌else◌, IfOk, OnOk, false, true, get_or, length, pos};
 ghost use Rattle.std.specs.Ordering.{int_eq};
 ghost use Rattle.source_filter.specs.Objects.{flag_number, numbers_where};
@@ -9,7 +9,7 @@ ghost use Rattle.source_filter.specs.Objects.{flag_number, numbers_where};
 use sky_io::Memory;
 use std::alloc::Global;
 
-/// The number of sources that are looked at together.
+/// The number of ids in a block.
 const BLOCK: usize = 64;
 
 /// A test of an id.

@@ -7,8 +7,8 @@
 //! names objects (`object`), their sources are found by objectId alone (`id_scan`). Other conditions are left to the
 //! evaluator of pairs.
 //!
-//! Below: `source_row` for the columns of sources, `lane_filter` for masks, and `child_rules` for the pair of a source
-//! with its object. Above: `child_scan`. No objects and no pairs are read here.
+//! Below: `source_row` for the columns of sources, `lane_filter` for masks, `expr_eval` for the number that a condition
+//! compares with, and `child_rules` for the pair of a source with its object. No objects and no pairs are read here.
 #![tactic(auto)]
 
 mod column_test;

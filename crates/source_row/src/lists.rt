@@ -1,10 +1,9 @@
 //! The columns of sources: a list for each, in which equal indexes belong to the same source.
 ghost use Rattle.std.specs.Prelude.{◌≡◌, ◌<◌, ℕ, [], ◌∷◌, ◌++◌, length, get_or, All, IfOk, OnOk, None};
-ghost use Rattle.column_lists.specs.Columns.{columns_appended};
 ghost use Rattle.source_row.specs.SourceColumns.{AreEven, no_sources, parts_appended, parts_at, source_behind};
 
 use sky_io::Memory;
-use sky_row::{Column, columns_at, empty_columns, gather};
+use sky_row::{Column, columns_appended, columns_at, empty_columns, gather};
 use std::alloc::Global;
 use std::marker::Model;
 
@@ -20,23 +19,6 @@ fn push_cells(columns: &mut Vec<Column>, cells: &[Option<i64>]) -> Result<(), Me
         columns[k].push(cells[k])?;
     }
     Ok(())
-}
-
-/// Returns the extra columns, each with the values of its counterpart after its own. Allocates memory.
-fn further_of_both(
-    alloc: Global,
-    columns: Vec<Column>,
-    others: &[Column],
-) -> Result<Vec<Column>, Memory>
-    requires { length others.now ≡ length columns.items }
-    ensures { IfOk result (λ found. found.items ≡ columns_appended columns.items others.now) }
-{
-    let mut found = Vec::with_capacity(alloc, columns.len())?;
-    for column in columns {
-        let both = column.followed_by(alloc, &others[found.len()])?;
-        found.push_reserved(both);
-    }
-    Ok(found)
 }
 
 /// The ids of sources, those of their objects, and their extra columns.
@@ -124,6 +106,7 @@ impl SourceLists {
             further,
         })
     }
+
     /// Returns the sources with those of another list after them, which has equally many extra columns. Allocates memory
     /// for each column. If an allocation fails, the sources are dropped.
     pub fn followed_by(self, alloc: Global, other: &SourceLists) -> Result<SourceLists, Memory>
@@ -137,7 +120,7 @@ impl SourceLists {
         } = self;
         ids.extend_from_slice(other.ids.as_slice())?;
         objects.extend_from_slice(other.objects.as_slice())?;
-        let further = further_of_both(alloc, further, other.further.as_slice())?;
+        let further = columns_appended(alloc, further, other.further.as_slice())?;
         Ok(SourceLists {
             ids,
             objects,

@@ -46,7 +46,7 @@ one_record a b first second all false y e1 e2 took next = absurd (cc e1)
 one_record a b first second all true true e1 e2 took next = absurd (cc e2)
 one_record a b first second all true false e1 e2 took next = took.split ∙ ap (λ l. first ∷ l) (next took.more took.gives)
 
--- ---- whether a record has a fault by itself is no matter of its number
+-- ---- whether a record has a fault by itself does not depend on its number
 
 unless_other : (right : Bool) (f g : LoadFault) → unless right f ≡ [] → unless right g ≡ []
 unless_other true f g none = refl

@@ -5,7 +5,7 @@ use Rattle.table_rules.specs.Forms.{Form}
 use Rattle.table_rules.specs.Records.{faults_of_header}
 use Rattle.record_text.specs.Judged.{Read}
 
--- whether a record as a whole has a fault is no matter of the number of its row
+-- whether a record as a whole has a fault does not depend on the number of its row
 abbrev pub AreFaultsWithoutNumber : {R : Type 0} → Form R → Type 0
 AreFaultsWithoutNumber form = (row other : ℕ) (fields : List (List ℕ)) → form.whole row fields ≡ [] → form.whole other fields ≡ []
 

@@ -127,7 +127,7 @@ pub trait Gathering: Drop {
     /// Each column of every table of the form has a name that is not empty.
     ghost named: { list_all is_filled form.first ≡ true };
 
-    /// Whether a record as a whole has a fault is no matter of the number of its row.
+    /// Whether a record as a whole has a fault does not depend on the number of its row.
     ghost numberless: { AreFaultsWithoutNumber form };
 
     /// A table is its names and its rows.

@@ -22,9 +22,13 @@ first_names = codes "objectId" ∷ codes "x" ∷ codes "y" ∷ codes "z" ∷ []
 abbrev pub column_names : List (List ℕ) → List (List ℕ)
 column_names names = first_names ++ names
 
--- the text can be the name of one more column after these: it is a name and none of theirs, and they are fewer than 16
+-- the text can be the name of one more column after these: a name and none of theirs, and they are fewer than `most`
+abbrev pub can_be_next : ℕ → List (List ℕ) → List ℕ → Bool
+can_be_next most columns text = nat_lt (length columns) most && is_name text && not (list_any (bytes_eq text) columns)
+
+-- the text can be the name of one more column after these, in an object table, which has at most 16
 abbrev pub can_follow : List (List ℕ) → List ℕ → Bool
-can_follow columns text = nat_lt (length columns) COLUMNS_MOST && is_name text && not (list_any (bytes_eq text) columns)
+can_follow columns text = can_be_next COLUMNS_MOST columns text
 
 -- the number of the column with this name, from 0, and None if no column has it
 abbrev pub column_of : List (List ℕ) → List ℕ → Option ℕ

@@ -3,11 +3,11 @@ use Rattle.std.specs.Prelude.{◌≡◌, ℕ, ◌-◌, ◌≤◌, Bool, true, �
 use Rattle.std.specs.Prelude.{Option, None, Some, unwrap_or, slice_get, if◌then◌else◌, nat_le, ◌==◌}
 use Rattle.std.specs.Prelude.{ℤ, pos, neg_ℤ, int_le, ◌≤ℤ◌, ◌<ℤ◌, IsTrue}
 use Rattle.std.specs.List.{list_all}
-use Rattle.std.specs.List.Sorted.{IsPermutation}
 use Rattle.sky_vector.specs.Points.{Point, is_admissible}
 use Rattle.sky_vector.specs.declared.limits.TheConstants.{COORDINATE_MOST}
 use Rattle.table_rules.specs.declared.limits.TheConstants.{FIRST_COLUMNS, FURTHER_COLUMNS_MOST, FURTHER_MOST}
 use Rattle.table_rules.specs.declared.limits.TheConstants.{ID_MOST, ROWS_MOST}
+use Rattle.table_rules.specs.IdOrder.{IsInOrder}
 
 -- A row: its id, its position, and its extra values, of which None is NULL.
 pub record Obj : Type 0 where
@@ -62,7 +62,6 @@ pub record IsCatalogue (c : Catalogue) : Type 0 where
   pub wide : All (λ o. length o.further ≡ length c.names) c.objects
   pub rows : All IsRow c.objects
 
--- The table of these rows: the same rows in strictly ascending order of id. If an id repeats, there is none.
-pub record IsTable (rows table : List Obj) : Type 0 where
-  pub same : IsPermutation rows table
-  pub ascend : IdsAscend table
+-- the table of these rows: the same rows in strictly ascending order of id; if an id repeats, there is none
+abbrev pub IsTable : (rows table : List Obj) → Type 0
+IsTable rows table = IsInOrder (λ o. o.id) rows table

@@ -25,9 +25,10 @@ use std::thread::Threads;
 /// answers computed before the first byte is written to the sink.
 ///
 /// Allocates memory for the texts, the rows and their chunks, and the answers; writing does not allocate. Queries are
-/// answered by this thread and as many workers as the arguments ask for, and these read the catalogue too. To report and
-/// to explain, it is read with a thread for each processor. A thread passes the gate before its work on a chunk.
-/// Waits for the other threads. One that cannot be started costs no answer.
+/// answered by this thread and as many workers as the arguments ask for, and the same number of threads reads the
+/// catalogue and the source table. To report and to explain, the catalogue is read with a thread for each processor. A
+/// thread passes the gate before its work on a chunk. Waits for the other threads. One that cannot be started costs no
+/// answer.
 pub fn qserv<R: Threads + Wait + Sync, S: Shelf, K: Sink, G: Gate + Sync>(
     rt: &R,
     alloc: Global,
