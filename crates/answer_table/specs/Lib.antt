@@ -1,1 +1,2 @@
+pub mod TableValues
 pub mod Tables

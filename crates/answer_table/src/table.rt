@@ -3,13 +3,13 @@
 ghost use Rattle.std.specs.Prelude.{◌≡◌, ◌*◌, ◌+◌, ◌<◌, ◌≤◌, All, length, slice_get, slice_range, Some};
 ghost use Rattle.answer_table.specs.Tables.{IsShort, table_of};
 
-use answer_rules::Value;
+use crate::table_value::TableValue;
 use std::marker::Model;
 
 /// The rows of an answer, in its order, all of the same width. An average is a count of ten-thousandths, at most 2^120 in size.
 #[derive(Drop)]
 pub struct Table {
-    values: Vec<Value>,
+    values: Vec<TableValue>,
     width: usize,
     rows: usize,
 }
@@ -27,7 +27,7 @@ impl Model for Table {
 }
 
 /// Returns `width` of the values, from position `from` on.
-fn part(values: &[Value], from: usize, width: usize) -> &[Value]
+fn part(values: &[TableValue], from: usize, width: usize) -> &[TableValue]
     requires { from + width ≤ length values.now }
     ensures { result.now ≡ slice_range values.now from (from + width) }
 {
@@ -36,7 +36,7 @@ fn part(values: &[Value], from: usize, width: usize) -> &[Value]
 
 impl Table {
     /// Creates the table of the given number of rows of the given width, row by row. Does not allocate.
-    pub fn of(values: Vec<Value>, width: usize, rows: usize) -> Table
+    pub fn of(values: Vec<TableValue>, width: usize, rows: usize) -> Table
         requires long { length values.items ≡ rows * width }
         requires short { All IsShort values.items }
         ensures { result ≡ table_of rows width values.items }
@@ -56,7 +56,7 @@ impl Table {
     }
 
     /// Returns the values of the row with this number, from 0. Does not allocate.
-    pub fn row(&self, i: usize) -> &[Value]
+    pub fn row(&self, i: usize) -> &[TableValue]
         requires { i < length self.now }
         ensures value { slice_get self.now i ≡ Some result.now }
         ensures short { All IsShort result.now }

@@ -5,6 +5,7 @@ ghost use Rattle.sky_vector.specs.Numbers.{IsQueryNumber};
 ghost use Rattle.answer_rules.specs.Rows.{shown};
 
 use crate::lists::room;
+use crate::table_value::TableValue;
 use answer_rules::Value;
 use sky_io::Memory;
 use sky_vector::Num;
@@ -21,14 +22,14 @@ pub fn shown(value: Option<Num>) -> Value
 }
 
 /// Appends the value.
-pub fn put(values: &mut Vec<Value>, value: Value) -> Result<(), Memory>
+pub fn put(values: &mut Vec<TableValue>, value: TableValue) -> Result<(), Memory>
     ensures { OnOk result (values.new.items ≡ values.old.items ++ value ∷ []) }
 {
     Ok(values.push(value)?)
 }
 
 /// Creates an empty list with room for the values of the given number of rows, so that it need not grow.
-pub fn values_room(alloc: Global, rows: usize, items: usize) -> Result<Vec<Value>, Memory>
+pub fn values_room(alloc: Global, rows: usize, items: usize) -> Result<Vec<TableValue>, Memory>
     ensures { IfOk result (λ values. values.items ≡ []) }
 {
     room(alloc, rows.saturating_mul(items))

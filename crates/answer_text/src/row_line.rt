@@ -9,6 +9,7 @@ ghost use Rattle.transcript_rules.specs.Tables.{row_line, value_text};
 ghost use Rattle.line_buffer.specs.declared.limits.TheConstants.{LINE_ROOM, NUMBER_ROOM};
 
 use answer_rules::Value;
+use answer_table::TableValue;
 use line_buffer::LineBuffer;
 
 /// The most values of a row whose line is made in one buffer. Each has at most 20 bytes, and one byte is before or after
@@ -16,12 +17,12 @@ use line_buffer::LineBuffer;
 const VALUES_MOST: usize = 24;
 
 // Adds a value at the front of the line, and returns whether it is NULL or a whole number of 64 bits.
-fn push_value(line: &mut LineBuffer, value: &Value) -> bool
+fn push_value(line: &mut LineBuffer, value: &TableValue) -> bool
     requires room { length line.old + NUMBER_ROOM ≤ LINE_ROOM }
     ensures text { result ≡ true → line.new ≡ value_text value.now ++ line.old }
     ensures few { length line.new ≤ length line.old + NUMBER_ROOM }
 {
-    match value {
+    match value.get() {
         Value::Null => {
             line.push_null();
             true
@@ -33,7 +34,7 @@ fn push_value(line: &mut LineBuffer, value: &Value) -> bool
 
 // Adds a value and the comma before it at the front of the line, and returns whether it is NULL or a whole number of 64
 // bits.
-fn push_further_value(line: &mut LineBuffer, value: &Value) -> bool
+fn push_further_value(line: &mut LineBuffer, value: &TableValue) -> bool
     requires room { length line.old + (NUMBER_ROOM + 1) ≤ LINE_ROOM }
     ensures text { result ≡ true → line.new ≡ (codes "," ++ value_text value.now) ++ line.old }
     ensures few { length line.new ≤ length line.old + (NUMBER_ROOM + 1) }
@@ -47,7 +48,7 @@ fn push_further_value(line: &mut LineBuffer, value: &Value) -> bool
 
 // Adds the values after the first at the front of the line, the last of them first, and returns whether each of them is
 // NULL or a whole number of 64 bits.
-fn push_further_values(line: &mut LineBuffer, rest: &[Value]) -> bool
+fn push_further_values(line: &mut LineBuffer, rest: &[TableValue]) -> bool
     requires room { length line.old + (NUMBER_ROOM + 1) * length rest.now ≤ LINE_ROOM }
     ensures text { result ≡ true →
         line.new ≡ behind_each (codes ",") (map value_text rest.now) ++ line.old }
@@ -64,7 +65,7 @@ fn push_further_values(line: &mut LineBuffer, rest: &[Value]) -> bool
 }
 
 // Makes the line of a row of one value or more, and returns whether it has.
-fn make_some(line: &mut LineBuffer, first: &Value, rest: &[Value]) -> bool
+fn make_some(line: &mut LineBuffer, first: &TableValue, rest: &[TableValue]) -> bool
     ensures { result ≡ true → line.new ≡ row_line (first.now ∷ rest.now) }
 {
     if rest.len() >= VALUES_MOST {
@@ -80,7 +81,7 @@ fn make_some(line: &mut LineBuffer, first: &Value, rest: &[Value]) -> bool
 
 /// Makes the line of a row, and returns whether it has. If a value is neither NULL nor a whole number of 64 bits, or the
 /// row has more values than the buffer has room for, returns false. Does not allocate.
-pub(crate) fn make_line(line: &mut LineBuffer, row: &[Value]) -> bool
+pub(crate) fn make_line(line: &mut LineBuffer, row: &[TableValue]) -> bool
     ensures { result ≡ true → line.new ≡ row_line row.now }
 {
     match row {

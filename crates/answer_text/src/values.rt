@@ -11,6 +11,7 @@ ghost use Rattle.answer_table.specs.Tables.{IsShort};
 
 use crate::row_line::make_line;
 use answer_rules::Value;
+use answer_table::TableValue;
 use column_text::pieces::put_counted;
 use line_buffer::LineBuffer;
 use partial_merge::Table;
@@ -18,19 +19,19 @@ use sky_io::{Put, Sink};
 use sky_text::{put_count, put_decimal4, put_int};
 
 // Writes a value: NULL, a whole number, or an average with four decimals.
-fn put_value<K: Sink>(sink: &mut K, value: &Value) -> Put
+fn put_value<K: Sink>(sink: &mut K, value: &TableValue) -> Put
     requires { IsShort value.now }
     ensures { Wrote (K.state sink.old) (K.state sink.new) (value_text value.now) result }
 {
-    match value {
+    match value.get() {
         Value::Null => sink.put(b"NULL"),
         Value::Whole(n) => put_int(sink, n.get()),
-        Value::Fixed4(scaled) => put_decimal4(sink, *scaled),
+        Value::Fixed4(scaled) => put_decimal4(sink, scaled),
     }
 }
 
 // Writes a value, and the comma before it.
-fn put_further_value<K: Sink>(sink: &mut K, value: &Value) -> Put
+fn put_further_value<K: Sink>(sink: &mut K, value: &TableValue) -> Put
     requires { IsShort value.now }
     ensures { Wrote (K.state sink.old) (K.state sink.new)
         (codes "," ++ value_text value.now) result }
@@ -42,7 +43,7 @@ fn put_further_value<K: Sink>(sink: &mut K, value: &Value) -> Put
 }
 
 // Writes the values after the first.
-fn put_further_values<K: Sink>(sink: &mut K, rest: &[Value]) -> Put
+fn put_further_values<K: Sink>(sink: &mut K, rest: &[TableValue]) -> Put
     requires { All IsShort rest.now }
     ensures { Wrote (K.state sink.old) (K.state sink.new)
         (behind_each (codes ",") (map value_text rest.now)) result }
@@ -57,7 +58,7 @@ fn put_further_values<K: Sink>(sink: &mut K, rest: &[Value]) -> Put
 }
 
 // Writes one value or more.
-fn put_some_values<K: Sink>(sink: &mut K, first: &Value, rest: &[Value]) -> Put
+fn put_some_values<K: Sink>(sink: &mut K, first: &TableValue, rest: &[TableValue]) -> Put
     requires first { IsShort first.now }
     requires rest { All IsShort rest.now }
     ensures { Wrote (K.state sink.old) (K.state sink.new)
@@ -70,7 +71,7 @@ fn put_some_values<K: Sink>(sink: &mut K, first: &Value, rest: &[Value]) -> Put
 }
 
 // Writes values, with commas between them.
-fn put_values<K: Sink>(sink: &mut K, values: &[Value]) -> Put
+fn put_values<K: Sink>(sink: &mut K, values: &[TableValue]) -> Put
     requires { All IsShort values.now }
     ensures { Wrote (K.state sink.old) (K.state sink.new) (by_commas (map value_text values.now))
         result }
@@ -82,7 +83,7 @@ fn put_values<K: Sink>(sink: &mut K, values: &[Value]) -> Put
 }
 
 // Writes the line of a row, value by value.
-fn put_row_values<K: Sink>(sink: &mut K, row: &[Value]) -> Put
+fn put_row_values<K: Sink>(sink: &mut K, row: &[TableValue]) -> Put
     requires { All IsShort row.now }
     ensures { Wrote (K.state sink.old) (K.state sink.new) (row_line row.now) result }
 {
@@ -93,7 +94,7 @@ fn put_row_values<K: Sink>(sink: &mut K, row: &[Value]) -> Put
 }
 
 // Writes the line of a row, which is one piece if it can be made in the buffer.
-fn put_row<K: Sink>(sink: &mut K, line: &mut LineBuffer, row: &[Value]) -> Put
+fn put_row<K: Sink>(sink: &mut K, line: &mut LineBuffer, row: &[TableValue]) -> Put
     requires { All IsShort row.now }
     ensures { Wrote (K.state sink.old) (K.state sink.new) (row_line row.now) result }
 {

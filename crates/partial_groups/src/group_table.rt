@@ -22,16 +22,27 @@ use crate::merged::merged;
 use crate::tally::Tally;
 use crate::totals::first_out;
 use answer_rules::{MergeItem, MergePlan, TotalOut, Value};
-use answer_table::Table;
 use answer_table::lists::cut;
 use answer_table::values::{put, values_room};
+use answer_table::{Table, TableValue};
 use sky_io::{Memory, Stop};
 use sql_bound::{ColList, Int};
 use std::alloc::Global;
 
+/// Returns the value as one of a table.
+fn table_value(value: Value) -> TableValue
+    requires { IsShort value }
+    ensures { result ≡ value }
+{
+    match TableValue::new(value) {
+        None => unreachable!(),
+        Some(made) => made,
+    }
+}
+
 /// Appends the merged items of a group.
 fn put_group(
-    values: &mut Vec<Value>,
+    values: &mut Vec<TableValue>,
     keys: &ColList,
     tallies: &[Tally],
     group: &GroupEntry,
@@ -44,7 +55,7 @@ fn put_group(
     ensures short { OnOk result (All IsShort values.new.items) }
 {
     for item in items {
-        put(values, merged(keys, tallies, group, item))?;
+        put(values, table_value(merged(keys, tallies, group, item)))?;
     }
     Ok(())
 }
@@ -56,7 +67,7 @@ fn values_of(
     keys: &ColList,
     tallies: &[Tally],
     items: &[MergeItem],
-) -> Result<Vec<Value>, Memory>
+) -> Result<Vec<TableValue>, Memory>
     requires { All (λ l. IsMergeable keys.now items.now tallies.now l.group) lines.now }
     ensures values { IfOk result (λ values. values.items
         ≡ flat_map (line_values tallies.now keys.now items.now) lines.now) }

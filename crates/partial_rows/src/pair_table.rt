@@ -8,25 +8,25 @@ ghost use Rattle.answer_rules.specs.Ranks.{row_order};
 ghost use Rattle.partial_rows.specs.Pairs.{pair_row, pair_values};
 
 use crate::id_pair::IdPair;
-use answer_rules::{MergeItem, MergePlan, Value};
-use answer_table::Table;
+use answer_rules::{MergeItem, MergePlan};
 use answer_table::lists::cut;
-use answer_table::values::{put, shown, values_room};
+use answer_table::values::{put, values_room};
+use answer_table::{Table, TableValue};
 use sky_io::Memory;
 use std::alloc::Global;
 
 /// Returns a merged item of a pair.
-fn column(pair: &IdPair, item: &MergeItem) -> Value
+fn column(pair: &IdPair, item: &MergeItem) -> TableValue
     ensures { result ≡ column_value (pair_row pair.now).cells item.now }
 {
     match item {
-        MergeItem::Column(n) => shown(pair.value(*n)),
-        _ => Value::Null,
+        MergeItem::Column(n) => TableValue::shown(pair.value(*n)),
+        _ => TableValue::shown(None),
     }
 }
 
 /// Appends the merged items of a pair.
-fn put_pair(values: &mut Vec<Value>, pair: &IdPair, items: &[MergeItem]) -> Result<(), Memory>
+fn put_pair(values: &mut Vec<TableValue>, pair: &IdPair, items: &[MergeItem]) -> Result<(), Memory>
     ensures { OnOk result (values.new.items ≡ values.old.items ++ pair_values items.now pair.now) }
 {
     for item in items {
@@ -36,7 +36,11 @@ fn put_pair(values: &mut Vec<Value>, pair: &IdPair, items: &[MergeItem]) -> Resu
 }
 
 /// Returns the values of the answer's rows.
-fn pair_values(alloc: Global, pairs: &[IdPair], items: &[MergeItem]) -> Result<Vec<Value>, Memory>
+fn pair_values(
+    alloc: Global,
+    pairs: &[IdPair],
+    items: &[MergeItem],
+) -> Result<Vec<TableValue>, Memory>
     ensures { IfOk result (λ values. values.items ≡ flat_map (pair_values items.now) pairs.now) }
 {
     let mut values = values_room(alloc, pairs.len(), items.len())?;

@@ -10,9 +10,9 @@ ghost use Rattle.partial_rows.specs.Rows.{IsIn, row_of, row_values};
 use crate::cell::Cell;
 use crate::compact_row::CompactRow;
 use crate::ranked::Ranked;
-use answer_rules::{MergeItem, Value};
-use answer_table::Table;
-use answer_table::values::{put, shown, values_room};
+use answer_rules::MergeItem;
+use answer_table::values::{put, values_room};
+use answer_table::{Table, TableValue};
 use sky_io::Memory;
 use sky_vector::Num;
 use std::alloc::Global;
@@ -25,17 +25,17 @@ fn cell_at(cells: &[Cell], n: usize) -> Option<Num>
 }
 
 /// Returns a merged item of a row.
-fn column(cells: &[Cell], item: &MergeItem) -> Value
+fn column(cells: &[Cell], item: &MergeItem) -> TableValue
     ensures { result ≡ column_value cells.now item.now }
 {
     match item {
-        MergeItem::Column(n) => shown(cell_at(cells, *n)),
-        _ => Value::Null,
+        MergeItem::Column(n) => TableValue::shown(cell_at(cells, *n)),
+        _ => TableValue::shown(None),
     }
 }
 
 /// Appends the merged items of a row.
-fn put_row(values: &mut Vec<Value>, cells: &[Cell], items: &[MergeItem]) -> Result<(), Memory>
+fn put_row(values: &mut Vec<TableValue>, cells: &[Cell], items: &[MergeItem]) -> Result<(), Memory>
     ensures { OnOk result (values.new.items
         ≡ values.old.items ++ map (column_value cells.now) items.now) }
 {
@@ -59,7 +59,7 @@ fn row_values(
     rows: &[Ranked],
     cells: &[Cell],
     items: &[MergeItem],
-) -> Result<Vec<Value>, Memory>
+) -> Result<Vec<TableValue>, Memory>
     requires { All (IsIn (length cells.now)) rows.now }
     ensures { IfOk result (λ values. values.items
         ≡ flat_map (row_values cells.now items.now) rows.now) }
@@ -86,7 +86,7 @@ fn compact_values(
     width: usize,
     cells: &[Cell],
     items: &[MergeItem],
-) -> Result<Vec<Value>, Memory>
+) -> Result<Vec<TableValue>, Memory>
     requires { All (λ p. IsIn (length cells.now) (full width p)) compact.now }
     ensures { IfOk result (λ values. values.items
         ≡ flat_map (compact_values cells.now items.now width) compact.now) }
