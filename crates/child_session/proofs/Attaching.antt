@@ -20,8 +20,8 @@ use Rattle.child_transcripts.specs.ChildLaws.{BoundCanBeRun}
 use Rattle.child_session.specs.ChildAttached.{CanRunChild, child_base, child_base_of, query_in_plan, query_values, with_child_if_planned}
 use Rattle.child_session.specs.ChildPlans.{AreChildPlans, ChildPlanFor}
 use Rattle.child_session.specs.ChildSurvey.{ChildSurvey}
-use Rattle.child_session.specs.ChildQueryPlans.{ChildPlan}
-use Rattle.query_ends.specs.declared.plan.QueryPlan.TheVariants.{Planned, Refused}
+use Rattle.child_session.specs.declared.plan.ChildPlan.{ChildPlan}
+use Rattle.child_session.specs.declared.plan.ChildPlan.TheVariants.{Planned, Refused}
 
 -- ---- the root grows
 

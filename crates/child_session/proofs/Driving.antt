@@ -20,7 +20,7 @@ use Rattle.child_rules.specs.ChildBases.{ChildAsks, ChildBase, ChildStands}
 use Rattle.child_session.specs.ChildAttached.{child_attached, child_base_of, child_board_of, child_chunks_planned}
 use Rattle.child_session.specs.ChildDriven.{IsChildDriven}
 use Rattle.child_session.specs.ChildSurvey.{ChildSurvey}
-use Rattle.child_session.specs.ChildQueryPlans.{ChildPlan}
+use Rattle.child_session.specs.declared.plan.ChildPlan.{ChildPlan}
 
 -- the czar's participant has seen the journal that justifies the ends
 pub driven : {Y Z : Type 0} (workers : ℕ) (t : ChildSurvey) (steps ran : List Step) (plans : List ChildPlan)

@@ -6,7 +6,7 @@ use Rattle.session_script.specs.Views.{ScriptView, query_lines}
 use Rattle.session_script.specs.Laws.{LinesAreTexts}
 use Rattle.query_ends.proofs.Lines.{all_lines, one_each, one_more}
 use Rattle.child_session.specs.ChildPlans.{AreChildPlans, ChildPlanFor}
-use Rattle.child_session.specs.ChildQueryPlans.{ChildPlan}
+use Rattle.child_session.specs.declared.plan.ChildPlan.{ChildPlan}
 use Rattle.child_session.specs.ChildSurvey.{ChildSurvey}
 
 -- one plan more

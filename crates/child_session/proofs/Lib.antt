@@ -1,6 +1,7 @@
 pub mod Planning
 pub mod EachPlan
 pub mod Attaching
+pub mod PlansOfForm
 pub mod Fitting
 pub mod Scanning
 pub mod Crossing

@@ -20,7 +20,7 @@ use Rattle.child_transcripts.specs.ChildQueries.{child_refusal, child_understood
 use Rattle.child_session.specs.ChildPlans.{ChildPlanFor, IsChildPlanBy, IsChildPlanOf}
 use Rattle.child_session.specs.ChildRefusals.{IsUnboundPlan, IsUnreadPlan}
 use Rattle.child_session.specs.ChildSurvey.{ChildSurvey}
-use Rattle.child_session.specs.ChildQueryPlans.{ChildPlan}
+use Rattle.child_session.specs.declared.plan.ChildPlan.{ChildPlan}
 
 -- a line that has no tree
 no_query : (s : Schemas) (text : Bytes) (fault : SqlFault) → tree_of text ≡ Err fault

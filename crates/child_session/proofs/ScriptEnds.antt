@@ -1,8 +1,9 @@
 -- How the child queries of a script end, by their plans and the ends at the board.
-use Rattle.std.proofs.Common.{◌≡◌, ◌∙◌, sym, ap, refl, subst, ℕ, ◌≤◌, arith, false, ◌||◌, List, [], ◌∷◌, length}
-use Rattle.std.proofs.Common.{map, Some, Ok, Err, Result, IfOk, is_some}
+use Rattle.std.proofs.Common.{◌≡◌, ◌∙◌, sym, ap, refl, subst, ℕ, ◌≤◌, arith, false, ◌||◌, List, [], length}
+use Rattle.std.proofs.Common.{map, Some, Option, Ok, Err, Result, IfOk, is_some}
 use Rattle.std.specs.List.{AllZip}
 use Rattle.std.specs.Result.{result_err}
+use Rattle.std.proofs.lemmas.List.{length-map}
 use Rattle.std.proofs.lemmas.List.FromFn.{length-range_with_len}
 use Rattle.std.proofs.lemmas.List.Sums.{count_by-le-length, length-filter}
 use Rattle.table_rules.specs.Objects.{IsCatalogue}
@@ -22,9 +23,11 @@ use Rattle.session_rules.proofs.Numbers.{same_entry}
 use Rattle.session_script.specs.Laws.{NumberedFrom}
 use Rattle.session_script.specs.declared.step.Step.{Step}
 use Rattle.session_script.specs.Views.{ScriptView, query_lines}
-use Rattle.scan_session.specs.Drove.{Drove}
-use Rattle.scan_session.specs.Laws.{IsJudgedBy, ShowsKind}
+use Rattle.scan_session.specs.Drove.{AreEnds, Drove}
+use Rattle.scan_session.specs.KnownEnds.{plan_in}
+use Rattle.scan_session.specs.Laws.{AreDriven, IsJudgedBy, ShowsKind}
 use Rattle.scan_session.specs.declared.end.End.{End as BoardEnd}
+use Rattle.scan_session.specs.declared.end.Planned.{Planned as Attachable}
 use Rattle.transcript_rules.specs.Transcripts.{is_idle}
 use Rattle.child_rules.specs.declared.bound.ChildBound.{ChildBound}
 use Rattle.child_rules.specs.ChildBases.{ChildStands, IsChildBase}
@@ -35,23 +38,26 @@ use Rattle.child_bind_rules.specs.PairColumns.{schemas_of}
 use Rattle.child_transcripts.specs.ChildQueries.{child_refusal, child_understood}
 use Rattle.child_transcripts.specs.ChildTranscripts.{ChildFitEnds, child_judged_of}
 use Rattle.child_transcripts.specs.ChildLaws.{BoundCanBeRun}
-use Rattle.query_ends.specs.Attached.{chunks_in}
-use Rattle.query_ends.specs.Ended.{MayEnd}
+use Rattle.query_ends.specs.Attached.{chunks_in, planned_for}
+use Rattle.query_ends.specs.Ended.{AreEnded, MayEnd}
 use Rattle.query_ends.specs.Ends.{kind_of}
 use Rattle.query_ends.specs.States.{AreEndsIn}
 use Rattle.query_ends.specs.declared.end.End.{End}
 use Rattle.query_ends.specs.declared.end.End.TheVariants as end
+use Rattle.query_ends.specs.declared.plan.QueryPlan.{QueryPlan}
 use Rattle.query_ends.specs.declared.plan.QueryPlan.TheVariants.{Planned, Refused}
 use Rattle.query_ends.proofs.EndsOfPlans.{AreEndsFor, StandsByPlan, ends_for}
 use Rattle.query_ends.proofs.ScriptEnds.{Answering, AnswersAreDone, all_done, all_fit, all_in_states, all_may_end, all_shown, none_empty}
 use Rattle.child_session.specs.ChildAttached.{child_base_of, child_chunks_planned, first_child_piece}
 use Rattle.child_session.specs.ChildDriven.{AnsweredAreDone, IsChildDriven}
-use Rattle.child_session.specs.ChildEnded.{AreChildEnded, IsAnsweredBy, MayAnswerChild}
+use Rattle.child_session.specs.ChildEnded.{IsAnsweredBy, MayAnswerChild}
 use Rattle.child_session.specs.ChildEnds.{ChildEndShows, ChildEndsShow}
-use Rattle.child_session.specs.ChildPlans.{AreChildPlans, ChildPlanFor, IsChildPlanned}
-use Rattle.child_session.specs.ChildQueryPlans.{ChildPlan}
+use Rattle.child_session.specs.ChildPlans.{AreChildPlans, IsChildPlanned}
+use Rattle.child_session.specs.ChildQueryPlans.{child_plan_of, child_plans_of}
+use Rattle.child_session.specs.declared.plan.ChildPlan.{ChildPlan}
 use Rattle.child_session.specs.ChildSurvey.{ChildSurvey}
 use Rattle.child_session.proofs.Attaching.{known_under}
+use Rattle.child_session.proofs.PlansOfForm.{IsPlanOfLine, all_attached_for, of_lines, planned_at}
 
 -- The plan and both tables are within the limits, and what binds over such tables can be run.
 pub record AreLimited (t : ChildSurvey) : Type 0 where
@@ -83,9 +89,11 @@ can_run t text head bound chunks limits is =
 abbrev pub IsChildPieceOf : ChildSurvey → ChildBound → List ℕ → PieceView → Type 0
 IsChildPieceOf t query chunks piece = ChildFor t.plan t.rows.objects t.table.sources query.bound chunks piece
 
-stands_by_plan : (t : ChildSurvey) (plans : List ChildPlan) → StandsByPlan (IsChildPieceOf t) (ChildStands (child_base_of t plans)) plans
+stands_by_plan : (t : ChildSurvey) (plans : List (QueryPlan ChildBound))
+    → StandsByPlan (IsChildPieceOf t) (ChildStands (child_base_of t (child_plans_of plans))) plans
 stands_by_plan t plans i head query chunks piece there stands =
-    let is : stands.query ≡ query = same_entry _ _ (sym stands.known ∙ known_under plans i head query chunks there) in
+    let here = planned_at plans i (Planned head query chunks) there in
+    let is : stands.query ≡ query = same_entry _ _ (sym stands.known ∙ known_under (child_plans_of plans) i head query chunks here) in
     subst (λ (q : ChildBound). IsChildPieceOf t q chunks piece) is stands.piece
 
 -- ---- the limits of a plan
@@ -127,7 +135,7 @@ shows_answer t text head query chunks piece end.Spent limits for is ended = absu
 -- ---- each fits
 
 -- the facts about a query, by its plan
-judged_by : (t : ChildSurvey) (text : Bytes) (p : ChildPlan) → ChildPlanFor t text p
+judged_by : (t : ChildSurvey) (text : Bytes) (p : QueryPlan ChildBound) → IsPlanOfLine t text p
     → IsJudgedBy (chunks_in p) (child_judged_of t.plan t.rows t.table text)
 unfolding child_judged_of child_refusal
 judged_by t text (Planned head query chunks) for = (
@@ -155,7 +163,7 @@ kind_of_answer t S k text head query chunks piece end.Spent for done ended = abs
 
 -- what child queries ensure
 answering : (t : ChildSurvey) → AreLimited t
-    → Answering (IsChildPieceOf t) MayAnswerChild IsAnsweredBy (ChildPlanFor t) (ChildEndShows t) (child_judged_of t.plan t.rows t.table)
+    → Answering (IsChildPieceOf t) MayAnswerChild IsAnsweredBy (IsPlanOfLine t) (ChildEndShows t) (child_judged_of t.plan t.rows t.table)
 answering t limits = record {
   may = λ text head query chunks piece for is. (
     record {
@@ -187,49 +195,66 @@ answers_are_done head query n piece end.Spent ended = absurd ended
 
 -- ---- under any names of the plans and of the ends at the board
 
-same_driven : {workers : ℕ} {t : ChildSurvey} {steps : List Step} {plans same : List ChildPlan} {seen : Journal} {ends given : List (BoardEnd PieceView)}
-    → IsChildDriven workers t steps plans seen ends → plans ≡ same → ends ≡ given → IsChildDriven workers t steps same seen given
+same_driven : {workers : ℕ} {t : ChildSurvey} {steps : List Step} {plans same : List (QueryPlan ChildBound)} {seen : Journal}
+    {ends given : List (BoardEnd PieceView)} → IsChildDriven workers t steps (child_plans_of plans) seen ends → plans ≡ same → ends ≡ given
+    → IsChildDriven workers t steps (child_plans_of same) seen given
 same_driven {workers} {t} {steps} {plans} {same} {seen} {ends} {given} d is are =
-    subst (λ (l : List ChildPlan). IsChildDriven workers t steps l seen given) is
-    (subst (λ (l : List (BoardEnd PieceView)). IsChildDriven workers t steps plans seen l) are d)
+    subst (λ (l : List (QueryPlan ChildBound)). IsChildDriven workers t steps (child_plans_of l) seen given) is
+    (subst (λ (l : List (BoardEnd PieceView)). IsChildDriven workers t steps (child_plans_of plans) seen l) are d)
+
+-- what is planned for the queries, by their plans as those of queries of any form
+planned_by_form : {workers : ℕ} {t : ChildSurvey} {steps : List Step} (plans : List (QueryPlan ChildBound)) {seen : Journal}
+    {ends : List (BoardEnd PieceView)} → IsChildDriven workers t steps (child_plans_of plans) seen ends
+    → AreDriven workers (planned_for first_child_piece plans) steps (chunk_count t.plan) (λ q. planned_for first_child_piece plans) (λ q. seen)
+planned_by_form {workers} {t} {steps} plans {seen} {ends} d =
+    subst (λ (l : List (Option (Attachable PieceView))). AreDriven workers (plan_in l) steps (chunk_count t.plan) (λ q. plan_in l) (λ q. seen))
+    (all_attached_for plans) d.driven
 
 -- the ends at the board, plan by plan
-left : {workers : ℕ} {t : ChildSurvey} {steps : List Step} {plans : List ChildPlan} {seen : Journal} {ends : List (BoardEnd PieceView)}
-    → IsChildDriven workers t steps plans seen ends → AreEndsFor (IsChildPieceOf t) (λ q. seen) plans ends
+left : {workers : ℕ} {t : ChildSurvey} {steps : List Step} {plans : List (QueryPlan ChildBound)} {seen : Journal}
+    {ends : List (BoardEnd PieceView)} → IsChildDriven workers t steps (child_plans_of plans) seen ends
+    → AreEndsFor (IsChildPieceOf t) (λ q. seen) plans ends
 left {workers} {t} {steps} {plans} {seen} {ends} d =
-    ends_for (IsChildPieceOf t) first_child_piece (ChildStands (child_base_of t plans)) (λ q. seen) plans ends (stands_by_plan t plans) d.each d.are
+    let stands = ChildStands (child_base_of t (child_plans_of plans)) in
+    ends_for (IsChildPieceOf t) first_child_piece stands (λ q. seen) plans ends (stands_by_plan t plans)
+    (d.each ∙ length-map plans child_plan_of)
+    (subst (λ (l : List (Option (Attachable PieceView))). AreEnds stands (plan_in l) (λ q. seen) ends) (all_attached_for plans) d.are)
 
-pub may_all_end : (s : ScriptView) {workers : ℕ} {t : ChildSurvey} {plans same : List ChildPlan} {seen : Journal} {ends given : List (BoardEnd PieceView)}
-    → IsChildDriven workers t s.steps plans seen ends → plans ≡ same → ends ≡ given → AreLimited t → AreChildPlans t (query_lines s) same
-    → AllZip (MayEnd MayAnswerChild) same given
-may_all_end s {workers} {t} {plans} {same} {seen} {ends} {given} d is at limits are =
-    all_may_end (answering t limits) (λ q. seen) (query_lines s) same given are (left (same_driven d is at))
+pub may_all_end : (s : ScriptView) {workers : ℕ} {t : ChildSurvey} {all : List ChildPlan} {plans same : List (QueryPlan ChildBound)} {seen : Journal}
+    {ends given : List (BoardEnd PieceView)} → IsChildDriven workers t s.steps (child_plans_of plans) seen ends → plans ≡ same → ends ≡ given
+    → AreLimited t → child_plans_of same ≡ all → AreChildPlans t (query_lines s) all → AllZip (MayEnd MayAnswerChild) same given
+may_all_end s {workers} {t} {all} {plans} {same} {seen} {ends} {given} d is at limits of are =
+    let lines = query_lines s in
+    let each = of_lines t lines same (subst (λ (l : List ChildPlan). AreChildPlans t lines l) (sym of) are) in
+    all_may_end (answering t limits) (λ q. seen) lines same given each (left (same_driven d is at))
 
 -- What the ends of the queries are, if there are ends.
-pub record AreEndsOf (workers : ℕ) (t : ChildSurvey) (s : ScriptView) (plans : List ChildPlan) (seen : Journal) (qs : List End) : Type 0 where
+pub record AreEndsOf (workers : ℕ) (t : ChildSurvey) (s : ScriptView) (seen : Journal) (qs : List End) : Type 0 where
   pub fit : ChildFitEnds workers t.plan t.rows t.table s (map kind_of qs)
   pub shown : ChildEndsShow t (query_lines s) qs
   pub states : AreEndsIn (λ q. seen) (map kind_of qs)
   pub done : AnsweredAreDone seen (map kind_of qs)
 
-pub ends_hold : (s : ScriptView) {V : Type 0} {workers : ℕ} {t : ChildSurvey} {plans same : List ChildPlan} {seen : Journal}
-    {ends given : List (BoardEnd PieceView)} → IsChildDriven workers t s.steps plans seen ends → (items : V → List End) (r : Result V Memory)
-    → plans ≡ same → ends ≡ given → NumberedFrom 0 s.steps → AreLimited t → AreChildPlans t (query_lines s) same
-    → IfOk r (λ v. AreChildEnded same given (items v)) → IfOk r (λ v. AreEndsOf workers t s same seen (items v))
-ends_hold s {V} {workers} {t} {plans} {same} {seen} {ends} {given} d items (Ok v) is at numbered limits are ended =
+pub ends_hold : (s : ScriptView) {V : Type 0} {workers : ℕ} {t : ChildSurvey} {all : List ChildPlan} {plans same : List (QueryPlan ChildBound)}
+    {seen : Journal} {ends given : List (BoardEnd PieceView)} → IsChildDriven workers t s.steps (child_plans_of plans) seen ends
+    → (items : V → List End) (r : Result V Memory) → plans ≡ same → ends ≡ given → NumberedFrom 0 s.steps → AreLimited t
+    → child_plans_of same ≡ all → AreChildPlans t (query_lines s) all
+    → IfOk r (λ v. AreEnded IsAnsweredBy same given (items v)) → IfOk r (λ v. AreEndsOf workers t s seen (items v))
+ends_hold s {V} {workers} {t} {all} {plans} {same} {seen} {ends} {given} d items (Ok v) is at numbered limits of are ended =
     let lines = query_lines s in
+    let each = of_lines t lines same (subst (λ (l : List ChildPlan). AreChildPlans t lines l) (sym of) are) in
     let driven = same_driven d is at in
     let form = answering t limits in
     let of_pieces = IsChildPieceOf t in
     record {
-      fit = all_fit form (λ q. seen) lines same given are (left driven) first_child_piece (items v) ended workers (chunk_count t.plan) s
-          (λ q. child_chunks_planned same) refl numbered driven.driven;
-      shown = all_shown form (λ q. seen) lines same given are (left driven) (items v) ended;
+      fit = all_fit form (λ q. seen) lines same given each (left driven) first_child_piece (items v) ended workers (chunk_count t.plan) s
+          (λ q. planned_for first_child_piece same) refl numbered (planned_by_form same driven);
+      shown = all_shown form (λ q. seen) lines same given each (left driven) (items v) ended;
       states = all_in_states of_pieces IsAnsweredBy (λ q. seen) same given (left driven) (items v) ended
-          answers_are_done first_child_piece workers (chunk_count t.plan) s.steps (λ q. child_chunks_planned same) driven.driven;
+          answers_are_done first_child_piece workers (chunk_count t.plan) s.steps (λ q. planned_for first_child_piece same) (planned_by_form same driven);
       done = all_done of_pieces IsAnsweredBy (λ q. seen) same given (left driven) (items v) ended;
     }
-ends_hold s {V} {workers} {t} {plans} {same} {seen} {ends} {given} d items (Err m) is at numbered limits are ended = tt
+ends_hold s {V} {workers} {t} {all} {plans} {same} {seen} {ends} {given} d items (Err m) is at numbered limits of are ended = tt
 
 -- what follows of a value of an Ok result holds if there is one
 pub if_so : {V : Type 0} {A B : V → Type 0} (r : Result V Memory) → IfOk r A → ((v : V) → A v → B v) → IfOk r B
@@ -243,8 +268,3 @@ pub ends_drove : {V : Type 0} {workers : ℕ} {t : ChildSurvey} {steps : List St
 ends_drove {V} {workers} {t} {steps} {plans} {same} {seen} {ends} d (Ok v) is =
     subst (λ (l : List ChildPlan). Drove workers (child_chunks_planned l) steps seen) is (d.driven.drove 0)
 ends_drove {V} {workers} {t} {steps} {plans} {same} {seen} {ends} d (Err m) is = tt
-
--- what holds anyway holds if a result is Ok
-pub if_ok : {V : Type 0} {A : Type 0} (r : Result V Memory) → A → IfOk r (λ v. A)
-if_ok (Ok v) a = a
-if_ok (Err m) a = tt

@@ -9,12 +9,12 @@ use Rattle.child_rules.specs.Children.{IsChild}
 use Rattle.child_piece.specs.ChildRoots.{with_child}
 use Rattle.scan_core.specs.declared.board_root.BoardRoot.{BoardRoot}
 use Rattle.session_rules.specs.Numbers.{numbered_from}
+use Rattle.scan_session.specs.KnownEnds.{plan_in}
 use Rattle.scan_session.specs.Plans.{Plans}
 use Rattle.scan_session.specs.declared.end.Planned.{Planned as Attachable}
-use Rattle.query_ends.specs.Attached.{attached, planned_for}
 use Rattle.child_session.specs.ChildSurvey.{ChildSurvey}
-use Rattle.child_session.specs.ChildQueryPlans.{ChildPlan}
-use Rattle.query_ends.specs.declared.plan.QueryPlan.TheVariants.{Planned, Refused}
+use Rattle.child_session.specs.declared.plan.ChildPlan.{ChildPlan}
+use Rattle.child_session.specs.declared.plan.ChildPlan.TheVariants.{Planned, Refused}
 
 -- the child query of a query that is planned
 abbrev pub query_in_plan : ChildPlan → Option ChildBound
@@ -52,8 +52,9 @@ first_child_piece query = OfRows None []
 
 -- a query with its chunks and the piece over none; nothing is attached for one that is refused
 abbrev pub child_attached : ChildPlan → Option (Attachable PieceView)
-child_attached = attached first_child_piece
+child_attached (Planned head query chunks) = Some (record { chunks = chunks; empty = first_child_piece query })
+child_attached (Refused why) = None
 
 -- the chunks that are planned for each query, by its plan
 abbrev pub child_chunks_planned : List ChildPlan → Plans
-child_chunks_planned plans = planned_for first_child_piece plans
+child_chunks_planned plans = plan_in (map child_attached plans)

@@ -12,7 +12,7 @@ use Rattle.scan_session.specs.declared.end.End.{End as BoardEnd}
 use Rattle.child_rules.specs.ChildBases.{ChildStands}
 use Rattle.child_session.specs.ChildAttached.{child_base_of, child_chunks_planned}
 use Rattle.child_session.specs.ChildSurvey.{ChildSurvey}
-use Rattle.child_session.specs.ChildQueryPlans.{ChildPlan}
+use Rattle.child_session.specs.declared.plan.ChildPlan.{ChildPlan}
 
 -- each query that ended answered is done in the journal: all of its chunks were taken and delivered
 abbrev pub AnsweredAreDone : Journal → List EndKind → Type 0

@@ -1,14 +1,11 @@
--- The end of a child query, by its plan and by how it ended at the board.
-use Rattle.std.specs.Prelude.{◌≡◌, ℕ, List}
+-- The end of a child query that is answered.
+use Rattle.std.specs.Prelude.{◌≡◌, ℕ}
 use Rattle.sql_tree.specs.declared.query.Query.{Query}
 use Rattle.answer_rules.specs.Pieces.{PieceView}
-use Rattle.scan_session.specs.declared.end.End.{End as BoardEnd}
-use Rattle.query_ends.specs.Ended.{AreEnded}
 use Rattle.query_ends.specs.declared.end.End.{End}
 use Rattle.query_ends.specs.declared.end.End.TheVariants.{Answered, Refused, Cancelled, Spent}
 use Rattle.child_rules.specs.declared.bound.ChildBound.{ChildBound}
 use Rattle.child_piece.specs.ChildAnswers.{IsChildAnswer, MayFinishChild}
-use Rattle.child_session.specs.ChildQueryPlans.{ChildPlan}
 
 -- the query ends answered, with the answer over the chunks of this piece
 abbrev pub IsAnsweredBy : Query → ChildBound → ℕ → PieceView → End → Type 0
@@ -21,7 +18,3 @@ IsAnsweredBy head query chunks piece Spent = ⊥
 -- the query may be finished with this piece
 abbrev pub MayAnswerChild : ChildBound → PieceView → Type 0
 MayAnswerChild query piece = MayFinishChild query.bound piece
-
--- there is an end for each of the queries with these plans, in their order
-abbrev pub AreChildEnded : List ChildPlan → List (BoardEnd PieceView) → List End → Type 0
-AreChildEnded = AreEnded IsAnsweredBy

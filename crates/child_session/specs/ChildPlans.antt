@@ -11,8 +11,8 @@ use Rattle.child_rules.specs.declared.bound.ChildBound.{ChildBound}
 use Rattle.child_bind_rules.specs.PairColumns.{schemas_of}
 use Rattle.child_transcripts.specs.ChildQueries.{child_refusal, child_understood}
 use Rattle.child_session.specs.ChildSurvey.{ChildSurvey}
-use Rattle.child_session.specs.ChildQueryPlans.{ChildPlan}
-use Rattle.query_ends.specs.declared.plan.QueryPlan.TheVariants.{Planned, Refused}
+use Rattle.child_session.specs.declared.plan.ChildPlan.{ChildPlan}
+use Rattle.child_session.specs.declared.plan.ChildPlan.TheVariants.{Planned, Refused}
 
 -- A query that can be run: its tree, its bound query, and the chunks that it needs.
 pub record IsChildPlanned (t : ChildSurvey) (text : Bytes) (head : Query) (bound : Bound) (chunks : List ℕ) : Type 0 where

@@ -5,8 +5,8 @@ use Rattle.sky_io.specs.declared.Stop.TheVariants as stop
 use Rattle.sql_rules.specs.declared.fault.SqlFault.{SqlFault}
 use Rattle.bind_rules.specs.declared.fault.BindFault.{BindFault}
 use Rattle.transcript_rules.specs.declared.refusal.Refusal.TheVariants as refusal
-use Rattle.child_session.specs.ChildQueryPlans.{ChildPlan}
-use Rattle.query_ends.specs.declared.plan.QueryPlan.TheVariants.{Refused}
+use Rattle.child_session.specs.declared.plan.ChildPlan.{ChildPlan}
+use Rattle.child_session.specs.declared.plan.ChildPlan.TheVariants.{Refused}
 
 -- the fault of a line without a tree is its refusal
 abbrev pub IsUnreadPlan : Stop SqlFault → ChildPlan → Type 0

@@ -7,6 +7,7 @@ ghost use Rattle.session_script.specs.Views.{query_lines};
 ghost use Rattle.child_session.specs.ChildAttached.{CanRunChild, child_base_of, child_board_of};
 ghost use Rattle.child_session.specs.ChildAttached.{query_in_plan, query_values, with_child_if_planned};
 ghost use Rattle.child_session.specs.ChildPlans.{AreChildPlans};
+ghost use Rattle.child_session.specs.ChildQueryPlans.{child_plan_of, child_plans_of};
 
 use crate::plan::ChildPlan;
 use crate::session::ChildContext;
@@ -14,6 +15,7 @@ use crate::world::ChildWorld;
 use child_piece::{ChildPiece, ChildRoot, copy_of_child};
 use child_rules::ChildBound;
 use child_transcripts::laws::bound_can_be_run;
+use query_ends::QueryPlan;
 use scan_board::{Board, Seat, SharedBoard};
 use sky_io::{Gate, Memory};
 use std::alloc::Global;
@@ -24,21 +26,22 @@ use std::thread::Threads;
 type BoardAndSeat<'w> = (SharedBoard<ChildPiece<'w>>, Seat<Board<ChildPiece<'w>>>);
 
 /// Returns the child query of a query, if it is planned.
-fn query_of(plan: &ChildPlan) -> Option<&ChildBound>
-    ensures { option_map (λ query. query.now) result ≡ query_in_plan plan.now }
+fn query_of(plan: &QueryPlan<ChildBound>) -> Option<&ChildBound>
+    ensures { option_map (λ query. query.now) result ≡ query_in_plan (child_plan_of plan.now) }
 {
     match plan {
-        ChildPlan::Planned { query, .. } => Some(query),
-        ChildPlan::Refused(_) => None,
+        QueryPlan::Planned { query, .. } => Some(query),
+        QueryPlan::Refused(_) => None,
     }
 }
 
 /// Returns the child query of each query of a script, in their order, if it is planned. Allocates memory.
 pub(crate) fn child_queries<'p>(
     alloc: Global,
-    plans: &'p [ChildPlan],
+    plans: &'p [QueryPlan<ChildBound>],
 ) -> Result<Vec<Option<&'p ChildBound>>, Memory>
-    ensures { IfOk result (λ queries. query_values queries.items ≡ map query_in_plan plans.now) }
+    ensures { IfOk result (λ queries. query_values queries.items
+        ≡ map query_in_plan (child_plans_of plans.now)) }
 {
     let mut queries = Vec::new(alloc);
     for plan in plans {
@@ -61,7 +64,7 @@ fn push_query(
     ensures { OnOk result (root.new ≡ with_child_if_planned root.old q (query_in_plan plan.now)) }
 {
     match plan {
-        ChildPlan::Planned { query, .. } => match copy_of_child(alloc, query) {
+        ChildPlan::Planned { bound, .. } => match copy_of_child(alloc, bound) {
             Ok(copy) => root.push(q, copy),
             Err(Memory) => Err(Memory),
         },
@@ -69,7 +72,7 @@ fn push_query(
     }
 }
 
-/// Adds that of the query at an index to the root of the queries before it. Allocates memory for it.
+/// Adds a copy of the query at an index, if it is planned, to the root of the queries before it. Allocates memory for it.
 fn push_next(
     alloc: Global,
     world: &ChildWorld<'_>,

@@ -1,15 +1,49 @@
-//! The form of child queries: what is attached for one, and how it is answered.
+//! The form of child queries: their plans as those of any form, what is attached for a query, and how it is answered.
 
-ghost use Rattle.std.specs.Prelude.{IfOk};
+ghost use Rattle.std.specs.Prelude.{◌≡◌, IfOk};
 ghost use Rattle.child_piece.specs.ChildAnswers.{MayFinishChild};
 ghost use Rattle.child_session.specs.ChildEnded.{IsAnsweredBy};
+ghost use Rattle.child_session.specs.ChildQueryPlans.{child_plan_of, child_plans_of};
 
+use crate::plan::ChildPlan;
 use child_piece::ChildPiece;
 use child_rules::ChildBound;
-use query_ends::{End, QueryForm};
+use query_ends::{End, QueryForm, QueryPlan};
 use sky_io::Memory;
 use sql_tree::Query;
 use std::alloc::Global;
+
+/// Returns the plan of a child query as that of a query of any form.
+fn query_plan(plan: ChildPlan) -> QueryPlan<ChildBound>
+    ensures { child_plan_of result ≡ plan }
+{
+    match plan {
+        ChildPlan::Planned {
+            head,
+            bound,
+            chunks,
+        } => QueryPlan::Planned {
+            head,
+            query: bound,
+            chunks,
+        },
+        ChildPlan::Refused(why) => QueryPlan::Refused(why),
+    }
+}
+
+/// Returns the plans of child queries as those of queries of any form, in their order. Allocates memory.
+pub(crate) fn query_plans(
+    alloc: Global,
+    plans: Vec<ChildPlan>,
+) -> Result<Vec<QueryPlan<ChildBound>>, Memory>
+    ensures { IfOk result (λ query_plans. child_plans_of query_plans.items ≡ plans.items) }
+{
+    let mut query_plans = Vec::new(alloc);
+    for plan in plans {
+        query_plans.push(query_plan(plan))?;
+    }
+    Ok(query_plans)
+}
 
 /// Child queries, with the memory for their answers.
 #[derive(Drop)]

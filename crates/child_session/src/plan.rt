@@ -13,7 +13,7 @@ use crate::world::ChildWorld;
 use child_bind::bind_child;
 use child_rules::ChildBound;
 use czar::chunks_of;
-use query_ends::QueryPlan;
+use scan_rules::ChunkSet;
 use session_script::Script;
 use session_script::laws::query_lines_are_query_texts;
 use sky_io::{Memory, Stop};
@@ -23,9 +23,19 @@ use sql_tree::Query;
 use std::alloc::Global;
 use transcript_rules::Refusal;
 
-/// The plan of a child query: its bound query over both tables is run. It may be refused for the fault of its grammar, or else
-/// for the first fault of its binding over both tables.
-pub type ChildPlan = QueryPlan<ChildBound>;
+/// The plan of a child query, or the reason for which it is refused before it is run: the fault of its grammar, or else the
+/// first fault of its binding over both tables.
+#[derive(Drop)]
+pub enum ChildPlan {
+    /// The query's tree, the bound query over both tables, which is run, and the chunks that it needs.
+    Planned {
+        head: Query,
+        bound: ChildBound,
+        chunks: ChunkSet,
+    },
+    /// The reason for which it is refused.
+    Refused(Refusal),
+}
 
 /// Returns the plans of a script's queries, in their order; lines that wait or cancel are skipped. Allocates memory for
 /// them. Nothing is run.
@@ -125,7 +135,7 @@ fn plan_bound(
     match chunks_of(alloc, world.world(), &bound.bound) {
         Ok(chunks) => Ok(ChildPlan::Planned {
             head: tree,
-            query: bound,
+            bound,
             chunks,
         }),
         Err(Memory) => {

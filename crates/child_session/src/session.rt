@@ -14,19 +14,19 @@ ghost use Rattle.child_transcripts.specs.ChildTranscripts.{ChildFitEnds};
 ghost use Rattle.child_session.specs.ChildAttached.{child_attached, child_board_of, child_chunks_planned};
 ghost use Rattle.child_session.specs.ChildAttached.{query_in_plan, query_values};
 ghost use Rattle.child_session.specs.ChildDriven.{AnsweredAreDone, IsChildDriven};
-ghost use Rattle.child_session.specs.ChildEnded.{AreChildEnded};
 ghost use Rattle.child_session.specs.ChildEnds.{ChildEndsShow};
 ghost use Rattle.child_session.specs.ChildPlans.{AreChildPlans};
+ghost use Rattle.child_session.specs.ChildQueryPlans.{child_plans_of};
 
 use crate::attach::{board_for, child_queries};
 use crate::engine::ChildEngine;
-use crate::form::ChildForm;
+use crate::form::{ChildForm, query_plans};
 use crate::plan::{ChildPlan, child_plans};
 use crate::world::ChildWorld;
 use child_piece::ChildPiece;
 use child_rules::ChildBound;
 use child_transcripts::laws::bound_can_be_run;
-use query_ends::{End, all_attached, all_query_ends};
+use query_ends::{End, QueryPlan, all_attached, all_query_ends};
 use scan_board::{Board, Seat, SharedBoard};
 use scan_session::{End as BoardEnd, Planned, Scan, drive};
 use session_script::Script;
@@ -111,16 +111,22 @@ pub fn drive_children<'s, R: Threads + Wait + Sync, G: Gate + Sync>(
     bound_can_be_run();
     session.world.within_limits();
     let _ = session.script.steps();
-    let (ends, seat) = driven(session, plans.as_slice(), board, seat);
-    match ends {
-        Ok(ends) => {
-            let form = ChildForm {
-                alloc: session.alloc,
-            };
-            (all_query_ends(session.alloc, &form, plans, ends), seat)
+    let form = ChildForm {
+        alloc: session.alloc,
+    };
+    match query_plans(session.alloc, plans) {
+        Ok(plans) => {
+            let (ends, seat) = driven(session, plans.as_slice(), board, seat);
+            match ends {
+                Ok(ends) => (all_query_ends(session.alloc, &form, plans, ends), seat),
+                Err(Memory) => {
+                    drop(plans);
+                    (Err(Memory), seat)
+                }
+            }
         }
         Err(Memory) => {
-            drop(plans);
+            let seat = board.close(session.rt, seat);
             (Err(Memory), seat)
         }
     }
@@ -129,7 +135,7 @@ pub fn drive_children<'s, R: Threads + Wait + Sync, G: Gate + Sync>(
 /// Drives the queries with these plans, and returns the end of each at the board.
 fn driven<'s, R: Threads + Wait + Sync, G: Gate + Sync>(
     session: &ChildContext<'s, '_, R, G>,
-    plans: &[ChildPlan],
+    plans: &[QueryPlan<ChildBound>],
     board: &SharedBoard<ChildPiece<'s>>,
     seat: Seat<Board<ChildPiece<'s>>>,
 ) -> (
@@ -138,11 +144,12 @@ fn driven<'s, R: Threads + Wait + Sync, G: Gate + Sync>(
 )
     requires few { session.now.workers ≤ WORKERS_MOST }
     requires plans { AreChildPlans session.now.world.now (query_lines session.now.script.now)
-        plans.now }
+        (child_plans_of plans.now) }
     requires seat { seat ≡ first_seat board.now
-        (child_board_of session.now.world.now plans.now) }
+        (child_board_of session.now.world.now (child_plans_of plans.now)) }
     ensures driven { IfOk result.0 (λ ends. IsChildDriven session.now.workers
-        session.now.world.now session.now.script.now.steps plans.now result.1.seen ends.items) }
+        session.now.world.now session.now.script.now.steps (child_plans_of plans.now)
+        result.1.seen ends.items) }
     ensures made { IfOk result.0 (λ ends. result.1.made ≡ 1 + session.now.workers) }
     ensures manned { Manned ChildAsks seat.entry result.1 }
 {
@@ -161,9 +168,11 @@ type Parts<'p, 's> = (
 );
 
 /// Returns what is needed to drive the queries with these plans. Allocates memory.
-fn parts<'p, 's>(alloc: Global, plans: &'p [ChildPlan]) -> Result<Parts<'p, 's>, Memory>
-    ensures queries { IfOk result (λ r. query_values r.0.items ≡ map query_in_plan plans.now) }
-    ensures planned { IfOk result (λ r. r.1.items ≡ map child_attached plans.now) }
+fn parts<'p, 's>(alloc: Global, plans: &'p [QueryPlan<ChildBound>]) -> Result<Parts<'p, 's>, Memory>
+    ensures queries { IfOk result (λ r. query_values r.0.items
+        ≡ map query_in_plan (child_plans_of plans.now)) }
+    ensures planned { IfOk result (λ r. r.1.items
+        ≡ map child_attached (child_plans_of plans.now)) }
 {
     let queries = child_queries(alloc, plans)?;
     let planned = all_attached(alloc, &ChildForm { alloc }, plans)?;
@@ -174,7 +183,7 @@ fn parts<'p, 's>(alloc: Global, plans: &'p [ChildPlan]) -> Result<Parts<'p, 's>,
 /// plans are read by contracts alone.
 fn driven_at<'s, R: Threads + Wait + Sync, G: Gate + Sync>(
     session: &ChildContext<'s, '_, R, G>,
-    plans: &[ChildPlan],
+    plans: &[QueryPlan<ChildBound>],
     queries: &[Option<&ChildBound>],
     planned: Vec<Option<Planned<ChildPiece<'s>>>>,
     board: &SharedBoard<ChildPiece<'s>>,
@@ -185,13 +194,14 @@ fn driven_at<'s, R: Threads + Wait + Sync, G: Gate + Sync>(
 )
     requires few { session.now.workers ≤ WORKERS_MOST }
     requires plans { AreChildPlans session.now.world.now (query_lines session.now.script.now)
-        plans.now }
-    requires queries { query_values queries.now ≡ map query_in_plan plans.now }
-    requires planned { planned.items ≡ map child_attached plans.now }
+        (child_plans_of plans.now) }
+    requires queries { query_values queries.now ≡ map query_in_plan (child_plans_of plans.now) }
+    requires planned { planned.items ≡ map child_attached (child_plans_of plans.now) }
     requires seat { seat ≡ first_seat board.now
-        (child_board_of session.now.world.now plans.now) }
+        (child_board_of session.now.world.now (child_plans_of plans.now)) }
     ensures driven { IfOk result.0 (λ ends. IsChildDriven session.now.workers
-        session.now.world.now session.now.script.now.steps plans.now result.1.seen ends.items) }
+        session.now.world.now session.now.script.now.steps (child_plans_of plans.now)
+        result.1.seen ends.items) }
     ensures made { IfOk result.0 (λ ends. result.1.made ≡ 1 + session.now.workers) }
     ensures manned { Manned ChildAsks seat.entry result.1 }
 {

@@ -1,6 +1,6 @@
 use Rattle.std.proofs.Common.{sym, subst, refl}
 use Rattle.child_session.specs.ChildAttached.{CanRunChild, query_in_plan}
-use Rattle.child_session.specs.ChildQueryPlans.{ChildPlan}
+use Rattle.child_session.specs.declared.plan.ChildPlan.{ChildPlan}
 use Rattle.child_session.proofs.Attaching.{give_above, given_if}
 use Rattle.child_session.proofs.attach.push_next.Goals as goal
 

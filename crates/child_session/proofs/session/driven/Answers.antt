@@ -1,3 +1,4 @@
+use Rattle.child_session.specs.ChildQueryPlans.{child_plans_of}
 use Rattle.child_session.proofs.Driving.{closed_manned}
 use Rattle.child_session.proofs.session.driven.Goals as goal
 
@@ -12,4 +13,4 @@ returns-in-Ok-clause-made g c = c.driven_at.ensures.made
 
 pub returns-in-Err-clause-manned : goal.returns-in-Err-clause-manned
 returns-in-Err-clause-manned g c =
-    closed_manned c.args.session.now.world.now c.args.plans.now c.args.board.now c.args.seat c.close.result c.requires.seat c.close.ensures.called
+    closed_manned c.args.session.now.world.now (child_plans_of c.args.plans.now) c.args.board.now c.args.seat c.close.result c.requires.seat c.close.ensures.called

@@ -10,6 +10,7 @@ use Rattle.scan_session.specs.declared.end.Planned.{Planned as Attachable}
 use Rattle.answer_rules.specs.Pieces.{PieceView}
 use Rattle.std.specs.Prelude.{List, Option}
 use Rattle.child_session.specs.ChildAttached.{child_attached, child_base_of}
+use Rattle.child_session.specs.ChildQueryPlans.{child_plans_of}
 use Rattle.child_session.proofs.Attaching.{all_can_run, is_child_base, same_base}
 use Rattle.child_session.proofs.Crossing.{board_crossing, crossing}
 use Rattle.child_session.proofs.Driving.{at_board, driven}
@@ -35,23 +36,25 @@ drive-requires-clause-ring g c = λ κs lives p.
 
 pub drive-requires-clause-engine : goal.drive-requires-clause-engine
 drive-requires-clause-engine g c = λ κs lives p.
-    same_base c.args.session.now.world.now c.args.plans.now c.args.queries.now c.requires.queries ∙ sym (ap (λ s. s.root.root) c.requires.seat)
+    same_base c.args.session.now.world.now (child_plans_of c.args.plans.now) c.args.queries.now c.requires.queries ∙ sym (ap (λ s. s.root.root) c.requires.seat)
 
 pub drive-requires-clause-each : goal.drive-requires-clause-each
 drive-requires-clause-each g c = λ κs lives.
     let s = c.args.session.now in
-    c.args.planned.ok.0 ∙ ap length c.requires.planned ∙ length-map c.args.plans.now child_attached
-    ∙ a_plan_each s.world.now s.script.now c.args.plans.now c.requires.plans ∙ ap query_count (sym c.steps.ensures.steps)
+    let plans = child_plans_of c.args.plans.now in
+    c.args.planned.ok.0 ∙ ap length c.requires.planned ∙ length-map plans child_attached
+    ∙ a_plan_each s.world.now s.script.now plans c.requires.plans ∙ ap query_count (sym c.steps.ensures.steps)
 
 pub drive-requires-clause-few : goal.drive-requires-clause-few
 drive-requires-clause-few g c = λ κs lives.
     let s = c.args.session.now in
+    let plans = child_plans_of c.args.plans.now in
     omega (
       arith,
       c.args.planned.ok.0,
       ap length c.requires.planned,
-      length-map c.args.plans.now child_attached,
-      a_plan_each s.world.now s.script.now c.args.plans.now c.requires.plans,
+      length-map plans child_attached,
+      a_plan_each s.world.now s.script.now plans c.requires.plans,
       c.queries.ensures.count,
       c.queries.ensures.few,
     )
@@ -59,20 +62,21 @@ drive-requires-clause-few g c = λ κs lives.
 pub drive-requires-clause-fit : goal.drive-requires-clause-fit
 drive-requires-clause-fit g c = λ κs lives p.
     let s = c.args.session.now in
+    let plans = child_plans_of c.args.plans.now in
     let t = s.world.now in
     let limits = c.within_limits.ensures in
-    let few : length c.args.plans.now ≤ QUERY_MOST =
-    omega (arith, a_plan_each t s.script.now c.args.plans.now c.requires.plans, c.queries.ensures.count, c.queries.ensures.few) in
-    let base = is_child_base t c.args.plans.now limits.sky limits.rows limits.table few
-    (all_can_run c.bound_can_be_run.ensures t (query_lines s.script.now) c.args.plans.now limits.rows limits.table c.requires.plans) in
+    let few : length plans ≤ QUERY_MOST =
+    omega (arith, a_plan_each t s.script.now plans c.requires.plans, c.queries.ensures.count, c.queries.ensures.few) in
+    let base = is_child_base t plans limits.sky limits.rows limits.table few
+    (all_can_run c.bound_can_be_run.ensures t (query_lines s.script.now) plans limits.rows limits.table c.requires.plans) in
     subst (λ seat. PlansFit ChildStands ChildAsks seat.root.ring seat.root.root c.args.planned.items) (sym c.requires.seat)
-    (subst (λ (all : List (Option (Attachable PieceView))). PlansFit ChildStands ChildAsks (chunk_count t.plan) (child_base_of t c.args.plans.now) all) (sym c.requires.planned)
+    (subst (λ (all : List (Option (Attachable PieceView))). PlansFit ChildStands ChildAsks (chunk_count t.plan) (child_base_of t plans) all) (sym c.requires.planned)
     (child_plans_fit t (query_lines s.script.now) c.args.plans.now base c.requires.plans))
 
 pub returns-clause-driven : goal.returns-clause-driven
 returns-clause-driven g c =
     let s = c.args.session.now in
-    driven s.workers s.world.now s.script.now.steps c.steps.result.now c.args.plans.now c.args.planned c.args.seat c.drive.result.1 c.drive.result.0
+    driven s.workers s.world.now s.script.now.steps c.steps.result.now (child_plans_of c.args.plans.now) c.args.planned c.args.seat c.drive.result.1 c.drive.result.0
     c.steps.ensures.steps c.requires.planned (ap (λ s. s.root) c.requires.seat) (c.drive.ensures.manned tt) c.drive.ensures.drove c.drive.ensures.len c.drive.ensures.ends
 
 pub returns-clause-manned : goal.returns-clause-manned
