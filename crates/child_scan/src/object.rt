@@ -29,6 +29,35 @@ fn place_of(ids: &[i64], id: i64) -> Option<u32>
     ensures found { IfSome result (IsRowWith ids.now id) }
     ensures none { IfNone result (list_any (int_eq id) ids.now ≡ false) }
 {
+    match consecutive_place(ids, id) {
+        Some(at) => Some(at),
+        None => searched_place(ids, id),
+    }
+}
+
+/// Returns the index that the id has if the ids are consecutive, or `None` if another id is there.
+fn consecutive_place(ids: &[i64], id: i64) -> Option<u32>
+    requires few { length ids.now ≤ ROWS_MOST }
+    ensures { IfSome result (IsRowWith ids.now id) }
+{
+    if ids.is_empty() {
+        return None;
+    }
+    // an id before the first one gives an index beyond the list
+    let at = id.wrapping_sub(ids[0]).cast_unsigned() as usize;
+    if at < ids.len() && ids[at] == id {
+        return Some(at as u32);
+    }
+    None
+}
+
+/// Returns the index of the id among ids that ascend, by a binary search, or `None` if it is none of them.
+fn searched_place(ids: &[i64], id: i64) -> Option<u32>
+    requires few { length ids.now ≤ ROWS_MOST }
+    requires ascend { AllPairs (λ a b. a <ℤ b) ids.now }
+    ensures found { IfSome result (IsRowWith ids.now id) }
+    ensures none { IfNone result (list_any (int_eq id) ids.now ≡ false) }
+{
     match ids.binary_search(&id) {
         Ok(at) => Some(at as u32),
         Err(_) => None,

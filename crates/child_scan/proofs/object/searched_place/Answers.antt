@@ -1,7 +1,7 @@
 use Rattle.std.proofs.Common.{rules, w64, FitsSigned}
 use Rattle.std.proofs.lemmas.Int.{to_z-of_z}
 use Rattle.child_scan.proofs.Finding.{none_found}
-use Rattle.child_scan.proofs.object.place_of.Goals as goal
+use Rattle.child_scan.proofs.object.searched_place.Goals as goal
 
 pub returns-in-Err-clause-none : goal.returns-in-Err-clause-none
 returns-in-Err-clause-none c =
