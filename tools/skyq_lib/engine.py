@@ -13,8 +13,13 @@ from skyq_lib.errors import SkyqError
 CHECKOUT = os.path.dirname(os.path.dirname(os.path.dirname(os.path.abspath(__file__))))
 MOST_QUERIES = 255                  # of a script
 BUILDING = "qserv: crate "          # how the launcher's lines begin that tell how far it has built
-# What the launcher sets for the program's memory.
-MEMORY = {"MALLOC_TOP_PAD_": "1048576", "MALLOC_TRIM_THRESHOLD_": "2000000000", "GLIBC_TUNABLES": "glibc.malloc.hugetlb=1"}
+# What the launcher sets for the program's memory, unless the number of workers is 0.
+MEMORY = {
+    "MALLOC_TOP_PAD_": "1048576",
+    "MALLOC_TRIM_THRESHOLD_": "2000000000",
+    "MALLOC_MMAP_THRESHOLD_": "524288",
+    "GLIBC_TUNABLES": "glibc.malloc.hugetlb=1",
+}
 
 
 def program():

@@ -31,11 +31,11 @@ def degree_columns(ra_name, dec_name, ra, dec, places):
 
 def healpix_column(ra, dec, nside, places):
     """The column of nested HEALPix pixels."""
+    if nside < 1 or nside & (nside - 1) or nside > 2**20:
+        raise SkyqError(f"--healpix {nside}: nside is a power of two, at most 2^20")
     module = need("astropy_healpix", "--healpix")
     import astropy.units as u
 
-    if nside < 1 or nside & (nside - 1) or nside > 2**20:
-        raise SkyqError(f"--healpix {nside}: nside is a power of two, at most 2^20")
     pixels = module.HEALPix(nside, order="nested").lonlat_to_healpix(ra * u.deg, dec * u.deg)
     what = f"HEALPix pixel, nside {nside}, nested"
     return encode("healpix", "healpix", np.asarray(pixels, "i8"), np.zeros(len(ra), bool), unit=None, description=what, places=places)
