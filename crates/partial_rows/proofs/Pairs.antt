@@ -1,11 +1,13 @@
 -- Pairs whose values are their own two ids: in a multiset with other rows, in order, and in a table.
-use Rattle.std.proofs.Common.{◌≡◌, ℕ, ◌+◌, ◌-◌, ◌*◌, ◌^◌, ◌<◌, ◌≤◌, ℤ, Bool, true, false, List, [], ◌∷◌, ◌++◌, append_assoc, append-nil, map, length, length-append, take, get_or, Option, Some, None, refl, sym, ap, subst, ◌∙◌, arith, count_by, is_eq, is_lt, IsPermutation, IsSorted}
-use Rattle.std.specs.Cmp.{IsTotalOrder}
+use Rattle.std.proofs.Common.{◌≡◌, ℕ, ◌+◌, ◌-◌, ◌*◌, ◌^◌, ◌<◌, ◌≤◌, ℤ, Bool, true, false, cond, Equal, Greater, Less, List, [], ◌∷◌, ◌++◌, append_assoc, append-nil, map, length, length-append, take, get_or, Option, Some, None, refl, sym, ap, subst, ◌∙◌, arith, count_by, is_eq, is_lt, IsPermutation, IsSorted}
+use Rattle.std.specs.Ordering.{nat_cmp, ordering_then}
 use Rattle.std.specs.List.{All, AllByRecursion as Each, flat_map}
 use Rattle.std.specs.Bool.{OnTrue}
-use Rattle.std.specs.Prelude.{IfSome}
+use Rattle.std.specs.Prelude.{◌==◌, ◌≤ℤ◌, IfSome, int_lt, nat_lt}
+use Rattle.std.proofs.lemmas.Bool.{ltb-false}
+use Rattle.std.proofs.lemmas.Int.{ints}
 use Rattle.std.proofs.lemmas.Grind.{flat_map-append}
-use Rattle.std.proofs.lemmas.Cmp.{int_cmp_total, on_total, then_total}
+use Rattle.std.proofs.lemmas.Cmp.{nat_cmp_total}
 use Rattle.std.proofs.lemmas.List.{length-map, map-append, take-map, take_more}
 use Rattle.std.proofs.lemmas.List.Elements.{All-from_recursion, recursion_from_All}
 use Rattle.std.proofs.lemmas.List.Sorted.{IsPermutation-append_comm, IsPermutation-append_left, IsPermutation-append_right, IsPermutation-map, IsPermutation-middle, IsPermutation-refl, IsPermutation-sym, IsPermutation-to_front, IsPermutation-trans, length_permutation}
@@ -21,17 +23,16 @@ use Rattle.answer_rules.specs.Rows.{limit_of}
 use Rattle.answer_rules.proofs.Apart.{each_map}
 use Rattle.answer_rules.proofs.Ascending.{sorted_ascends}
 use Rattle.answer_rules.proofs.Keeping.{first_kept, keeps_all, keeps_joined, keeps_reordered}
-use Rattle.answer_rules.proofs.Orders.{count-append}
+use Rattle.answer_rules.proofs.Orders.{count-append, each_weaker}
 use Rattle.answer_rules.proofs.Sorting.{Ascends, only_order}
 use Rattle.answer_rules.proofs.Totals.{row_total}
-use Rattle.partial_rows.specs.declared.id_pair.IdPair.{IdPair}
 use Rattle.partial_rows.specs.declared.row_buffer.RowBuffer.{RowBuffer}
 use Rattle.partial_rows.specs.declared.row_buffer.RowBuffer.TheVariants as buffer
 use Rattle.partial_rows.specs.declared.rank.Rank.{Rank}
 use Rattle.partial_rows.specs.declared.ranked.Ranked.{Ranked}
 use Rattle.partial_rows.specs.Multisets.{ComesBeforeNone, IsTooLate, out_row, pushed_in, ranked_at, rows_in}
 use Rattle.partial_rows.specs.Rows.{row_of}
-use Rattle.partial_rows.specs.Pairs.{pair_order, pair_row, pair_values}
+use Rattle.partial_rows.specs.Pairs.{first_in, pair_row, pair_values, second_in}
 use Rattle.answer_table.specs.Tables.{IsShort, table_of}
 use Rattle.partial_rows.proofs.Putting.{too_late}
 use Rattle.partial_rows.proofs.Vacuuming.{keeps_itself, keeps_same}
@@ -58,13 +59,13 @@ row_kept limit old new pairs row k =
     (keeps_joined row_order limit (old ++ row ∷ []) pairs new pairs k (keeps_itself limit pairs))
 
 -- a pair is put
-pub pair_kept : (limit : Option ℕ) (rows : List OutRow) (ids : List IdPair) (pair : IdPair) → KeepsFirst row_order limit ((rows ++ map pair_row ids) ++ pair_row pair ∷ []) (rows ++ map pair_row (ids ++ pair ∷ []))
+pub pair_kept : (limit : Option ℕ) (rows : List OutRow) (ids : List ℕ) (pair : ℕ) → KeepsFirst row_order limit ((rows ++ map pair_row ids) ++ pair_row pair ∷ []) (rows ++ map pair_row (ids ++ pair ∷ []))
 pair_kept limit rows ids pair =
     keeps_same limit ((rows ++ map pair_row ids) ++ pair_row pair ∷ []) (rows ++ map pair_row (ids ++ pair ∷ []))
     (ap (λ l. rows ++ l) (map-append pair_row ids (pair ∷ [])) ∙ sym (append_assoc rows (map pair_row ids) (pair_row pair ∷ [])))
 
 -- the rows and the pairs of two multisets
-pub both_kept : (limit : Option ℕ) (mine theirs new : List OutRow) (ids more : List IdPair) → KeepsFirst row_order limit (mine ++ theirs) new → KeepsFirst row_order limit ((mine ++ map pair_row ids) ++ (theirs ++ map pair_row more)) (new ++ map pair_row (ids ++ more))
+pub both_kept : (limit : Option ℕ) (mine theirs new : List OutRow) (ids more : List ℕ) → KeepsFirst row_order limit (mine ++ theirs) new → KeepsFirst row_order limit ((mine ++ map pair_row ids) ++ (theirs ++ map pair_row more)) (new ++ map pair_row (ids ++ more))
 both_kept limit mine theirs new ids more k =
     let pairs : List OutRow = map pair_row ids ++ map pair_row more in
     subst (λ (l : List OutRow). KeepsFirst row_order limit ((mine ++ map pair_row ids) ++ (theirs ++ map pair_row more)) (new ++ l)) (sym (map-append pair_row ids more))
@@ -72,24 +73,24 @@ both_kept limit mine theirs new ids more k =
     (keeps_joined row_order limit (mine ++ theirs) pairs new pairs k (keeps_itself limit pairs)))
 
 -- a multiset can be counted
-pub multiset_long : (cells : List (Option ℤ)) (ranks : List Ranked) (ids : List IdPair) → length (map (row_of cells) ranks ++ map pair_row ids) ≡ length ranks + length ids
+pub multiset_long : (cells : List (Option ℤ)) (ranks : List Ranked) (ids : List ℕ) → length (map (row_of cells) ranks ++ map pair_row ids) ≡ length ranks + length ids
 multiset_long cells ranks ids = omega (arith, length-append (map (row_of cells) ranks) (map pair_row ids), length-map ranks (row_of cells), length-map ids pair_row)
 
 pub kept_few : (limit : Option ℕ) (full kept : List OutRow) → KeepsFirst row_order limit full kept → length kept ≤ length full
 kept_few limit full kept k = omega (arith, length_permutation full (k.left_out ++ kept) k.all, length-append k.left_out kept)
 
-pub row_few : (cells now : List (Option ℤ)) (limit : Option ℕ) (old new : List Ranked) (ids : List IdPair) (row : OutRow) (many : ℕ) → many ≡ length (map (row_of cells) old ++ map pair_row ids) → many + 1 ≤ 2 ^ 64 - 1 → KeepsFirst row_order limit (map (row_of cells) old ++ row ∷ []) (map (row_of now) new) → length new + length ids ≤ 2 ^ 64 - 1
+pub row_few : (cells now : List (Option ℤ)) (limit : Option ℕ) (old new : List Ranked) (ids : List ℕ) (row : OutRow) (many : ℕ) → many ≡ length (map (row_of cells) old ++ map pair_row ids) → many + 1 ≤ 2 ^ 64 - 1 → KeepsFirst row_order limit (map (row_of cells) old ++ row ∷ []) (map (row_of now) new) → length new + length ids ≤ 2 ^ 64 - 1
 row_few cells now limit old new ids row many h l k =
     let fewer : length (map (row_of now) new) ≤ length (map (row_of cells) old ++ row ∷ []) = kept_few limit _ _ k in
     omega (arith, h, l, multiset_long cells old ids, fewer, length-append (map (row_of cells) old) (row ∷ []), length-map old (row_of cells), length-map new (row_of now))
 
-pub both_few : (cells more now : List (Option ℤ)) (limit : Option ℕ) (mine theirs new : List Ranked) (ids others : List IdPair) (many that : ℕ) → many ≡ length (map (row_of cells) mine ++ map pair_row ids) → that ≡ length (map (row_of more) theirs ++ map pair_row others) → many + that ≤ 2 ^ 64 - 1 → KeepsFirst row_order limit (map (row_of cells) mine ++ map (row_of more) theirs) (map (row_of now) new) → length new + length (ids ++ others) ≤ 2 ^ 64 - 1
+pub both_few : (cells more now : List (Option ℤ)) (limit : Option ℕ) (mine theirs new : List Ranked) (ids others : List ℕ) (many that : ℕ) → many ≡ length (map (row_of cells) mine ++ map pair_row ids) → that ≡ length (map (row_of more) theirs ++ map pair_row others) → many + that ≤ 2 ^ 64 - 1 → KeepsFirst row_order limit (map (row_of cells) mine ++ map (row_of more) theirs) (map (row_of now) new) → length new + length (ids ++ others) ≤ 2 ^ 64 - 1
 both_few cells more now limit mine theirs new ids others many that h t l k =
     let fewer : length (map (row_of now) new) ≤ length (map (row_of cells) mine ++ map (row_of more) theirs) = kept_few limit _ _ k in
     omega (arith, h, t, l, multiset_long cells mine ids, multiset_long more theirs others, fewer, length-append (map (row_of cells) mine) (map (row_of more) theirs), length-map mine (row_of cells), length-map theirs (row_of more), length-map new (row_of now), length-append ids others)
 
 -- a row that is none of the first n
-pub late_for_all : (cells : List (Option ℤ)) (rank : Rank) (k : RowBuffer) (ids : List IdPair) (late : Bool) → OnTrue late (IsTooLate (ranked_at rank 0 0) k)
+pub late_for_all : (cells : List (Option ℤ)) (rank : Rank) (k : RowBuffer) (ids : List ℕ) (late : Bool) → OnTrue late (IsTooLate (ranked_at rank 0 0) k)
     → OnTrue late ((values : List (Option ℤ)) → KeepsFirst row_order (pushed_in k) ((rows_in cells k ++ map pair_row ids) ++ out_row rank values ∷ []) (rows_in cells k ++ map pair_row ids))
 late_for_all cells rank k ids true h = λ values. row_kept (pushed_in k) (rows_in cells k) (rows_in cells k) (map pair_row ids) (out_row rank values) (too_late cells values rank k h)
 late_for_all cells rank k ids false h = tt
@@ -99,12 +100,12 @@ each_unmap P f [] h = tt
 each_unmap P f (x ∷ xs) h = (h.0, each_unmap P f xs h.1)
 
 -- and it is reported as one if n are kept and it comes before none of them
-pub reported_late : (cells : List (Option ℤ)) (rank : Rank) (k : RowBuffer) (ids : List IdPair) (late : Bool)
+pub reported_late : (cells : List (Option ℤ)) (rank : Rank) (k : RowBuffer) (ids : List ℕ) (late : Bool)
     → IfSome (pushed_in k) (λ n. ids ≡ []) → (IsTooLate (ranked_at rank 0 0) k → late ≡ true)
     → IfSome (pushed_in k) (λ n. n ≤ length (rows_in cells k ++ map pair_row ids) → ComesBeforeNone rank (rows_in cells k ++ map pair_row ids) → late ≡ true)
 reported_late cells rank (buffer.All unlimited) ids late none reported = tt
 reported_late cells rank (buffer.First limit heap) ids late none reported = λ few before.
-    let rows : rows_in cells (buffer.First limit heap) ++ map pair_row ids ≡ rows_in cells (buffer.First limit heap) = ap (λ (l : List IdPair). rows_in cells (buffer.First limit heap) ++ map pair_row l) none ∙ append-nil (rows_in cells (buffer.First limit heap)) in
+    let rows : rows_in cells (buffer.First limit heap) ++ map pair_row ids ≡ rows_in cells (buffer.First limit heap) = ap (λ (l : List ℕ). rows_in cells (buffer.First limit heap) ++ map pair_row l) none ∙ append-nil (rows_in cells (buffer.First limit heap)) in
     reported (
       omega (arith, few, ap length rows, length-map heap.data.items (row_of cells)),
       each_unmap (λ m. is_lt (row_order (out_row rank []) m) ≡ false) (row_of cells) heap.data.items (subst (ComesBeforeNone rank) rows before),
@@ -122,7 +123,7 @@ back_apart xs ys h x =
     omega (arith, h x, both)
 
 -- with a limit there are no pairs
-pub none_joined : (limit : Option ℕ) (ids more : List IdPair) → IfSome limit (λ n. ids ≡ []) → IfSome limit (λ n. more ≡ []) → IfSome limit (λ n. ids ++ more ≡ [])
+pub none_joined : (limit : Option ℕ) (ids more : List ℕ) → IfSome limit (λ n. ids ≡ []) → IfSome limit (λ n. more ≡ []) → IfSome limit (λ n. ids ++ more ≡ [])
 none_joined None ids more h k = tt
 none_joined (Some n) ids more h k = ap (λ l. l ++ more) h ∙ k
 
@@ -145,39 +146,64 @@ merged_any merge full kept h p =
 
 -- ---- in order
 
-pair_total : IsTotalOrder pair_order
-pair_total = then_total (on_total (λ (p : IdPair). p.first) int_cmp_total) (on_total (λ (p : IdPair). p.second) int_cmp_total)
+not_less : (p q : Bool) → is_lt (cond p Less (cond q Equal Greater)) ≡ false → p ≡ false
+not_less true q h = h
+not_less false q h = refl
 
-pairs_ascend : (pairs : List IdPair) → Ascends pair_order pairs → Ascends row_order (map pair_row pairs)
+not_before : (p q r s : Bool) → p ≡ false → (q ≡ false → r ≡ false) → is_lt (ordering_then (cond p Less (cond q Greater Equal)) (cond r Less (cond s Greater Equal))) ≡ false
+not_before true q r s h k = h
+not_before false true r s h k = refl
+not_before false false true s h k = k refl
+not_before false false false true h k = refl
+not_before false false false false h k = refl
+
+under : (x y : ℤ) → int_lt y x ≡ false → x ≤ℤ y
+under x y h = grind (arith, ints)
+
+not_under : (x y : ℤ) → y ≤ℤ x → int_lt x y ≡ false
+not_under x y h = grind (arith, ints)
+
+-- a pair that is not packed into a lesser number comes before no other
+in_order_too : (a b : ℕ) → is_lt (nat_cmp a b) ≡ false → is_lt (row_order (pair_row a) (pair_row b)) ≡ false
+in_order_too a b h =
+    let le : b ≤ a = ltb-false a b (not_less (nat_lt a b) (a == b) h) in
+    not_before (int_lt (first_in a) (first_in b)) (int_lt (first_in b) (first_in a)) (int_lt (second_in a) (second_in b)) (int_lt (second_in b) (second_in a))
+    (not_under (first_in a) (first_in b) (omega (arith, ints, le))) (λ k. not_under (second_in a) (second_in b) (omega (arith, ints, le, under (first_in a) (first_in b) k)))
+
+pairs_ascend : (pairs : List ℕ) → Ascends nat_cmp pairs → Ascends row_order (map pair_row pairs)
 pairs_ascend [] h = tt
-pairs_ascend (p ∷ pairs) h = (each_map (λ y. is_lt (row_order y (pair_row p)) ≡ false) pair_row pairs h.0, pairs_ascend pairs h.1)
+pairs_ascend (p ∷ pairs) h = (
+  each_map (λ y. is_lt (row_order y (pair_row p)) ≡ false) pair_row pairs
+      (each_weaker (λ q. is_lt (nat_cmp q p) ≡ false) (λ q. is_lt (row_order (pair_row q) (pair_row p)) ≡ false) (λ q k. in_order_too q p k) pairs h.0),
+  pairs_ascend pairs h.1,
+)
 
 -- sorted pairs are the rows in order
-pub sorted_pairs : (pairs sorted : List IdPair) → AreApart row_order (map pair_row pairs) → IsPermutation pairs sorted → IsSorted pair_order sorted → map pair_row sorted ≡ in_order row_order (map pair_row pairs)
+pub sorted_pairs : (pairs sorted : List ℕ) → AreApart row_order (map pair_row pairs) → IsPermutation pairs sorted → IsSorted nat_cmp sorted → map pair_row sorted ≡ in_order row_order (map pair_row pairs)
 sorted_pairs pairs sorted apart p s =
     only_order row_order row_total (map pair_row pairs) (map pair_row sorted) apart (IsPermutation-map pair_row pairs sorted p)
-    (pairs_ascend sorted (sorted_ascends pair_order pair_total sorted s))
+    (pairs_ascend sorted (sorted_ascends nat_cmp nat_cmp_total sorted s))
 
 -- the first of them
-pub first_pairs : (limit : Option ℕ) (pairs : List IdPair) → map pair_row (first limit pairs) ≡ first limit (map pair_row pairs)
+pub first_pairs : (limit : Option ℕ) (pairs : List ℕ) → map pair_row (first limit pairs) ≡ first limit (map pair_row pairs)
 first_pairs None pairs = refl
 first_pairs (Some n) pairs = sym (take-map pair_row n pairs)
 
 -- ---- their table
 
-pub pairs_long : (items : List MergeItem) (pairs : List IdPair) → length (flat_map (pair_values items) pairs) ≡ length pairs * length items
+pub pairs_long : (items : List MergeItem) (pairs : List ℕ) → length (flat_map (pair_values items) pairs) ≡ length pairs * length items
 pairs_long items pairs = flat_long (pair_values items) (length items) (λ p. length-map items (column_value (pair_row p).cells)) pairs
 
-pub pairs_short : (items : List MergeItem) (pairs : List IdPair) → All IsShort (flat_map (pair_values items) pairs)
+pub pairs_short : (items : List MergeItem) (pairs : List ℕ) → All IsShort (flat_map (pair_values items) pairs)
 pairs_short items pairs = All-from_recursion IsShort _ (flat_short (pair_values items) (λ p. columns_short (pair_row p).cells items) pairs)
 
-pub pairs_table : (items : List MergeItem) (pairs : List IdPair) → table_of (length pairs) (length items) (flat_map (pair_values items) pairs) ≡ map (λ r. map (column_value r.cells) items) (map pair_row pairs)
+pub pairs_table : (items : List MergeItem) (pairs : List ℕ) → table_of (length pairs) (length items) (flat_map (pair_values items) pairs) ≡ map (λ r. map (column_value r.cells) items) (map pair_row pairs)
 pairs_table items pairs =
     flat_table (pair_values items) (length items) (λ p. length-map items (column_value (pair_row p).cells)) pairs
     ∙ sym (map_map pair_row (λ r. map (column_value r.cells) items) pairs)
 
 -- the values of one pair more
-pub one_pair_more : (items : List MergeItem) (pairs : List IdPair) (i : ℕ) (d : IdPair) (old new : List Value) → i < length pairs → new ≡ old ++ pair_values items (get_or pairs i d) → old ≡ flat_map (pair_values items) (take i pairs) → new ≡ flat_map (pair_values items) (take (i + 1) pairs)
+pub one_pair_more : (items : List MergeItem) (pairs : List ℕ) (i : ℕ) (d : ℕ) (old new : List Value) → i < length pairs → new ≡ old ++ pair_values items (get_or pairs i d) → old ≡ flat_map (pair_values items) (take i pairs) → new ≡ flat_map (pair_values items) (take (i + 1) pairs)
 one_pair_more items pairs i d old new l e g =
     e ∙ ap (λ vs. vs ++ pair_values items (get_or pairs i d)) g ∙ ap (λ vs. flat_map (pair_values items) (take i pairs) ++ vs) (sym (append-nil (pair_values items (get_or pairs i d))))
     ∙ sym (flat_map-append (pair_values items) (take i pairs) (get_or pairs i d ∷ [])) ∙ ap (flat_map (pair_values items)) (sym (take_more pairs i d l))

@@ -5,7 +5,6 @@ use Rattle.std.specs.Ordering.{is_lt}
 use Rattle.answer_rules.specs.Ranks.{row_order}
 use Rattle.std.specs.BinaryHeap.{heap_items, IsHeap}
 use Rattle.answer_rules.specs.declared.row.OutRow.{OutRow}
-use Rattle.partial_rows.specs.declared.id_pair.IdPair.{IdPair}
 use Rattle.partial_rows.specs.declared.row_buffer.RowBuffer.{RowBuffer}
 use Rattle.partial_rows.specs.declared.row_buffer.RowBuffer.TheVariants as buffer
 use Rattle.partial_rows.specs.declared.ranked.Ranked.{Ranked}
@@ -40,7 +39,7 @@ IsRowBuffer cells k = All (IsIn cells) (ranks_in k) × IsOrdered k
 
 -- The values of each row are in the list, pairs are stored apart only without a limit, and rows and pairs can be
 -- counted.
-pub record IsMultiset (cells : ℕ) (k : RowBuffer) (ids : List IdPair) : Type 0 where
+pub record IsMultiset (cells : ℕ) (k : RowBuffer) (ids : List ℕ) : Type 0 where
   pub kept : IsRowBuffer cells k
   pub all : IfSome (pushed_in k) (λ n. ids ≡ [])
   pub few : length (ranks_in k) + length ids ≤ 2 ^ 64 - 1
@@ -70,5 +69,5 @@ abbrev pub ComesBeforeNone : Rank → List OutRow → Type 0
 ComesBeforeNone r rows = AllByRecursion (λ m. is_lt (row_order (out_row r []) m) ≡ false) rows
 
 -- a multiset, by its rows, their values, and the pairs that are stored apart
-abbrev pub view_of : RowBuffer → List (Option ℤ) → List IdPair → MultisetView
+abbrev pub view_of : RowBuffer → List (Option ℤ) → List ℕ → MultisetView
 view_of k cells ids = record { pushed = pushed_in k; rows = rows_in cells k ++ map pair_row ids }

@@ -1,27 +1,27 @@
--- Pairs without an order key whose values are their own two ids: only the ids are stored.
-use Rattle.std.specs.Prelude.{pos, List, [], ◌∷◌, map, Some}
-use Rattle.std.specs.declared.cmp.Ordering.{Ordering}
-use Rattle.std.specs.Ordering.{int_cmp, on, then_cmp}
+-- Pairs without an order key whose values are their own two ids: only the ids are stored, packed into one number.
+use Rattle.std.specs.Prelude.{ℕ, ◌/◌, ◌%◌, ◌^◌, ℤ, pos, ◌-ℤ◌, List, [], ◌∷◌, map, Some}
 use Rattle.answer_rules.specs.declared.rewritten.MergeItem.{MergeItem}
 use Rattle.answer_rules.specs.declared.row.OutRow.{OutRow}
 use Rattle.answer_rules.specs.declared.value.Value.{Value}
 use Rattle.answer_rules.specs.Finish.{column_value}
-use Rattle.partial_rows.specs.declared.id_pair.IdPair.{IdPair}
+
+-- the ids of the pair, each of which is stored as how far it is above the lowest one
+abbrev pub first_in : ℕ → ℤ
+first_in p = pos (p / 2 ^ 64) -ℤ pos (2 ^ 63)
+
+abbrev pub second_in : ℕ → ℤ
+second_in p = pos (p % 2 ^ 64) -ℤ pos (2 ^ 63)
 
 -- the row of the pair, whose values are its ids
-abbrev pub pair_row : IdPair → OutRow
+abbrev pub pair_row : ℕ → OutRow
 pair_row p = record {
   class = 0;
   value = pos 0;
-  first = p.first;
-  second = p.second;
-  cells = Some p.first ∷ Some p.second ∷ [];
+  first = first_in p;
+  second = second_in p;
+  cells = Some (first_in p) ∷ Some (second_in p) ∷ [];
 }
 
--- such pairs are ordered by their ids
-abbrev pub pair_order : IdPair → IdPair → Ordering
-pair_order = then_cmp (on (λ p. p.first) int_cmp) (on (λ p. p.second) int_cmp)
-
 -- the merged items of the pair
-abbrev pub pair_values : List MergeItem → IdPair → List Value
+abbrev pub pair_values : List MergeItem → ℕ → List Value
 pair_values items p = map (column_value (pair_row p).cells) items

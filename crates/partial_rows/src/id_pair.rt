@@ -1,25 +1,20 @@
-//! A pair without an order key whose values are its own two ids.
+//! A pair without an order key whose values are its own two ids, packed into one number. The numbers are in the order of
+//! the pairs.
 
 ghost use Rattle.std.specs.Prelude.{◌≡◌, ◌∷◌, [], IfSome, None, Some, slice_get, unwrap_or};
 ghost use Rattle.std.specs.Bool.{OnTrue};
-ghost use Rattle.std.proofs.Common.{rules};
-ghost use Rattle.std.specs.Cmp.{partial_order_from_own_ties};
-ghost use Rattle.std.specs.Cmp.Rules.{comparing};
-ghost use Rattle.std.specs.Ordering.{int_cmp, on, then_cmp, as_partial_cmp, eq_by_cmp};
 ghost use Rattle.partial_rows.specs.Multisets.{out_row};
-ghost use Rattle.partial_rows.specs.Pairs.{pair_row};
+ghost use Rattle.partial_rows.specs.Pairs.{first_in, pair_row, second_in};
 
 use crate::rank::Rank;
 use answer_table::values::number;
 use sky_vector::Num;
-use std::cmp::Ordering;
 
-/// The ids of a pair, which are both its values and its sort key: 16 bytes.
-#[derive(Clone, Copy, Drop)]
-pub(crate) struct IdPair {
-    pub(crate) first: i64,
-    pub(crate) second: i64,
-}
+/// How many ids there are.
+const IDS: u128 = 1 << 64;
+
+/// The lowest id is this far below 0.
+const BELOW: i128 = 1 << 63;
 
 /// Returns whether the value is this id.
 #[inline]
@@ -50,84 +45,62 @@ fn whole(id: i64) -> Num
     number(id as i128)
 }
 
-impl IdPair {
-    /// Returns the pair with this sort key and these values, if it has no order key and the values are its ids.
-    #[inline]
-    pub(crate) fn of(rank: &Rank, values: &[Option<Num>]) -> Option<IdPair>
-        ensures { IfSome result (λ pair. pair_row pair ≡ out_row rank.now values.now) }
-    {
-        if rank.class == 0 && rank.value == 0 && are_ids(values, rank.first, rank.second) {
-            Some(IdPair {
-                first: rank.first,
-                second: rank.second,
-            })
-        } else {
-            None
-        }
-    }
+/// Returns the packed pair of these ids.
+#[inline]
+fn packed(first: i64, second: i64) -> u128
+    ensures first { first_in result ≡ first }
+    ensures second { second_in result ≡ second }
+{
+    (i128::from(first) + BELOW) as u128 * IDS + (i128::from(second) + BELOW) as u128
+}
 
-    /// Returns the sort key of the pair.
-    pub(crate) fn rank(&self) -> Rank
-        ensures { out_row result (pair_row self.now).cells ≡ pair_row self.now }
-    {
-        Rank {
-            class: 0,
-            value: 0,
-            first: self.first,
-            second: self.second,
-        }
-    }
+/// Returns the first id of a packed pair.
+#[inline]
+fn first_in(pair: u128) -> i64
+    ensures { result ≡ first_in pair }
+{
+    ((pair / IDS) as i128 - BELOW) as i64
+}
 
-    /// Returns the value in a column, which is NULL if there is no such column.
-    pub(crate) fn value(&self, n: usize) -> Option<Num>
-        ensures { result ≡ unwrap_or (slice_get (pair_row self.now).cells n) None }
-    {
-        match n {
-            0 => Some(whole(self.first)),
-            1 => Some(whole(self.second)),
-            _ => None,
-        }
+/// Returns the second id of a packed pair.
+#[inline]
+fn second_in(pair: u128) -> i64
+    ensures { result ≡ second_in pair }
+{
+    ((pair % IDS) as i128 - BELOW) as i64
+}
+
+/// Returns the packed pair with this sort key and these values, if it has no order key and the values are its ids.
+#[inline]
+pub(crate) fn pair_of(rank: &Rank, values: &[Option<Num>]) -> Option<u128>
+    ensures { IfSome result (λ pair. pair_row pair ≡ out_row rank.now values.now) }
+{
+    if rank.class == 0 && rank.value == 0 && are_ids(values, rank.first, rank.second) {
+        Some(packed(rank.first, rank.second))
+    } else {
+        None
     }
 }
 
-impl Ord for IdPair {
-    ghost cmp = { then_cmp (on (λ p. p.first) int_cmp) (on (λ p. p.second) int_cmp) };
-
-    ghost total = { Prim.search (comparing, rules) depth 9 };
-
-    ghost matches_partial_cmp = { Prim.search (comparing, rules) depth 9 };
-
-    ghost matches_eq = { Prim.search (comparing, rules) depth 9 };
-
-    fn cmp(&self, other: &IdPair) -> Ordering {
-        self.first
-            .cmp(&other.first)
-            .then(self.second.cmp(&other.second))
+/// Returns the sort key of a packed pair.
+pub(crate) fn rank_of(pair: u128) -> Rank
+    ensures { out_row result (pair_row pair).cells ≡ pair_row pair }
+{
+    Rank {
+        class: 0,
+        value: 0,
+        first: first_in(pair),
+        second: second_in(pair),
     }
 }
 
-impl PartialOrd for IdPair {
-    ghost partial_cmp = { as_partial_cmp
-        (then_cmp (on (λ p. p.first) int_cmp) (on (λ p. p.second) int_cmp)) };
-
-    ghost laws = { partial_order_from_own_ties (Prim.search (comparing, rules) depth 9)
-        (Prim.search (comparing, rules) depth 9) };
-
-    fn partial_cmp(&self, other: &IdPair) -> Option<Ordering> {
-        Some(self.cmp(other))
-    }
-}
-
-impl Eq for IdPair {
-    ghost laws = { Prim.search (comparing, rules) depth 9 };
-}
-
-impl PartialEq for IdPair {
-    ghost eq = { eq_by_cmp (then_cmp (on (λ p. p.first) int_cmp) (on (λ p. p.second) int_cmp)) };
-
-    ghost laws = { Prim.search (comparing, rules) depth 9 };
-
-    fn eq(&self, other: &IdPair) -> bool {
-        self.cmp(other) == Ordering::Equal
+/// Returns the value of a packed pair in a column, which is NULL if there is no such column.
+pub(crate) fn value_of(pair: u128, n: usize) -> Option<Num>
+    ensures { result ≡ unwrap_or (slice_get (pair_row pair).cells n) None }
+{
+    match n {
+        0 => Some(whole(first_in(pair))),
+        1 => Some(whole(second_in(pair))),
+        _ => None,
     }
 }

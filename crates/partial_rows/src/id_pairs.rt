@@ -1,8 +1,7 @@
-//! The list of a multiset's pairs whose values are their own two ids.
+//! The list of a multiset's pairs whose values are their own two ids, which are packed (`id_pair`).
 
 ghost use Rattle.std.specs.Prelude.{◌≡◌, ◌≤◌, ◌<◌, ◌+◌, ◌++◌, ◌∷◌, [], ◌-◌, ◌^◌, OnErr, OnOk, vec_capacity, vec_len};
 
-use crate::id_pair::IdPair;
 use answer_table::lists::reserve;
 use sky_io::Memory;
 
@@ -20,7 +19,7 @@ pub(crate) fn count_more(count: usize, more: usize) -> Result<(), Memory>
 
 /// Appends the pair. After `Err` nothing has changed.
 #[inline]
-pub(crate) fn push_ids(ids: &mut Vec<IdPair>, pair: IdPair) -> Result<(), Memory>
+pub(crate) fn push_ids(ids: &mut Vec<u128>, pair: u128) -> Result<(), Memory>
     ensures put { OnOk result (ids.new.items ≡ ids.old.items ++ pair ∷ []) }
     ensures same { OnErr result (ids.new.items ≡ ids.old.items) }
 {
@@ -29,7 +28,7 @@ pub(crate) fn push_ids(ids: &mut Vec<IdPair>, pair: IdPair) -> Result<(), Memory
 
 /// Reserves room for the given number of more pairs, if the list is not empty. An empty list is replaced by that of
 /// another multiset, and needs no room.
-pub(crate) fn make_room(ids: &mut Vec<IdPair>, more: usize) -> Result<(), Memory>
+pub(crate) fn make_room(ids: &mut Vec<u128>, more: usize) -> Result<(), Memory>
     ensures same { ids.new.items ≡ ids.old.items }
     ensures room { OnOk result
         (0 < vec_len ids.new → vec_len ids.new + more ≤ vec_capacity ids.new) }
@@ -41,7 +40,7 @@ pub(crate) fn make_room(ids: &mut Vec<IdPair>, more: usize) -> Result<(), Memory
 }
 
 /// Appends the pairs, for which there is room. Does not allocate.
-fn append_ids(ids: &mut Vec<IdPair>, mut more: Vec<IdPair>)
+fn append_ids(ids: &mut Vec<u128>, mut more: Vec<u128>)
     requires { vec_len ids.old + vec_len more ≤ vec_capacity ids.old }
     ensures { ids.new.items ≡ ids.old.items ++ more.items }
 {
@@ -52,7 +51,7 @@ fn append_ids(ids: &mut Vec<IdPair>, mut more: Vec<IdPair>)
 }
 
 /// Appends the pairs of another multiset. Does not allocate.
-pub(crate) fn join_ids(ids: &mut Vec<IdPair>, more: Vec<IdPair>)
+pub(crate) fn join_ids(ids: &mut Vec<u128>, more: Vec<u128>)
     requires { 0 < vec_len ids.old → vec_len ids.old + vec_len more ≤ vec_capacity ids.old }
     ensures { ids.new.items ≡ ids.old.items ++ more.items }
 {

@@ -6,8 +6,9 @@
 //! the list of values has doubled. Then the values of the remaining rows are copied into a new list (`vacuum`).
 //!
 //! A join whose answer is the two ids of each pair has millions of rows whose values repeat their sort keys. Without a
-//! limit and without an order key such a pair is stored as its two ids in a third list, and has no other values. If the
-//! multiset holds nothing else, the table is written from that list alone (`multiset_table`).
+//! limit and without an order key such a pair is stored in a third list as one number, in which its two ids are packed,
+//! and has no other values. If the multiset holds nothing else, the table is written from that list alone
+//! (`multiset_table`).
 
 ghost use Rattle.std.specs.Prelude.{◌≡◌, ◌≤◌, ◌++◌, ◌∷◌, [], ℤ, length, IfOk, IfSome, List, None, OnErr, OnOk, Option, true};
 ghost use Rattle.std.specs.Bool.{OnTrue};
@@ -19,7 +20,7 @@ ghost use Rattle.partial_rows.specs.Pairs.{pair_row};
 
 use crate::buffer_cells::{join_and_vacuum, put_and_vacuum};
 use crate::cell::Cell;
-use crate::id_pair::IdPair;
+use crate::id_pair::pair_of;
 use crate::id_pairs::{count_more, join_ids, make_room, push_ids};
 use crate::multiset_table::multiset_table;
 use crate::rank::Rank;
@@ -38,7 +39,7 @@ pub struct Multiset {
     buffer: RowBuffer,
     cells: Vec<Cell>,
     vacuumed: usize,
-    ids: Vec<IdPair>,
+    ids: Vec<u128>,
 }
 
 /// The multiset is vacuumed for the first time when it has twice this number of values.
@@ -60,12 +61,12 @@ impl Model for Multiset {
 /// Returns the pair with this sort key and these values, if all rows are kept and only the pair's ids have to be
 /// stored.
 #[inline]
-fn ids_alone(buffer: &RowBuffer, rank: &Rank, values: &[Option<Num>]) -> Option<IdPair>
+fn ids_alone(buffer: &RowBuffer, rank: &Rank, values: &[Option<Num>]) -> Option<u128>
     ensures all { IfSome result (λ pair. pushed_in buffer.now ≡ None) }
     ensures row { IfSome result (λ pair. pair_row pair ≡ out_row rank.now values.now) }
 {
     match buffer {
-        RowBuffer::All(_) => IdPair::of(rank, values),
+        RowBuffer::All(_) => pair_of(rank, values),
         RowBuffer::First { limit: _, heap: _ } => None,
     }
 }
@@ -98,7 +99,7 @@ impl Multiset {
 
     /// Adds a pair whose values are its ids. After `Err` nothing has changed.
     #[inline]
-    fn push_pair(&mut self, pair: IdPair) -> Result<(), Memory>
+    fn push_pair(&mut self, pair: u128) -> Result<(), Memory>
         requires { self.old.pushed ≡ None }
         ensures pushed { self.new.pushed ≡ self.old.pushed }
         ensures kept { OnOk result (KeepsFirst row_order self.old.pushed
@@ -182,7 +183,7 @@ impl Multiset {
     }
 
     /// Returns the table of the rows: the first of them in order, and the merged items of each. Allocates memory for
-    /// the table.
+    /// the table, and for the sort if the multiset holds packed pairs alone.
     pub fn finish(self, alloc: Global, merge: &MergePlan) -> Result<Table, Memory>
         requires { AreApart row_order self.rows }
         ensures { IfOk result (λ table. table ≡ merged_rows merge.now self.rows) }

@@ -10,7 +10,7 @@ ghost use Rattle.partial_rows.specs.Pairs.{pair_row};
 use crate::buffer_cells::put_row;
 use crate::buffer_table::buffer_table;
 use crate::cell::Cell;
-use crate::id_pair::IdPair;
+use crate::id_pair::{rank_of, value_of};
 use crate::pair_table::sorted_pair_table;
 use crate::row_buffer::{RowBuffer, count};
 use answer_rules::MergePlan;
@@ -19,7 +19,7 @@ use sky_io::Memory;
 use std::alloc::Global;
 
 /// Adds the pair to the rows.
-fn put_pair(buffer: &mut RowBuffer, cells: &mut Vec<Cell>, pair: &IdPair) -> Result<(), Memory>
+fn put_pair(buffer: &mut RowBuffer, cells: &mut Vec<Cell>, pair: &u128) -> Result<(), Memory>
     requires mine { IsRowBuffer (length cells.old.items) buffer.old }
     requires all { pushed_in buffer.old ≡ None }
     ensures mine { IsRowBuffer (length cells.new.items) buffer.new }
@@ -28,11 +28,16 @@ fn put_pair(buffer: &mut RowBuffer, cells: &mut Vec<Cell>, pair: &IdPair) -> Res
         (rows_in cells.old.items buffer.old ++ pair_row pair.now ∷ [])
         (rows_in cells.new.items buffer.new)) }
 {
-    put_row(buffer, cells, &pair.rank(), &[pair.value(0), pair.value(1)])
+    put_row(
+        buffer,
+        cells,
+        &rank_of(*pair),
+        &[value_of(*pair, 0), value_of(*pair, 1)],
+    )
 }
 
 /// Adds the pairs to the rows.
-fn put_pairs(buffer: &mut RowBuffer, cells: &mut Vec<Cell>, pairs: &[IdPair]) -> Result<(), Memory>
+fn put_pairs(buffer: &mut RowBuffer, cells: &mut Vec<Cell>, pairs: &[u128]) -> Result<(), Memory>
     requires mine { IsRowBuffer (length cells.old.items) buffer.old }
     requires all { pushed_in buffer.old ≡ None }
     ensures mine { OnOk result (IsRowBuffer (length cells.new.items) buffer.new) }
@@ -51,7 +56,7 @@ fn both_table(
     alloc: Global,
     mut buffer: RowBuffer,
     mut cells: Vec<Cell>,
-    pairs: &[IdPair],
+    pairs: &[u128],
     merge: &MergePlan,
 ) -> Result<Table, Memory>
     requires mine { IsRowBuffer (length cells.items) buffer }
@@ -69,7 +74,7 @@ pub(crate) fn multiset_table(
     alloc: Global,
     buffer: RowBuffer,
     cells: Vec<Cell>,
-    pairs: Vec<IdPair>,
+    pairs: Vec<u128>,
     merge: &MergePlan,
 ) -> Result<Table, Memory>
     requires multiset { IsMultiset (length cells.items) buffer pairs.items }

@@ -7,7 +7,7 @@ ghost use Rattle.answer_rules.specs.Keeps.{AreApart};
 ghost use Rattle.answer_rules.specs.Ranks.{row_order};
 ghost use Rattle.partial_rows.specs.Pairs.{pair_row, pair_values};
 
-use crate::id_pair::IdPair;
+use crate::id_pair::value_of;
 use answer_rules::{MergeItem, MergePlan};
 use answer_table::lists::cut;
 use answer_table::values::{put, values_room};
@@ -16,17 +16,17 @@ use sky_io::Memory;
 use std::alloc::Global;
 
 /// Returns a merged item of a pair.
-fn column(pair: &IdPair, item: &MergeItem) -> TableValue
+fn column(pair: &u128, item: &MergeItem) -> TableValue
     ensures { result ≡ column_value (pair_row pair.now).cells item.now }
 {
     match item {
-        MergeItem::Column(n) => TableValue::shown(pair.value(*n)),
+        MergeItem::Column(n) => TableValue::shown(value_of(*pair, *n)),
         _ => TableValue::shown(None),
     }
 }
 
 /// Appends the merged items of a pair.
-fn put_pair(values: &mut Vec<TableValue>, pair: &IdPair, items: &[MergeItem]) -> Result<(), Memory>
+fn put_pair(values: &mut Vec<TableValue>, pair: &u128, items: &[MergeItem]) -> Result<(), Memory>
     ensures { OnOk result (values.new.items ≡ values.old.items ++ pair_values items.now pair.now) }
 {
     for item in items {
@@ -38,7 +38,7 @@ fn put_pair(values: &mut Vec<TableValue>, pair: &IdPair, items: &[MergeItem]) ->
 /// Returns the values of the answer's rows.
 fn pair_values(
     alloc: Global,
-    pairs: &[IdPair],
+    pairs: &[u128],
     items: &[MergeItem],
 ) -> Result<Vec<TableValue>, Memory>
     ensures { IfOk result (λ values. values.items ≡ flat_map (pair_values items.now) pairs.now) }
@@ -51,7 +51,7 @@ fn pair_values(
 }
 
 /// Returns the table of these pairs. Allocates memory for it.
-fn pair_table(alloc: Global, pairs: &[IdPair], items: &[MergeItem]) -> Result<Table, Memory>
+fn pair_table(alloc: Global, pairs: &[u128], items: &[MergeItem]) -> Result<Table, Memory>
     ensures { IfOk result (λ table. table ≡ map (λ r. map (column_value r.cells) items.now)
         (map pair_row pairs.now)) }
 {
@@ -59,16 +59,17 @@ fn pair_table(alloc: Global, pairs: &[IdPair], items: &[MergeItem]) -> Result<Ta
     Ok(Table::of(values, items.len(), pairs.len()))
 }
 
-/// Returns the table of pairs in any order. Allocates memory for the table.
+/// Returns the table of pairs in any order. Allocates memory for the table, and before that for the sort, as much as
+/// the pairs take. Numbers are sorted in half the time by such a sort.
 pub(crate) fn sorted_pair_table(
     alloc: Global,
-    mut pairs: Vec<IdPair>,
+    mut pairs: Vec<u128>,
     merge: &MergePlan,
 ) -> Result<Table, Memory>
     requires { AreApart row_order (map pair_row pairs.items) }
     ensures { IfOk result (λ table. table ≡ merged_rows merge.now (map pair_row pairs.items)) }
 {
-    pairs.sort_unstable();
+    pairs.sort()?;
     cut(&mut pairs, merge.limit);
     pair_table(alloc, pairs.as_slice(), merge.items.as_slice())
 }

@@ -1,9 +1,8 @@
-use Rattle.std.proofs.Common.{◌++◌, ℤ, List, Option, map, subst, sym}
+use Rattle.std.proofs.Common.{ℕ, ◌++◌, ℤ, List, Option, map, subst, sym}
 use Rattle.answer_rules.specs.Keeps.{AreApart}
 use Rattle.answer_rules.specs.Ranks.{row_order}
 use Rattle.partial_rows.specs.Multisets.{rows_in}
 use Rattle.partial_rows.specs.Pairs.{pair_row}
-use Rattle.partial_rows.specs.declared.id_pair.IdPair.{IdPair}
 use Rattle.partial_rows.proofs.Pairs.{back_apart, front_apart}
 use Rattle.partial_rows.proofs.multiset_table.multiset_table.Goals as goal
 
@@ -17,4 +16,4 @@ sorted_pair_table-requires c = back_apart (rows_in c.args.cells.items c.args.buf
 
 pub both_table-requires-clause-apart : goal.both_table-requires-clause-apart
 both_table-requires-clause-apart c =
-    subst (λ (ps : List IdPair). AreApart row_order (rows_in c.args.cells.items c.args.buffer ++ map pair_row ps)) (sym c.as_slice-else-count-eq0.ensures.value) c.requires.apart
+    subst (λ (ps : List ℕ). AreApart row_order (rows_in c.args.cells.items c.args.buffer ++ map pair_row ps)) (sym c.as_slice-else-count-eq0.ensures.value) c.requires.apart

@@ -1,4 +1,4 @@
-use Rattle.std.proofs.Common.{◌≡◌, map, ap, subst, ◌∙◌, List}
+use Rattle.std.proofs.Common.{ℕ, ◌≡◌, map, ap, subst, ◌∙◌, List}
 use Rattle.std.specs.Prelude.{IfOk}
 use Rattle.answer_rules.specs.Finish.{column_value}
 use Rattle.answer_rules.specs.InOrder.{first, in_order}
@@ -6,16 +6,15 @@ use Rattle.answer_rules.specs.Ranks.{row_order}
 use Rattle.answer_rules.specs.Rows.{limit_of}
 use Rattle.answer_rules.specs.declared.row.OutRow.{OutRow}
 use Rattle.partial_rows.specs.Pairs.{pair_row}
-use Rattle.partial_rows.specs.declared.id_pair.IdPair.{IdPair}
 use Rattle.partial_rows.proofs.Pairs.{first_pairs, sorted_pairs}
 use Rattle.partial_rows.proofs.pair_table.sorted_pair_table.Goals as goal
 
 -- the rows of the table are the first of those in order
-rows_are : (c : goal.After-drop-pairs) → map pair_row c.as_slice.result.now ≡ first (limit_of c.args.merge.now.limit) (in_order row_order (map pair_row c.args.pairs.items))
+rows_are : (c : goal.After-drop-pairs-2) → map pair_row c.as_slice.result.now ≡ first (limit_of c.args.merge.now.limit) (in_order row_order (map pair_row c.args.pairs.items))
 rows_are c =
-    ap (λ (ps : List IdPair). map pair_row ps) (c.as_slice.ensures.value ∙ c.cut.ensures)
-    ∙ first_pairs (limit_of c.args.merge.now.limit) c.sort_unstable.new.self.items
-    ∙ ap (first (limit_of c.args.merge.now.limit)) (sorted_pairs c.args.pairs.items c.sort_unstable.new.self.items c.requires c.sort_unstable.ensures.permutation c.sort_unstable.ensures.sorted)
+    ap (λ (ps : List ℕ). map pair_row ps) (c.as_slice.ensures.value ∙ c.cut.ensures)
+    ∙ first_pairs (limit_of c.args.merge.now.limit) c.sort.new.self.items
+    ∙ ap (first (limit_of c.args.merge.now.limit)) (sorted_pairs c.args.pairs.items c.sort.new.self.items c.requires c.sort.ensures.permutation c.in_ok-sort.ensures.sorted)
 
 pub returns : goal.returns
 returns c =

@@ -5,7 +5,6 @@ use Rattle.answer_rules.specs.Ranks.{row_order}
 use Rattle.partial_rows.specs.Multisets.{pushed_in, ranks_in, rows_in}
 use Rattle.partial_rows.specs.Pairs.{pair_row}
 use Rattle.partial_rows.specs.Views.{MultisetView}
-use Rattle.partial_rows.specs.declared.id_pair.IdPair.{IdPair}
 use Rattle.partial_rows.proofs.Pairs.{both_few, both_kept, none_joined}
 use Rattle.partial_rows.proofs.multiset.Multiset.absorb.Goals as goal
 
@@ -17,7 +16,7 @@ pub returns-clause-joined : goal.returns-clause-joined
 returns-clause-joined c =
     subst (λ (v : MultisetView). KeepsFirst row_order v.pushed (v.rows ++ c.args.other.rows) (rows_in c.join_and_vacuum.new.cells.items c.join_and_vacuum.new.buffer ++ map pair_row c.join_ids.new.ids.items)) c.self.view_is
     (subst (λ (v : MultisetView). KeepsFirst row_order (pushed_in c.self.inside.buffer) ((rows_in c.self.inside.cells.items c.self.inside.buffer ++ map pair_row c.self.inside.ids.items) ++ v.rows) (rows_in c.join_and_vacuum.new.cells.items c.join_and_vacuum.new.buffer ++ map pair_row c.join_ids.new.ids.items)) c.other.view_is
-    (subst (λ (ids : List IdPair). KeepsFirst row_order (pushed_in c.self.inside.buffer) ((rows_in c.self.inside.cells.items c.self.inside.buffer ++ map pair_row c.self.inside.ids.items) ++ (rows_in c.other.inside.cells.items c.other.inside.buffer ++ map pair_row c.other.inside.ids.items)) (rows_in c.join_and_vacuum.new.cells.items c.join_and_vacuum.new.buffer ++ map pair_row ids)) (sym (joined_ids c))
+    (subst (λ (ids : List ℕ). KeepsFirst row_order (pushed_in c.self.inside.buffer) ((rows_in c.self.inside.cells.items c.self.inside.buffer ++ map pair_row c.self.inside.ids.items) ++ (rows_in c.other.inside.cells.items c.other.inside.buffer ++ map pair_row c.other.inside.ids.items)) (rows_in c.join_and_vacuum.new.cells.items c.join_and_vacuum.new.buffer ++ map pair_row ids)) (sym (joined_ids c))
     (both_kept (pushed_in c.self.inside.buffer) (rows_in c.self.inside.cells.items c.self.inside.buffer) (rows_in c.other.inside.cells.items c.other.inside.buffer) (rows_in c.join_and_vacuum.new.cells.items c.join_and_vacuum.new.buffer) c.self.inside.ids.items c.other.inside.ids.items c.in_ok-self-inside.ensures.joined)))
 
 pub invariant_of-self-2 : goal.invariant_of-self-2
@@ -30,7 +29,7 @@ invariant_of-self-2 c =
     in
     record {
       kept = c.join_and_vacuum.ensures.mine;
-      all = subst (λ (l : Option ℕ). IfSome l (λ n. c.join_ids.new.ids.items ≡ [])) (sym c.join_and_vacuum.ensures.pushed) (subst (λ (ids : List IdPair). IfSome (pushed_in c.self.inside.buffer) (λ n. ids ≡ [])) (sym (joined_ids c)) none);
-      few = subst (λ (ids : List IdPair). length (ranks_in c.join_and_vacuum.new.buffer) + length ids ≤ 2 ^ 64 - 1) (sym (joined_ids c))
+      all = subst (λ (l : Option ℕ). IfSome l (λ n. c.join_ids.new.ids.items ≡ [])) (sym c.join_and_vacuum.ensures.pushed) (subst (λ (ids : List ℕ). IfSome (pushed_in c.self.inside.buffer) (λ n. ids ≡ [])) (sym (joined_ids c)) none);
+      few = subst (λ (ids : List ℕ). length (ranks_in c.join_and_vacuum.new.buffer) + length ids ≤ 2 ^ 64 - 1) (sym (joined_ids c))
           (both_few c.self.inside.cells.items c.other.inside.cells.items c.join_and_vacuum.new.cells.items (pushed_in c.self.inside.buffer) (ranks_in c.self.inside.buffer) (ranks_in c.other.inside.buffer) (ranks_in c.join_and_vacuum.new.buffer) c.self.inside.ids.items c.other.inside.ids.items c.row_count.result c.row_count-2.result many that c.in_ok-count_more.ensures c.in_ok-self-inside.ensures.joined);
     }
