@@ -24,15 +24,14 @@ import array
 import collections
 import itertools
 import os
-import re
 import resource
-import shutil
 import subprocess
 import sys
 import time
 
 import classes
 import demo_files
+import postgres
 import program_words
 
 # one flux in a hundred is above this
@@ -167,61 +166,30 @@ def joining(words, line, rows, others):
 # ---- PostgreSQL
 
 
-class Postgres:
-    """A server of its own in a folder, with the two tables."""
+def load(server, words):
+    """Loads the two tables, unless the server has them."""
+    if server.has("Source"):
+        return
+    server.load("Object", ["objectId", "x", "y", "z", "flux", "kind"], os.path.join(words.folder, "catalogue.csv"))
+    server.load("Source", ["sourceId", "objectId", "flux", "t"], os.path.join(words.folder, "measured.csv"))
+    server.ask("CREATE INDEX ON Source (objectId); ANALYZE;")
 
-    def __init__(self, words):
-        self.folder = os.path.join(words.folder, "postgres")
-        self.base, self.who = os.path.join(self.folder, "base"), {"user": "nobody"} if os.getuid() == 0 else {}
-        os.makedirs(self.folder, exist_ok=True)
-        if self.who:
-            shutil.chown(self.folder, "nobody")
-        if not os.path.exists(self.base):
-            self.call(["initdb", "-D", self.base, "-U", "bench", "--auth=trust"])
-        options = f"-k {self.folder} -c listen_addresses= -c shared_buffers=1GB -c work_mem=256MB -c fsync=off"
-        self.call(["pg_ctl", "-D", self.base, "-w", "-l", os.path.join(self.folder, "log"), "-o", options, "start"])
-        try:
-            self.load(words)
-        except BaseException:
-            self.stop()
-            raise
 
-    def call(self, line):
-        subprocess.run(line, cwd=self.folder, stdout=subprocess.DEVNULL, check=True, **self.who)
-
-    def stop(self):
-        self.call(["pg_ctl", "-D", self.base, "-w", "-m", "fast", "stop"])
-
-    def ask(self, text):
-        line = ["psql", "-h", self.folder, "-U", "bench", "-d", "postgres", "-qAt", "-v", "ON_ERROR_STOP=1"]
-        return subprocess.run(line, input=text, capture_output=True, text=True, check=True).stdout
-
-    def load(self, words):
-        if self.ask("SELECT to_regclass('Source') IS NULL;").strip() == "f":
-            return
-        self.ask("CREATE TABLE Object (objectId bigint,x bigint,y bigint,z bigint,flux bigint,kind bigint);")
-        for name, text in (("Object", "catalogue.csv"), ("Source", "measured.csv")):
-            if name == "Source":
-                self.ask("CREATE TABLE Source (sourceId bigint,objectId bigint,flux bigint,t bigint);")
-            self.ask(f"\\copy {name} FROM '{os.path.join(words.folder, text)}' CSV HEADER\n")
-        self.ask("ALTER TABLE Object ADD PRIMARY KEY (objectId); ALTER TABLE Source ADD PRIMARY KEY (sourceId);")
-        self.ask("CREATE INDEX ON Source (objectId); ANALYZE;")
-
-    def took(self, line, workers, times):
-        """Its milliseconds for a query."""
-        head = f"SET max_parallel_workers_per_gather={workers}; SET parallel_setup_cost=0; SET parallel_tuple_cost=0;\n"
-        asked = f"EXPLAIN (ANALYZE,TIMING OFF) {line.query} ORDER BY o.objectId,s.sourceId;\n"
-        return min(map(float, re.findall(r"Execution Time: ([0-9.]+) ms", self.ask(head + asked * times))))
+def least(server, line, workers, times):
+    """PostgreSQL's milliseconds for a query."""
+    head = f"SET max_parallel_workers_per_gather={workers}; SET parallel_setup_cost=0; SET parallel_tuple_cost=0;\n"
+    asked = f"EXPLAIN (ANALYZE,TIMING OFF) {line.query} ORDER BY o.objectId,s.sourceId;\n"
+    return min(postgres.executions(server.ask(head + asked * times)))
 
 
 def by_postgres(words, lines):
     """For each line and number of workers PostgreSQL's milliseconds, or nothing without it."""
-    if not all(map(shutil.which, ("initdb", "pg_ctl", "psql"))):
-        print("PostgreSQL is skipped: there is no initdb, pg_ctl or psql here")
+    if not postgres.is_here():
         return {}
-    server = Postgres(words)
+    server = postgres.Server(words.folder)
     try:
-        return {(line, workers): server.took(line, workers, words.times) for line in lines for workers in WORKERS}
+        load(server, words)
+        return {(line, workers): least(server, line, workers, words.times) for line in lines for workers in WORKERS}
     finally:
         server.stop()
 
