@@ -3,18 +3,16 @@ use Rattle.std.proofs.Common.{◌≡◌, ◌∙◌, refl, sym, ap, subst, ◌<�
 use Rattle.std.specs.Prelude.{All}
 use Rattle.std.specs.List.{range_with_len}
 use Rattle.std.proofs.lemmas.List.Elements.{All-tail, filter_agree}
-use Rattle.std.proofs.lemmas.List.{length-map}
 use Rattle.std.proofs.lemmas.List.Kept.{AllPairs-filter}
 use Rattle.std.proofs.lemmas.List.FromFn.{length-range_with_len}
 use Rattle.std.proofs.lemmas.Option.{slice_get-get_or}
-use Rattle.table_rules.specs.Objects.{Catalogue, IdsAscend, Obj}
+use Rattle.table_rules.specs.Objects.{IdsAscend, Obj}
 use Rattle.table_rules.specs.declared.limits.TheConstants.{ROWS_MOST}
 use Rattle.sky_rules.specs.Bounds.{in_chunk}
 use Rattle.sky_rules.specs.Partition.{Partition}
 use Rattle.sky_row.specs.Columns.{no_row, objects_at}
 use Rattle.chunk_rules.specs.Places.{passes, places_by, rows_at}
 use Rattle.chunk_rules.proofs.RowsTaken.{rows_at_places}
-use Rattle.chunk_store.specs.Places.{chunk_rows}
 use Rattle.chunk_store.proofs.Ranges.{places_there}
 use Rattle.sql_bound.specs.declared.cond.BoundCond.{BoundCond}
 use Rattle.value_rules.specs.Truth.{meets}
@@ -88,26 +86,3 @@ block_ascends g table c block is up = subst IdsAscend (sym is) (AllPairs-filter 
 pub places_few : (conds : List BoundCond) (block : List Obj) (places : List ℕ) → places ≡ selection conds block → length places ≤ length block
 places_few conds block places is =
     omega (arith, ap length is, filter_short (λ i. passes (λ o. meets conds (row o)) (slice_get block i)) (range_with_len 0 (length block)), length-range_with_len 0 (length block))
-
--- ---- one row of a block
-
--- whether the row at a place meets the conditions
-pub row_passes : (conds : List BoundCond) (block objects : List Obj) (own : List ℕ) (k : ℕ) (o : Obj) → block ≡ objects_at objects own → k < length own
-    → o ≡ get_or (objects_at objects own) k no_row → meets conds (row o) ≡ passes (λ u. meets conds (row u)) (slice_get block k)
-row_passes conds block objects own k o same low is =
-    let test = λ (u : Obj). meets conds (row u) in
-    ap test is
-    ∙ (ap (passes test) (sym (slice_get-get_or (objects_at objects own) k no_row (omega (arith, low, length-map own (λ place. get_or objects place no_row)))))
-    ∙ ap (λ b. passes test (slice_get b k)) (sym same))
-
--- a block has as many rows as places of the table
-pub rows_len : (block objects : List Obj) (own : List ℕ) → block ≡ objects_at objects own → length block ≡ length own
-rows_len block objects own same = ap length same ∙ length-map own (λ place. get_or objects place no_row)
-
--- the rows of a chunk's block stand at the places of the chunk's rows
-pub block_is : (g : Partition) (t r : Catalogue) (c : ℕ) (block : List Obj) (own : List ℕ) → block ≡ rows_at t.objects (chunk_rows g t.objects c) → own ≡ chunk_rows g t.objects c → r ≡ t
-    → block ≡ objects_at r.objects own
-block_is g t r c block own is at same =
-    is
-    ∙ (sym (objects_taken t.objects (chunk_rows g t.objects c) (places_there (λ (o : Obj). in_chunk g c o.at) t.objects))
-    ∙ (ap (objects_at t.objects) (sym at) ∙ ap (λ (u : Catalogue). objects_at u.objects own) (sym same)))

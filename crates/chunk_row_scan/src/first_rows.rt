@@ -18,13 +18,12 @@ ghost use Rattle.table_rules.specs.declared.limits.TheConstants.{FIRST_COLUMNS};
 use crate::columns::{key_at, rank_at};
 use crate::cutoff::{next_within, update};
 use crate::line::{fill, is_down};
-use crate::place::row_at;
 use answer_rules::ChunkQuery;
 use column_block::Block;
 use column_eval::ValueList;
 use partial_merge::{Piece, Rank};
 use sky_io::Memory;
-use sky_row::{Row, Rows};
+use sky_row::Row;
 use sky_vector::Num;
 use std::alloc::Global;
 
@@ -33,19 +32,13 @@ use std::alloc::Global;
 pub(crate) fn first_rows<'w>(
     alloc: Global,
     block: &Block,
-    rows: &Rows,
-    own: &[u32],
     query: &ChunkQuery,
     keys: &Option<ValueList<'_>>,
     places: &[u32],
 ) -> Result<Piece<'w>, Memory>
     requires shape { query.now.shape ≡ OfRows }
-    requires objects { block.now.objects ≡ objects_at rows.now.objects own.now }
-    requires width { block.now.width ≡ length rows.now.names }
-    requires sound { IsSoundChunk (FIRST_COLUMNS + length rows.now.names) query.now }
-    requires own { All (λ place. place < length rows.now.objects) own.now }
+    requires sound { IsSoundChunk (FIRST_COLUMNS + block.now.width) query.now }
     requires there { All (λ place. place < length block.now.objects) places.now }
-    requires places { All (λ place. place < length own.now) places.now }
     requires keys { keys.now
         ≡ keys_on (objects_at block.now.objects places.now) query.now.order }
     ensures { IfOk result (IsOfRowsOver query.now
@@ -61,7 +54,7 @@ pub(crate) fn first_rows<'w>(
     let mut i = 0usize;
     while i < places.len() {
         let rank = rank_at(down, keys, ids, places[i], i);
-        let late = offer(&mut piece, &mut values, rows, own, query, &rank, places[i])?;
+        let late = offer(&mut piece, &mut values, block, query, &rank, places[i])?;
         update(&mut cutoff, late, key_at(keys, i));
         i = next_within(keys, down, &cutoff, i + 1, places.len());
     }
@@ -73,26 +66,23 @@ pub(crate) fn first_rows<'w>(
 fn offer(
     piece: &mut Piece<'_>,
     values: &mut Vec<Option<Num>>,
-    rows: &Rows,
-    own: &[u32],
+    block: &Block,
     query: &ChunkQuery,
     rank: &Rank,
     place: u32,
 ) -> Result<bool, Memory>
     requires rows { IsOfRows piece.old }
     requires shape { query.now.shape ≡ OfRows }
-    requires sound { IsSoundChunk (FIRST_COLUMNS + length rows.now.names) query.now }
-    requires own { All (λ place. place < length rows.now.objects) own.now }
-    requires there { place < length own.now }
+    requires sound { IsSoundChunk (FIRST_COLUMNS + block.now.width) query.now }
+    requires there { place < length block.now.objects }
     ensures taken { OnOk result (TakesRow piece.old (out_row rank.now (map (chunk_value
-        (row (get_or (objects_at rows.now.objects own.now) place no_row))) query.now.items))
-        piece.new) }
+        (row (get_or block.now.objects place no_row))) query.now.items)) piece.new) }
     ensures late { IfOk result (λ late. late ≡ true → IsNoneOfFirst piece.new rank.now) }
 {
     if piece.is_too_late(rank) {
         return Ok(true);
     }
-    push_one(piece, values, query, rank, &row_at(rows, own, place))?;
+    push_one(piece, values, query, rank, &block.row(place))?;
     Ok(false)
 }
 

@@ -13,5 +13,4 @@ mod columns;
 mod cutoff;
 mod first_rows;
 mod line;
-mod place;
 pub mod row_piece;

@@ -16,7 +16,6 @@ use chunk_filter::Scratch;
 use column_block::Block;
 use partial_merge::Piece;
 use sky_io::Memory;
-use sky_row::Rows;
 use std::alloc::Global;
 
 /// Returns the piece of the selected rows of the chunk. Allocates memory for what the piece keeps, and for a few
@@ -24,26 +23,20 @@ use std::alloc::Global;
 pub fn row_piece<'w>(
     alloc: Global,
     block: &Block,
-    rows: &Rows,
-    own: &[u32],
     query: &ChunkQuery,
     places: &[u32],
     scratch: &mut Scratch,
 ) -> Result<Piece<'w>, Memory>
     requires shape { query.now.shape ≡ OfRows }
-    requires objects { block.now.objects ≡ objects_at rows.now.objects own.now }
-    requires width { block.now.width ≡ length rows.now.names }
-    requires sound { IsSoundChunk (FIRST_COLUMNS + length rows.now.names) query.now }
-    requires own { All (λ place. place < length rows.now.objects) own.now }
+    requires sound { IsSoundChunk (FIRST_COLUMNS + block.now.width) query.now }
     requires there { All (λ place. place < length block.now.objects) places.now }
-    requires places { All (λ place. place < length own.now) places.now }
     ensures { IfOk result (IsOfRowsOver query.now
         (objects_at block.now.objects places.now)) }
 {
     let keys = keys(block, &query.order, places, scratch)?;
     let piece = match query.limit {
         None => all_rows(alloc, block, query, &keys, places, scratch)?,
-        Some(_) => first_rows(alloc, block, rows, own, query, &keys, places)?,
+        Some(_) => first_rows(alloc, block, query, &keys, places)?,
     };
     give_keys_back(keys, scratch);
     Ok(piece)

@@ -22,7 +22,6 @@ use chunk_store::Store;
 use column_block::Block;
 use partial_merge::Piece;
 use sky_io::Memory;
-use sky_row::Rows;
 use sql_bound::Shape;
 use std::alloc::Global;
 
@@ -44,10 +43,8 @@ pub fn scan<'w>(
 {
     know(store);
     let block = store.block(chunk);
-    let own = store.chunk(chunk);
-    let rows = store.rows();
     let places = selection(block, query.conds.as_slice(), scratch)?;
-    let piece = piece_at(alloc, block, rows, own, query, places.as_slice(), scratch)?;
+    let piece = piece_at(alloc, block, query, places.as_slice(), scratch)?;
     scratch.places.give(places);
     Ok(piece)
 }
@@ -68,27 +65,21 @@ fn know(store: &Store)
 fn piece_at<'w>(
     alloc: Global,
     block: &Block,
-    rows: &Rows,
-    own: &[u32],
     query: &ChunkQuery,
     places: &[u32],
     scratch: &mut Scratch,
 ) -> Result<Piece<'w>, Memory>
-    requires objects { block.now.objects ≡ objects_at rows.now.objects own.now }
-    requires width { block.now.width ≡ length rows.now.names }
     requires rows { is_paired query.now.shape ≡ false }
-    requires sound { IsSoundChunk (FIRST_COLUMNS + length rows.now.names) query.now }
+    requires sound { IsSoundChunk (FIRST_COLUMNS + block.now.width) query.now }
     requires small { length block.now.objects ≤ ROWS_MOST }
     requires few { length places.now ≤ ROWS_MOST }
-    requires own { All (λ place. place < length rows.now.objects) own.now }
-    requires there { All (λ place. place < length own.now) places.now }
-    ensures { IfOk result (IsPieceOver query.now
-        (objects_at (objects_at rows.now.objects own.now) places.now)) }
+    requires there { All (λ place. place < length block.now.objects) places.now }
+    ensures { IfOk result (IsPieceOver query.now (objects_at block.now.objects places.now)) }
 {
     match &query.shape {
         Shape::Groups { keys } => {
             piece_of_groups(alloc, block, query, keys.as_slice(), places, scratch)
         },
-        _ => row_piece(alloc, block, rows, own, query, places, scratch),
+        _ => row_piece(alloc, block, query, places, scratch),
     }
 }

@@ -5,7 +5,7 @@
 //! `chunk_row_scan` or `chunk_group_scan` makes the piece of them. What a scan needs beside its piece is in a `Scratch`,
 //! which its caller keeps for the next scan.
 //!
-//! Below: these three, `chunk_store` for the rows of a chunk and their columns, and `partial_merge` for the piece. This
+//! Below: these three, `chunk_store` for a chunk's block, and `partial_merge` for the piece. This
 //! crate has no pairs of rows, no threads and no other chunk.
 #![tactic(auto)]
 

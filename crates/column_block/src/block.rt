@@ -1,14 +1,14 @@
 //! The columns of some rows of a table.
-ghost use Rattle.std.specs.Prelude.{◌≡◌, ◌+◌, ◌<◌, ◌≤◌, length, map, All, IfOk};
+ghost use Rattle.std.specs.Prelude.{◌≡◌, ◌+◌, ◌<◌, ◌≤◌, length, map, get_or, All, IfOk};
 ghost use Rattle.sky_vector.specs.Points.{IsWithin};
 ghost use Rattle.table_rules.specs.Objects.{IsRow};
 ghost use Rattle.table_rules.specs.declared.limits.TheConstants.{FIRST_COLUMNS};
 ghost use Rattle.column_lists.specs.Columns.{AreRows, objects_of};
-ghost use Rattle.sky_row.specs.Columns.{column_in, objects_at};
+ghost use Rattle.sky_row.specs.Columns.{column_in, no_row, objects_at};
 ghost use Rattle.column_lists.specs.Filling.{AreBegun};
 
 use sky_io::Memory;
-use sky_row::{Column, Lists, Rows};
+use sky_row::{Column, Lists, Row, Rows};
 use std::alloc::Global;
 use std::marker::Model;
 use table_rules::limits::FIRST_COLUMNS;
@@ -70,6 +70,15 @@ impl Block {
         ensures wide { All (λ o. length o.further ≡ self.now.width) self.now.objects }
     {
         self.lists.ids().len()
+    }
+
+    /// Returns the row with this number, from 0. Does not allocate.
+    pub fn row(&self, i: u32) -> Row
+        requires { i < length self.now.objects }
+        ensures value { result ≡ get_or self.now.objects i no_row }
+        ensures wide { length result.further ≡ self.now.width }
+    {
+        self.lists.row(i as usize)
     }
 
     /// Returns the ids of the rows. Does not allocate.

@@ -1,6 +1,5 @@
-use Rattle.std.proofs.Common.{◌≡◌, ◌∙◌, ◌+◌, ℤ, true, List, Option, ap, get_or, length, map, pos, subst, sym}
-use Rattle.table_rules.specs.Objects.{Obj}
-use Rattle.sky_row.specs.Columns.{no_row, objects_at}
+use Rattle.std.proofs.Common.{◌≡◌, ◌∙◌, ◌+◌, ℤ, true, List, Option, ap, get_or, map, pos, refl, subst, sym}
+use Rattle.sky_row.specs.Columns.{no_row}
 use Rattle.sql_bound.specs.declared.query.Shape.{Shape}
 use Rattle.value_rules.specs.Values.{row}
 use Rattle.answer_rules.specs.Pieces.{chunk_value}
@@ -17,17 +16,17 @@ use Rattle.chunk_row_scan.proofs.first_rows.first_rows.Goals as goal
 
 pub rank_at-rank-requires-clause-ready : goal.rank_at-rank-requires-clause-ready
 rank_at-rank-requires-clause-ready c =
-    keys_ready (4 + length c.args.rows.now.names) c.loop-i.i c.args.block.now.objects c.args.places.now c.args.query.now.order c.args.keys.now
-    (subst (λ (s : Shape). is_sound_chunk_order (4 + length c.args.rows.now.names) s c.args.query.now.order ≡ true) c.requires.shape c.requires.sound.order)
+    keys_ready (4 + c.args.block.now.width) c.loop-i.i c.args.block.now.objects c.args.places.now c.args.query.now.order c.args.keys.now
+    (subst (λ (s : Shape). is_sound_chunk_order (4 + c.args.block.now.width) s c.args.query.now.order ≡ true) c.requires.shape c.requires.sound.order)
     c.len-count.ensures.rows c.requires.there c.loop-i-test.true c.requires.keys
 
 pub offer-requires-clause-there : goal.offer-requires-clause-there
-offer-requires-clause-there c = c.requires.places c.loop-i.i 0 c.loop-i-test.true
+offer-requires-clause-there c = c.requires.there c.loop-i.i 0 c.loop-i-test.true
 
 pub key_at-requires : goal.key_at-requires
 key_at-requires c =
-    keys_ready (4 + length c.args.rows.now.names) c.loop-i.i c.args.block.now.objects c.args.places.now c.args.query.now.order c.args.keys.now
-    (subst (λ (s : Shape). is_sound_chunk_order (4 + length c.args.rows.now.names) s c.args.query.now.order ≡ true) c.requires.shape c.requires.sound.order)
+    keys_ready (4 + c.args.block.now.width) c.loop-i.i c.args.block.now.objects c.args.places.now c.args.query.now.order c.args.keys.now
+    (subst (λ (s : Shape). is_sound_chunk_order (4 + c.args.block.now.width) s c.args.query.now.order ≡ true) c.requires.shape c.requires.sound.order)
     c.len-count.ensures.rows c.requires.there c.loop-i-test.true c.requires.keys
 
 pub next_within-i-requires-clause-count : goal.next_within-i-requires-clause-count
@@ -41,10 +40,10 @@ loop-i-preserved c =
     let places = c.args.places.now in
     let i = c.loop-i.i in
     let id : ℤ = get_or c.ids-ids.result.now (get_or places i 0) (pos 0) in
-    let cells : List (Option ℤ) = map (chunk_value (row (get_or (objects_at c.args.rows.now.objects c.args.own.now) (get_or places i 0) no_row))) cq.items in
+    let cells : List (Option ℤ) = map (chunk_value (row (get_or objects (get_or places i 0) no_row))) cq.items in
     let line = line_there cq objects places i c.is_down-down.result c.args.keys.now c.ids-ids.result.now c.rank_at-rank.result cells
     c.loop-i-test.true c.requires.there c.is_down-down.ensures c.requires.keys c.ids-ids.ensures c.rank_at-rank.ensures
-    (ap (λ (l : List Obj). map (chunk_value (row (get_or l (get_or places i 0) no_row))) cq.items) (sym c.requires.objects)) in
+    refl in
     let cutoff : IsCutoff c.is_down-down.result c.offer.new.piece c.update.new.cutoff =
     subst (IsCutoff c.is_down-down.result c.offer.new.piece) (sym c.update.ensures)
     (cutoff_next c.is_down-down.result c.loop-i.piece c.offer.new.piece (ranked c.rank_at-rank.result cells) c.loop-i.cutoff c.key_at.result id _ c.in_ok-late.ensures.taken

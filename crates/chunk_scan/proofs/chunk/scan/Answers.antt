@@ -1,12 +1,10 @@
-use Rattle.std.proofs.Common.{◌≡◌, ◌∙◌, ◌<◌, ℕ, List, arith, ap, length, sym, subst}
+use Rattle.std.proofs.Common.{◌∙◌, ◌+◌, ◌<◌, ℕ, arith, ap, length, sym, subst}
 use Rattle.std.specs.Prelude.{All}
-use Rattle.table_rules.specs.Objects.{Obj, Catalogue}
-use Rattle.sky_row.specs.Columns.{objects_at}
 use Rattle.column_block.specs.Blocks.{Stored}
 use Rattle.chunk_store.proofs.ChunkBlocks.{chunk_taken}
-use Rattle.chunk_scan.specs.Lines.{IsPieceOver}
+use Rattle.answer_rules.specs.SoundChunks.{IsSoundChunk}
 use Rattle.chunk_filter.specs.Selection.{selection}
-use Rattle.chunk_filter.proofs.Found.{block_ascends, block_few, block_is, places_few, rows_len}
+use Rattle.chunk_filter.proofs.Found.{block_ascends, block_few, places_few}
 use Rattle.chunk_scan.proofs.Scanned.{scanned}
 use Rattle.chunk_scan.proofs.chunk.scan.Goals as goal
 
@@ -44,8 +42,7 @@ piece_at-requires-clause-few c =
 pub piece_at-requires-clause-there : goal.piece_at-requires-clause-there
 piece_at-requires-clause-there c =
     let block = c.block-block.result.now.objects in
-    subst (All (λ i. i < length c.chunk-own.result.now)) (sym c.as_slice-2.ensures.value)
-    (subst (λ (n : ℕ). All (λ i. i < n) c.in_ok-places.places.items) (rows_len block c.rows-rows.result.now.objects c.chunk-own.result.now (block_is c.args.store.now.plan c.args.store.now.rows c.rows-rows.result.now c.args.chunk c.block-block.result.now.objects c.chunk-own.result.now c.block-block.ensures.places c.chunk-own.ensures.value c.rows-rows.ensures)) c.in_ok-places.ensures.there)
+    subst (All (λ i. i < length block)) (sym c.as_slice-2.ensures.value) c.in_ok-places.ensures.there
 
 pub returns : goal.returns
 returns c =
@@ -53,19 +50,12 @@ returns c =
     let objects = c.args.store.now.rows.objects in
     let cq = c.args.query.now in
     let block = c.block-block.result.now.objects in
-    let own = c.chunk-own.result.now in
     let places = c.as_slice-2.result.now in
-    let same : objects_at c.rows-rows.result.now.objects own ≡ block =
-    sym (block_is c.args.store.now.plan c.args.store.now.rows c.rows-rows.result.now c.args.chunk c.block-block.result.now.objects c.chunk-own.result.now c.block-block.ensures.places c.chunk-own.ensures.value c.rows-rows.ensures) in
     scanned g objects cq c.args.chunk block places c.in_ok-piece.piece c.know.ensures.plan c.know.ensures.rows c.requires.there c.requires.rows
     (c.block-block.ensures.places ∙ chunk_taken g objects c.args.chunk)
     (c.as_slice-2.ensures.value ∙ (c.in_ok-places.ensures.value ∙ ap (λ conds. selection conds block) c.as_slice.ensures))
-    (subst (λ (l : List Obj). IsPieceOver cq (objects_at l places) c.in_ok-piece.piece) same c.in_ok-piece.ensures)
+    c.in_ok-piece.ensures
 
-pub piece_at-requires-clause-objects : goal.piece_at-requires-clause-objects
-piece_at-requires-clause-objects c =
-    block_is c.args.store.now.plan c.args.store.now.rows c.rows-rows.result.now c.args.chunk c.block-block.result.now.objects c.chunk-own.result.now c.block-block.ensures.places c.chunk-own.ensures.value c.rows-rows.ensures
-
-pub piece_at-requires-clause-width : goal.piece_at-requires-clause-width
-piece_at-requires-clause-width c =
-    ap (λ (s : Stored). s.width) c.block-block.ensures.value ∙ ap (λ (r : Catalogue). length r.names) (sym c.rows-rows.ensures)
+pub piece_at-requires-clause-sound : goal.piece_at-requires-clause-sound
+piece_at-requires-clause-sound c =
+    subst (λ (width : ℕ). IsSoundChunk (4 + width) c.args.query.now) (sym (ap (λ (s : Stored). s.width) c.block-block.ensures.value)) c.requires.sound
