@@ -2,3 +2,4 @@ pub mod Laned
 pub mod Sums
 pub mod Judging
 pub mod SingleColumns
+pub mod Mirrored

@@ -1,5 +1,5 @@
 //! The truth values of tests, a column at a time.
-ghost use Rattle.std.specs.Prelude.{◌≡◌, ◌+◌, ◌<◌, ◌≤◌, ℤ, [], IfOk, IsTrue, All, length, get_or, pos, vec_capacity};
+ghost use Rattle.std.specs.Prelude.{◌≡◌, ◌+◌, ◌<◌, ◌≤◌, [], IfOk, IsTrue, All, length, get_or, pos, vec_capacity};
 ghost use Rattle.sql_tree.specs.declared.cond.Cmp.TheVariants.{AtMost};
 ghost use Rattle.table_rules.specs.Objects.{IsRow};
 ghost use Rattle.value_rules.specs.Formulas.{Among, And, Compares, IsNull, negated_if};
@@ -18,6 +18,7 @@ use column_vectors::lane::Lane;
 use column_vectors::leaf::repeated;
 use column_vectors::mask::{both, copied};
 use column_vectors::numbers::Numbers;
+use expr_eval::mirrored;
 use lane_filter::keep;
 use sky_io::Memory;
 use sql_bound::{BoundExpr, Cmp};
@@ -133,6 +134,7 @@ fn compared(op: Cmp, left: &Lane, right: &Lane, scratch: &mut Scratch) -> Result
 }
 
 // Compares the numbers of the left with those of the right. `found` is an empty mask that has room for the results.
+#[tactic(auto, using(crate::proofs::Mirrored::mirrored_numbers))]
 fn truths_of(op: Cmp, left: &Numbers, right: &Numbers, found: Vec<bool>) -> Vec<bool>
     requires count { length (numbers_of right.now) ≡ length (numbers_of left.now) }
     requires empty { found.items ≡ [] }
@@ -147,7 +149,7 @@ fn truths_of(op: Cmp, left: &Numbers, right: &Numbers, found: Vec<bool>) -> Vec<
         },
         (Numbers::Narrow(left), Numbers::Same(n, _)) => truths_with(op, left.as_slice(), *n, found),
         (Numbers::Same(n, _), Numbers::Narrow(right)) => {
-            truths_with(turned(op), right.as_slice(), *n, found)
+            truths_with(mirrored(op), right.as_slice(), *n, found)
         },
         _ => truths_of_wide(op, left, right, found),
     }
@@ -198,20 +200,6 @@ fn truths_with(op: Cmp, values: &[i64], n: i64, found: Vec<bool>) -> Vec<bool>
     let mut found = repeated(true, values.len(), found);
     keep(values, op, n, found.as_mut_slice());
     found
-}
-
-// Returns the comparison that is equivalent when its sides are exchanged.
-fn turned(op: Cmp) -> Cmp
-    ensures { (a b : ℤ) → compares result a b ≡ compares op b a }
-{
-    match op {
-        Cmp::Equal => Cmp::Equal,
-        Cmp::Differs => Cmp::Differs,
-        Cmp::Less => Cmp::More,
-        Cmp::AtMost => Cmp::AtLeast,
-        Cmp::More => Cmp::Less,
-        Cmp::AtLeast => Cmp::AtMost,
-    }
 }
 
 // Compares numbers of which some are wider than 64 bits.
