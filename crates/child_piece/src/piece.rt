@@ -60,8 +60,8 @@ impl<'w> ChildPiece<'w> {
         self.piece.absorb_rows(piece)
     }
 
-    /// Returns the answer of the query over the piece's chunks. Consumes the piece. Allocates memory for the table, and
-    /// for the two parts into which the query is split.
+    /// Returns the answer of the query over the piece's chunks. Consumes the piece. Allocates memory for the table, to
+    /// sort its rows, and for the two parts into which the query is split.
     pub fn finish(self, alloc: Global, query: &ChildBound) -> Result<Table, Memory>
         requires { MayFinishChild query.now.bound self }
         ensures { IfOk result (IsChildAnswer query.now.bound self.entry) }

@@ -171,8 +171,8 @@ fn steps_on(wedges: u32, radius: u32, wedge: u32, p: &Pos) -> Option<u32>
 
 /// Returns whether the position is, in the plane, no farther than the radius from the line of a side.
 ///
-/// The call is kept out of the loop of a walk, which mostly ends at its first side. The compiler would else make vector code
-/// of that loop for many sides at once, which takes ten times as long.
+/// The call is kept out of the loop of a walk, which mostly ends at its first side. For x86-64-v3 the compiler
+/// would otherwise make vector code of that loop for many sides at once, which takes ten times as long.
 #[inline(never)]
 fn is_near(wedges: u32, radius: u32, side: u32, p: &Pos) -> bool
     requires few { wedges ≤ STRIPE_CHUNKS_MOST }

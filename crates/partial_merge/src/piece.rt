@@ -149,7 +149,7 @@ impl<'w> Piece<'w> {
     }
 
     /// Returns the table of rows, no two of which are equal in order: its rows in order, or the first of them if there
-    /// is a limit. Consumes the piece. Allocates memory for the table.
+    /// is a limit. Consumes the piece. Allocates memory for the table and to sort its rows.
     pub fn finish_rows(self, merge: &MergePlan) -> Result<Table, Memory>
         requires rows { IsOfRows self }
         requires apart { AreApart row_order (rows_of self) }
@@ -164,8 +164,8 @@ impl<'w> Piece<'w> {
     }
 
     /// Returns the answer: its rows in order, or the first of them if there is a limit. If totals are outside ±2^100,
-    /// returns the first of them, by group, then by item. Consumes the piece. Allocates memory for the table, and for
-    /// groups also for a new aggregation table and their order.
+    /// returns the first of them, by group, then by item. Consumes the piece. Allocates memory for the table and
+    /// to sort its rows, and for groups also for a new aggregation table.
     pub fn finish(self, merge: &MergePlan) -> Result<Table, Stop<TotalOut>>
         requires { MayFinish merge.now self }
         ensures ok { IfOk result (λ table. finished merge.now self.entry ≡ Ok table) }

@@ -146,10 +146,12 @@ merged_any merge full kept h p =
 
 -- ---- in order
 
+-- an order by two tests that is not Less fails the first
 not_less : (p q : Bool) → is_lt (cond p Less (cond q Equal Greater)) ≡ false → p ≡ false
 not_less true q h = h
 not_less false q h = refl
 
+-- an order by first parts, then by second parts, is not Less if the first is not less, nor the second unless the first is greater
 not_before : (p q r s : Bool) → p ≡ false → (q ≡ false → r ≡ false) → is_lt (ordering_then (cond p Less (cond q Greater Equal)) (cond r Less (cond s Greater Equal))) ≡ false
 not_before true q r s h k = h
 not_before false true r s h k = refl
@@ -157,19 +159,22 @@ not_before false false true s h k = k refl
 not_before false false false true h k = refl
 not_before false false false false h k = refl
 
+-- if y is not below x, then x is at most y
 under : (x y : ℤ) → int_lt y x ≡ false → x ≤ℤ y
 under x y h = grind (arith, ints)
 
+-- if y is at most x, then x is not below y
 not_under : (x y : ℤ) → y ≤ℤ x → int_lt x y ≡ false
 not_under x y h = grind (arith, ints)
 
--- a pair that is not packed into a lesser number comes before no other
+-- a pair that is not packed into a lesser number than another does not come before it
 in_order_too : (a b : ℕ) → is_lt (nat_cmp a b) ≡ false → is_lt (row_order (pair_row a) (pair_row b)) ≡ false
 in_order_too a b h =
     let le : b ≤ a = ltb-false a b (not_less (nat_lt a b) (a == b) h) in
     not_before (int_lt (first_in a) (first_in b)) (int_lt (first_in b) (first_in a)) (int_lt (second_in a) (second_in b)) (int_lt (second_in b) (second_in a))
     (not_under (first_in a) (first_in b) (omega (arith, ints, le))) (λ k. not_under (second_in a) (second_in b) (omega (arith, ints, le, under (first_in a) (first_in b) k)))
 
+-- the pairs of ascending numbers are in order
 pairs_ascend : (pairs : List ℕ) → Ascends nat_cmp pairs → Ascends row_order (map pair_row pairs)
 pairs_ascend [] h = tt
 pairs_ascend (p ∷ pairs) h = (

@@ -1,14 +1,15 @@
--- Pairs without an order key whose values are their own two ids: only the ids are stored, packed into one number.
+-- Pairs that sort as those without an order key, and whose values are their own two ids: only the ids are stored, packed into one number.
 use Rattle.std.specs.Prelude.{ℕ, ◌/◌, ◌%◌, ◌^◌, ℤ, pos, ◌-ℤ◌, List, [], ◌∷◌, map, Some}
 use Rattle.answer_rules.specs.declared.rewritten.MergeItem.{MergeItem}
 use Rattle.answer_rules.specs.declared.row.OutRow.{OutRow}
 use Rattle.answer_rules.specs.declared.value.Value.{Value}
 use Rattle.answer_rules.specs.Finish.{column_value}
 
--- the ids of the pair, each of which is stored as how far it is above the lowest one
+-- the first id of the pair, which is stored as how far it is above the lowest number of 64 bits
 abbrev pub first_in : ℕ → ℤ
 first_in p = pos (p / 2 ^ 64) -ℤ pos (2 ^ 63)
 
+-- the second id of the pair, stored in the same way
 abbrev pub second_in : ℕ → ℤ
 second_in p = pos (p % 2 ^ 64) -ℤ pos (2 ^ 63)
 

@@ -112,8 +112,8 @@ fn mixed_table(
     sorted_table(alloc, all, cells, merge)
 }
 
-/// Returns the table of all rows of a multiset without a limit. Allocates memory for the table. If some rows have an
-/// order key and others have none, allocates memory for a copy of the rows too.
+/// Returns the table of all rows of a multiset without a limit. Allocates memory for the table. Unless all
+/// rows are compact, allocates memory for a copy of the rows too.
 fn unlimited_table(
     alloc: Global,
     unlimited: UnlimitedRows,

@@ -1,5 +1,5 @@
-//! A pair without an order key whose values are its own two ids, packed into one number. The numbers are in the order of
-//! the pairs.
+//! A pair that sorts as one without an order key and whose values are its own two ids, packed into one number. Packed
+//! pairs compare as the pairs do.
 
 ghost use Rattle.std.specs.Prelude.{◌≡◌, ◌∷◌, [], IfSome, None, Some, slice_get, unwrap_or};
 ghost use Rattle.std.specs.Bool.{OnTrue};
@@ -10,10 +10,10 @@ use crate::rank::Rank;
 use answer_table::values::number;
 use sky_vector::Num;
 
-/// How many ids there are.
+/// How many numbers of 64 bits there are.
 const IDS: u128 = 1 << 64;
 
-/// The lowest id is this far below 0.
+/// The lowest number of 64 bits is this far below 0.
 const BELOW: i128 = 1 << 63;
 
 /// Returns whether the value is this id.

@@ -59,8 +59,8 @@ fn pair_table(alloc: Global, pairs: &[u128], items: &[MergeItem]) -> Result<Tabl
     Ok(Table::of(values, items.len(), pairs.len()))
 }
 
-/// Returns the table of pairs in any order. Allocates memory for the table, and before that for the sort, as much as
-/// the pairs take. Numbers are sorted in half the time by such a sort.
+/// Returns the table of pairs in any order. Allocates memory for the table, and before that for the sort, at most as
+/// much as the pairs take.
 pub(crate) fn sorted_pair_table(
     alloc: Global,
     mut pairs: Vec<u128>,
