@@ -225,7 +225,7 @@ def facts_of_a_fresh_copy(copy):
 def facts_of_changed_sources(copy):
     """One byte, the length and the time of writing as before; with a stamp and without one."""
     parts = ["crates/sky_vector/src/lib.rt", "crates.txt", "HANDLES", "crates/qserv_cli/stdout"]
-    parts += [next(it for it in source_files(copy.root) if f"/{part}/" in it) for part in ("specs", "proofs", "must-fail", "mutants")]
+    parts += [next(it for it in source_files(copy.root) if f"/{part}/" in it) for part in ("specs", "proofs", "mutants")]
     for name in parts:
         path = f"{copy.root}/{name}"
         yield f"{name}: as it was, the release runs", copy.runs_release()
@@ -316,7 +316,7 @@ def facts_of_building(copy):
     crates = {name.split("/")[2] for name in tree if name.startswith("./crates/")}
     yield "of the program's crates alone", crates == program_crates(ROOT)
     tests = [name for name in tree if name.endswith(".rt") and re.search(r"/tests(\.rt|/)", name)]
-    yield "without tests and mutants", not tests and not [name for name in tree if "/must-fail/" in name or "/mutants/" in name]
+    yield "without tests and mutants", not tests and not [name for name in tree if "/mutants/" in name]
     yield "what was built runs again without the toolchain", copy.run("./qserv", "a") == (0, "built: a\n", "")
     yield "and was built once", read(built) == b"built\n"
     version = copy.run("./qserv", "--version")[1]

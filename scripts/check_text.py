@@ -101,7 +101,7 @@ def claim_findings():
 
 def edit_findings(listed):
     """Where the mutants and the table of claims disagree."""
-    edits = [name for name in listed if name.split("/")[2:3] in ([folder] for folder in mutants.FOLDERS)]
+    edits = [name for name in listed if name.split("/")[2:3] == [mutants.FOLDER]]
     there = collections.Counter(os.path.basename(name)[: -len(".edit")] for name in edits)
     claimed = claimed_edits()
     for name in sorted(there.keys() | claimed.keys()):

@@ -70,7 +70,7 @@ def provers(top):
 
 
 def kind_of(words):
-    """What a prover's call is for: mutants are checked and nothing is written; a library is built, and a program is checked
+    """What a prover's call is for: mutants are checked and no library is written; a library is built, and a program is checked
     into a file that its compilers take."""
     if "check" in words[1:2] and "-o" not in words:
         return "mutants"

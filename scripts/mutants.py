@@ -6,12 +6,12 @@
     scripts/mutants.py --list                       what there is
     scripts/mutants.py --check                      whether each idea of docs/proofs/ideas.md fits the code; no prover runs
 
-A mutant is an edit of a crate, NAME.edit in crates/C/must-fail or crates/C/mutants, or an idea of docs/proofs/ideas.md, whose
-head says how a row is read. The gate tries the edits; this is no part of it, and tries the ideas too, for whoever changes a
-crate or doubts a mutant. It copies the repository, with the proofs that are kept, writes the mutants as the only edits of their crates there,
-and runs `rt must-fail` on each crate: it takes as long as the checks of the crate, a mutant each. For each mutant it prints
-what the prover said of it. It ends with 1 where one is not refused, or no longer fits: an old text is no longer in its file
-exactly once. It writes the folder `mutants` in FOLDER anew, or in a temporary one that it removes.
+A mutant is an edit of a crate, NAME.edit in crates/C/mutants, or an idea of docs/proofs/ideas.md, whose head says how a row is
+read. The gate tries the edits; this is no part of it, and tries the ideas too, for whoever changes a crate or doubts a mutant.
+It copies the repository, with the proofs that are kept, writes the mutants as the only edits of their crates there, in the
+folder must-fail/, and runs `rt must-fail` on each crate: it takes as long as the checks of the crate, a mutant each. For each
+mutant it prints what the prover said of it. It ends with 1 where one is not refused, or no longer fits: an old text is no
+longer in its file exactly once. It writes the folder `mutants` in FOLDER anew, or in a temporary one that it removes.
 """
 import argparse
 import collections
@@ -24,8 +24,8 @@ import sys
 import tempfile
 
 IDEAS = "docs/proofs/ideas.md"
-# rt ci tries the edits of the one, scripts/try_mutants.py those of the other
-FOLDERS = ("must-fail", "mutants")
+# scripts/try_mutants.py tries the edits there
+FOLDER = "mutants"
 PAIR = re.compile(r"`([^`]+)` → (?:`([^`]+)`|nothing)")
 BETWEEN_PAIRS = "; "
 # how rt says it
@@ -101,7 +101,7 @@ def edit_of(path):
 
 
 def edits():
-    return [edit_of(path) for folder in FOLDERS for path in sorted(glob.glob(f"crates/*/{folder}/*.edit"))]
+    return [edit_of(path) for path in sorted(glob.glob(f"crates/*/{FOLDER}/*.edit"))]
 
 
 def misfit(mutant):

@@ -1,25 +1,29 @@
 #!/usr/bin/env python3
-"""Tries the mutants of the dearest crates after `rt ci`: all those of a crate in one check.
+"""Tries the mutants of each crate after `rt ci`, as many of them in one check as can be told apart.
 
     scripts/try_mutants.py [--processes N] [--times] [CRATE ..]
     scripts/try_mutants.py --list
 
-A mutant is code or a definition with one thing changed, which the prover must refuse. `rt ci` tries the mutants in the folders
-must-fail/. For the first it checks the crate from nothing, for each other it reads the whole crate once more, so that in a large
-crate they cost more than its proof. Such a crate has its mutants in the folder mutants/ instead, and this script tries them.
-Their form is that of must-fail/ with one line more:
+A mutant is code or a definition with one thing changed, which the prover must refuse. It is a file NAME.edit in crates/C/mutants with
+a line `file: src/lib.rt`, or another file of the crate; then pairs of lines `old: TEXT` and `new: TEXT`, where each old text is in
+that file exactly once; and a line
 
     refused: FUNCTION CLAUSE
 
 FUNCTION is the function whose proof must fail, as a check prints it below the crate, and CLAUSE what must not be proved of it, or
 the lemma of its proof that must not.
 
+`rt ci` would try the edits of a folder must-fail/. For the first it checks the crate from nothing, for each other it reads the whole
+crate once more, and it does not compare the clause. So the crates have no such folder.
+
 A function is proved by the contracts of those that it calls, not by their code. So each mutant of code is refused by itself,
-though all those of a crate are made in one copy; two of one function take a check each. A mutant of a definition or of a ghost
-member changes what other proofs read, so it is made alone. Those that are not refused beside the others are made once more
-by themselves, and at last each alone: what a function owes may wait for the proof of one that it calls, which another mutant has
-broken. A check is of these functions and of those that they call, over the libraries that `rt ci` proved and left in
-crates/*/out/rlib. That the crate is proved without its mutants is what `rt ci` has shown.
+though all those of a crate are made in one copy; two of one function take a check each. A mutant of a definition, of a constant
+or of a ghost member changes what other proofs read, so it is made alone. Those that are not refused beside the others are made
+once more by themselves, and at last each alone: what a function owes may wait for the proof of one that it calls, which another
+mutant has broken. A check is of these functions and of those that they call, over the libraries that `rt ci` proved and left in
+crates/*/out/rlib. That the crate is proved without its mutants is what `rt ci` has shown. If a crate takes several checks, they
+come one after the other and share a folder: what one has proved is not proved again by the next if no mutant of that changes
+it.
 
 It prints a line for each mutant, and those that were not refused last; then the status is 1. With --times it prints the processor
 seconds of all checks. Without the libraries it ends with 1, without `rt` with 0, each with a line that says so. It writes into a
@@ -70,8 +74,8 @@ def mutants_of(crate):
 
 
 def is_definition(mutant):
-    """Whether the mutant changes what other proofs read: a file of specs/ or proofs/, or a ghost member."""
-    return not mutant.file.startswith("src/") or any(old.lstrip().startswith("ghost ") for old, _ in mutant.pairs)
+    """Whether the mutant changes what other proofs read: a file of specs/ or proofs/, a ghost member or a constant."""
+    return not mutant.file.startswith("src/") or any(old.lstrip().startswith(("ghost ", "const ", "pub const ")) for old, _ in mutant.pairs)
 
 
 def rounds(tried):
@@ -114,15 +118,16 @@ def library(crate):
     return os.path.abspath(f"crates/{crate}/out/rlib")
 
 
-def check_words(crate, kit):
-    """The words of a check of a crate over the libraries below it, as `rt` gives them, but for what looks for empty contracts."""
+def check_words(crate, kit, kept):
+    """The words of a check of a crate over the libraries below it, as `rt` gives them, but for what looks for empty contracts; `kept`
+    is the folder of what checks of the crate have proved, or None."""
     words = [f"{kit}/bin/rattle", "check", "--crate-name", crate, "src/lib.rt", "--extern", f"std={kit}/rlibs/std.rlib"]
     for name in edges()[crate]:
         words += ["--extern", f"{name}={library(name) if name in edges() else f'{kit}/rlibs'}/{name}.rlib"]
     for folder in [f"{kit}/rlibs", *map(library, sorted(below(crate)))]:
         words += ["-L", f"dependency={folder}"]
     words += ["--antt-project", f"{kit}/rattle/logic/antt-project.json", "--logic-built", f"{kit}/logic_built"]
-    return [*words, "--jobs", "1"]
+    return [*words, "--jobs", "1", *(["--incremental", kept] if kept else [])]
 
 
 def make(mutant, room):
@@ -138,15 +143,15 @@ def make(mutant, room):
         file.write(text)
 
 
-def output_of(crate, tried, kit):
-    """What a check says of a copy of the crate with these mutants, and its processor seconds."""
+def output_of(crate, tried, kit, kept):
+    """What a check says of a copy of the crate with these mutants."""
     with tempfile.TemporaryDirectory(prefix="mutants-") as room:
         for part in PARTS:
             if os.path.isdir(f"crates/{crate}/{part}"):
                 shutil.copytree(f"crates/{crate}/{part}", f"{room}/{part}")
         for mutant, _, _ in tried:
             make(mutant, room)
-        words = check_words(crate, kit)
+        words = check_words(crate, kit, kept)
         for function in sorted({function for _, function, _ in tried}):
             words += ["--only", function]
         ran = subprocess.run(words, cwd=room, stdin=subprocess.DEVNULL, stdout=subprocess.PIPE, stderr=subprocess.STDOUT, text=True, errors="replace", check=False)
@@ -181,10 +186,10 @@ def is_refused(function, clause, crate, output):
     return any(f"`{clause}`" in line for line in lines)
 
 
-def verdicts(crate, tried, kit):
+def verdicts(crate, tried, kit, kept):
     """For each mutant of a check whether it is refused, and what to say."""
     try:
-        output = output_of(crate, tried, kit)
+        output = output_of(crate, tried, kit, kept)
     except Unfit as fault:
         return [(False, f"{mutant.crate}/{mutant.name}: {fault}") for mutant, _, _ in tried]
     found, left = [], []
@@ -197,8 +202,16 @@ def verdicts(crate, tried, kit):
         return found or [(False, missed(crate, *tried[0], output))]
     # the goals of a function wait for the proofs of those that it calls, which another mutant may have broken
     for fewer in [left] if found and left else [[it] for it in left]:
-        found += verdicts(crate, fewer, kit)
+        found += verdicts(crate, fewer, kit, kept)
     return found
+
+
+def all_verdicts(crate, kit):
+    """For each mutant of a crate whether it is refused, and what to say. A single check keeps nothing."""
+    checks = rounds(mutants_of(crate))
+    with tempfile.TemporaryDirectory(prefix="mutants-kept-") as room:
+        kept = room if len(checks) > 1 else None
+        return [verdict for tried in checks for verdict in verdicts(crate, tried, kit, kept)]
 
 
 def missed(crate, mutant, function, clause, output):
@@ -221,16 +234,17 @@ def unbuilt(crates):
 
 
 def run(crates, number, kit):
-    """Tries the mutants of the crates, prints what was said of each, and returns the status."""
-    failed = []
+    """Tries the mutants of the crates, prints what was said of each, and returns the status. The crate with the most checks
+    begins first."""
+    failed, checks = [], {crate: len(rounds(mutants_of(crate))) for crate in crates}
     with concurrent.futures.ThreadPoolExecutor(number) as pool:
-        checks = [pool.submit(verdicts, crate, tried, kit) for crate in crates for tried in rounds(mutants_of(crate))]
-        for check in concurrent.futures.as_completed(checks):
-            for well, told in check.result():
+        tries = [pool.submit(all_verdicts, crate, kit) for crate in sorted(crates, key=lambda it: -checks[it])]
+        for one in concurrent.futures.as_completed(tries):
+            for well, told in one.result():
                 print(told, flush=True)
                 failed += [] if well else [told]
     count = sum(len(mutants_of(crate)) for crate in crates)
-    print(f"try_mutants: {count - len(failed)} of {count} mutants refused, in {len(checks)} checks of {len(crates)} crates")
+    print(f"try_mutants: {count - len(failed)} of {count} mutants refused, in {sum(checks.values())} checks of {len(crates)} crates")
     for told in failed:
         print(told)
     return 1 if failed else 0
