@@ -12,6 +12,7 @@ mod classes;
 mod cuts;
 mod journal;
 mod limits;
+mod raw_calls;
 mod sources;
 
 pub(crate) const SKY: &[u8] = b"overlap 5\nstripe -268435472 4 2 2\nstripe 0 4 2 2\n";

@@ -33,8 +33,6 @@ pub mod raw;
 pub mod shelf;
 pub mod sink;
 pub mod step_gate;
-#[cfg(test)]
-mod tests;
 
 pub use buffered::Buffered;
 pub use file_shelf::FileShelf;

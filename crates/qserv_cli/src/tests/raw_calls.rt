@@ -1,5 +1,5 @@
-//! What no clause says: that calls succeed, and how many raw calls they make.
-use crate::{Buffered, Fetch, FileShelf, FolderShelf, MemFiles, MemOutput, Put, Shelf, Sink};
+//! What no clause of `sky_io` says: that its calls succeed, and how many raw calls they make.
+use sky_io::{Buffered, Fetch, FileShelf, FolderShelf, MemFiles, MemOutput, Put, Shelf, Sink};
 use std::alloc::Global;
 use std::test::Fail;
 
