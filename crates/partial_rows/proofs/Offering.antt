@@ -11,6 +11,7 @@ use Rattle.std.proofs.lemmas.List.Sorted.{IsPermutation-refl, IsPermutation-tran
 use Rattle.answer_rules.specs.Keeps.{KeepsFirst}
 use Rattle.answer_rules.proofs.Keeping.{keeps_all, keeps_cut, keeps_joined}
 use Rattle.answer_rules.proofs.KeptTwice.{keeps_again}
+use Rattle.answer_rules.proofs.Sorting.{each-permutation}
 use Rattle.answer_rules.proofs.Orders.{each_weaker, not_below_on}
 use Rattle.partial_rows.specs.Rows.{rank_order, moved, IsBehindAll}
 use Rattle.partial_rows.specs.declared.ranked.Ranked.{Ranked}
@@ -39,6 +40,10 @@ reported_behind row last (x ∷ xs) some is b e h = e ∙ ap not (ap (λ m. is_l
 -- put in
 pub added : (n : ℕ) (old new : List Ranked) (row : Ranked) → IsPermutation (row ∷ old) new → KeepsFirst rank_order (Some n) (old ++ row ∷ []) new
 added n old new row p = keeps_all rank_order (Some n) (old ++ row ∷ []) new (IsPermutation-trans _ _ _ (IsPermutation-to_front old row) p)
+
+-- the last of all rows comes before none of the others
+pub bounds_rest : (old rest : List Ranked) (last : Ranked) → IsPermutation old (last ∷ rest) → IsUpperBound rank_order last old → IsUpperBound rank_order last rest
+bounds_rest old rest last p up = (each-permutation (λ y. is_lt (rank_order last y) ≡ false) old (last ∷ rest) p up).1
 
 -- put in the place of the last one
 pub replaced : (n : ℕ) (old rest new : List Ranked) (last row : Ranked) → IsPermutation old (last ∷ rest) → IsPermutation (row ∷ rest) new → IsUpperBound rank_order last rest → is_lt (rank_order last row) ≡ false → n ≤ length old → KeepsFirst rank_order (Some n) (old ++ row ∷ []) new

@@ -32,7 +32,7 @@ use Rattle.partial_rows.specs.declared.rank.Rank.{Rank}
 use Rattle.partial_rows.specs.declared.ranked.Ranked.{Ranked}
 use Rattle.partial_rows.specs.Multisets.{ComesBeforeNone, IsTooLate, out_row, pushed_in, ranked_at, rows_in}
 use Rattle.partial_rows.specs.Rows.{row_of}
-use Rattle.partial_rows.specs.Pairs.{first_in, pair_row, pair_values, second_in}
+use Rattle.partial_rows.specs.Pairs.{first_id_of, pair_row, pair_values, second_id_of}
 use Rattle.answer_table.specs.Tables.{IsShort, table_of}
 use Rattle.partial_rows.proofs.Putting.{too_late}
 use Rattle.partial_rows.proofs.Vacuuming.{keeps_itself, keeps_same}
@@ -53,59 +53,59 @@ swap_middle a b c d =
     rw (append_assoc a b (c ++ d)) (rw (append_assoc a c (b ++ d)) (IsPermutation-append_right a _ _ inner))
 
 -- another row is put
-pub row_kept : (limit : Option ℕ) (old new pairs : List OutRow) (row : OutRow) → KeepsFirst row_order limit (old ++ row ∷ []) new → KeepsFirst row_order limit ((old ++ pairs) ++ row ∷ []) (new ++ pairs)
-row_kept limit old new pairs row k =
-    keeps_reordered row_order limit _ _ _ _ (row_among old pairs row) (IsPermutation-refl (new ++ pairs))
-    (keeps_joined row_order limit (old ++ row ∷ []) pairs new pairs k (keeps_itself limit pairs))
+pub row_kept : (limit : Option ℕ) (old new others : List OutRow) (row : OutRow) → KeepsFirst row_order limit (old ++ row ∷ []) new → KeepsFirst row_order limit ((old ++ others) ++ row ∷ []) (new ++ others)
+row_kept limit old new others row k =
+    keeps_reordered row_order limit _ _ _ _ (row_among old others row) (IsPermutation-refl (new ++ others))
+    (keeps_joined row_order limit (old ++ row ∷ []) others new others k (keeps_itself limit others))
 
 -- a pair is put
-pub pair_kept : (limit : Option ℕ) (rows : List OutRow) (ids : List ℕ) (pair : ℕ) → KeepsFirst row_order limit ((rows ++ map pair_row ids) ++ pair_row pair ∷ []) (rows ++ map pair_row (ids ++ pair ∷ []))
-pair_kept limit rows ids pair =
-    keeps_same limit ((rows ++ map pair_row ids) ++ pair_row pair ∷ []) (rows ++ map pair_row (ids ++ pair ∷ []))
-    (ap (λ l. rows ++ l) (map-append pair_row ids (pair ∷ [])) ∙ sym (append_assoc rows (map pair_row ids) (pair_row pair ∷ [])))
+pub pair_kept : (limit : Option ℕ) (rows : List OutRow) (pairs : List ℕ) (pair : ℕ) → KeepsFirst row_order limit ((rows ++ map pair_row pairs) ++ pair_row pair ∷ []) (rows ++ map pair_row (pairs ++ pair ∷ []))
+pair_kept limit rows pairs pair =
+    keeps_same limit ((rows ++ map pair_row pairs) ++ pair_row pair ∷ []) (rows ++ map pair_row (pairs ++ pair ∷ []))
+    (ap (λ l. rows ++ l) (map-append pair_row pairs (pair ∷ [])) ∙ sym (append_assoc rows (map pair_row pairs) (pair_row pair ∷ [])))
 
 -- the rows and the pairs of two multisets
-pub both_kept : (limit : Option ℕ) (mine theirs new : List OutRow) (ids more : List ℕ) → KeepsFirst row_order limit (mine ++ theirs) new → KeepsFirst row_order limit ((mine ++ map pair_row ids) ++ (theirs ++ map pair_row more)) (new ++ map pair_row (ids ++ more))
-both_kept limit mine theirs new ids more k =
-    let pairs : List OutRow = map pair_row ids ++ map pair_row more in
-    subst (λ (l : List OutRow). KeepsFirst row_order limit ((mine ++ map pair_row ids) ++ (theirs ++ map pair_row more)) (new ++ l)) (sym (map-append pair_row ids more))
-    (keeps_reordered row_order limit _ _ _ _ (swap_middle mine theirs (map pair_row ids) (map pair_row more)) (IsPermutation-refl (new ++ pairs))
-    (keeps_joined row_order limit (mine ++ theirs) pairs new pairs k (keeps_itself limit pairs)))
+pub both_kept : (limit : Option ℕ) (mine theirs new : List OutRow) (pairs more : List ℕ) → KeepsFirst row_order limit (mine ++ theirs) new → KeepsFirst row_order limit ((mine ++ map pair_row pairs) ++ (theirs ++ map pair_row more)) (new ++ map pair_row (pairs ++ more))
+both_kept limit mine theirs new pairs more k =
+    let pair_rows : List OutRow = map pair_row pairs ++ map pair_row more in
+    subst (λ (l : List OutRow). KeepsFirst row_order limit ((mine ++ map pair_row pairs) ++ (theirs ++ map pair_row more)) (new ++ l)) (sym (map-append pair_row pairs more))
+    (keeps_reordered row_order limit _ _ _ _ (swap_middle mine theirs (map pair_row pairs) (map pair_row more)) (IsPermutation-refl (new ++ pair_rows))
+    (keeps_joined row_order limit (mine ++ theirs) pair_rows new pair_rows k (keeps_itself limit pair_rows)))
 
 -- a multiset can be counted
-pub multiset_long : (cells : List (Option ℤ)) (ranks : List Ranked) (ids : List ℕ) → length (map (row_of cells) ranks ++ map pair_row ids) ≡ length ranks + length ids
-multiset_long cells ranks ids = omega (arith, length-append (map (row_of cells) ranks) (map pair_row ids), length-map ranks (row_of cells), length-map ids pair_row)
+pub multiset_long : (cells : List (Option ℤ)) (ranks : List Ranked) (pairs : List ℕ) → length (map (row_of cells) ranks ++ map pair_row pairs) ≡ length ranks + length pairs
+multiset_long cells ranks pairs = omega (arith, length-append (map (row_of cells) ranks) (map pair_row pairs), length-map ranks (row_of cells), length-map pairs pair_row)
 
 pub kept_few : (limit : Option ℕ) (full kept : List OutRow) → KeepsFirst row_order limit full kept → length kept ≤ length full
 kept_few limit full kept k = omega (arith, length_permutation full (k.left_out ++ kept) k.all, length-append k.left_out kept)
 
-pub row_few : (cells now : List (Option ℤ)) (limit : Option ℕ) (old new : List Ranked) (ids : List ℕ) (row : OutRow) (many : ℕ) → many ≡ length (map (row_of cells) old ++ map pair_row ids) → many + 1 ≤ 2 ^ 64 - 1 → KeepsFirst row_order limit (map (row_of cells) old ++ row ∷ []) (map (row_of now) new) → length new + length ids ≤ 2 ^ 64 - 1
-row_few cells now limit old new ids row many h l k =
+pub row_few : (cells now : List (Option ℤ)) (limit : Option ℕ) (old new : List Ranked) (pairs : List ℕ) (row : OutRow) (many : ℕ) → many ≡ length (map (row_of cells) old ++ map pair_row pairs) → many + 1 ≤ 2 ^ 64 - 1 → KeepsFirst row_order limit (map (row_of cells) old ++ row ∷ []) (map (row_of now) new) → length new + length pairs ≤ 2 ^ 64 - 1
+row_few cells now limit old new pairs row many h l k =
     let fewer : length (map (row_of now) new) ≤ length (map (row_of cells) old ++ row ∷ []) = kept_few limit _ _ k in
-    omega (arith, h, l, multiset_long cells old ids, fewer, length-append (map (row_of cells) old) (row ∷ []), length-map old (row_of cells), length-map new (row_of now))
+    omega (arith, h, l, multiset_long cells old pairs, fewer, length-append (map (row_of cells) old) (row ∷ []), length-map old (row_of cells), length-map new (row_of now))
 
-pub both_few : (cells more now : List (Option ℤ)) (limit : Option ℕ) (mine theirs new : List Ranked) (ids others : List ℕ) (many that : ℕ) → many ≡ length (map (row_of cells) mine ++ map pair_row ids) → that ≡ length (map (row_of more) theirs ++ map pair_row others) → many + that ≤ 2 ^ 64 - 1 → KeepsFirst row_order limit (map (row_of cells) mine ++ map (row_of more) theirs) (map (row_of now) new) → length new + length (ids ++ others) ≤ 2 ^ 64 - 1
-both_few cells more now limit mine theirs new ids others many that h t l k =
+pub both_few : (cells more now : List (Option ℤ)) (limit : Option ℕ) (mine theirs new : List Ranked) (pairs others : List ℕ) (many that : ℕ) → many ≡ length (map (row_of cells) mine ++ map pair_row pairs) → that ≡ length (map (row_of more) theirs ++ map pair_row others) → many + that ≤ 2 ^ 64 - 1 → KeepsFirst row_order limit (map (row_of cells) mine ++ map (row_of more) theirs) (map (row_of now) new) → length new + length (pairs ++ others) ≤ 2 ^ 64 - 1
+both_few cells more now limit mine theirs new pairs others many that h t l k =
     let fewer : length (map (row_of now) new) ≤ length (map (row_of cells) mine ++ map (row_of more) theirs) = kept_few limit _ _ k in
-    omega (arith, h, t, l, multiset_long cells mine ids, multiset_long more theirs others, fewer, length-append (map (row_of cells) mine) (map (row_of more) theirs), length-map mine (row_of cells), length-map theirs (row_of more), length-map new (row_of now), length-append ids others)
+    omega (arith, h, t, l, multiset_long cells mine pairs, multiset_long more theirs others, fewer, length-append (map (row_of cells) mine) (map (row_of more) theirs), length-map mine (row_of cells), length-map theirs (row_of more), length-map new (row_of now), length-append pairs others)
 
 -- a row that is none of the first n
-pub late_for_all : (cells : List (Option ℤ)) (rank : Rank) (k : RowBuffer) (ids : List ℕ) (late : Bool) → OnTrue late (IsTooLate (ranked_at rank 0 0) k)
-    → OnTrue late ((values : List (Option ℤ)) → KeepsFirst row_order (pushed_in k) ((rows_in cells k ++ map pair_row ids) ++ out_row rank values ∷ []) (rows_in cells k ++ map pair_row ids))
-late_for_all cells rank k ids true h = λ values. row_kept (pushed_in k) (rows_in cells k) (rows_in cells k) (map pair_row ids) (out_row rank values) (too_late cells values rank k h)
-late_for_all cells rank k ids false h = tt
+pub late_for_all : (cells : List (Option ℤ)) (rank : Rank) (k : RowBuffer) (pairs : List ℕ) (late : Bool) → OnTrue late (IsTooLate (ranked_at rank 0 0) k)
+    → OnTrue late ((values : List (Option ℤ)) → KeepsFirst row_order (pushed_in k) ((rows_in cells k ++ map pair_row pairs) ++ out_row rank values ∷ []) (rows_in cells k ++ map pair_row pairs))
+late_for_all cells rank k pairs true h = λ values. row_kept (pushed_in k) (rows_in cells k) (rows_in cells k) (map pair_row pairs) (out_row rank values) (too_late cells values rank k h)
+late_for_all cells rank k pairs false h = tt
 
 each_unmap : {X Y : Type 0} (P : Y → Type 0) (f : X → Y) (xs : List X) → Each P (map f xs) → Each (λ x. P (f x)) xs
 each_unmap P f [] h = tt
 each_unmap P f (x ∷ xs) h = (h.0, each_unmap P f xs h.1)
 
 -- and it is reported as one if n are kept and it comes before none of them
-pub reported_late : (cells : List (Option ℤ)) (rank : Rank) (k : RowBuffer) (ids : List ℕ) (late : Bool)
-    → IfSome (pushed_in k) (λ n. ids ≡ []) → (IsTooLate (ranked_at rank 0 0) k → late ≡ true)
-    → IfSome (pushed_in k) (λ n. n ≤ length (rows_in cells k ++ map pair_row ids) → ComesBeforeNone rank (rows_in cells k ++ map pair_row ids) → late ≡ true)
-reported_late cells rank (buffer.All unlimited) ids late none reported = tt
-reported_late cells rank (buffer.First limit heap) ids late none reported = λ few before.
-    let rows : rows_in cells (buffer.First limit heap) ++ map pair_row ids ≡ rows_in cells (buffer.First limit heap) = ap (λ (l : List ℕ). rows_in cells (buffer.First limit heap) ++ map pair_row l) none ∙ append-nil (rows_in cells (buffer.First limit heap)) in
+pub reported_late : (cells : List (Option ℤ)) (rank : Rank) (k : RowBuffer) (pairs : List ℕ) (late : Bool)
+    → IfSome (pushed_in k) (λ n. pairs ≡ []) → (IsTooLate (ranked_at rank 0 0) k → late ≡ true)
+    → IfSome (pushed_in k) (λ n. n ≤ length (rows_in cells k ++ map pair_row pairs) → ComesBeforeNone rank (rows_in cells k ++ map pair_row pairs) → late ≡ true)
+reported_late cells rank (buffer.All unlimited) pairs late none reported = tt
+reported_late cells rank (buffer.First limit heap) pairs late none reported = λ few before.
+    let rows : rows_in cells (buffer.First limit heap) ++ map pair_row pairs ≡ rows_in cells (buffer.First limit heap) = ap (λ (l : List ℕ). rows_in cells (buffer.First limit heap) ++ map pair_row l) none ∙ append-nil (rows_in cells (buffer.First limit heap)) in
     reported (
       omega (arith, few, ap length rows, length-map heap.data.items (row_of cells)),
       each_unmap (λ m. is_lt (row_order (out_row rank []) m) ≡ false) (row_of cells) heap.data.items (subst (ComesBeforeNone rank) rows before),
@@ -123,9 +123,9 @@ back_apart xs ys h x =
     omega (arith, h x, both)
 
 -- with a limit there are no pairs
-pub none_joined : (limit : Option ℕ) (ids more : List ℕ) → IfSome limit (λ n. ids ≡ []) → IfSome limit (λ n. more ≡ []) → IfSome limit (λ n. ids ++ more ≡ [])
-none_joined None ids more h k = tt
-none_joined (Some n) ids more h k = ap (λ l. l ++ more) h ∙ k
+pub none_joined : (limit : Option ℕ) (pairs more : List ℕ) → IfSome limit (λ n. pairs ≡ []) → IfSome limit (λ n. more ≡ []) → IfSome limit (λ n. pairs ++ more ≡ [])
+none_joined None pairs more h k = tt
+none_joined (Some n) pairs more h k = ap (λ l. l ++ more) h ∙ k
 
 -- ---- put among the other rows
 
@@ -171,8 +171,8 @@ not_under x y h = grind (arith, ints)
 in_order_too : (a b : ℕ) → is_lt (nat_cmp a b) ≡ false → is_lt (row_order (pair_row a) (pair_row b)) ≡ false
 in_order_too a b h =
     let le : b ≤ a = ltb-false a b (not_less (nat_lt a b) (a == b) h) in
-    not_before (int_lt (first_in a) (first_in b)) (int_lt (first_in b) (first_in a)) (int_lt (second_in a) (second_in b)) (int_lt (second_in b) (second_in a))
-    (not_under (first_in a) (first_in b) (omega (arith, ints, le))) (λ k. not_under (second_in a) (second_in b) (omega (arith, ints, le, under (first_in a) (first_in b) k)))
+    not_before (int_lt (first_id_of a) (first_id_of b)) (int_lt (first_id_of b) (first_id_of a)) (int_lt (second_id_of a) (second_id_of b)) (int_lt (second_id_of b) (second_id_of a))
+    (not_under (first_id_of a) (first_id_of b) (omega (arith, ints, le))) (λ k. not_under (second_id_of a) (second_id_of b) (omega (arith, ints, le, under (first_id_of a) (first_id_of b) k)))
 
 -- the pairs of ascending numbers are in order
 pairs_ascend : (pairs : List ℕ) → Ascends nat_cmp pairs → Ascends row_order (map pair_row pairs)

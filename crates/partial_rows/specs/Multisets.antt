@@ -39,10 +39,10 @@ IsRowBuffer cells k = All (IsIn cells) (ranks_in k) × IsOrdered k
 
 -- The values of each row are in the list, pairs are stored apart only without a limit, and rows and pairs can be
 -- counted.
-pub record IsMultiset (cells : ℕ) (k : RowBuffer) (ids : List ℕ) : Type 0 where
+pub record IsMultiset (cells : ℕ) (k : RowBuffer) (pairs : List ℕ) : Type 0 where
   pub kept : IsRowBuffer cells k
-  pub all : IfSome (pushed_in k) (λ n. ids ≡ [])
-  pub few : length (ranks_in k) + length ids ≤ 2 ^ 64 - 1
+  pub all : IfSome (pushed_in k) (λ n. pairs ≡ [])
+  pub few : length (ranks_in k) + length pairs ≤ 2 ^ 64 - 1
 
 -- there are n rows, and the row comes before none of them
 abbrev pub IsTooLate : Ranked → RowBuffer → Type 0
@@ -70,4 +70,4 @@ ComesBeforeNone r rows = AllByRecursion (λ m. is_lt (row_order (out_row r []) m
 
 -- a multiset, by its rows, their values, and the pairs that are stored apart
 abbrev pub view_of : RowBuffer → List (Option ℤ) → List ℕ → MultisetView
-view_of k cells ids = record { pushed = pushed_in k; rows = rows_in cells k ++ map pair_row ids }
+view_of k cells pairs = record { pushed = pushed_in k; rows = rows_in cells k ++ map pair_row pairs }

@@ -6,21 +6,21 @@ use Rattle.answer_rules.specs.declared.value.Value.{Value}
 use Rattle.answer_rules.specs.Finish.{column_value}
 
 -- the first id of the pair, which is stored as how far it is above the lowest number of 64 bits
-abbrev pub first_in : ℕ → ℤ
-first_in p = pos (p / 2 ^ 64) -ℤ pos (2 ^ 63)
+abbrev pub first_id_of : ℕ → ℤ
+first_id_of p = pos (p / 2 ^ 64) -ℤ pos (2 ^ 63)
 
 -- the second id of the pair, stored in the same way
-abbrev pub second_in : ℕ → ℤ
-second_in p = pos (p % 2 ^ 64) -ℤ pos (2 ^ 63)
+abbrev pub second_id_of : ℕ → ℤ
+second_id_of p = pos (p % 2 ^ 64) -ℤ pos (2 ^ 63)
 
 -- the row of the pair, whose values are its ids
 abbrev pub pair_row : ℕ → OutRow
 pair_row p = record {
   class = 0;
   value = pos 0;
-  first = first_in p;
-  second = second_in p;
-  cells = Some (first_in p) ∷ Some (second_in p) ∷ [];
+  first = first_id_of p;
+  second = second_id_of p;
+  cells = Some (first_id_of p) ∷ Some (second_id_of p) ∷ [];
 }
 
 -- the merged items of the pair

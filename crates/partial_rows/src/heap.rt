@@ -55,7 +55,7 @@ fn is_behind(row: &Ranked, other: &Ranked) -> bool
     row.cmp(other) != Ordering::Less
 }
 
-/// Replaces the last row by this one.
+/// Replaces the last row by this one, which is sifted down from the top when `last` is dropped. Does not allocate.
 fn replace_last(heap: &mut BinaryHeap<Ranked>, row: Ranked)
     requires order { IsHeap rank_order (heap_items heap.old) }
     requires some { 0 < heap_len heap.old }
@@ -66,10 +66,8 @@ fn replace_last(heap: &mut BinaryHeap<Ranked>, row: Ranked)
     ensures kept { KeepsFirst rank_order (Some (heap_len heap.old))
         (heap_items heap.old ++ row ∷ []) (heap_items heap.new) }
 {
-    match heap.pop() {
-        None => unreachable!(),
-        Some(_) => add(heap, row),
-    }
+    let mut last = heap.peek_mut().unwrap();
+    *last = row;
 }
 
 /// Adds the row.

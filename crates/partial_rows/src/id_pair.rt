@@ -4,7 +4,7 @@
 ghost use Rattle.std.specs.Prelude.{◌≡◌, ◌∷◌, [], IfSome, None, Some, slice_get, unwrap_or};
 ghost use Rattle.std.specs.Bool.{OnTrue};
 ghost use Rattle.partial_rows.specs.Multisets.{out_row};
-ghost use Rattle.partial_rows.specs.Pairs.{first_in, pair_row, second_in};
+ghost use Rattle.partial_rows.specs.Pairs.{first_id_of, pair_row, second_id_of};
 
 use crate::rank::Rank;
 use answer_table::values::number;
@@ -48,24 +48,24 @@ fn whole(id: i64) -> Num
 /// Returns the packed pair of these ids.
 #[inline]
 fn packed(first: i64, second: i64) -> u128
-    ensures first { first_in result ≡ first }
-    ensures second { second_in result ≡ second }
+    ensures first { first_id_of result ≡ first }
+    ensures second { second_id_of result ≡ second }
 {
     (i128::from(first) + BELOW) as u128 * IDS + (i128::from(second) + BELOW) as u128
 }
 
 /// Returns the first id of a packed pair.
 #[inline]
-fn first_in(pair: u128) -> i64
-    ensures { result ≡ first_in pair }
+fn first_id_of(pair: u128) -> i64
+    ensures { result ≡ first_id_of pair }
 {
     ((pair / IDS) as i128 - BELOW) as i64
 }
 
 /// Returns the second id of a packed pair.
 #[inline]
-fn second_in(pair: u128) -> i64
-    ensures { result ≡ second_in pair }
+fn second_id_of(pair: u128) -> i64
+    ensures { result ≡ second_id_of pair }
 {
     ((pair % IDS) as i128 - BELOW) as i64
 }
@@ -83,24 +83,24 @@ pub(crate) fn pair_of(rank: &Rank, values: &[Option<Num>]) -> Option<u128>
 }
 
 /// Returns the sort key of a packed pair.
-pub(crate) fn rank_of(pair: u128) -> Rank
+pub(crate) fn pair_sort_key(pair: u128) -> Rank
     ensures { out_row result (pair_row pair).cells ≡ pair_row pair }
 {
     Rank {
         class: 0,
         value: 0,
-        first: first_in(pair),
-        second: second_in(pair),
+        first: first_id_of(pair),
+        second: second_id_of(pair),
     }
 }
 
 /// Returns the value of a packed pair in a column, which is NULL if there is no such column.
-pub(crate) fn value_of(pair: u128, n: usize) -> Option<Num>
+pub(crate) fn pair_cell(pair: u128, n: usize) -> Option<Num>
     ensures { result ≡ unwrap_or (slice_get (pair_row pair).cells n) None }
 {
     match n {
-        0 => Some(whole(first_in(pair))),
-        1 => Some(whole(second_in(pair))),
+        0 => Some(whole(first_id_of(pair))),
+        1 => Some(whole(second_id_of(pair))),
         _ => None,
     }
 }

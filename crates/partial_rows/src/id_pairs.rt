@@ -19,45 +19,45 @@ pub(crate) fn count_more(count: usize, more: usize) -> Result<(), Memory>
 
 /// Appends the pair. After `Err` nothing has changed.
 #[inline]
-pub(crate) fn push_ids(ids: &mut Vec<u128>, pair: u128) -> Result<(), Memory>
-    ensures put { OnOk result (ids.new.items ≡ ids.old.items ++ pair ∷ []) }
-    ensures same { OnErr result (ids.new.items ≡ ids.old.items) }
+pub(crate) fn append_pair(pairs: &mut Vec<u128>, pair: u128) -> Result<(), Memory>
+    ensures put { OnOk result (pairs.new.items ≡ pairs.old.items ++ pair ∷ []) }
+    ensures same { OnErr result (pairs.new.items ≡ pairs.old.items) }
 {
-    Ok(ids.push(pair)?)
+    Ok(pairs.push(pair)?)
 }
 
 /// Reserves room for the given number of more pairs, if the list is not empty. An empty list is replaced by that of
 /// another multiset, and needs no room.
-pub(crate) fn make_room(ids: &mut Vec<u128>, more: usize) -> Result<(), Memory>
-    ensures same { ids.new.items ≡ ids.old.items }
+pub(crate) fn make_room(pairs: &mut Vec<u128>, more: usize) -> Result<(), Memory>
+    ensures same { pairs.new.items ≡ pairs.old.items }
     ensures room { OnOk result
-        (0 < vec_len ids.new → vec_len ids.new + more ≤ vec_capacity ids.new) }
+        (0 < vec_len pairs.new → vec_len pairs.new + more ≤ vec_capacity pairs.new) }
 {
-    if ids.is_empty() {
+    if pairs.is_empty() {
         return Ok(());
     }
-    reserve(ids, more)
+    reserve(pairs, more)
 }
 
 /// Appends the pairs, for which there is room. Does not allocate.
-fn append_ids(ids: &mut Vec<u128>, mut more: Vec<u128>)
-    requires { vec_len ids.old + vec_len more ≤ vec_capacity ids.old }
-    ensures { ids.new.items ≡ ids.old.items ++ more.items }
+fn append_pairs(pairs: &mut Vec<u128>, mut more: Vec<u128>)
+    requires { vec_len pairs.old + vec_len more ≤ vec_capacity pairs.old }
+    ensures { pairs.new.items ≡ pairs.old.items ++ more.items }
 {
-    match ids.append(&mut more) {
+    match pairs.append(&mut more) {
         Ok(()) => {}
         Err(_) => unreachable!(),
     }
 }
 
 /// Appends the pairs of another multiset. Does not allocate.
-pub(crate) fn join_ids(ids: &mut Vec<u128>, more: Vec<u128>)
-    requires { 0 < vec_len ids.old → vec_len ids.old + vec_len more ≤ vec_capacity ids.old }
-    ensures { ids.new.items ≡ ids.old.items ++ more.items }
+pub(crate) fn join_pairs(pairs: &mut Vec<u128>, more: Vec<u128>)
+    requires { 0 < vec_len pairs.old → vec_len pairs.old + vec_len more ≤ vec_capacity pairs.old }
+    ensures { pairs.new.items ≡ pairs.old.items ++ more.items }
 {
-    if ids.is_empty() {
-        *ids = more;
+    if pairs.is_empty() {
+        *pairs = more;
     } else {
-        append_ids(ids, more);
+        append_pairs(pairs, more);
     }
 }

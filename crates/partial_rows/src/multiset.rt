@@ -21,7 +21,7 @@ ghost use Rattle.partial_rows.specs.Pairs.{pair_row};
 use crate::buffer_cells::{join_and_vacuum, put_and_vacuum};
 use crate::cell::Cell;
 use crate::id_pair::pair_of;
-use crate::id_pairs::{count_more, join_ids, make_room, push_ids};
+use crate::id_pairs::{append_pair, count_more, join_pairs, make_room};
 use crate::multiset_table::multiset_table;
 use crate::rank::Rank;
 use crate::row_buffer::{RowBuffer, count, empty_row_buffer, is_too_late};
@@ -39,7 +39,8 @@ pub struct Multiset {
     buffer: RowBuffer,
     cells: Vec<Cell>,
     vacuumed: usize,
-    ids: Vec<u128>,
+    /// The pairs whose values are their own ids, each packed into one number.
+    pairs: Vec<u128>,
 }
 
 /// The multiset is vacuumed for the first time when it has twice this number of values.
@@ -53,9 +54,9 @@ impl Model for Multiset {
     ghost use Rattle.std.specs.Prelude.{length};
     ghost use Rattle.partial_rows.specs.Multisets.{IsMultiset, view_of};
 
-    ghost view = { λ b. view_of b.buffer b.cells.items b.ids.items };
+    ghost view = { λ b. view_of b.buffer b.cells.items b.pairs.items };
 
-    ghost invariant = { λ b. IsMultiset (length b.cells.items) b.buffer b.ids.items };
+    ghost invariant = { λ b. IsMultiset (length b.cells.items) b.buffer b.pairs.items };
 }
 
 /// Returns the pair with this sort key and these values, if all rows are kept and only the pair's ids have to be
@@ -81,7 +82,7 @@ impl Multiset {
             buffer: empty_row_buffer(alloc, limit),
             cells: Vec::new(alloc),
             vacuumed: SHORT,
-            ids: Vec::new(alloc),
+            pairs: Vec::new(alloc),
         }
     }
 
@@ -107,7 +108,7 @@ impl Multiset {
         ensures same { OnErr result (self.new ≡ self.old) }
     {
         count_more(self.row_count(), 1)?;
-        push_ids(&mut self.ids, pair)
+        append_pair(&mut self.pairs, pair)
     }
 
     /// Adds any row with this sort key and these values. After `Err` nothing has changed.
@@ -159,9 +160,9 @@ impl Multiset {
             buffer,
             cells,
             vacuumed: _,
-            ids,
+            pairs,
         } = other;
-        make_room(&mut self.ids, ids.len())?;
+        make_room(&mut self.pairs, pairs.len())?;
         self.vacuumed = join_and_vacuum(
             self.alloc,
             &mut self.buffer,
@@ -170,7 +171,7 @@ impl Multiset {
             buffer,
             cells,
         )?;
-        join_ids(&mut self.ids, ids);
+        join_pairs(&mut self.pairs, pairs);
         Ok(())
     }
 
@@ -179,7 +180,7 @@ impl Multiset {
         ensures held { result ≡ length self.now.rows }
         ensures few { IfSome self.now.pushed (λ n. result ≤ n) }
     {
-        count(&self.buffer) + self.ids.len()
+        count(&self.buffer) + self.pairs.len()
     }
 
     /// Returns the table of the rows: the first of them in order, and the merged items of each. Allocates memory for
@@ -193,8 +194,8 @@ impl Multiset {
             buffer,
             cells,
             vacuumed: _,
-            ids,
+            pairs,
         } = self;
-        multiset_table(alloc, buffer, cells, ids, merge)
+        multiset_table(alloc, buffer, cells, pairs, merge)
     }
 }

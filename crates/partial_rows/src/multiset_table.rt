@@ -10,7 +10,7 @@ ghost use Rattle.partial_rows.specs.Pairs.{pair_row};
 use crate::buffer_cells::put_row;
 use crate::buffer_table::buffer_table;
 use crate::cell::Cell;
-use crate::id_pair::{rank_of, value_of};
+use crate::id_pair::{pair_cell, pair_sort_key};
 use crate::pair_table::sorted_pair_table;
 use crate::row_buffer::{RowBuffer, count};
 use answer_rules::MergePlan;
@@ -31,8 +31,8 @@ fn put_pair(buffer: &mut RowBuffer, cells: &mut Vec<Cell>, pair: &u128) -> Resul
     put_row(
         buffer,
         cells,
-        &rank_of(*pair),
-        &[value_of(*pair, 0), value_of(*pair, 1)],
+        &pair_sort_key(*pair),
+        &[pair_cell(*pair, 0), pair_cell(*pair, 1)],
     )
 }
 

@@ -7,7 +7,7 @@ ghost use Rattle.answer_rules.specs.Keeps.{AreApart};
 ghost use Rattle.answer_rules.specs.Ranks.{row_order};
 ghost use Rattle.partial_rows.specs.Pairs.{pair_row, pair_values};
 
-use crate::id_pair::value_of;
+use crate::id_pair::pair_cell;
 use answer_rules::{MergeItem, MergePlan};
 use answer_table::lists::cut;
 use answer_table::values::{put, values_room};
@@ -20,7 +20,7 @@ fn column(pair: &u128, item: &MergeItem) -> TableValue
     ensures { result ≡ column_value (pair_row pair.now).cells item.now }
 {
     match item {
-        MergeItem::Column(n) => TableValue::shown(value_of(*pair, *n)),
+        MergeItem::Column(n) => TableValue::shown(pair_cell(*pair, *n)),
         _ => TableValue::shown(None),
     }
 }

@@ -12,10 +12,10 @@ use Rattle.partial_rows.proofs.multiset.Multiset.is_too_late.Goals as goal
 pub returns-clause-late : goal.returns-clause-late
 returns-clause-late c =
     subst (λ (v : MultisetView). OnTrue c.is_too_late.result ((values : List (Option ℤ)) → KeepsFirst row_order v.pushed (v.rows ++ out_row c.args.rank.now values ∷ []) v.rows)) c.self.view_is
-    (late_for_all c.self.inside.cells.items c.args.rank.now c.self.inside.buffer c.self.inside.ids.items c.is_too_late.result (subst (λ (r : Ranked). OnTrue c.is_too_late.result (IsTooLate r c.self.inside.buffer)) c.at.ensures c.is_too_late.ensures.late))
+    (late_for_all c.self.inside.cells.items c.args.rank.now c.self.inside.buffer c.self.inside.pairs.items c.is_too_late.result (subst (λ (r : Ranked). OnTrue c.is_too_late.result (IsTooLate r c.self.inside.buffer)) c.at.ensures c.is_too_late.ensures.late))
 
 pub returns-clause-reported : goal.returns-clause-reported
 returns-clause-reported c =
     subst (λ (v : MultisetView). IfSome v.pushed (λ n. n ≤ length v.rows → ComesBeforeNone c.args.rank.now v.rows → c.is_too_late.result ≡ true)) c.self.view_is
-    (reported_late c.self.inside.cells.items c.args.rank.now c.self.inside.buffer c.self.inside.ids.items c.is_too_late.result c.self.invariant.all
+    (reported_late c.self.inside.cells.items c.args.rank.now c.self.inside.buffer c.self.inside.pairs.items c.is_too_late.result c.self.invariant.all
     (subst (λ (r : Ranked). IsTooLate r c.self.inside.buffer → c.is_too_late.result ≡ true) c.at.ensures c.is_too_late.ensures.reported))
