@@ -6,6 +6,7 @@ use Rattle.scan_rules.specs.Runs.{IsRun}
 use Rattle.answer_rules.specs.Pieces.{PieceView}
 use Rattle.turn_lock.specs.Seats.{first_seat}
 use Rattle.atomic_table.specs.Seated.{TableId}
+use Rattle.scan_core.specs.declared.board_root.BoardRoot.{BoardRoot}
 use Rattle.scan_board.specs.Calls.{AnswersClose, BoardSeat, Called}
 use Rattle.session_script.specs.declared.step.Step.{Step}
 use Rattle.scan_session.specs.Crews.{Manned}
@@ -52,16 +53,19 @@ pub at_board : {V : Type 0} (A : Type 0) (r : Result V Memory) → IfOk r (λ v.
 at_board A (Ok v) each = each tt
 at_board A (Err m) each = tt
 
+-- a first participant is the first one over its own root
+pub own_root : (turn : TableId) (seat : BoardSeat ChildBase) (root : BoardRoot ChildBase) → seat ≡ first_seat turn root → seat ≡ first_seat turn seat.root
+own_root turn seat root first = first ∙ ap (first_seat turn) (sym (ap (λ s. s.root) first))
+
 -- once the board is closed without a session
-pub closed_manned : (t : ChildSurvey) (plans : List ChildPlan) (turn : TableId) (old new : BoardSeat ChildBase)
-    → old ≡ first_seat turn (child_board_of t plans)
+pub closed_manned : (turn : TableId) (old new : BoardSeat ChildBase) → old ≡ first_seat turn old.root
     → Called ChildAsks (AnswersClose old.number) old new → Manned ChildAsks old new
-closed_manned t plans turn old new first called =
+closed_manned turn old new first called =
     let czars =
-    first_czars ChildAsks (λ (p : Unit {0}). turn) (child_base_of t plans) (λ p. old)
+    first_czars ChildAsks (λ (p : Unit {0}). turn) old.root.root (λ p. old)
     (λ p. ap (λ s. s.turn) first)
     (λ p. (ap (λ s. s.number) first, ap (λ s. s.seen) first, ap (λ s. s.mine) first, ap (λ s. s.made) first))
     (λ p. called.lawful.small)
-    (λ p. sym (ap (λ s. s.root.root) first)) in
+    (λ p. refl) in
     let stays = stays_all ChildAsks (λ (o : Unit {0}) q. true) (λ p. old) (λ p. new) czars.czar (λ p. called) in
     manned_alone ChildAsks old new (stays (λ q. Unit {0}) tt) (is_closed_now ChildAsks old new called) called.known

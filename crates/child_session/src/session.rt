@@ -125,11 +125,20 @@ pub fn drive_children<'s, R: Threads + Wait + Sync, G: Gate + Sync>(
                 }
             }
         }
-        Err(Memory) => {
-            let seat = board.close(session.rt, seat);
-            (Err(Memory), seat)
-        }
+        Err(Memory) => (Err(Memory), close_unused(session.rt, board, seat)),
     }
+}
+
+/// Closes a board on which no session begins, from the czar's first participant.
+fn close_unused<'s, R: Wait>(
+    rt: &R,
+    board: &SharedBoard<ChildPiece<'s>>,
+    seat: Seat<Board<ChildPiece<'s>>>,
+) -> Seat<Board<ChildPiece<'s>>>
+    requires first { seat ≡ first_seat board.now seat.root }
+    ensures manned { Manned ChildAsks seat.entry result }
+{
+    board.close(rt, seat)
 }
 
 /// Drives the queries with these plans, and returns the end of each at the board.
@@ -157,7 +166,7 @@ fn driven<'s, R: Threads + Wait + Sync, G: Gate + Sync>(
         Ok((queries, planned)) => {
             driven_at(session, plans, queries.as_slice(), planned, board, seat)
         }
-        Err(Memory) => (Err(Memory), board.close(session.rt, seat)),
+        Err(Memory) => (Err(Memory), close_unused(session.rt, board, seat)),
     }
 }
 

@@ -140,8 +140,23 @@ fn driven<'s, R: Threads + Wait + Sync, G: Gate + Sync>(
             let boards = ClassBoards::new(classes, of);
             driven_at(session, plans, queries.as_slice(), planned, &boards, pair)
         }
-        Err(Memory) => (Err(Memory), classes.close(session.rt, pair)),
+        Err(Memory) => (Err(Memory), close_unused(session, plans, classes, pair)),
     }
+}
+
+/// Closes both boards, on which no session begins, from the czar's first pair. The plans are read by contracts alone.
+fn close_unused<'s, R: Threads + Wait + Sync, G: Gate + Sync>(
+    session: &SessionContext<'s, '_, R, G>,
+    plans: &[Plan],
+    classes: &Classes<Piece<'s>>,
+    pair: Pair<Piece<'s>>,
+) -> Pair<Piece<'s>>
+    requires first { IsFirstPair session.now.world.now.plan session.now.world.now.rows plans.now
+        classes.now pair }
+    ensures manned { (class : Class) →
+        Manned Asks (seat_at pair.entry class) (seat_at result class) }
+{
+    classes.close(session.rt, pair)
 }
 
 /// What is needed to drive queries: their chunk queries with their numbers, what is attached for each, and its class.

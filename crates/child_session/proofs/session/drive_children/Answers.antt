@@ -1,7 +1,8 @@
 use Rattle.std.proofs.Common.{◌∙◌, ap, rules}
 use Rattle.czar.proofs.Driving.{of_value}
+use Rattle.child_session.specs.ChildAttached.{child_board_of}
 use Rattle.child_session.specs.ChildQueryPlans.{child_plans_of}
-use Rattle.child_session.proofs.Driving.{closed_manned}
+use Rattle.child_session.proofs.Driving.{own_root}
 use Rattle.child_session.proofs.ScriptEnds.{ends_drove, ends_hold, if_so, may_all_end}
 use Rattle.child_session.proofs.session.drive_children.Goals as goal
 
@@ -58,7 +59,10 @@ returns-in-Ok-ends-clause-shown g c =
     c.all_query_ends.ensures)
     (λ v all. all.shown)
 
+pub close_unused-requires : goal.close_unused-requires
+close_unused-requires g c = record {
+  first = own_root c.args.board.now c.args.seat (child_board_of c.args.session.now.world.now c.args.plans.items) c.requires.seat;
+}
+
 pub returns-in-Err-clause-manned : goal.returns-in-Err-clause-manned
-returns-in-Err-clause-manned g c =
-    closed_manned c.args.session.now.world.now c.args.plans.items c.args.board.now c.args.seat c.close-seat.result c.requires.seat
-    c.close-seat.ensures.called
+returns-in-Err-clause-manned g c = c.close_unused.ensures.manned

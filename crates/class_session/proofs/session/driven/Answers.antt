@@ -1,11 +1,7 @@
 use Rattle.std.proofs.Common.{◌∙◌, sym, subst, arith}
-use Rattle.answer_rules.specs.Bases.{Asks}
-use Rattle.scan_board.specs.Calls.{AnswersClose, Called}
-use Rattle.scan_classes.specs.Pairs.{ClassTurns, seat_at}
-use Rattle.scan_classes.proofs.OneOfTwo.{by_class}
+use Rattle.scan_classes.specs.Pairs.{ClassTurns}
 use Rattle.czar.proofs.PlanBlocks.{a_plan_each}
 use Rattle.class_session.specs.ClassPlans.{IsFirstPair}
-use Rattle.class_session.proofs.FirstPairs.{closed_manned}
 use Rattle.class_session.proofs.session.driven.Goals as goal
 
 pub parts-requires : goal.parts-requires
@@ -33,12 +29,7 @@ pub returns-in-Ok-clause-manned : goal.returns-in-Ok-clause-manned
 returns-in-Ok-clause-manned g c = c.driven_at.ensures.manned
 
 pub returns-in-Err-clause-manned : goal.returns-in-Err-clause-manned
-returns-in-Err-clause-manned g c =
-    let w = c.args.session.now.world.now in
-    let old = c.args.pair in
-    let new = c.close.result in
-    closed_manned w.plan w.rows c.args.plans.now c.args.classes.now old c.requires.first new
-    (by_class (λ p. Called Asks (AnswersClose (seat_at old p).number) (seat_at old p) (seat_at new p)) c.close.ensures.short c.close.ensures.long)
+returns-in-Err-clause-manned g c = c.close_unused.ensures.manned
 
 pub returns-in-Ok-clause-made : goal.returns-in-Ok-clause-made
 returns-in-Ok-clause-made g c = c.driven_at.ensures.made
