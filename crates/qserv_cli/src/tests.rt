@@ -1,6 +1,7 @@
 //! What no clause says: that a failing output or input is a fault, that threads meet, and that queries which run
 //! together share a chunk's scan.
-use sky_io::{Gate, ListGate, MemShelf, MemSink, NoteGate, OpenGate, PlainShelf, Shelf, StepGate};
+use crate::tests::gates::TestGate;
+use sky_io::{ListGate, MemShelf, MemSink, NoteGate, PlainShelf, Shelf, StepGate};
 use std::alloc::Global;
 use std::process::Abort;
 use std::sync::Wait;
@@ -10,6 +11,7 @@ use top_call::{qserv, status};
 
 mod classes;
 mod cuts;
+mod gates;
 mod journal;
 mod limits;
 mod raw_calls;
@@ -78,26 +80,26 @@ pub(crate) fn add_text(
 }
 
 // The status of the top call over a shelf, past a gate.
-pub(crate) fn status_past<R: Threads + Wait + Sync, S: Shelf, G: Gate + Sync>(
+pub(crate) fn status_past<R: Threads + Wait + Sync, S: Shelf>(
     rt: &R,
     alloc: Global,
     words: &[String],
     shelf: &mut S,
     sink: &mut MemSink,
-    gate: &G,
+    gate: &TestGate<'_>,
 ) -> u8 {
     let outcome = qserv(rt, alloc, words, shelf, sink, gate);
     status(&outcome)
 }
 
 // The status of a command over a script, with a number of workers, past a gate.
-pub(crate) fn run_past<R: Threads + Wait + Sync, G: Gate + Sync>(
+pub(crate) fn run_past<R: Threads + Wait + Sync>(
     rt: &R,
     alloc: Global,
     asked: (&str, &str),
     script: &[u8],
     sink: &mut MemSink,
-    gate: &G,
+    gate: &TestGate<'_>,
 ) -> Result<u8, Fail> {
     let words = words_for(alloc, asked.0, asked.1)?;
     let mut shelf = PlainShelf::new(texts_of(alloc, CATALOGUE, script)?);
@@ -122,7 +124,8 @@ fn run_failing_at<R: Threads + Wait + Sync>(
     keep: u32,
 ) -> Result<(u8, bool), Fail> {
     let mut sink = failing_sink(alloc, call, keep)?;
-    let status = run_past(rt, alloc, ("query", "0"), SCRIPT, &mut sink, &OpenGate)?;
+    let open = TestGate::Open;
+    let status = run_past(rt, alloc, ("query", "0"), SCRIPT, &mut sink, &open)?;
     let is_kept = call > 1 || sink.bytes().len() == keep as usize;
     let is_whole = status > 0 || sink.bytes() == ANSWER;
     Ok((
@@ -162,7 +165,8 @@ fn a_full_sink_has_what_it_has_room_for(rt: HostRuntime) -> Result<(), Fail> {
     let alloc = rt.alloc();
     for room in 0..ANSWER.len() {
         let mut sink = MemSink::cutting(alloc, room, Vec::new(alloc), 1000)?;
-        let status = run_past(&rt, alloc, ("query", "0"), SCRIPT, &mut sink, &OpenGate)?;
+        let open = TestGate::Open;
+        let status = run_past(&rt, alloc, ("query", "0"), SCRIPT, &mut sink, &open)?;
         assert_eq!(rt; (status, sink.bytes()), (8, &ANSWER[..room]), "room {room}");
     }
     Ok(())
@@ -178,14 +182,8 @@ fn a_shelf_that_fails_at_its_second_fetch_is_a_fault(rt: HostRuntime) -> Result<
         texts_of(alloc, CATALOGUE, SCRIPT)?,
         vec![in alloc; 2]?,
     );
-    let found = status_past(
-        &rt,
-        alloc,
-        words.as_slice(),
-        &mut shelf,
-        &mut sink,
-        &OpenGate,
-    );
+    let open = TestGate::Open;
+    let found = status_past(&rt, alloc, words.as_slice(), &mut shelf, &mut sink, &open);
     assert_eq!(rt; (found, sink.bytes().len()), (7, 0));
     Ok(())
 }
@@ -198,7 +196,8 @@ pub(crate) fn meet_by<R: Abort + Threads + Wait + Sync>(
 ) -> Result<(), Fail> {
     let gate = StepGate::new(2, 10000000);
     let mut sink = MemSink::new(alloc, 1000, Vec::new(alloc))?;
-    run_past(rt, alloc, (command, "2"), SCRIPT, &mut sink, &gate)?;
+    let step = TestGate::Step(&gate);
+    run_past(rt, alloc, (command, "2"), SCRIPT, &mut sink, &step)?;
     assert_eq!(rt; sink.bytes(), ANSWER);
     assert!(rt; gate.met());
     assert!(rt; !gate.given_up());
@@ -228,14 +227,9 @@ pub(crate) fn count_by<R: Abort + Threads + Wait + Sync>(
     let script = counting(alloc, 65)?;
     let mut gate = NoteGate::new();
     let mut sink = MemSink::new(alloc, 10000, Vec::new(alloc))?;
-    let found = run_past(
-        rt,
-        alloc,
-        (command, "0"),
-        script.as_slice(),
-        &mut sink,
-        &gate,
-    )?;
+    let note = TestGate::Note(&gate);
+    let asked = (command, "0");
+    let found = run_past(rt, alloc, asked, script.as_slice(), &mut sink, &note)?;
     assert_eq!(rt; found, 0);
     for (pass, chunk) in [(0, 0), (1, 4), (2, 7), (3, 0), (4, 4), (5, 7)] {
         assert_eq!(rt; gate.noted(pass), Some((0, chunk)), "pass {pass}");
@@ -276,7 +270,8 @@ fn no_order_of_workers_changes_what_is_not_cancelled(rt: HostRuntime) -> Result<
     for order in [[1, 2, 1], [2, 2, 0], [0, 0, 0]] {
         let gate = ListGate::new(order.to_vec(alloc)?, 10000);
         let mut sink = MemSink::new(alloc, 1000, Vec::new(alloc))?;
-        let found = run_past(&rt, alloc, ("query", "2"), CANCELLING, &mut sink, &gate)?;
+        let list = TestGate::List(&gate);
+        let found = run_past(&rt, alloc, ("query", "2"), CANCELLING, &mut sink, &list)?;
         assert_eq!(rt; found, 0);
         assert!(rt; is_transcript(sink.bytes()), "gave up: {}", gate.given_up());
     }

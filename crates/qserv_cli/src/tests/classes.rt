@@ -1,4 +1,5 @@
 //! The command `classes`: threads meet, queries share a chunk's scan, and short queries are scanned before long ones.
+use crate::tests::gates::TestGate;
 use crate::tests::{count_by, meet_by, status_past, texts_over, words_for};
 use sky_io::{MemSink, NoteGate, PlainShelf};
 use std::alloc::Global;
@@ -32,7 +33,8 @@ fn passes_by<R: Abort + Threads + Wait + Sync>(
     let mut sink = MemSink::new(alloc, 1000, Vec::new(alloc))?;
     let words = words_for(alloc, command, "0")?;
     let mut shelf = PlainShelf::new(texts_over(alloc, SKY, CATALOGUE, SCRIPT)?);
-    status_past(rt, alloc, words.as_slice(), &mut shelf, &mut sink, &gate);
+    let note = TestGate::Note(&gate);
+    status_past(rt, alloc, words.as_slice(), &mut shelf, &mut sink, &note);
     assert_eq!(rt; sink.bytes(), ANSWERS);
     Ok(gate)
 }

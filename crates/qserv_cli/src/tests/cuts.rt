@@ -1,6 +1,7 @@
 //! Texts that end too early: what is left of each has its first fault, or is accepted and answered.
+use crate::tests::gates::TestGate;
 use crate::tests::{CATALOGUE, SCRIPT, SKY, words_of};
-use sky_io::{MemSink, OpenGate, PlainShelf};
+use sky_io::{MemSink, PlainShelf};
 use std::alloc::Global;
 use std::sync::Wait;
 use std::test::Fail;
@@ -66,7 +67,7 @@ pub(crate) fn told<R: Threads + Wait + Sync>(
         words.as_slice(),
         &mut shelf,
         &mut sink,
-        &OpenGate,
+        &TestGate::Open,
     );
     put_outcome(&mut sink, &outcome, words.as_slice());
     Ok(sink)

@@ -1,4 +1,5 @@
 //! The journal of a session shows that two threads work on chunks at one time.
+use crate::tests::gates::TestGate;
 use crate::tests::{CATALOGUE, SCRIPT, status_past, texts_of, words_for};
 use scan_history::read_journal;
 use scan_rules::{Journal, JournalLine};
@@ -61,7 +62,8 @@ fn two_work_on_chunks_at_one_time_in_the_journal(rt: HostRuntime) -> Result<(), 
     let mut sink = MemSink::new(alloc, 4000, Vec::new(alloc))?;
     let words = words_for(alloc, "trace", "2")?;
     let mut shelf = PlainShelf::new(texts_of(alloc, CATALOGUE, SCRIPT)?);
-    let found = status_past(&rt, alloc, words.as_slice(), &mut shelf, &mut sink, &gate);
+    let step = TestGate::Step(&gate);
+    let found = status_past(&rt, alloc, words.as_slice(), &mut shelf, &mut sink, &step);
     assert_eq!(rt; found, 0);
     assert!(rt; gate.met());
     let journal = journal_in(alloc, sink.bytes())?;

@@ -1,7 +1,8 @@
 //! The command `sources`: objects are joined with their sources, a repeated id is a fault, threads meet, and queries share
 //! a chunk's scan.
+use crate::tests::gates::TestGate;
 use crate::tests::{CATALOGUE, add_text, status_past, texts_of, words_in};
-use sky_io::{Gate, MemSink, NoteGate, OpenGate, PlainShelf, StepGate};
+use sky_io::{MemSink, NoteGate, PlainShelf, StepGate};
 use std::alloc::Global;
 use std::process::Abort;
 use std::sync::Wait;
@@ -34,13 +35,13 @@ const TWICE: &[u8] =
     b"SELECT o.objectId,s.sourceId,s.flux-o.flux FROM Object o,Source s WHERE o.objectId=s.objectId\nSELECT o.objectId,s.sourceId,s.flux-o.flux FROM Object o,Source s WHERE o.objectId=s.objectId\n";
 
 // The status of the command over the catalogue, these sources and a script, with a number of workers, past a gate.
-fn sources_past<R: Threads + Wait + Sync, G: Gate + Sync>(
+fn sources_past<R: Threads + Wait + Sync>(
     rt: &R,
     alloc: Global,
     workers: &str,
     texts: (&[u8], &[u8]),
     sink: &mut MemSink,
-    gate: &G,
+    gate: &TestGate<'_>,
 ) -> Result<u8, Fail> {
     let words = words_in(
         alloc,
@@ -57,7 +58,8 @@ fn each_object_is_joined_with_its_sources(rt: HostRuntime) -> Result<(), Fail> {
     let alloc = rt.alloc();
     for workers in ["0", "4"] {
         let mut sink = MemSink::new(alloc, 1000, Vec::new(alloc))?;
-        let found = sources_past(&rt, alloc, workers, (SOURCES, SCRIPT), &mut sink, &OpenGate)?;
+        let texts = (SOURCES, SCRIPT);
+        let found = sources_past(&rt, alloc, workers, texts, &mut sink, &TestGate::Open)?;
         assert_eq!(rt; (found, sink.bytes()), (0, ANSWERS), "{workers} workers");
     }
     Ok(())
@@ -67,7 +69,8 @@ fn each_object_is_joined_with_its_sources(rt: HostRuntime) -> Result<(), Fail> {
 fn a_repeated_id_of_a_source_is_a_fault(rt: HostRuntime) -> Result<(), Fail> {
     let alloc = rt.alloc();
     let mut sink = MemSink::new(alloc, 1000, Vec::new(alloc))?;
-    let found = sources_past(&rt, alloc, "0", (REPEATED, SCRIPT), &mut sink, &OpenGate)?;
+    let texts = (REPEATED, SCRIPT);
+    let found = sources_past(&rt, alloc, "0", texts, &mut sink, &TestGate::Open)?;
     assert_eq!(rt; (found, sink.bytes().len()), (11, 0));
     Ok(())
 }
@@ -77,7 +80,8 @@ fn two_work_on_chunks_of_sources_at_one_time(rt: HostRuntime) -> Result<(), Fail
     let alloc = rt.alloc();
     let gate = StepGate::new(2, 10000000);
     let mut sink = MemSink::new(alloc, 1000, Vec::new(alloc))?;
-    sources_past(&rt, alloc, "2", (SOURCES, FIRST), &mut sink, &gate)?;
+    let step = TestGate::Step(&gate);
+    sources_past(&rt, alloc, "2", (SOURCES, FIRST), &mut sink, &step)?;
     assert_eq!(rt; sink.bytes(), FIRST_ANSWER);
     assert!(rt; gate.met());
     assert!(rt; !gate.given_up());
@@ -89,7 +93,8 @@ fn a_chunk_is_passed_once_for_both_queries(rt: HostRuntime) -> Result<(), Fail> 
     let alloc = rt.alloc();
     let mut gate = NoteGate::new();
     let mut sink = MemSink::new(alloc, 1000, Vec::new(alloc))?;
-    let found = sources_past(&rt, alloc, "0", (SOURCES, TWICE), &mut sink, &gate)?;
+    let note = TestGate::Note(&gate);
+    let found = sources_past(&rt, alloc, "0", (SOURCES, TWICE), &mut sink, &note)?;
     assert_eq!(rt; found, 0);
     for (pass, chunk) in [(0, 0), (1, 4), (2, 7)] {
         assert_eq!(rt; gate.noted(pass), Some((0, chunk)), "pass {pass}");
