@@ -6,8 +6,8 @@
 The run is small: six rows, and a script with a query of every kind and one of every refusal. Each form of the command line
 is run: load, explain, check, query, classes, trace, demo and sources, the last five with each number of workers (0). So are query and
 classes over three scripts and the catalogue of the worked rows, all ids, the pairs of neighbours, and a cancel with a wait, trace
-over the last of them, and query and classes over 150 rows of one chunk, whose columns are gathered in three parts, with a first
-NULL in the second, and whose 149 pairs allocate to be sorted. First the
+over the last of them, and query and classes over 300 rows of one chunk, whose columns are gathered in five parts, with a first
+NULL in the second, whose pairs allocate to be sorted, and of which the first 32 are found among candidates. First the
 Nth request of the run is refused, for N from 1 until a run makes fewer, and then the Nth and all after it. A run has to end so:
 - with the whole right text and status 0;
 - with the right text but for `out of memory` in the place of an answer that wants chunks to be scanned, and status 0;
@@ -27,7 +27,7 @@ depends then on how the threads run.
 
 FILE is the built program, by default .qserv/qserv, where ./qserv leaves it. FOLDER is made where it isn't there, and gets the
 texts sky, csv, script and journal, the catalogue and scripts of the worked rows, measured and joins for sources, and one, many and
-asked for the chunk of 150 rows; with --long wide, long, few, long_sources and paired.
+asked for the chunk of 300 rows; with --long wide, long, few, long_sources and paired.
 """
 import collections
 import concurrent.futures
@@ -151,12 +151,13 @@ WORKED = {
 }
 # the answered rows of sources, and one of every refusal
 JOINS = worked_children.ROWS[: -len(worked_children.REFUSED)] + worked_children.ROWS[-8:]
-# a chunk of 150 rows, whose ids are in no order along their line, and what is asked of it
+# a chunk of 300 rows, whose ids are in no order along their line, and what is asked of it
 ONE = "overlap 16\nstripe -268435472 1 1 1\n"
-MANY = [[id, EDGE, 7 * (37 * id % 151), 0, id % 5, None if id == 100 else id] for id in range(1, 151)]
+MANY = [[id, EDGE, 7 * (37 * id % 307), 0, id % 5, None if id == 100 else id] for id in range(1, 301)]
 ASKED = [
     "SELECT COUNT(*),COUNT(g),SUM(g),MIN(y),MAX(objectId) FROM Object",
     "SELECT objectId,g,y FROM Object WHERE objectId>=98 ORDER BY g LIMIT 4",
+    "SELECT objectId,y FROM Object ORDER BY y DESC LIMIT 32",
     "SELECT flux,COUNT(g) FROM Object GROUP BY flux",
     "SELECT a.objectId,b.objectId FROM Object a,Object b WHERE chord2(a,b)<=49 AND a.objectId<b.objectId",
 ]

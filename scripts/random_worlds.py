@@ -256,5 +256,5 @@ class Asker(Writer):
             key = self.rand.choice(names) if names and self.chance(0.5) else self.rand.choice(keys or [self.col()])
             words += ["ORDER", "BY", *key, *self.rand.choice([[], ["ASC"], ["DESC"], ["DESC"]])]
         if self.chance(0.4):
-            words += ["LIMIT", self.rand.choice(["0", "1", "2", "5", "100", self.int()])]
+            words += ["LIMIT", self.rand.choice(["0", "1", "2", "5", "32", "100", self.int()])]
         return words + [";"] * self.chance(0.1)

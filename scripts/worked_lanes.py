@@ -1,8 +1,11 @@
-"""Catalogues at whose lengths a run of 8 or 16 rows begins, ends or is passed by one, and the rows that a test of each leaves:
-scripts/worked_rows.py runs the program over them.
+"""Catalogues at whose lengths a run of 8 or 16 rows begins, ends or is passed by one, the rows that a test of each leaves, and the first
+of them in an order: scripts/worked_rows.py runs the program over them.
 
-A test of a column is made on many rows at once, so that its last rows are others than its first.
+A test of a column is made on many rows at once, so that its last rows are others than its first. Of the longest catalogue the first
+rows are found among candidates up to a key of a sample.
 """
+import itertools
+
 # one chunk holds all rows
 SKY = "overlap 5\nstripe -268435472 1 1 1\n"
 LENGTHS = [0, 1, 7, 8, 9, 15, 16, 17, 4096]
@@ -31,10 +34,32 @@ TESTS = [
     ("area_cap(268435456,0,0,8)", lambda z, flux: False),
 ]
 
+# an item, its name and its value: one with many ties and NULL, and one that differs from row to row
+KEYS = [("flux", "flux", lambda number, z, flux: flux), ("z*5000-objectId AS k", "k", lambda number, z, flux: 5000 * z - number)]
+LIMITS = [32, 100, 500]
+
+
+def rows_in_order(length, value, down):
+    """The ids and values by the value, NULL before all numbers or after them if it descends, and rows that tie by id."""
+    rows = [(number, value(number, *values(number))) for number in range(length)]
+    nulls, others = [row for row in rows if row[1] is None], [row for row in rows if row[1] is not None]
+    others.sort(key=lambda row: (-row[1] if down else row[1], row[0]))
+    return others + nulls if down else nulls + others
+
+
+def first_rows(length):
+    """A query for the first rows by each key, in both directions, and the lines of its block."""
+    for (item, name, value), down, limit in itertools.product(KEYS, [False, True], LIMITS):
+        rows = rows_in_order(length, value, down)[:limit]
+        lines = [f"{number},{'NULL' if key is None else key}" for number, key in rows]
+        order = f"{name} DESC" if down else name
+        query = f"SELECT objectId,{item} FROM Object ORDER BY {order} LIMIT {limit}"
+        yield query, [f"objectId,{name}", *lines, f"{len(rows)} rows, {min(1, length)} chunks"]
+
 
 def queries(length):
-    """A query for each condition, and the lines of its block."""
-    found = []
+    """A query for each condition and for the first rows by each key, and the lines of its block."""
+    found = list(first_rows(length))
     for condition, holds in TESTS:
         ids = [str(number) for number in range(length) if holds(*values(number))]
         end = f"{len(ids)} rows, {min(1, length)} chunks"

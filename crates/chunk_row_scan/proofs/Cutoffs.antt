@@ -23,7 +23,7 @@ use Rattle.chunk_row_scan.specs.Cutoffs.{IsCutoff, cutoff_after, is_beyond}
 
 -- ---- in any total order
 
-not_true : (b : Bool) → not b ≡ true → b ≡ false
+pub not_true : (b : Bool) → not b ≡ true → b ≡ false
 not_true false e = refl
 not_true true e = sym e
 
@@ -130,7 +130,7 @@ turned_above : (n m : ℤ) → int_lt m n ≡ true → int_cmp (neg_ℤ m) (neg_
 turned_above n m h = grind (arith, ints)
 
 -- a row whose key is beyond a number comes after the rows with that number
-after_number : (down : Bool) (n id other : ℤ) (key : Option ℤ) → is_beyond down (Some n) key ≡ true
+pub after_number : (down : Bool) (n id other : ℤ) (key : Option ℤ) → is_beyond down (Some n) key ≡ true
     → is_up_to row_order (out_row (rank_by down key other) []) (out_row (rank_by down (Some n) id) []) ≡ true
 after_number false n id other None h = absurd (cc h)
 after_number true n id other None h = absurd (cc h)

@@ -17,6 +17,7 @@ use Rattle.answer_rules.proofs.Totals.{row_total}
 use Rattle.partial_merge.specs.Joining.{IsOfRows, TakesRow}
 use Rattle.answer_rules.specs.PieceLaws.{empty_view}
 use Rattle.sql_bound.specs.declared.query.Shape.TheVariants.{Rows}
+use Rattle.chunk_row_scan.specs.Candidates.{HaveFirst}
 use Rattle.chunk_row_scan.specs.Lines.{IsOfRowsOver}
 
 -- one row more behind
@@ -55,3 +56,9 @@ of_none cq view shape is =
 pub of_rows : (cq : ChunkQuery) (objects : List Obj) (view : PieceView) → IsOfRowsOver cq objects view → IsOfRows view
 of_rows cq objects (OfRows pushed rows) h = tt
 of_rows cq objects (OfGroups parts) h = absurd h
+
+-- a piece of candidates that have the first n rows is one of all rows
+pub of_candidates : (cq : ChunkQuery) (rows candidates : List Obj) (view : PieceView) → HaveFirst cq rows candidates
+    → IsOfRowsOver cq candidates view → IsOfRowsOver cq rows view
+of_candidates cq rows candidates (OfRows pushed kept) first h = (h.0, keeps_again row_order row_total (limit_of cq.limit) _ _ kept first h.1)
+of_candidates cq rows candidates (OfGroups parts) first h = absurd h

@@ -1,3 +1,4 @@
 pub mod Lines
 pub mod Computed
 pub mod Cutoffs
+pub mod Candidates

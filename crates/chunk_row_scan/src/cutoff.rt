@@ -3,10 +3,11 @@
 //! A row whose order key comes after the cutoff is none of the first n either. So once there is a cutoff, most rows are
 //! skipped by their order keys alone, in a loop that does nothing else. Each other row is offered to the piece. If it
 //! comes too late, its order key is the next cutoff. NULL is never a cutoff, and a row with it is never skipped here.
+//! The cutoff of `candidates` is another one, from a sample.
 
 ghost use Rattle.std.specs.Prelude.{◌≡◌, ◌<◌, ◌≤◌, ℕ, IfSome, None, Some, false, get_or, length, true};
 ghost use Rattle.chunk_row_scan.specs.Computed.{key_in};
-ghost use Rattle.chunk_row_scan.specs.Cutoffs.{cutoff_after, is_beyond};
+ghost use Rattle.chunk_row_scan.specs.Cutoffs.{cutoff_after, is_beyond, is_number_up_to};
 
 use column_eval::ValueList;
 use sky_vector::Num;
@@ -114,4 +115,14 @@ fn comes_after(down: bool, cutoff: i128, n: i128) -> bool
     ensures { result ≡ is_beyond down (Some cutoff) (Some n) }
 {
     if down { n < cutoff } else { cutoff < n }
+}
+
+/// Returns whether there is a cutoff and the order key is a number that does not come after it. Does not allocate.
+pub(crate) fn is_number_up_to(down: bool, cutoff: &Option<Num>, key: &Option<Num>) -> bool
+    ensures { result ≡ is_number_up_to down cutoff.now key.now }
+{
+    match (cutoff, key) {
+        (Some(cutoff), Some(n)) => !comes_after(down, cutoff.get(), n.get()),
+        _ => false,
+    }
 }

@@ -27,8 +27,8 @@ use sky_row::Row;
 use sky_vector::Num;
 use std::alloc::Global;
 
-/// Returns the piece of the selected rows of the chunk, which have these order keys. Allocates memory for the values of
-/// one row, and for what the piece keeps.
+/// Returns the piece of the rows with these numbers, which have these order keys. Allocates memory for the values of one
+/// row, and for what the piece keeps.
 pub(crate) fn first_rows<'w>(
     alloc: Global,
     block: &Block,
