@@ -1,8 +1,9 @@
 """Catalogues at whose lengths a run of 8 or 16 rows begins, ends or is passed by one, the rows that a test of each leaves, and the first
 of them in an order: scripts/worked_rows.py runs the program over them.
 
-A test of a column is made on many rows at once, so that its last rows are others than its first. Of the longest catalogue the first
-rows are found among candidates up to a key of a sample.
+A test of a column is made on many rows at once, so that its last rows are others than its first. Over the longest catalogue nine of the
+twelve queries for the first rows find them among candidates, the rows up to a key of a sample. Of the others by flux, in ascending
+order, the key is NULL for two, and too few rows are up to it for one.
 """
 import itertools
 
