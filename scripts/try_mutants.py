@@ -1,7 +1,7 @@
 #!/usr/bin/env python3
 """Tries the mutants of each crate after `rt ci`, as many of them in one check as can be told apart.
 
-    scripts/try_mutants.py [--processes N] [--times] [CRATE ..]
+    scripts/try_mutants.py [--processes N] [--times] [--unchanged] [CRATE ..]
     scripts/try_mutants.py --list
 
 A mutant is code or a definition with one thing changed, which the prover must refuse. It is a file NAME.edit in crates/C/mutants with
@@ -20,10 +20,13 @@ A function is proved by the contracts of those that it calls, not by their code.
 though all those of a crate are made in one copy; two of one function take a check each. A mutant of a definition, of a constant
 or of a ghost member changes what other proofs read, so it is made alone. Those that are not refused beside the others are made
 once more by themselves, and at last each alone: what a function owes may wait for the proof of one that it calls, which another
-mutant has broken. A check is of these functions and of those that they call, over the libraries that `rt ci` proved and left in
-crates/*/out/rlib. That the crate is proved without its mutants is what `rt ci` has shown. If a crate takes several checks, they
-come one after the other and share a folder: what one has proved is not proved again by the next if no mutant of that changes
-it.
+mutant has broken. A check is of these functions, over the libraries that `rt ci` proved and left in crates/*/out/rlib. That the
+crate is proved without its mutants is what `rt ci` has shown. If a crate takes several checks, they come one after the other and
+share a folder: what one has proved is not proved again by the next if no mutant of that changes it.
+
+The functions that a check is not about are stubs in the copy (stubs.py): their statements are assumed. A mutant that such a check
+does not refuse is tried in a plain copy. With --unchanged the same checks are made without mutants, and none may refuse a function. It
+is run when these scripts or the toolchain change; the gate does not run it.
 
 It prints a line for each mutant, and those that were not refused last; then the status is 1. With --times it prints the processor
 seconds of all checks. Without the libraries it ends with 1, without `rt` with 0, each with a line that says so. It writes into a
@@ -42,12 +45,16 @@ import sys
 import tempfile
 
 import mutants
+import stubs
 
 # what a check of a large crate may take
 MEMORY = 3_000_000_000
 PARTS = ("src", "specs", "proofs")
 # what a check says of a proof file that names what a mutant took away: this refuses nothing
 LOST_NAME = "that can be named from here"
+# what a check says of a stub that does not fit
+UNFIT_STUB = re.compile(r"^\./proofs/\S*/Proof\.antt\S*: error.*", re.MULTILINE)
+VERDICT = re.compile(r"^only=\d+ (proved|holes)=\d+$", re.MULTILINE)
 
 
 class Unfit(Exception):
@@ -143,66 +150,94 @@ def make(mutant, room):
         file.write(text)
 
 
-def output_of(crate, tried, kit, kept):
-    """What a check says of a copy of the crate with these mutants."""
+def put_stubs(crate, room, functions):
+    """Makes stubs of all other functions in a copy of the crate."""
+    try:
+        stubs.put(crate, f"{library(crate)}/{crate}.rlib", room, functions)
+    except (OSError, LookupError, TypeError, ValueError) as fault:
+        raise Unfit(f"{crate}: no stubs: {fault}") from fault
+
+
+def output_of(crate, edits, functions, kit, kept, has_stubs=True):
+    """What a check of functions says of a copy of the crate with these mutants, with stubs of all other functions or without."""
     with tempfile.TemporaryDirectory(prefix="mutants-") as room:
         for part in PARTS:
             if os.path.isdir(f"crates/{crate}/{part}"):
                 shutil.copytree(f"crates/{crate}/{part}", f"{room}/{part}")
-        for mutant, _, _ in tried:
+        for mutant in edits:
             make(mutant, room)
         words = check_words(crate, kit, kept)
-        for function in sorted({function for _, function, _ in tried}):
+        for function in sorted(functions):
             words += ["--only", function]
+        if has_stubs:
+            put_stubs(crate, room, functions)
+            words.append("--allow-holes")
         ran = subprocess.run(words, cwd=room, stdin=subprocess.DEVNULL, stdout=subprocess.PIPE, stderr=subprocess.STDOUT, text=True, errors="replace", check=False)
-    if not re.search(r"^only=\d+ proved=\d+$", ran.stdout, re.MULTILINE):
+    if not VERDICT.search(ran.stdout):
         raise Unfit(f"{crate}: the check gave no verdict; its last lines:\n" + "\n".join(ran.stdout.splitlines()[-5:]))
+    if has_stubs and UNFIT_STUB.search(ran.stdout):
+        raise Unfit(f"{crate}: a stub does not fit: {UNFIT_STUB.search(ran.stdout)[0]}")
     return ran.stdout
 
 
-def said_of(function, crate, output):
-    """What the check says of a function: errors in its proof, then the lines after those of the function before it."""
+def said_of(function, crate, output, is_alone):
+    """What the check says of a function: errors in its proof, then the lines after those of the function before it. The lines before
+    the first function's are of all, and count only if the check is of one mutant."""
     module, _, name = f"/{function}".replace("::", "/").rpartition("/")
     # functions that call each other have one proof, in a folder that begins with +
     own = (f"./proofs{module}/{name}/", f"./proofs{module}/+")
-    errors, lines = [], []
+    errors, lines, is_first = [], [], True
     for line in output.splitlines():
         if LOST_NAME in line:
             continue
         errors += [line] if line.startswith(own) else []
         lines.append(line)
         if line.startswith(f"fn {crate}::{function}: "):
-            return [it for it in errors if it not in lines] + lines
+            return errors + [line] if is_first and not is_alone else [it for it in errors if it not in lines] + lines
         if line.startswith("fn "):
-            lines = []
+            lines, is_first = [], False
     return []
 
 
-def is_refused(function, clause, crate, output):
+def is_proved(function, crate, output):
+    """Whether nothing of the function is refused, with or without a hole below it."""
+    lines = said_of(function, crate, output, is_alone=True)
+    return bool(lines) and bool(re.match(r"fn \S+: (proved|no holes|depends on a hole)", lines[-1]))
+
+
+def is_refused(function, clause, crate, output, is_alone):
     """Whether the function is not proved, for this clause."""
-    lines = said_of(function, crate, output)
+    lines = said_of(function, crate, output, is_alone)
     if not lines or not re.match(r"fn \S+: (not proved|no proof)", lines[-1]):
         return False
     return any(f"`{clause}`" in line for line in lines)
 
 
-def verdicts(crate, tried, kit, kept):
+def functions_of(tried):
+    return {function for _, function, _ in tried}
+
+
+def verdicts(crate, tried, kit, kept, has_stubs=True):
     """For each mutant of a check whether it is refused, and what to say."""
     try:
-        output = output_of(crate, tried, kit, kept)
+        output = output_of(crate, [mutant for mutant, _, _ in tried], functions_of(tried), kit, kept, has_stubs)
     except Unfit as fault:
+        if has_stubs:
+            return verdicts(crate, tried, kit, kept, has_stubs=False)
         return [(False, f"{mutant.crate}/{mutant.name}: {fault}") for mutant, _, _ in tried]
     found, left = [], []
     for mutant, function, clause in tried:
-        if is_refused(function, clause, crate, output):
+        if is_refused(function, clause, crate, output, len(tried) == 1):
             found.append((True, f"{crate}/{mutant.name}: refused at `{function}`: `{clause}`"))
         else:
             left.append((mutant, function, clause))
-    if len(tried) == 1:
-        return found or [(False, missed(crate, *tried[0], output))]
+    if len(tried) == 1 and left:
+        return verdicts(crate, left, kit, kept, has_stubs=False) if has_stubs else [(False, missed(crate, *left[0], output))]
+    if not left:
+        return found
     # the goals of a function wait for the proofs of those that it calls, which another mutant may have broken
-    for fewer in [left] if found and left else [[it] for it in left]:
-        found += verdicts(crate, fewer, kit, kept)
+    for fewer in [left] if found else [[it] for it in left]:
+        found += verdicts(crate, fewer, kit, kept, has_stubs)
     return found
 
 
@@ -214,9 +249,25 @@ def all_verdicts(crate, kit):
         return [verdict for tried in checks for verdict in verdicts(crate, tried, kit, kept)]
 
 
+def unchanged_verdict(crate, tried, kit):
+    """For each mutant of a check whether its function is proved beside the stubs without the mutants, and what to say."""
+    try:
+        output = output_of(crate, [], functions_of(tried), kit, None)
+    except Unfit as fault:
+        return [(False, str(fault))]
+    report = {True: "proved without the mutant", False: "REFUSED without the mutant"}
+    results = [(is_proved(function, crate, output), mutant, function) for mutant, function, _ in tried]
+    return [(well, f"{crate}/{mutant.name}: {report[well]}: `{function}`") for well, mutant, function in results]
+
+
+def unchanged_verdicts(crate, kit):
+    """The same for all mutants of a crate."""
+    return [verdict for tried in rounds(mutants_of(crate)) for verdict in unchanged_verdict(crate, tried, kit)]
+
+
 def missed(crate, mutant, function, clause, output):
     """What to say of a mutant that is not refused by itself."""
-    told = "\n    ".join(it[:300] for it in said_of(function, crate, output)) or "nothing was said of the function"
+    told = "\n    ".join(it[:300] for it in said_of(function, crate, output, is_alone=True)) or "nothing was said of the function"
     return f"{crate}/{mutant.name}: NOT REFUSED at `{function}`: `{clause}`; the check says:\n    {told}"
 
 
@@ -229,22 +280,24 @@ def processes():
 
 def unbuilt(crates):
     """The crates whose library is lacking."""
-    needed = set().union(*map(below, crates))
+    needed = {*crates}.union(*map(below, crates))
     return sorted(it for it in needed if not os.path.isdir(f"{library(it)}/{it}.rlib"))
 
 
-def run(crates, number, kit):
-    """Tries the mutants of the crates, prints what was said of each, and returns the status. The crate with the most checks
-    begins first."""
+def run(crates, number, kit, is_unchanged):
+    """Tries the mutants of the crates, or their functions unchanged, prints what was said of each, and returns the status. The crate
+    with the most checks begins first."""
     failed, checks = [], {crate: len(rounds(mutants_of(crate))) for crate in crates}
+    try_crate = unchanged_verdicts if is_unchanged else all_verdicts
     with concurrent.futures.ThreadPoolExecutor(number) as pool:
-        tries = [pool.submit(all_verdicts, crate, kit) for crate in sorted(crates, key=lambda it: -checks[it])]
+        tries = [pool.submit(try_crate, crate, kit) for crate in sorted(crates, key=lambda it: -checks[it])]
         for one in concurrent.futures.as_completed(tries):
             for well, told in one.result():
                 print(told, flush=True)
                 failed += [] if well else [told]
     count = sum(len(mutants_of(crate)) for crate in crates)
-    print(f"try_mutants: {count - len(failed)} of {count} mutants refused, in {sum(checks.values())} checks of {len(crates)} crates")
+    told = "functions proved unchanged" if is_unchanged else "mutants refused"
+    print(f"try_mutants: {count - len(failed)} of {count} {told}, in {sum(checks.values())} rounds of {len(crates)} crates")
     for told in failed:
         print(told)
     return 1 if failed else 0
@@ -255,6 +308,7 @@ def words():
     parser.add_argument("crates", nargs="*", metavar="CRATE")
     parser.add_argument("--processes", type=int, metavar="N")
     parser.add_argument("--times", action="store_true")
+    parser.add_argument("--unchanged", action="store_true")
     parser.add_argument("--list", action="store_true")
     return parser.parse_args()
 
@@ -276,7 +330,7 @@ def main():
         print(f"try_mutants: there is no library of {', '.join(lacking)}: run rt ci first")
         return 1
     page = subprocess.run(["rt", "doc"], stdout=subprocess.PIPE, text=True, check=True).stdout.strip()
-    status = run(crates, given.processes or processes(), os.path.dirname(page))
+    status = run(crates, given.processes or processes(), os.path.dirname(page), given.unchanged)
     if given.times:
         used = resource.getrusage(resource.RUSAGE_CHILDREN)
         print(f"try_mutants: {used.ru_utime + used.ru_stime:.0f} processor seconds")
