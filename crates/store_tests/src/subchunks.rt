@@ -22,6 +22,14 @@ const ROWS: [(u32, i64, i64, i64); 6] = [
     (6, 0, 0, 268435456),
 ];
 
+/// Subchunks by what is in them, each its chunk and number, with the numbers of its rows and of those of its overlap, all from 0.
+const SUBCHUNKS: [(&str, (u32, u32), &[u32], &[u32]); 4] = [
+    ("the first rows", (4, 0), &[0, 1, 2], &[3, 4]),
+    ("the pole", (4, 2), &[5], &[]),
+    ("the row beside the first in y", (7, 1), &[3], &[0, 1, 2, 4]),
+    ("the row below the equator", (0, 2), &[4], &[0, 1, 2, 3]),
+];
+
 // Pushes a row after the others, if its position is admissible and there is room.
 fn push(columns: &mut Columns, id: u32, x: i64, y: i64, z: i64) -> Result<(), Memory> {
     let Some(at) = Pos::new(x, y, z) else {
@@ -59,11 +67,11 @@ fn store_of<R: Threads + Sync>(
 fn has(
     alloc: Global,
     store: &Store,
-    chunk: u32,
-    sub: u32,
+    place: (u32, u32),
     own: &[u32],
     beside: &[u32],
 ) -> Result<bool, Fail> {
+    let (chunk, sub) = place;
     if chunk >= store.plan().chunks() || sub >= store.plan().subs(chunk) {
         return Ok(false);
     }
@@ -72,19 +80,37 @@ fn has(
     Ok(rows.as_slice() == own && overlap.as_slice() == beside)
 }
 
+// The first subchunk of the table whose rows the store does not have, or none.
+fn wrong_one(alloc: Global, store: &Store) -> Result<Option<&'static str>, Fail> {
+    for (name, place, own, beside) in SUBCHUNKS {
+        if !has(alloc, store, place, own, beside)? {
+            return Ok(Some(name));
+        }
+    }
+    Ok(None)
+}
+
+// What is wrong of the store of the rows over the sky of a short text, or none.
+fn fault_over<R: Threads + Sync>(
+    rt: &R,
+    alloc: Global,
+    sky: &[u8],
+) -> Result<Option<&'static str>, Fail> {
+    if sky.len() > 99 {
+        return Ok(Some("a long text"));
+    }
+    let Ok(plan) = SkyPlan::read(alloc, sky) else {
+        return Ok(Some("no plan"));
+    };
+    let Some(store) = store_of(rt, alloc, plan)? else {
+        return Ok(Some("no store"));
+    };
+    wrong_one(alloc, &store)
+}
+
 #[test]
 fn a_subchunk_has_its_rows_and_those_near_it(rt: HostRuntime) -> Result<(), Fail> {
     let alloc = rt.alloc();
-    let Ok(plan) = SkyPlan::read(alloc, SKY) else {
-        panic!(rt; "no plan");
-    };
-    let Some(store) = store_of(&rt, alloc, plan)? else {
-        panic!(rt; "no store");
-    };
-    // the row numbers, from 0; chunk 4's subchunk 2 is around the pole, and the last two subchunks are beside the first
-    assert!(rt; has(alloc, &store, 4, 0, &[0, 1, 2], &[3, 4])?);
-    assert!(rt; has(alloc, &store, 4, 2, &[5], &[])?);
-    assert!(rt; has(alloc, &store, 7, 1, &[3], &[0, 1, 2, 4])?);
-    assert!(rt; has(alloc, &store, 0, 2, &[4], &[0, 1, 2, 3])?);
+    assert_eq!(rt; fault_over(&rt, alloc, SKY)?, None);
     Ok(())
 }
