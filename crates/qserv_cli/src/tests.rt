@@ -209,13 +209,12 @@ fn two_work_on_chunks_at_one_time(rt: HostRuntime) -> Result<(), Fail> {
     meet_by(&rt, rt.alloc(), "query")
 }
 
-// The given number of lines, each of which counts all rows.
-fn counting(alloc: Global, times: usize) -> Result<Vec<u8>, Fail> {
-    let mut text = Vec::new(alloc);
+// Appends a piece the given number of times.
+pub(crate) fn repeat(text: &mut Vec<u8>, piece: &[u8], times: usize) -> Result<(), Fail> {
     for _ in 0..times {
-        text.extend_from_slice(b"SELECT COUNT(*) FROM Object\n")?;
+        text.extend_from_slice(piece)?;
     }
-    Ok(text)
+    Ok(())
 }
 
 // Runs 65 queries by a command. 64 of them run together, so that each chunk is passed once for them all.
@@ -224,7 +223,8 @@ pub(crate) fn count_by<R: Abort + Threads + Wait + Sync>(
     alloc: Global,
     command: &str,
 ) -> Result<(), Fail> {
-    let script = counting(alloc, 65)?;
+    let mut script = Vec::new(alloc);
+    repeat(&mut script, b"SELECT COUNT(*) FROM Object\n", 65)?;
     let mut gate = NoteGate::new();
     let mut sink = MemSink::new(alloc, 10000, Vec::new(alloc))?;
     let note = TestGate::Note(&gate);

@@ -1,6 +1,6 @@
 //! Texts that end too early: what is left of each has its first fault, or is accepted and answered.
 use crate::tests::gates::TestGate;
-use crate::tests::{CATALOGUE, SCRIPT, SKY, words_of};
+use crate::tests::{CATALOGUE, SCRIPT, SKY, add_text, words_of};
 use sky_io::{MemSink, PlainShelf};
 use std::alloc::Global;
 use std::sync::Wait;
@@ -47,7 +47,7 @@ fn texts_with(alloc: Global, cut: &str, left: &[u8]) -> Result<Vec<(String, Vec<
     let mut texts = Vec::new(alloc);
     for (name, whole) in [("sky", SKY), ("csv", CATALOGUE), ("script", SCRIPT)] {
         let text = if name == cut { left } else { whole };
-        texts.push((String::from_str(alloc, name)?, text.to_vec(alloc)?))?;
+        add_text(alloc, &mut texts, name, text)?;
     }
     Ok(texts)
 }

@@ -1,6 +1,6 @@
 //! Scripts at a limit, and one beyond it: what is written for each was found by hand.
 use crate::tests::cuts::told;
-use crate::tests::{CATALOGUE, texts_of};
+use crate::tests::{CATALOGUE, repeat, texts_of};
 use std::alloc::Global;
 use std::test::Fail;
 
@@ -112,14 +112,6 @@ const LIMITS: [(&str, &[u8], Pieces, Pieces); 11] = [
         &[(b"script line 256: too many queries\n", 1)],
     ),
 ];
-
-// Appends a piece the given number of times.
-fn repeat(text: &mut Vec<u8>, piece: &[u8], times: usize) -> Result<(), Fail> {
-    for _ in 0..times {
-        text.extend_from_slice(piece)?;
-    }
-    Ok(())
-}
 
 // The text of these pieces.
 fn text_of(alloc: Global, pieces: &[(&[u8], usize)]) -> Result<Vec<u8>, Fail> {

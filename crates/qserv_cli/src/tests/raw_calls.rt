@@ -1,4 +1,5 @@
 //! What no clause of `sky_io` says: that its calls succeed, and how many raw calls they make.
+use crate::tests::add_text;
 use sky_io::{Buffered, Fetch, FileShelf, FolderShelf, MemFiles, MemOutput, Put, Shelf, Sink};
 use std::alloc::Global;
 use std::test::Fail;
@@ -72,7 +73,7 @@ fn a_rest_that_could_not_be_written_is_written_later(rt: HostRuntime) -> Result<
 // The files of one name, whose text is "abcde".
 fn texts_of(alloc: Global) -> Result<Vec<(String, Vec<u8>)>, Fail> {
     let mut texts = Vec::new(alloc);
-    texts.push((String::from_str(alloc, "five")?, b"abcde".to_vec(alloc)?))?;
+    add_text(alloc, &mut texts, "five", b"abcde")?;
     Ok(texts)
 }
 
