@@ -10,7 +10,8 @@ all near each other. Each line is measured as the least of N times (3), all in t
 - the program with no workers and with 3, over the demo's sky of 34 chunks and over one of 256. All is loaded when the script comes;
   the time is from then to the last line of the transcript, text and all. A cheap query is in its script several times, each waits for
   the one before it, and the time is that of one. Only the first line is a whole run, with its loading.
-- numpy by the calls of peers_numpy.py, with columns in memory; only the line of text writes text.
+- numpy by the calls of peers_numpy.py, with columns in memory; only the line of text writes text. In the second table also until
+  each answer is one text with its rows in the program's order, and what the program takes of that with no workers.
 - PostgreSQL, if initdb, pg_ctl and psql are on the PATH, by the execution time that it prints, with its default number of parallel
   workers and with none. The first line is a table that is made and loaded, by the clock of psql; the line of text is a COPY. Planning
   and the text of all other lines are left out.
@@ -44,6 +45,7 @@ import run
 
 SKIES = {"34 chunks": "sky.txt", "256 chunks": "many.txt"}
 PEERS = ["numpy", "SQLite", "PostgreSQL, no workers", "PostgreSQL"]
+TO_TEXT = "numpy to its text"
 
 
 def fifo(words, is_alone):
@@ -151,7 +153,8 @@ def of_python(words, rows):
     try:
         import peers_numpy
 
-        found["numpy"] = (True, peers_numpy.Numpy(words).run)
+        columns = peers_numpy.Numpy(words)
+        found |= {"numpy": (True, columns.run), TO_TEXT: (True, columns.run_to_text)}
     except ImportError:
         print("numpy is skipped: python3 has none here")
     return found
@@ -217,9 +220,11 @@ def table(took):
 
 
 def of_peers(took):
-    """For each line what each peer takes."""
+    """For each line what each peer takes, and what the program takes of numpy's time to the same text, for each sky."""
     for line in peers_lines.LINES:
-        yield [line.name] + [figure(took[line, who]) if (line, who) in took else "-" for who in PEERS]
+        cells = [figure(took[line, who]) if (line, who) in took else "-" for who in [*PEERS, TO_TEXT]]
+        to_text = took.get((line, TO_TEXT))
+        yield [line.name, *cells] + [figure(took[line, (sky, 0)] / to_text) if to_text else "-" for sky in SKIES]
 
 
 def show(head, rows):
@@ -259,7 +264,7 @@ def main():
     head = ["line", "chunks", "no workers", "best peer on one thread", "ratio", "3 workers", "best peer", "ratio", "C", "times C"]
     show(head, table(took))
     print()
-    show(["line", *PEERS], of_peers(took))
+    show(["line", *PEERS, TO_TEXT, *(f"the program over {sky}, times that" for sky in SKIES)], of_peers(took))
     return 0
 
 

@@ -1,4 +1,5 @@
-"""What numpy takes for each line of peers.py: its calls over columns in memory, which give arrays and write nothing but the text.
+"""What numpy takes for each line of peers.py: its calls over columns in memory, which give arrays and write nothing but the text. Then
+what it takes until the same answer is one text, its rows in the program's order.
 
 Of two ways the faster one is here, as measured over the demo's rows by numpy 1.24. The columns are a dictionary of arrays of 64 bits,
 in ascending objectId. An answer is a list, for each query, of its columns.
@@ -12,6 +13,8 @@ import peers_lines
 # the cells of pairs are cubes as wide as the radius of the query, and a position's number in each direction has 14 bits
 CELL, BITS, LOWEST = 16, 14, 1 << 29
 REACH = 1 << CELL
+# rows of an answer that are written value by value
+FEW = 1000
 
 
 def read(path):
@@ -74,11 +77,30 @@ def first_100(columns):
     return [[columns["objectId"][at], columns["flux"][at]]]
 
 
-def text(columns):
+def rows_as_text(columns):
     # one format for all rows takes two thirds of a join of strings
+    row = ",".join(["%d"] * len(columns)) + "\n"
+    return (row * len(columns[0])) % tuple(numpy.stack(columns, axis=1).ravel().tolist())
+
+
+def text(columns):
     at = numpy.flatnonzero(columns["flux"] < 10000)
-    both = numpy.stack((columns["objectId"][at], columns["flux"][at]), axis=1)
-    return ("%d,%d\n" * len(at)) % tuple(both.ravel().tolist())
+    return rows_as_text([columns["objectId"][at], columns["flux"][at]])
+
+
+def in_order(columns):
+    """Pairs in ascending ids."""
+    one, other = columns
+    # a sort of both as one number takes less than a fifth of one by two columns
+    both = numpy.sort(one << 32 | other)
+    return [both >> 32, both & (1 << 32) - 1]
+
+
+def answer_text(columns):
+    """An answer as text: a few rows value by value, since a mean has four decimals."""
+    if len(columns[0]) < FEW:
+        return "".join(",".join(map(peers_lines.as_text, row)) + "\n" for row in zip(*columns))
+    return rows_as_text(columns)
 
 
 def scans(columns, bounds):
@@ -129,3 +151,16 @@ class Numpy:
         if line.word == "pairs":
             return found[0][:1], took
         return peers_lines.texts(zip(*columns) for columns in found), took
+
+    def run_to_text(self, line):
+        """The answers, of pairs how many there are, and the milliseconds until they are text."""
+        told, took = peers_lines.clocked(lambda: self.told(line))
+        lines = [answer.splitlines() for answer in told]
+        return [range(len(lines[0]))] if line.word == "pairs" else lines, took
+
+    def told(self, line):
+        """The text of each answer of a line."""
+        found = self.calls[line]()
+        if line.word == "text":
+            return [found]
+        return [answer_text(in_order(columns) if line.word == "pairs" else columns) for columns in found]
