@@ -1,5 +1,6 @@
 #!/usr/bin/env python3
-"""Proves everything anew and prints what each crate cost: seconds of processor time for its proof, its tests and its mutants.
+"""Proves everything anew and prints what each crate cost: seconds of processor time for its proof and its tests. The mutants of all
+crates are checked together, and are the row `all_copies`.
 
     scripts/check_times.py [--every SECONDS]
 

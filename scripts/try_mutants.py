@@ -1,5 +1,5 @@
 #!/usr/bin/env python3
-"""Tries the mutants of each crate after `rt ci`, as many of them in one check as can be told apart.
+"""Tries the mutants of each crate after `rt ci`, each in a copy of its crate, and several copies in one check.
 
     scripts/try_mutants.py [--processes N] [--times] [--unchanged] [CRATE ..]
     scripts/try_mutants.py --list
@@ -16,17 +16,12 @@ the lemma of its proof that must not.
 `rt ci` would try the edits of a folder must-fail/. For the first it checks the crate from nothing, for each other it reads the whole
 crate once more, and it does not compare the clause. So the crates have no such folder.
 
-A function is proved by the contracts of those that it calls, not by their code. So each mutant of code is refused by itself,
-though all those of a crate are made in one copy; two of one function take a check each. A mutant of a definition, of a constant
-or of a ghost member changes what other proofs read, so it is made alone. Those that are not refused beside the others are made
-once more by themselves, and at last each alone: what a function owes may wait for the proof of one that it calls, which another
-mutant has broken. A check is of these functions, over the libraries that `rt ci` proved and left in crates/*/out/rlib. That the
-crate is proved without its mutants is what `rt ci` has shown. If a crate takes several checks, they come one after the other and
-share a folder: what one has proved is not proved again by the next if no mutant of that changes it.
-
-The functions that a check is not about are stubs in the copy (stubs.py): their statements are assumed. A mutant that such a check
-does not refuse is tried in a plain copy. With --unchanged the same checks are made without mutants, and none may refuse a function. It
-is run when these scripts or the toolchain change; the gate does not run it.
+Each mutant is made in a copy of its crate, and the copy is a library of another name. A check reads up to MOST copies, of several
+crates, over the libraries that `rt ci` proved and left in crates/*/out/rlib. It is of the functions that the mutants name. All other
+functions of a copy are stubs (stubs.py): their statements are assumed. Errors name the copy's folder, so each refusal is of its
+mutant. That the crate is proved without its mutants is what `rt ci` has shown. A mutant that is not refused so is checked alone, in a
+copy without stubs. With --unchanged the same copies are checked without mutants, and no function may be refused. It is run when these
+scripts or the toolchain change; the gate does not run it.
 
 It prints a line for each mutant, and those that were not refused last; then the status is 1. With --times it prints the processor
 seconds of all checks. Without the libraries it ends with 1, without `rt` with 0, each with a line that says so. It writes into a
@@ -47,13 +42,17 @@ import tempfile
 import mutants
 import stubs
 
-# what a check of a large crate may take
-MEMORY = 3_000_000_000
+# the copies that a check reads, and the memory that it may take
+MOST = 12
+MEMORY = 4_500_000_000
 PARTS = ("src", "specs", "proofs")
+# the crate whose libraries the copies are, and its text
+TOP = "all_copies"
+TOP_TEXT = "//! Has no code: its libraries are the copies that are checked.\n#![tactic(auto)]\n"
 # what a check says of a proof file that names what a mutant took away: this refuses nothing
 LOST_NAME = "that can be named from here"
 # what a check says of a stub that does not fit
-UNFIT_STUB = re.compile(r"^\./proofs/\S*/Proof\.antt\S*: error.*", re.MULTILINE)
+UNFIT_STUB = re.compile(r"^\S*/proofs/\S*/Proof\.antt\S*: error.*", re.MULTILINE)
 VERDICT = re.compile(r"^only=\d+ (proved|holes)=\d+$", re.MULTILINE)
 
 
@@ -78,26 +77,6 @@ def mutants_of(crate):
     """The mutants of a crate, each with its function and its clause."""
     paths = sorted(glob.glob(f"crates/{crate}/mutants/*.edit"))
     return [(mutants.edit_of(path), *refusal_of(path)) for path in paths]
-
-
-def is_definition(mutant):
-    """Whether the mutant changes what other proofs read: a file of specs/ or proofs/, a ghost member or a constant."""
-    return not mutant.file.startswith("src/") or any(old.lstrip().startswith(("ghost ", "const ", "pub const ")) for old, _ in mutant.pairs)
-
-
-def rounds(tried):
-    """The mutants by checks: in one check no two are of one function, and that of a definition is alone."""
-    alone = [[it] for it in tried if is_definition(it[0])]
-    found = []
-    for mutant in tried:
-        if is_definition(mutant[0]):
-            continue
-        free = next((it for it in found if all(mutant[1] != other[1] for other in it)), None)
-        if free is None:
-            found.append([mutant])
-        else:
-            free.append(mutant)
-    return alone + found
 
 
 @functools.cache
@@ -125,16 +104,14 @@ def library(crate):
     return os.path.abspath(f"crates/{crate}/out/rlib")
 
 
-def check_words(crate, kit, kept):
-    """The words of a check of a crate over the libraries below it, as `rt` gives them, but for what looks for empty contracts; `kept`
-    is the folder of what checks of the crate have proved, or None."""
-    words = [f"{kit}/bin/rattle", "check", "--crate-name", crate, "src/lib.rt", "--extern", f"std={kit}/rlibs/std.rlib"]
-    for name in edges()[crate]:
+def check_words(crates, kit):
+    """The words of a check over the libraries of these crates, as `rt` gives them, but for what looks for empty contracts."""
+    words = [f"{kit}/bin/rattle", "check", "--crate-name", TOP, "src/lib.rt", "--extern", f"std={kit}/rlibs/std.rlib"]
+    for name in dict.fromkeys(name for crate in crates for name in edges()[crate]):
         words += ["--extern", f"{name}={library(name) if name in edges() else f'{kit}/rlibs'}/{name}.rlib"]
-    for folder in [f"{kit}/rlibs", *map(library, sorted(below(crate)))]:
+    for folder in [f"{kit}/rlibs", *map(library, sorted(set().union(*map(below, crates))))]:
         words += ["-L", f"dependency={folder}"]
-    words += ["--antt-project", f"{kit}/rattle/logic/antt-project.json", "--logic-built", f"{kit}/logic_built"]
-    return [*words, "--jobs", "1", *(["--incremental", kept] if kept else [])]
+    return [*words, "--antt-project", f"{kit}/rattle/logic/antt-project.json", "--logic-built", f"{kit}/logic_built", "--jobs", "1"]
 
 
 def make(mutant, room):
@@ -150,125 +127,95 @@ def make(mutant, room):
         file.write(text)
 
 
-def put_stubs(crate, room, functions):
-    """Makes stubs of all other functions in a copy of the crate."""
-    try:
-        stubs.put(crate, f"{library(crate)}/{crate}.rlib", room, functions)
-    except (OSError, LookupError, TypeError, ValueError) as fault:
-        raise Unfit(f"{crate}: no stubs: {fault}") from fault
+def rename(room, crate, name):
+    """Gives the copy of a crate another name: its texts name their own modules by it."""
+    own = re.compile(rf"\bRattle\.{crate}\.|\b{crate}::")
+    for path in (it for part in PARTS for it in glob.glob(f"{room}/{part}/**/*", recursive=True) if os.path.isfile(it)):
+        with open(path, encoding="utf-8") as file:
+            text = file.read()
+        with open(path, "w", encoding="utf-8") as file:
+            file.write(own.sub(lambda found: found[0].replace(crate, name), text))
 
 
-def output_of(crate, edits, functions, kit, kept, has_stubs=True):
-    """What a check of functions says of a copy of the crate with these mutants, with stubs of all other functions or without."""
+def copy_of(tried, room, name, has_stubs, is_unchanged):
+    """Makes the copy of a mutant's crate: a library of this name in this folder."""
+    mutant, function, _ = tried
+    for part in PARTS:
+        if os.path.isdir(f"crates/{mutant.crate}/{part}"):
+            shutil.copytree(f"crates/{mutant.crate}/{part}", f"{room}/{part}")
+    if not is_unchanged:
+        make(mutant, room)
+    if has_stubs:
+        try:
+            stubs.put(mutant.crate, f"{library(mutant.crate)}/{mutant.crate}.rlib", room, {function})
+        except (OSError, LookupError, TypeError, ValueError) as fault:
+            raise Unfit(f"{mutant.crate}: no stubs: {fault}") from fault
+    rename(room, mutant.crate, name)
+
+
+def output_of(batch, kit, has_stubs, is_unchanged):
+    """For each mutant of a batch what a check says of its copy: the lines that name the copy's folder, and that of the function."""
     with tempfile.TemporaryDirectory(prefix="mutants-") as room:
-        for part in PARTS:
-            if os.path.isdir(f"crates/{crate}/{part}"):
-                shutil.copytree(f"crates/{crate}/{part}", f"{room}/{part}")
-        for mutant in edits:
-            make(mutant, room)
-        words = check_words(crate, kit, kept)
-        for function in sorted(functions):
-            words += ["--only", function]
-        if has_stubs:
-            put_stubs(crate, room, functions)
-            words.append("--allow-holes")
-        ran = subprocess.run(words, cwd=room, stdin=subprocess.DEVNULL, stdout=subprocess.PIPE, stderr=subprocess.STDOUT, text=True, errors="replace", check=False)
-    if not VERDICT.search(ran.stdout):
-        raise Unfit(f"{crate}: the check gave no verdict; its last lines:\n" + "\n".join(ran.stdout.splitlines()[-5:]))
-    if has_stubs and UNFIT_STUB.search(ran.stdout):
-        raise Unfit(f"{crate}: a stub does not fit: {UNFIT_STUB.search(ran.stdout)[0]}")
-    return ran.stdout
+        os.makedirs(f"{room}/{TOP}/src")
+        with open(f"{room}/{TOP}/src/lib.rt", "w", encoding="utf-8") as file:
+            file.write(TOP_TEXT)
+        words = check_words([mutant.crate for mutant, _, _ in batch], kit)
+        for place, tried in enumerate(batch):
+            name = f"copy_{place}"
+            copy_of(tried, f"{room}/{name}", name, has_stubs, is_unchanged)
+            words += ["--lib", f"{name}={room}/{name}/src/lib.rt", "--only", f"{name}::{tried[1]}"]
+        words += ["--allow-holes"] if has_stubs else []
+        ran = subprocess.run(words, cwd=f"{room}/{TOP}", stdin=subprocess.DEVNULL, stdout=subprocess.PIPE, stderr=subprocess.STDOUT, text=True, errors="replace", check=False)
+        lines = ran.stdout.splitlines()
+        if not VERDICT.search(ran.stdout):
+            raise Unfit("the check gave no verdict; its last lines:\n" + "\n".join(lines[-5:]))
+        if has_stubs and UNFIT_STUB.search(ran.stdout):
+            raise Unfit(f"a stub does not fit: {UNFIT_STUB.search(ran.stdout)[0]}")
+        marks = [(f"{room}/copy_{place}/", f"fn copy_{place}::{function}: ") for place, (_, function, _) in enumerate(batch)]
+        lines = [line for line in lines if LOST_NAME not in line]
+        return [[line for line in lines if folder in line or line.startswith(start)] for folder, start in marks]
 
 
-def said_of(function, crate, output, is_alone):
-    """What the check says of a function: errors in its proof, then the lines after those of the function before it. The lines before
-    the first function's are of all, and count only if the check is of one mutant."""
-    module, _, name = f"/{function}".replace("::", "/").rpartition("/")
-    # functions that call each other have one proof, in a folder that begins with +
-    own = (f"./proofs{module}/{name}/", f"./proofs{module}/+")
-    errors, lines, is_first = [], [], True
-    for line in output.splitlines():
-        if LOST_NAME in line:
-            continue
-        errors += [line] if line.startswith(own) else []
-        lines.append(line)
-        if line.startswith(f"fn {crate}::{function}: "):
-            return errors + [line] if is_first and not is_alone else [it for it in errors if it not in lines] + lines
-        if line.startswith("fn "):
-            lines, is_first = [], False
-    return []
+def is_refused(clause, lines):
+    """Whether the function of a copy is not proved, for this clause."""
+    is_open = any(re.match(r"fn \S+: (not proved|no proof)", line) for line in lines)
+    return is_open and any(re.search(rf"`(\S+\.)?{re.escape(clause)}`", line) for line in lines)
 
 
-def is_proved(function, crate, output):
+def is_proved(lines):
     """Whether nothing of the function is refused, with or without a hole below it."""
-    lines = said_of(function, crate, output, is_alone=True)
-    return bool(lines) and bool(re.match(r"fn \S+: (proved|no holes|depends on a hole)", lines[-1]))
+    return any(re.match(r"fn \S+: (proved|no holes|depends on a hole)", line) for line in lines)
 
 
-def is_refused(function, clause, crate, output, is_alone):
-    """Whether the function is not proved, for this clause."""
-    lines = said_of(function, crate, output, is_alone)
-    if not lines or not re.match(r"fn \S+: (not proved|no proof)", lines[-1]):
-        return False
-    return any(f"`{clause}`" in line for line in lines)
+def verdict(tried, lines, is_unchanged):
+    """Whether the mutant is refused, or its function proved without it, and what to say."""
+    mutant, function, clause = tried
+    label = f"{mutant.crate}/{mutant.name}"
+    if is_unchanged:
+        return is_proved(lines), f"{label}: {'proved' if is_proved(lines) else 'REFUSED'} without the mutant: `{function}`"
+    if is_refused(clause, lines):
+        return True, f"{label}: refused at `{function}`: `{clause}`"
+    said = "\n    ".join(line[:300] for line in lines) or "nothing was said of the function"
+    return False, f"{label}: NOT REFUSED at `{function}`: `{clause}`; the check says:\n    {said}"
 
 
-def functions_of(tried):
-    return {function for _, function, _ in tried}
-
-
-def verdicts(crate, tried, kit, kept, has_stubs=True):
-    """For each mutant of a check whether it is refused, and what to say."""
+def verdicts(batch, kit, is_unchanged, has_stubs=True):
+    """For each mutant of a batch whether all is well, and what to say. What is not well is checked alone, at last without stubs."""
     try:
-        output = output_of(crate, [mutant for mutant, _, _ in tried], functions_of(tried), kit, kept, has_stubs)
+        outputs = output_of(batch, kit, has_stubs, is_unchanged)
+        found = [verdict(tried, lines, is_unchanged) for tried, lines in zip(batch, outputs)]
     except Unfit as fault:
-        if has_stubs:
-            return verdicts(crate, tried, kit, kept, has_stubs=False)
-        return [(False, f"{mutant.crate}/{mutant.name}: {fault}") for mutant, _, _ in tried]
-    found, left = [], []
-    for mutant, function, clause in tried:
-        if is_refused(function, clause, crate, output, len(tried) == 1):
-            found.append((True, f"{crate}/{mutant.name}: refused at `{function}`: `{clause}`"))
-        else:
-            left.append((mutant, function, clause))
-    if len(tried) == 1 and left:
-        return verdicts(crate, left, kit, kept, has_stubs=False) if has_stubs else [(False, missed(crate, *left[0], output))]
-    if not left:
+        found = [(False, f"{mutant.crate}/{mutant.name}: {fault}") for mutant, _, _ in batch]
+    if len(batch) == 1 and not has_stubs:
         return found
-    # the goals of a function wait for the proofs of those that it calls, which another mutant may have broken
-    for fewer in [left] if found else [[it] for it in left]:
-        found += verdicts(crate, fewer, kit, kept, has_stubs)
-    return found
+    again = [tried for tried, (well, _) in zip(batch, found) if not well]
+    return [it for it in found if it[0]] + [it for one in again for it in verdicts([one], kit, is_unchanged, has_stubs=len(batch) > 1)]
 
 
-def all_verdicts(crate, kit):
-    """For each mutant of a crate whether it is refused, and what to say. A single check keeps nothing."""
-    checks = rounds(mutants_of(crate))
-    with tempfile.TemporaryDirectory(prefix="mutants-kept-") as room:
-        kept = room if len(checks) > 1 else None
-        return [verdict for tried in checks for verdict in verdicts(crate, tried, kit, kept)]
-
-
-def unchanged_verdict(crate, tried, kit):
-    """For each mutant of a check whether its function is proved beside the stubs without the mutants, and what to say."""
-    try:
-        output = output_of(crate, [], functions_of(tried), kit, None)
-    except Unfit as fault:
-        return [(False, str(fault))]
-    report = {True: "proved without the mutant", False: "REFUSED without the mutant"}
-    results = [(is_proved(function, crate, output), mutant, function) for mutant, function, _ in tried]
-    return [(well, f"{crate}/{mutant.name}: {report[well]}: `{function}`") for well, mutant, function in results]
-
-
-def unchanged_verdicts(crate, kit):
-    """The same for all mutants of a crate."""
-    return [verdict for tried in rounds(mutants_of(crate)) for verdict in unchanged_verdict(crate, tried, kit)]
-
-
-def missed(crate, mutant, function, clause, output):
-    """What to say of a mutant that is not refused by itself."""
-    told = "\n    ".join(it[:300] for it in said_of(function, crate, output, is_alone=True)) or "nothing was said of the function"
-    return f"{crate}/{mutant.name}: NOT REFUSED at `{function}`: `{clause}`; the check says:\n    {told}"
+def batches(crates):
+    """The mutants by checks, those of crates with few libraries first."""
+    tried = [it for crate in sorted(crates, key=lambda crate: (len(below(crate)), crate)) for it in mutants_of(crate)]
+    return [tried[at : at + MOST] for at in range(0, len(tried), MOST)]
 
 
 def processes():
@@ -285,19 +232,18 @@ def unbuilt(crates):
 
 
 def run(crates, number, kit, is_unchanged):
-    """Tries the mutants of the crates, or their functions unchanged, prints what was said of each, and returns the status. The crate
-    with the most checks begins first."""
-    failed, checks = [], {crate: len(rounds(mutants_of(crate))) for crate in crates}
-    try_crate = unchanged_verdicts if is_unchanged else all_verdicts
+    """Tries the mutants of the crates, or their functions unchanged, prints what was said of each, and returns the status. The checks
+    of the most libraries begin first."""
+    failed, checks = [], batches(crates)
     with concurrent.futures.ThreadPoolExecutor(number) as pool:
-        tries = [pool.submit(try_crate, crate, kit) for crate in sorted(crates, key=lambda it: -checks[it])]
+        tries = [pool.submit(verdicts, batch, kit, is_unchanged) for batch in reversed(checks)]
         for one in concurrent.futures.as_completed(tries):
             for well, told in one.result():
                 print(told, flush=True)
                 failed += [] if well else [told]
-    count = sum(len(mutants_of(crate)) for crate in crates)
+    count = sum(map(len, checks))
     told = "functions proved unchanged" if is_unchanged else "mutants refused"
-    print(f"try_mutants: {count - len(failed)} of {count} {told}, in {sum(checks.values())} rounds of {len(crates)} crates")
+    print(f"try_mutants: {count - len(failed)} of {count} {told}, in {len(checks)} checks of {len(crates)} crates")
     for told in failed:
         print(told)
     return 1 if failed else 0
