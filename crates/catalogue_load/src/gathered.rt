@@ -8,8 +8,8 @@ ghost use Rattle.catalogue_load.specs.Parts.{ids_in, length_numberless};
 
 use crate::order::in_order;
 use crate::row::read_row;
-use csv::ByteRecord;
 use id_order::first_fault;
+use record_text::Record;
 use sky_io::{Memory, Stop};
 use sky_row::{BadName, Columns, Rows, Schema};
 use std::alloc::Global;
@@ -122,7 +122,7 @@ impl Gathering for Gathered {
     }
 
     /// Appends the row that a record spells. After an error nothing has changed.
-    fn push(&mut self, row: u32, fields: &ByteRecord) -> Result<(), Stop<LoadFault>> {
+    fn push(&mut self, row: u32, fields: &Record<'_>) -> Result<(), Stop<LoadFault>> {
         let made = read_row(&mut self.cells, row, fields)?;
         self.columns.push(&made)?;
         Ok(())

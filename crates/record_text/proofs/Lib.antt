@@ -7,3 +7,4 @@ pub mod HeaderFaults
 pub mod RowFaults
 pub mod Alone
 pub mod Steps
+pub mod PlainLines

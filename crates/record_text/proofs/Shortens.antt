@@ -8,7 +8,10 @@ use Rattle.csv.specs.Reading.{NextIs, ReadsNext, ReadRecord, records_from, defau
 use Rattle.csv.specs.declared.parser.State.{State}
 use Rattle.csv.specs.declared.parser.State.TheVariants as st
 use Rattle.csv.specs.declared.reader.Reader.{Reader}
-use Rattle.record_text.specs.Standing.{IsEnough, StillGives, TookFirst}
+use Rattle.record_text.specs.PlainText.{IsPlain, TookLine}
+use Rattle.record_text.specs.Standing.{CopiesGive, IsEnough, LinesGive, StillGives, TookFirst}
+use Rattle.record_text.specs.declared.reading.RecordReader.{RecordReader}
+use Rattle.record_text.specs.declared.reading.RecordReader.TheVariants.{Lines, Copies}
 use Rattle.text_rules.specs.declared.limits.TheConstants.{TEXT_MOST}
 
 -- what is left of a text is shorter, or the text is at its end
@@ -137,28 +140,63 @@ stripped (a ∷ b ∷ c ∷ rest) = stripped_by a b c rest (is_bom a b c) refl
 pub stripped_small : (text : List ℕ) → length text ≤ TEXT_MOST → length (strip_bom text) ≤ TEXT_MOST
 stripped_small text h = omega (arith, stripped text, h)
 
--- what a read says of the records that are left
-pub took_first : (found : Bool) (a b : Reader (Bor (List ℕ))) (f : List (List ℕ)) (rest : List (List (List ℕ)))
-    → StillGives a rest → b.first ≡ true → b.flexible ≡ a.flexible → ReadRecord told a b found f → TookFirst found f b rest
-took_first true a b f rest still first wide r =
+-- what a read of `csv` says of the records that are left
+pub took_copied : (found : Bool) (a b : Reader (Bor (List ℕ))) (f : List (List ℕ)) (rest : List (List (List ℕ)))
+    → CopiesGive a rest → b.first ≡ true → b.flexible ≡ a.flexible → ReadRecord told a b found f → TookFirst found f (Copies b) rest
+took_copied true a b f rest still first wide r =
     let (z, known, p, next, fields, state, after) = reads_more a.state b.state still.bytes f (pending_of (told b.rdr) b) (rw (still.config, still.source) at r.0) in
     let (m, turns, enough) = enough_more still.turns a.state still.bytes p next still.enough in record {
       more = records_from default_config m p.1 p.2;
       split = left_more still.turns m a.state still.bytes p f rest still.left turns fields next;
       small = omega (arith, ap length fields, few_fields still.bytes a.state [] [] p next, still.small);
       gives = record {
-        plain = r.3 ∙ still.plain;
-        ready = inl first;
-        wide = wide ∙ still.wide;
-        config = r.2 ∙ still.config;
-        turns = m;
-        bytes = z;
-        small = omega (arith, ap length after, small_rest still.bytes p (shorter still.bytes a.state [] [] p next) still.small);
-        source = rw r.1 known;
-        enough = enough_at m b.state z p state after enough;
-        left = left_at m b.state z p state after;
+        gives = record {
+          plain = r.3 ∙ still.plain;
+          ready = inl first;
+          wide = wide ∙ still.wide;
+          config = r.2 ∙ still.config;
+          turns = m;
+          bytes = z;
+          small = omega (arith, ap length after, small_rest still.bytes p (shorter still.bytes a.state [] [] p next) still.small);
+          source = rw r.1 known;
+          enough = enough_at m b.state z p state after enough;
+          left = left_at m b.state z p state after;
+        };
       };
     }
-took_first false a b f rest still first wide r =
+took_copied false a b f rest still first wide r =
     let none = reads_none a.state b.state still.bytes f (pending_of (told b.rdr) b) (rw (still.config, still.source) at r.0) in
     still.left ∙ records_none still.turns a.state still.bytes none
+
+-- what a read of a line says of them
+took_of_lines : (found : Bool) (x y : Bor (List ℕ)) (f : List (List ℕ)) (rest : List (List (List ℕ))) → LinesGive x.now rest → TookLine found x.now f y.now → TookFirst found f (Lines y) rest
+took_of_lines true x y f rest still took =
+    let p : Read = (f, st.StartRecord, y.now) in
+    let (m, turns, enough) = enough_more still.turns st.StartRecord x.now p took.read still.enough in record {
+      more = records_from default_config m st.StartRecord y.now;
+      split = left_more still.turns m st.StartRecord x.now p f rest still.left turns refl took.read;
+      small = omega (arith, few_fields x.now st.StartRecord [] [] p took.read, still.small);
+      gives = record {
+        gives = record {
+          plain = took.plain;
+          turns = m;
+          small = small_rest x.now p (shorter x.now st.StartRecord [] [] p took.read) still.small;
+          enough = enough;
+          left = refl;
+        };
+      };
+    }
+took_of_lines false x y f rest still none = still.left ∙ records_none still.turns st.StartRecord x.now none
+
+-- the same for readers of either kind
+pub took_line : (found : Bool) (a b : RecordReader) (x y : Bor (List ℕ)) (f : List (List ℕ)) → a ≡ Lines x → b ≡ Lines y → (IsPlain x.now → TookLine found x.now f y.now)
+    → (rest : List (List (List ℕ))) → StillGives a rest → TookFirst found f b rest
+took_line found a b x y f is after took = subst (λ r. (rest : List (List (List ℕ))) → StillGives r rest → TookFirst found f b rest) (sym is)
+    (subst (λ r. (rest : List (List (List ℕ))) → StillGives (Lines x) rest → TookFirst found f r rest) (sym after)
+    (λ rest still. took_of_lines found x y f rest still.gives (took still.gives.plain)))
+
+pub took_copy : (found : Bool) (a b : RecordReader) (x y : Reader (Bor (List ℕ))) (f : List (List ℕ)) → a ≡ Copies x → b ≡ Copies y
+    → ((rest : List (List (List ℕ))) → CopiesGive x rest → TookFirst found f (Copies y) rest) → (rest : List (List (List ℕ))) → StillGives a rest → TookFirst found f b rest
+took_copy found a b x y f is after took = subst (λ r. (rest : List (List (List ℕ))) → StillGives r rest → TookFirst found f b rest) (sym is)
+    (subst (λ r. (rest : List (List (List ℕ))) → StillGives (Copies x) rest → TookFirst found f r rest) (sym after)
+    (λ rest still. took rest still.gives))

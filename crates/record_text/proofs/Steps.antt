@@ -1,5 +1,5 @@
 -- One turn of the reading of rows, and its ends.
-use Rattle.std.proofs.Common.{◌≡◌, ◌∙◌, inl, inr, sym, refl, ap, subst, ℕ, ◌+◌, ◌≤◌, Bool, true, false, List, [], ◌∷◌, ◌++◌, length, map, take, drop, get_or, Option, None, Some, Result, Ok, Err, Bor, arith}
+use Rattle.std.proofs.Common.{◌≡◌, ◌∙◌, inl, inr, sym, refl, ap, subst, ℕ, ◌+◌, ◌≤◌, Bool, true, false, List, [], ◌∷◌, ◌++◌, length, map, take, drop, get_or, Option, None, Some, Result, Ok, Err, arith}
 use Rattle.std.specs.Prelude.{IfOk}
 use Rattle.std.specs.List.{flat_map, range_with_len}
 use Rattle.std.proofs.lemmas.Option.{none-some}
@@ -8,7 +8,7 @@ use Rattle.std.proofs.Math.Seq.{append_snoc, take-append_seam, get_or-append_sea
 use Rattle.sky_io.specs.Stops.{IfBad}
 use Rattle.sky_io.specs.declared.Stop.{Stop}
 use Rattle.sky_io.specs.declared.Stop.TheVariants as stop
-use Rattle.csv.specs.declared.reader.Reader.{Reader}
+use Rattle.record_text.specs.declared.reading.RecordReader.{RecordReader}
 use Rattle.text_rules.specs.Readings.{judged}
 use Rattle.text_rules.specs.declared.limits.TheConstants.{TEXT_MOST}
 use Rattle.table_rules.specs.declared.fault.LoadFault.{LoadFault}
@@ -33,11 +33,11 @@ same_fault : {A : Type 0} (g f : LoadFault) → ◌≡◌ {A = Result A LoadFaul
 same_fault {A} g f h = cc h
 
 -- each read takes the first of the records that are left
-abbrev Takes : Bool → List (List ℕ) → Reader (Bor (List ℕ)) → Reader (Bor (List ℕ)) → Type 0
+abbrev Takes : Bool → List (List ℕ) → RecordReader → RecordReader → Type 0
 Takes found fields a b = (rest : Records) → StillGives a rest → TookFirst found fields b rest
 
 -- a record that was read has few fields
-pub small_fields : (found : Bool) (fields : List (List ℕ)) (b : Reader (Bor (List ℕ))) (rest : Records) → found ≡ true → TookFirst found fields b rest → length fields ≤ TEXT_MOST + 1
+pub small_fields : (found : Bool) (fields : List (List ℕ)) (b : RecordReader) (rest : Records) → found ≡ true → TookFirst found fields b rest → length fields ≤ TEXT_MOST + 1
 small_fields true fields b rest e took = took.small
 small_fields false fields b rest e took = absurd (cc e)
 
@@ -60,7 +60,7 @@ ok_by {A} {E} (Ok a) P Q more h = more a h
 ok_by {A} {E} (Err e) P Q more h = tt
 
 -- behind a record that was read the reader reads on
-pub reads_on : (b : Reader (Bor (List ℕ))) (fields : List (List ℕ)) (all : Records) (found : Bool) → found ≡ true → TookFirst found fields b all → HasLeft b
+pub reads_on : (b : RecordReader) (fields : List (List ℕ)) (all : Records) (found : Bool) → found ≡ true → TookFirst found fields b all → HasLeft b
 reads_on b fields all true e took = (took.more, took.gives)
 reads_on b fields all false e took = absurd (cc e)
 
@@ -103,7 +103,7 @@ module _ {R : Type 0} (form : Form R) where
       record { all_rows = sym (append-nil rows) ∙ front; first_fault = sym first ∙ told }
 
   -- a record was read and its row put behind the others
-  pub kept : (width : ℕ) (first a b : Reader (Bor (List ℕ))) (rows new : List R) (fields : List (List ℕ)) (found : Bool) → found ≡ true
+  pub kept : (width : ℕ) (first a b : RecordReader) (rows new : List R) (fields : List (List ℕ)) (found : Bool) → found ≡ true
       → Takes found fields a b → faults_alone form width (length rows) fields ≡ [] → new ≡ rows ++ form.row fields ∷ [] → Judged form width first a rows → Judged form width first b new
   kept width first a b rows new fields false e takes none is judged all still = absurd (cc e)
   kept width first a b rows new fields true e takes none is judged all still =
@@ -112,7 +112,7 @@ module _ {R : Type 0} (form : Form R) where
       (took.more, took.gives, subst (λ l. Left form width l took.more all) (sym is) (left_more width rows fields took.more all none (subst (λ l. Left form width rows l all) took.split left)))
 
   -- no record is left
-  pub ended : (width : ℕ) (first a b : Reader (Bor (List ℕ))) (rows : List R) (fields : List (List ℕ)) (found : Bool) → found ≡ false
+  pub ended : (width : ℕ) (first a b : RecordReader) (rows : List R) (fields : List (List ℕ)) (found : Bool) → found ≡ false
       → Takes found fields a b → Judged form width first a rows → HasRead form width first rows None
   ended width first a b rows fields true e takes judged all still = absurd (cc e)
   ended width first a b rows fields false e takes judged all still =
@@ -120,7 +120,7 @@ module _ {R : Type 0} (form : Form R) where
       left_none width rows all (subst (λ l. Left form width rows l all) (takes rest gives) left)
 
   -- a record was read that has a fault of its own, and the rows stay
-  pub refused : (width : ℕ) (first a b : Reader (Bor (List ℕ))) (rows new : List R) (fields : List (List ℕ)) (found : Bool) (f : LoadFault) → found ≡ true
+  pub refused : (width : ℕ) (first a b : RecordReader) (rows new : List R) (fields : List (List ℕ)) (found : Bool) (f : LoadFault) → found ≡ true
       → Takes found fields a b → first_of (faults_alone form width (length rows) fields) ≡ Some f → new ≡ rows → Judged form width first a rows
       → HasRead form width first new (Some f)
   refused width first a b rows new fields false f e takes wrong same judged all still = absurd (cc e)
@@ -181,13 +181,13 @@ module _ {R T : Type 0} (form : Form R) (made : List (List ℕ) → List R → T
       whole_bad width names all f (apart_whole form width rows all read.all_rows alone.0 ∙ (ap (λ o. ending o rows) (sym read.first_fault) ∙ ap {B = Result (List R) LoadFault} (λ x. Err x) (sym alone.1)))
 
   -- the text has no record
-  pub no_record : (b : Reader (Bor (List ℕ))) (fields : List (List ℕ)) (all : Records) (found : Bool) → found ≡ false → TookFirst found fields b all
+  pub no_record : (b : RecordReader) (fields : List (List ℕ)) (all : Records) (found : Bool) → found ≡ false → TookFirst found fields b all
       → table_of form made all ≡ Err (fault.Header 1)
   no_record b fields all true e took = absurd (cc e)
   no_record b fields all false e took = ap (table_of form made) took
 
   -- the header has a fault
-  pub wrong_header : (b : Reader (Bor (List ℕ))) (header : List (List ℕ)) (all : Records) (found : Bool) (f : LoadFault) → found ≡ true → TookFirst found header b all
+  pub wrong_header : (b : RecordReader) (header : List (List ℕ)) (all : Records) (found : Bool) (f : LoadFault) → found ≡ true → TookFirst found header b all
       → first_of (faults_of_header form header) ≡ Some f → table_of form made all ≡ Err f
   wrong_header b header all false f e took wrong = absurd (cc e)
   wrong_header b header all true f e took wrong =
@@ -208,7 +208,7 @@ module _ {R T : Type 0} (form : Form R) (made : List (List ℕ) → List R → T
       ap (λ l. judged (l ++ faults_of_rows form (length header) rest) (table_under form made (drop n header) rest)) none ∙ (same ∙ rows)
 
   -- the same of the records that a reader has left after the header
-  pub right_header : (b : Reader (Bor (List ℕ))) (header names : List (List ℕ)) (all : Records) (found : Bool) (what : Result T LoadFault) → found ≡ true → TookFirst found header b all
+  pub right_header : (b : RecordReader) (header names : List (List ℕ)) (all : Records) (found : Bool) (what : Result T LoadFault) → found ≡ true → TookFirst found header b all
       → faults_of_header form header ≡ [] → length form.first ≤ length header → names ≡ drop (length form.first) header
       → ((rest : Records) → StillGives b rest → judged (faults_of_rows form (length form.first + length names) rest) (table_under form made names rest) ≡ what) → table_of form made all ≡ what
   right_header b header names all false what e took none long is rows = absurd (cc e)
@@ -233,7 +233,7 @@ module _ {R T : Type 0} (form : Form R) (made : List (List ℕ) → List R → T
       whole_ok width names all rows t (apart_whole form width rows all read.all_rows (distinct_by_table form.id rows (rows_of t) table) ∙ ap (λ o. ending o rows) (sym read.first_fault)) named table
 
   -- the same of what a reader has left: the rows in order
-  pub under_ok : (r : Result T (Stop LoadFault)) (width : ℕ) (names gathered : List (List ℕ)) (reader : Reader (Bor (List ℕ))) (rows : List R) → HasRead form width reader rows None
+  pub under_ok : (r : Result T (Stop LoadFault)) (width : ℕ) (names gathered : List (List ℕ)) (reader : RecordReader) (rows : List R) → HasRead form width reader rows None
       → gathered ≡ names → IfOk r (λ t. names_of t ≡ gathered) → IfOk r (λ t. IsInOrder form.id rows (rows_of t))
       → IfOk r (λ t. (all : Records) → StillGives reader all → judged (faults_of_rows form width all) (table_under form made names all) ≡ Ok t)
   under_ok (Ok t) width names gathered reader rows read same named table = λ all still. read_ok width names all rows t (read all still) (named ∙ same) table

@@ -1,7 +1,5 @@
 -- The rows of a form that have been read so far.
 use Rattle.std.specs.Prelude.{◌≡◌, ℕ, ◌+◌, nat_lt, List, [], ◌∷◌, ◌++◌, length, Option, None, Some, Result, Ok, Err}
-use Rattle.std.specs.Borrow.{Bor}
-use Rattle.csv.specs.declared.reader.Reader.{Reader}
 use Rattle.text_rules.specs.Readings.{judged}
 use Rattle.table_rules.specs.Records.{faults_after, faults_by_itself, unless}
 use Rattle.table_rules.specs.declared.fault.LoadFault.{LoadFault}
@@ -9,6 +7,7 @@ use Rattle.table_rules.specs.declared.fault.LoadFault.TheVariants.{TooManyRows}
 use Rattle.table_rules.specs.declared.limits.TheConstants.{ROWS_MOST}
 use Rattle.table_rules.specs.Forms.{Form}
 use Rattle.record_text.specs.Standing.{StillGives}
+use Rattle.record_text.specs.declared.reading.RecordReader.{RecordReader}
 
 -- the result of the next step, if there is no fault
 abbrev pub and_then : {A B : Type 0} → Result A LoadFault → (A → Result B LoadFault) → Result B LoadFault
@@ -58,7 +57,7 @@ pub record Left {R : Type 0} (form : Form R) (width : ℕ) (rows : List R) (rest
   pub first_fault : fault_alone form width (length rows) rest ≡ fault_alone form width 0 all
 
 -- the reader has left what follows these rows, of all that it had at first
-abbrev pub Judged : {R : Type 0} → Form R → ℕ → Reader (Bor (List ℕ)) → Reader (Bor (List ℕ)) → List R → Type 0
+abbrev pub Judged : {R : Type 0} → Form R → ℕ → RecordReader → RecordReader → List R → Type 0
 Judged form width first reader rows =
     (all : List (List (List ℕ))) → StillGives first all
     → (rest : List (List (List ℕ))) × StillGives reader rest × Left form width rows rest all
@@ -69,6 +68,6 @@ pub record Read {R : Type 0} (form : Form R) (width : ℕ) (rows : List R) (told
   pub first_fault : told ≡ fault_alone form width 0 all
 
 -- from the records that a reader has left, these rows were read, up to this fault
-abbrev pub HasRead : {R : Type 0} → Form R → ℕ → Reader (Bor (List ℕ)) → List R → Option LoadFault → Type 0
+abbrev pub HasRead : {R : Type 0} → Form R → ℕ → RecordReader → List R → Option LoadFault → Type 0
 HasRead form width reader rows told =
     (all : List (List (List ℕ))) → StillGives reader all → Read form width rows told all

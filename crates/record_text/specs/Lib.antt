@@ -1,3 +1,4 @@
+pub mod PlainText
 pub mod Standing
 pub mod Signs
 pub mod Faults

@@ -3,7 +3,6 @@
 ghost use Rattle.std.specs.Prelude.{◌≡◌, ◌+◌, ◌≤◌, ◌<◌, ◌≤ℤ◌, [], ◌++◌, drop, length, map, pos, true};
 ghost use Rattle.std.specs.Prelude.{Some, IfErr, IfOk, OnOk};
 ghost use Rattle.std.specs.List.{list_all};
-ghost use Rattle.csv.specs.Records.{fields_of};
 ghost use Rattle.sky_io.specs.Stops.{IfBad};
 ghost use Rattle.text_rules.specs.Numbers.{int_of};
 ghost use Rattle.text_rules.specs.Readings.{judged};
@@ -14,7 +13,7 @@ ghost use Rattle.table_rules.specs.declared.limits.TheConstants.{COLUMNS_MOST, I
 ghost use Rattle.record_text.specs.Faults.{cell_faults, faults_from, first_of, id_faults};
 
 use crate::number::read_short;
-use csv::ByteRecord;
+use crate::record::Record;
 use sky_io::Stop;
 use sky_text::read_int;
 use table_rules::LoadFault;
@@ -25,8 +24,8 @@ const FURTHER: i64 = FURTHER_MOST as i64;
 
 /// Returns the field of a column, or an empty one if the record ends before it. Does not allocate.
 #[tactic(auto, using(crate::proofs::FieldAt::field_there, crate::proofs::FieldAt::field_missing))]
-pub fn field_in<'a>(fields: &'a ByteRecord, col: usize) -> &'a [u8]
-    ensures { result.now ≡ field_in (fields_of fields.now) col }
+pub fn field_in<'a>(fields: &'a Record<'_>, col: usize) -> &'a [u8]
+    ensures { result.now ≡ field_in fields.now col }
 {
     match fields.get(col) {
         Some(text) => text,
@@ -94,12 +93,12 @@ pub fn number_within(
 }
 
 /// Returns the id in a column of a record. Does not allocate.
-pub fn read_id(row: u32, col: u32, fields: &ByteRecord) -> Result<i64, LoadFault>
+pub fn read_id(row: u32, col: u32, fields: &Record<'_>) -> Result<i64, LoadFault>
     requires { col < COLUMNS_MOST }
-    ensures none { OnOk result (id_faults row col (fields_of fields.now) ≡ []) }
-    ensures ok { IfOk result (λ id. id ≡ number_in (fields_of fields.now) col) }
+    ensures none { OnOk result (id_faults row col fields.now ≡ []) }
+    ensures ok { IfOk result (λ id. id ≡ number_in fields.now col) }
     ensures bad { IfErr result (λ fault.
-        first_of (id_faults row col (fields_of fields.now)) ≡ Some fault) }
+        first_of (id_faults row col fields.now) ≡ Some fault) }
     ensures low { IfOk result (λ id. pos 0 ≤ℤ id) }
     ensures high { IfOk result (λ id. id ≤ℤ pos ID_MOST) }
 {
@@ -127,19 +126,19 @@ fn put_cell(
     cells: &mut Vec<Option<i64>>,
     row: u32,
     col: u32,
-    fields: &ByteRecord,
+    fields: &Record<'_>,
 ) -> Result<(), Stop<LoadFault>>
     requires last { col < COLUMNS_MOST }
-    requires there { col < length (fields_of fields.now) }
-    ensures rest { OnOk result (faults_from row (col + 1) (fields_of fields.now)
-        ≡ faults_from row col (fields_of fields.now)) }
+    requires there { col < length fields.now }
+    ensures rest { OnOk result (faults_from row (col + 1) fields.now
+        ≡ faults_from row col fields.now) }
     ensures said { OnOk result (
-        cells.new.items ++ map int_of (drop (col + 1) (fields_of fields.now))
-        ≡ cells.old.items ++ map int_of (drop col (fields_of fields.now))) }
+        cells.new.items ++ map int_of (drop (col + 1) fields.now)
+        ≡ cells.old.items ++ map int_of (drop col fields.now)) }
     ensures range { OnOk result (list_all is_further cells.old.items ≡ true
         → list_all is_further cells.new.items ≡ true) }
     ensures bad { IfErr result (λ stop. IfBad stop (λ fault.
-        first_of (faults_from row col (fields_of fields.now)) ≡ Some fault)) }
+        first_of (faults_from row col fields.now) ≡ Some fault)) }
 {
     match read_cell(row, col, field_in(fields, col as usize)) {
         Err(fault) => Err(Stop::Bad(fault)),
@@ -153,15 +152,15 @@ pub fn read_cells(
     cells: &mut Vec<Option<i64>>,
     row: u32,
     first: usize,
-    fields: &ByteRecord,
+    fields: &Record<'_>,
 ) -> Result<(), Stop<LoadFault>>
-    requires there { first ≤ length (fields_of fields.now) }
-    requires few { length (fields_of fields.now) ≤ COLUMNS_MOST }
-    ensures none { OnOk result (faults_from row first (fields_of fields.now) ≡ []) }
-    ensures ok { OnOk result (cells.new.items ≡ map int_of (drop first (fields_of fields.now))) }
+    requires there { first ≤ length fields.now }
+    requires few { length fields.now ≤ COLUMNS_MOST }
+    ensures none { OnOk result (faults_from row first fields.now ≡ []) }
+    ensures ok { OnOk result (cells.new.items ≡ map int_of (drop first fields.now)) }
     ensures range { OnOk result (list_all is_further cells.new.items ≡ true) }
     ensures bad { IfErr result (λ stop. IfBad stop (λ fault.
-        first_of (faults_from row first (fields_of fields.now)) ≡ Some fault)) }
+        first_of (faults_from row first fields.now) ≡ Some fault)) }
 {
     cells.clear();
     for col in first..fields.len() {

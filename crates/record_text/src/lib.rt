@@ -7,8 +7,11 @@
 #![tactic(auto)]
 
 mod fields;
+mod lines;
 mod number;
 mod reading;
+mod record;
 
 pub use fields::{field_in, number_within, read_cells, read_id};
-pub use reading::{read_next, reader_of};
+pub use reading::{RecordReader, read_next, reader_of};
+pub use record::Record;

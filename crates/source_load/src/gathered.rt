@@ -9,8 +9,8 @@ ghost use Rattle.source_row.specs.SourceColumns.{AreSourceColumns, sources_in};
 
 use crate::order::in_order;
 use crate::row::read_source;
-use csv::ByteRecord;
 use id_order::first_fault;
+use record_text::Record;
 use sky_io::{Memory, Stop};
 use sky_row::BadName;
 use source_row::{SourceLists, SourceSchema, Sources};
@@ -109,7 +109,7 @@ impl Gathering for Gathered {
     }
 
     /// Appends the source that a record spells. If an allocation fails, some of the columns have its value and some do not.
-    fn push(&mut self, row: u32, fields: &ByteRecord) -> Result<(), Stop<LoadFault>> {
+    fn push(&mut self, row: u32, fields: &Record<'_>) -> Result<(), Stop<LoadFault>> {
         let (id, object) = read_source(&mut self.cells, row, fields)?;
         self.lists.push(id, object, self.cells.as_slice())?;
         Ok(())

@@ -1,12 +1,11 @@
 -- What was read of two parts, joined.
-use Rattle.std.proofs.Common.{◌≡◌, ◌≢◌, ◌∙◌, sym, refl, ap, subst, ℕ, ◌+◌, ◌-◌, ◌≤◌, arith, Bool, true, false, if◌then◌else◌, List, [], ◌∷◌, ◌++◌, length, map, Option, None, Some, ℤ, Result, Ok, Err, Bor}
+use Rattle.std.proofs.Common.{◌≡◌, ◌≢◌, ◌∙◌, sym, refl, ap, subst, ℕ, ◌+◌, ◌-◌, ◌≤◌, arith, Bool, true, false, if◌then◌else◌, List, [], ◌∷◌, ◌++◌, length, map, Option, None, Some, ℤ, Result, Ok, Err}
 use Rattle.std.specs.Prelude.{All, IfErr, IfOk, IfSome}
 use Rattle.std.specs.List.{AllByRecursion, flat_map, range_with_len}
 use Rattle.std.proofs.lemmas.Option.{none-some}
 use Rattle.std.proofs.lemmas.List.Elements.{All-append}
 use Rattle.std.proofs.lemmas.List.{length-append, length-map, map-append}
 use Rattle.csv.specs.Reading.{default_config, records, strip_bom}
-use Rattle.csv.specs.declared.reader.Reader.{Reader}
 use Rattle.sky_io.specs.Stops.{IfBad}
 use Rattle.sky_io.specs.declared.Stop.{Stop}
 use Rattle.text_rules.specs.Numbers.{int_of}
@@ -20,6 +19,7 @@ use Rattle.table_rules.proofs.Faults.{none_of_both}
 use Rattle.record_parts.proofs.Apart.{first_lines_stand_apart, lines_stand_apart}
 use Rattle.record_text.specs.Judged.{Read, fault_alone, faults_alone, first_or, if_right, rows_alone}
 use Rattle.record_text.specs.Standing.{StillGives, TookFirst}
+use Rattle.record_text.specs.declared.reading.RecordReader.{RecordReader}
 use Rattle.record_text.proofs.Firsts.{bad_by}
 use Rattle.record_text.proofs.RowFaults.{row_right}
 use Rattle.record_text.proofs.Steps.{read_again, read_ok, under_header}
@@ -40,7 +40,7 @@ pub small_behind : (text front behind : List ℕ) (most : ℕ) → AreParts text
 small_behind text front behind most parts few = omega (arith, few, ap length parts.whole, length-append front behind)
 
 -- a reader gave one record and no second
-pub one_record : (a b : Reader (Bor (List ℕ))) (first second : Fields) (all : Records) (x y : Bool) → x ≡ true → y ≡ false → TookFirst x first a all
+pub one_record : (a b : RecordReader) (first second : Fields) (all : Records) (x y : Bool) → x ≡ true → y ≡ false → TookFirst x first a all
     → ((rest : Records) → StillGives a rest → TookFirst y second b rest) → all ≡ first ∷ []
 one_record a b first second all false y e1 e2 took next = absurd (cc e1)
 one_record a b first second all true true e1 e2 took next = absurd (cc e2)

@@ -1,7 +1,6 @@
 //! What the reading of a table needs of its form: the columns, and the rows that are read so far.
 ghost use Rattle.std.specs.Prelude.{◌≡◌, ◌+◌, ◌≤◌, ◌<◌, ℕ, List, [], ◌∷◌, ◌++◌, length, map, slice_get, true, false, Some, IfErr, IfOk, OnOk};
 ghost use Rattle.std.specs.List.{list_all};
-ghost use Rattle.csv.specs.Records.{fields_of};
 ghost use Rattle.sky_io.specs.Stops.{IfBad};
 ghost use Rattle.table_rules.specs.Forms.{Form, may_follow};
 ghost use Rattle.table_rules.specs.Records.{faults_by_itself};
@@ -11,7 +10,7 @@ ghost use Rattle.record_text.specs.Faults.{first_of};
 ghost use Rattle.table_load.specs.InParts.{AreFaultsWithoutNumber};
 ghost use Rattle.table_load.specs.Names.{is_filled};
 
-use csv::ByteRecord;
+use record_text::Record;
 use sky_io::{Memory, Stop};
 use sky_row::BadName;
 use std::alloc::Global;
@@ -91,21 +90,21 @@ pub trait Gathering: Drop {
 
     /// Appends the row that a record with a field for each column spells, if the record has no fault by itself. `row` is
     /// its number, from 1. Allocates memory. After a fault nothing has changed.
-    fn push(&mut self, row: u32, fields: &ByteRecord) -> Result<(), Stop<LoadFault>>
+    fn push(&mut self, row: u32, fields: &Record<'_>) -> Result<(), Stop<LoadFault>>
         requires whole { is_whole self.old }
         requires room { length (rows self.old) < ROWS_MOST }
         requires few { length (names self.old) ≤ FURTHER_COLUMNS_MOST }
-        requires all { length (fields_of fields.now) ≡ length form.first + length (names self.old) }
+        requires all { length fields.now ≡ length form.first + length (names self.old) }
         ensures names { names self.new ≡ names self.old }
         ensures none { OnOk result (
-            faults_by_itself form (length (fields_of fields.now)) row (fields_of fields.now) ≡ []) }
+            faults_by_itself form (length fields.now) row fields.now ≡ []) }
         ensures ok { OnOk result (
-            rows self.new ≡ rows self.old ++ form.row (fields_of fields.now) ∷ []) }
+            rows self.new ≡ rows self.old ++ form.row fields.now ∷ []) }
         ensures whole { OnOk result (is_whole self.new) }
         ensures same { IfErr result (λ stop. IfBad stop (λ _. rows self.new ≡ rows self.old)) }
         ensures still { IfErr result (λ stop. IfBad stop (λ _. is_whole self.new)) }
         ensures bad { IfErr result (λ stop. IfBad stop (λ fault. first_of
-            (faults_by_itself form (length (fields_of fields.now)) row (fields_of fields.now)) ≡ Some fault)) };
+            (faults_by_itself form (length fields.now) row fields.now) ≡ Some fault)) };
 
     /// Returns the rows with those of another part of the text after them. Allocates memory. If an allocation fails, the rows
     /// are dropped.

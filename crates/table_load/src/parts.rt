@@ -8,7 +8,6 @@ ghost use Rattle.std.specs.Prelude.{◌≡◌, ◌≤◌, ◌<◌, ◌+◌, ℕ,
 ghost use Rattle.std.specs.Bool.{OnFalse};
 ghost use Rattle.std.specs.Thread.{IsSend, IsSync};
 ghost use Rattle.csv.specs.Reading.{default_config, records, strip_bom};
-ghost use Rattle.csv.specs.Records.{fields_of};
 ghost use Rattle.sky_io.specs.Stops.{IfBad};
 ghost use Rattle.table_load.specs.InParts.{AreParts, IsReadUnder, IsReadWhole};
 ghost use Rattle.table_rules.specs.Records.{table_of};
@@ -21,8 +20,7 @@ use crate::gathering::Gathering;
 use crate::header::read_header;
 use crate::rows::read_rest;
 use crate::table::{RowSorter, load_alone};
-use csv::ByteRecord;
-use record_text::{read_next, reader_of};
+use record_text::{Record, read_next, reader_of};
 use sky_io::Stop;
 use std::alloc::Global;
 use std::thread::{Threads, join};
@@ -53,17 +51,17 @@ fn part_rows<G: Gathering>(alloc: Global, schema: G::Schema, part: &[u8]) -> Opt
     let Ok(mut gathered) = G::without_rows(alloc, schema) else {
         return None;
     };
-    match read_rest(reader, ByteRecord::new(alloc), &mut gathered) {
+    match read_rest(reader, Record::new(alloc), &mut gathered) {
         Ok(()) => Some(gathered),
         Err(_) => None,
     }
 }
 
 /// The rows of a part under a header.
-fn read_part<G: Gathering>(alloc: Global, header: &ByteRecord, part: &[u8]) -> Option<G>
+fn read_part<G: Gathering>(alloc: Global, header: &Record<'_>, part: &[u8]) -> Option<G>
     requires small { length part.now ≤ TEXT_MOST }
     ensures read { IfSome result (λ all.
-        IsReadUnder G.form (fields_of header.now) (G.names all) (G.rows all) part.now) }
+        IsReadUnder G.form header.now (G.names all) (G.rows all) part.now) }
     ensures whole { IfSome result G.is_whole }
 {
     if may_have_mark(part) {
@@ -102,20 +100,20 @@ fn joined<G: Gathering>(alloc: Global, front: G, behind: &G) -> Option<G>
 }
 
 /// The header of a text, if this line of it has just that record.
-fn header_of(alloc: Global, line: &[u8]) -> Option<ByteRecord>
+fn header_of(alloc: Global, line: &[u8]) -> Option<Record<'_>>
     requires small { length line.now ≤ TEXT_MOST }
     ensures { IfSome result (λ header.
-        records default_config (strip_bom line.now) ≡ fields_of header ∷ []) }
+        records default_config (strip_bom line.now) ≡ header ∷ []) }
 {
     let mut reader = reader_of(alloc, line);
-    let mut header = ByteRecord::new(alloc);
+    let mut header = Record::new(alloc);
     let Ok(found) = read_next(&mut reader, &mut header) else {
         return None;
     };
     if !found {
         return None;
     }
-    let mut second = ByteRecord::new(alloc);
+    let mut second = Record::new(alloc);
     let Ok(more) = read_next(&mut reader, &mut second) else {
         return None;
     };
@@ -129,7 +127,7 @@ fn header_of(alloc: Global, line: &[u8]) -> Option<ByteRecord>
 #[tactic(auto, using(crate::proofs::Joins::some_both))]
 fn both_parts<G: Gathering>(
     alloc: Global,
-    header: &ByteRecord,
+    header: &Record<'_>,
     text: &[u8],
     front: &[u8],
     behind: &[u8],
@@ -137,14 +135,14 @@ fn both_parts<G: Gathering>(
     second: G,
 ) -> Option<G>
     requires parts { AreParts text.now front.now behind.now }
-    requires first { IsReadUnder G.form (fields_of header.now) (G.names first) (G.rows first)
+    requires first { IsReadUnder G.form header.now (G.names first) (G.rows first)
         front.now }
-    requires second { IsReadUnder G.form (fields_of header.now) (G.names second) (G.rows second)
+    requires second { IsReadUnder G.form header.now (G.names second) (G.rows second)
         behind.now }
     requires whole { G.is_whole first }
     requires other { G.is_whole second }
     ensures read { IfSome result (λ all.
-        IsReadUnder G.form (fields_of header.now) (G.names all) (G.rows all) text.now) }
+        IsReadUnder G.form header.now (G.names all) (G.rows all) text.now) }
     ensures whole { IfSome result G.is_whole }
 {
     joined(alloc, first, &second)
@@ -163,14 +161,14 @@ fn read_parts<R: Threads + Sync, G: Gathering + Send>(
     rt: &R,
     alloc: Global,
     threads: u32,
-    header: &ByteRecord,
+    header: &Record<'_>,
     text: &[u8],
 ) -> Option<G>
 where
     G::Schema: Send,
     requires small { length text.now ≤ TEXT_MOST }
     ensures read { IfSome result (λ all.
-        IsReadUnder G.form (fields_of header.now) (G.names all) (G.rows all) text.now) }
+        IsReadUnder G.form header.now (G.names all) (G.rows all) text.now) }
     ensures whole { IfSome result G.is_whole }
 {
     if is_one_part(threads, text.len()) {
@@ -186,13 +184,13 @@ where
         || -> Option<G>
             requires { IsSync R.row × IsSend G.row × (length front.now ≤ TEXT_MOST) }
             ensures read { IfSome result (λ all. IsReadUnder G.form
-                (fields_of header.entry.now) (G.names all) (G.rows all) front.entry.now) }
+                header.entry.now (G.names all) (G.rows all) front.entry.now) }
             ensures whole { IfSome result G.is_whole }
         { read_parts::<R, G>(rt, alloc, low, header, front) },
         || -> Option<G>
             requires { IsSync R.row × IsSend G.row × (length behind.now ≤ TEXT_MOST) }
             ensures read { IfSome result (λ all. IsReadUnder G.form
-                (fields_of header.entry.now) (G.names all) (G.rows all) behind.entry.now) }
+                header.entry.now (G.names all) (G.rows all) behind.entry.now) }
             ensures whole { IfSome result G.is_whole }
         { read_parts::<R, G>(rt, alloc, high, header, behind) },
     );

@@ -1,6 +1,5 @@
 //! The rows of a table, record by record.
 ghost use Rattle.std.specs.Prelude.{◌≡◌, ◌+◌, ◌≤◌, ◌<◌, [], ◌∷◌, ◌++◌, length, None, Some, IfErr, OnOk};
-ghost use Rattle.csv.specs.Records.{fields_of};
 ghost use Rattle.sky_io.specs.Stops.{IfBad};
 ghost use Rattle.text_rules.specs.declared.limits.TheConstants.{TEXT_MOST};
 ghost use Rattle.table_rules.specs.Records.{faults_by_itself};
@@ -10,8 +9,7 @@ ghost use Rattle.record_text.specs.Judged.{HasRead, faults_alone};
 ghost use Rattle.record_text.specs.Standing.{HasLeft};
 
 use crate::gathering::Gathering;
-use csv::{ByteRecord, Reader};
-use record_text::read_next;
+use record_text::{Record, RecordReader, read_next};
 use sky_io::Stop;
 use table_rules::LoadFault;
 use table_rules::limits::ROWS_MOST;
@@ -20,22 +18,22 @@ use table_rules::limits::ROWS_MOST;
 fn add_row<G: Gathering>(
     gathered: &mut G,
     row: u32,
-    fields: &ByteRecord,
+    fields: &Record<'_>,
 ) -> Result<(), Stop<LoadFault>>
     requires whole { G.is_whole gathered.old }
     requires room { length (G.rows gathered.old) < ROWS_MOST }
-    requires small { length (fields_of fields.now) ≤ TEXT_MOST + 1 }
+    requires small { length fields.now ≤ TEXT_MOST + 1 }
     ensures names { G.names gathered.new ≡ G.names gathered.old }
     ensures none { OnOk result (faults_by_itself G.form
-        (length G.form.first + length (G.names gathered.old)) row (fields_of fields.now) ≡ []) }
+        (length G.form.first + length (G.names gathered.old)) row fields.now ≡ []) }
     ensures ok { OnOk result (
-        G.rows gathered.new ≡ G.rows gathered.old ++ G.form.row (fields_of fields.now) ∷ []) }
+        G.rows gathered.new ≡ G.rows gathered.old ++ G.form.row fields.now ∷ []) }
     ensures whole { OnOk result (G.is_whole gathered.new) }
     ensures same { IfErr result (λ stop.
         IfBad stop (λ _. G.rows gathered.new ≡ G.rows gathered.old)) }
     ensures still { IfErr result (λ stop. IfBad stop (λ _. G.is_whole gathered.new)) }
     ensures bad { IfErr result (λ stop. IfBad stop (λ fault. first_of (faults_by_itself G.form
-        (length G.form.first + length (G.names gathered.old)) row (fields_of fields.now)) ≡ Some fault)) }
+        (length G.form.first + length (G.names gathered.old)) row fields.now) ≡ Some fault)) }
 {
     let count = fields.len();
     if count != G::width(gathered.schema()) as usize {
@@ -50,22 +48,22 @@ fn add_row<G: Gathering>(
 /// Appends the row of the next record, if the record has no fault other than a repeated id. After a fault nothing has
 /// changed.
 #[tactic(auto, using(record_text::proofs::RowFaults::row_full))]
-fn add<G: Gathering>(gathered: &mut G, fields: &ByteRecord) -> Result<(), Stop<LoadFault>>
+fn add<G: Gathering>(gathered: &mut G, fields: &Record<'_>) -> Result<(), Stop<LoadFault>>
     requires whole { G.is_whole gathered.old }
-    requires small { length (fields_of fields.now) ≤ TEXT_MOST + 1 }
+    requires small { length fields.now ≤ TEXT_MOST + 1 }
     ensures names { G.names gathered.new ≡ G.names gathered.old }
     ensures none { OnOk result (faults_alone G.form
         (length G.form.first + length (G.names gathered.old)) (length (G.rows gathered.old))
-        (fields_of fields.now) ≡ []) }
+        fields.now ≡ []) }
     ensures ok { OnOk result (
-        G.rows gathered.new ≡ G.rows gathered.old ++ G.form.row (fields_of fields.now) ∷ []) }
+        G.rows gathered.new ≡ G.rows gathered.old ++ G.form.row fields.now ∷ []) }
     ensures whole { OnOk result (G.is_whole gathered.new) }
     ensures same { IfErr result (λ stop.
         IfBad stop (λ _. G.rows gathered.new ≡ G.rows gathered.old)) }
     ensures still { IfErr result (λ stop. IfBad stop (λ _. G.is_whole gathered.new)) }
     ensures bad { IfErr result (λ stop. IfBad stop (λ fault. first_of (faults_alone G.form
         (length G.form.first + length (G.names gathered.old)) (length (G.rows gathered.old))
-        (fields_of fields.now)) ≡ Some fault)) }
+        fields.now) ≡ Some fault)) }
 {
     let count = gathered.count();
     if count >= ROWS_MOST {
@@ -76,9 +74,9 @@ fn add<G: Gathering>(gathered: &mut G, fields: &ByteRecord) -> Result<(), Stop<L
 
 /// Reads the records that the reader has left, up to the first with a fault other than a repeated id. Appends the rows of
 /// those before it. There are no rows at first.
-pub(crate) fn read_rest<G: Gathering>(
-    mut reader: Reader<&[u8]>,
-    mut fields: ByteRecord,
+pub(crate) fn read_rest<'a, G: Gathering>(
+    mut reader: RecordReader<'a>,
+    mut fields: Record<'a>,
     gathered: &mut G,
 ) -> Result<(), Stop<LoadFault>>
     requires none { G.rows gathered.old ≡ [] }

@@ -12,8 +12,7 @@ ghost use Rattle.record_text.specs.Standing.{HasLeft, StillGives};
 use crate::gathering::Gathering;
 use crate::header::read_header;
 use crate::rows::read_rest;
-use csv::{ByteRecord, Reader};
-use record_text::{read_next, reader_of};
+use record_text::{Record, RecordReader, read_next, reader_of};
 use sky_io::Stop;
 use std::alloc::Global;
 use table_rules::LoadFault;
@@ -35,12 +34,12 @@ pub trait RowSorter<G: Gathering> {
 }
 
 /// Returns the table with these columns, whose rows are the records that the reader has left.
-fn rows_under<G: Gathering, S: RowSorter<G>>(
+fn rows_under<'a, G: Gathering, S: RowSorter<G>>(
     sorter: &S,
     alloc: Global,
     schema: G::Schema,
-    reader: Reader<&[u8]>,
-    fields: ByteRecord,
+    reader: RecordReader<'a>,
+    fields: Record<'a>,
 ) -> Result<G::Table, Stop<LoadFault>>
     requires can { S.can_sort }
     requires gives { HasLeft reader }
@@ -76,7 +75,7 @@ pub(crate) fn load_alone<G: Gathering, S: RowSorter<G>>(
         table_of G.form G.made (records default_config (strip_bom text.now)) ≡ Err fault)) }
 {
     let mut reader = reader_of(alloc, text);
-    let mut fields = ByteRecord::new(alloc);
+    let mut fields = Record::new(alloc);
     let Ok(found) = read_next(&mut reader, &mut fields) else {
         return Err(Stop::Memory);
     };

@@ -1,13 +1,12 @@
-use Rattle.csv.specs.Records.{fields_of}
 use Rattle.record_text.proofs.Firsts.{bad_by}
 use Rattle.catalogue_load.proofs.Firsts.{own_behind, own_head}
 use Rattle.catalogue_load.proofs.row.read_row.Goals as goal
 
 pub returns-in-Ok-clause-bad : goal.returns-in-Ok-clause-bad
 returns-in-Ok-clause-bad c =
-    let fields = fields_of c.args.fields.now in
+    let fields = c.args.fields.now in
     bad_by c.with_cells.result _ _ (λ f h. own_behind c.args.row fields f c.requires.four c.in-Ok.ensures.none h) c.with_cells.ensures.bad
 
 pub returns-in-Err-clause-bad : goal.returns-in-Err-clause-bad
 returns-in-Err-clause-bad c =
-    own_head c.args.row (fields_of c.args.fields.now) c.in-Err.fault c.requires.four c.in-Err.ensures.bad
+    own_head c.args.row c.args.fields.now c.in-Err.fault c.requires.four c.in-Err.ensures.bad

@@ -1,6 +1,5 @@
 use Rattle.std.proofs.Common.{◌≡◌, ◌∙◌, ◌<◌, ap, sym, subst, arith, rules, length, w64, FitsSigned}
 use Rattle.std.proofs.lemmas.Int.{to_z-of_z}
-use Rattle.csv.specs.Records.{fields_of}
 use Rattle.table_rules.specs.declared.limits.TheConstants.{ROWS_MOST}
 use Rattle.source_rules.specs.SourceRecords.{source_of}
 use Rattle.source_row.specs.SourceColumns.{AreSourceColumns, source_behind, sources_in}
@@ -10,7 +9,7 @@ use Rattle.source_load.proofs.gathered.GatheredGathering.push.Goals as goal
 pub returns-clause-ok : goal.returns-clause-ok
 returns-clause-ok c =
     let parts = c.args.self.now.parts in
-    let source = source_of (fields_of c.args.fields.now) in
+    let source = source_of c.args.fields.now in
     let wide : length source.further ≡ length c.args.self.now.names = omega (arith, ap (λ s. length s.further) c.in_ok-id.ensures.ok, c.in_ok-id.ensures.wide, c.requires.all) in
     let id : FitsSigned w64 c.in_ok-id.id = search rules in
     let object : FitsSigned w64 c.in_ok-id.object = search rules in
@@ -24,7 +23,7 @@ returns-clause-ok c =
 pub returns-clause-whole : goal.returns-clause-whole
 returns-clause-whole c =
     let parts = c.args.self.now.parts in
-    let source = source_of (fields_of c.args.fields.now) in
+    let source = source_of c.args.fields.now in
     let wide : length source.further ≡ length c.args.self.now.names = omega (arith, ap (λ s. length s.further) c.in_ok-id.ensures.ok, c.in_ok-id.ensures.wide, c.requires.all) in
     let id : FitsSigned w64 c.in_ok-id.id = search rules in
     let object : FitsSigned w64 c.in_ok-id.object = search rules in

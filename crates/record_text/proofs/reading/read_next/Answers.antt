@@ -1,5 +1,0 @@
-use Rattle.record_text.proofs.Shortens.{took_first}
-use Rattle.record_text.proofs.reading.read_next.Goals as goal
-
-pub returns : goal.returns
-returns c = λ rest still. took_first c.in-Ok.found _ _ _ rest still (c.in-Ok.ensures.ready still.plain) c.in-Ok.ensures.flexible (c.in-Ok.ensures.reads still.plain still.ready)
