@@ -6,3 +6,4 @@ pub mod Finishing
 pub mod Vacuuming
 pub mod CompactRows
 pub mod Pairs
+pub mod PackedKeys

@@ -13,6 +13,7 @@ use crate::cell::Cell;
 use crate::compact_row::CompactRow;
 use crate::ranked::Ranked;
 use crate::row_buffer::RowBuffer;
+use crate::row_keys::sort_rows;
 use crate::row_table::{compact_table, row_table};
 use crate::unlimited_rows::UnlimitedRows;
 use answer_rules::MergePlan;
@@ -39,7 +40,8 @@ fn sorted_table(
     row_table(alloc, rows.as_slice(), cells, merge.items.as_slice())
 }
 
-/// Returns the table of compact rows of the given width, in any order. Allocates memory for the table.
+/// Returns the table of compact rows of the given width, in any order. Allocates memory for the table, and before that
+/// for packed keys.
 fn sorted_compact_table(
     alloc: Global,
     mut compact: Vec<CompactRow>,
@@ -53,7 +55,7 @@ fn sorted_compact_table(
     ensures { IfOk result (λ table.
         table ≡ merged_rows merge.now (map (row_of cells.now) (map (full width) compact.items))) }
 {
-    compact.sort_unstable();
+    sort_rows(alloc, &mut compact);
     cut(&mut compact, merge.limit);
     compact_table(
         alloc,

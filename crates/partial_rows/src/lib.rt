@@ -5,7 +5,7 @@
 //! are its two kinds) or the first n (`heap`). Their values are in one list (`buffer_cells`, `cell`), from which the
 //! values of dropped rows are removed (`vacuum`). Pairs whose values are their own two ids have a list of their own
 //! (`id_pair`, `id_pairs`). A multiset becomes a table in `multiset_table`: its rows in `buffer_table`, such pairs in
-//! `pair_table`.
+//! `pair_table`. Both are sorted by packed keys if their ids are small (`row_keys`, `pair_keys`).
 //!
 //! Below: `answer_table` for the table, `answer_rules` for the order of rows and the lemmas. No groups, no chunks.
 #![tactic(auto)]
@@ -19,10 +19,12 @@ mod id_pair;
 mod id_pairs;
 pub mod multiset;
 mod multiset_table;
+mod pair_keys;
 mod pair_table;
 pub mod rank;
 mod ranked;
 mod row_buffer;
+mod row_keys;
 mod row_table;
 mod unlimited_rows;
 mod vacuum;

@@ -8,6 +8,7 @@ ghost use Rattle.answer_rules.specs.Ranks.{row_order};
 ghost use Rattle.partial_rows.specs.Pairs.{pair_row, pair_values};
 
 use crate::id_pair::pair_cell;
+use crate::pair_keys::sort_pairs;
 use answer_rules::{MergeItem, MergePlan};
 use answer_table::lists::cut;
 use answer_table::values::{put, values_room};
@@ -59,8 +60,8 @@ fn pair_table(alloc: Global, pairs: &[u128], items: &[MergeItem]) -> Result<Tabl
     Ok(Table::of(values, items.len(), pairs.len()))
 }
 
-/// Returns the table of pairs in any order. Allocates memory for the table, and before that for the sort, at most as
-/// much as the pairs take.
+/// Returns the table of pairs in any order. Allocates memory for the table, and before that for packed keys, half as much
+/// as the pairs take.
 pub(crate) fn sorted_pair_table(
     alloc: Global,
     mut pairs: Vec<u128>,
@@ -69,7 +70,7 @@ pub(crate) fn sorted_pair_table(
     requires { AreApart row_order (map pair_row pairs.items) }
     ensures { IfOk result (λ table. table ≡ merged_rows merge.now (map pair_row pairs.items)) }
 {
-    pairs.sort()?;
+    sort_pairs(alloc, &mut pairs);
     cut(&mut pairs, merge.limit);
     pair_table(alloc, pairs.as_slice(), merge.items.as_slice())
 }

@@ -15,14 +15,14 @@ use Rattle.partial_rows.proofs.buffer_table.sorted_compact_table.Goals as goal
 pub compact_table-requires : goal.compact_table-requires
 compact_table-requires c =
     subst (λ (ps : List CompactRow). All (λ p. IsIn (length c.args.cells.now) (full c.args.width p)) ps) (sym (c.as_slice.ensures.value ∙ c.cut.ensures))
-    (first_hold (λ (p : CompactRow). IsIn (length c.args.cells.now) (full c.args.width p)) (limit_of c.args.merge.now.limit) c.args.compact.items c.sort_unstable.new.self.items c.requires.there c.sort_unstable.ensures.permutation)
+    (first_hold (λ (p : CompactRow). IsIn (length c.args.cells.now) (full c.args.width p)) (limit_of c.args.merge.now.limit) c.args.compact.items c.sort_rows.new.rows.items c.requires.there c.sort_rows.ensures.permutation)
 
 -- the rows of the table are the first of those in order
 rows_are : (c : goal.After-drop-compact) → map (row_of c.args.cells.now) (map (full c.args.width) c.as_slice.result.now) ≡ first (limit_of c.args.merge.now.limit) (in_order row_order (map (row_of c.args.cells.now) (map (full c.args.width) c.args.compact.items)))
 rows_are c =
     ap (λ (ps : List CompactRow). map (row_of c.args.cells.now) (map (full c.args.width) ps)) (c.as_slice.ensures.value ∙ c.cut.ensures)
-    ∙ first_compact c.args.cells.now c.args.width (limit_of c.args.merge.now.limit) c.sort_unstable.new.self.items
-    ∙ ap (first (limit_of c.args.merge.now.limit)) (sorted_compact c.args.cells.now c.args.width c.args.compact.items c.sort_unstable.new.self.items c.requires.apart c.sort_unstable.ensures.permutation c.sort_unstable.ensures.sorted)
+    ∙ first_compact c.args.cells.now c.args.width (limit_of c.args.merge.now.limit) c.sort_rows.new.rows.items
+    ∙ ap (first (limit_of c.args.merge.now.limit)) (sorted_compact c.args.cells.now c.args.width c.args.compact.items c.sort_rows.new.rows.items c.requires.apart c.sort_rows.ensures.permutation c.sort_rows.ensures.sorted)
 
 pub returns : goal.returns
 returns c =
