@@ -1,5 +1,5 @@
 -- The faults of a header, column by column.
-use Rattle.std.proofs.Common.{◌≡◌, ◌∙◌, sym, ap, ℕ, ◌+◌, ◌-◌, ◌<◌, ◌≤◌, arith, true, false, List, [], ◌∷◌, ◌++◌, length, take, nat_lt, Some}
+use Rattle.std.proofs.Common.{◌≡◌, ◌∙◌, sym, ap, ℕ, ◌+◌, ◌<◌, ◌≤◌, arith, true, false, List, [], ◌∷◌, ◌++◌, length, take, nat_lt, Some}
 use Rattle.std.proofs.lemmas.List.{take_more}
 use Rattle.table_rules.specs.declared.fault.LoadFault.TheVariants.{Header}
 use Rattle.table_rules.specs.Records.{field_in, right_in, unless}

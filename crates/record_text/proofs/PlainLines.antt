@@ -1,5 +1,5 @@
 -- The records of texts without double quotes and carriage returns: each line that is not empty, split at its commas.
-use Rattle.std.proofs.Common.{◌≡◌, ◌≢◌, ◌⊎◌, ◌∙◌, inl, inr, sym, refl, ap, subst, ℕ, ◌+◌, ◌≤◌, ◌<◌, ◌==◌, suc, zero, Bool, true, false, if◌then◌else◌, List, [], ◌∷◌, ◌++◌, length, map, take, drop, get_or, get_or-take, length-take, ◌||◌, Option, None, Some, arith, Bor}
+use Rattle.std.proofs.Common.{◌≡◌, ◌≢◌, ◌⊎◌, ◌∙◌, inl, inr, sym, refl, ap, subst, ℕ, ◌+◌, ◌≤◌, ◌<◌, ◌==◌, suc, zero, Bool, true, false, if◌then◌else◌, List, [], ◌∷◌, ◌++◌, length, take, drop, get_or, get_or-take, length-take, ◌||◌, Option, None, Some, arith, Bor}
 use Rattle.std.specs.Prelude.{All}
 use Rattle.std.specs.Bool.{OnTrue}
 use Rattle.std.specs.Option.{is_none}
@@ -9,12 +9,12 @@ use Rattle.std.proofs.lemmas.List.Elements.{All-drop, All-head, All-tail}
 use Rattle.std.proofs.Math.Seq.{append_snoc}
 use Rattle.memchr.specs.Find.{IsFirstByte, is_byte2}
 use Rattle.csv.specs.Machine.{Read, next_record, step, in_field, is_end, fields_after, field_after}
-use Rattle.csv.specs.Reading.{default_config, is_bom, strip_bom}
+use Rattle.csv.specs.Reading.{default_config, strip_bom}
 use Rattle.csv.specs.declared.parser.State.{State}
 use Rattle.csv.specs.declared.parser.State.TheVariants as st
 use Rattle.csv.specs.declared.parser.Action.{Action}
 use Rattle.csv.specs.declared.parser.Action.TheVariants as act
-use Rattle.record_text.specs.PlainText.{EndsAt, IsFieldByte, IsLine, IsPlain, IsPlainByte, ReadsOn, TookLine, TookRecord, bytes_of}
+use Rattle.record_text.specs.PlainText.{EndsAt, IsFieldByte, IsLine, IsPlain, IsPlainByte, ReadsOn, TookRecord, bytes_of}
 
 abbrev Fields : Type 0
 Fields = List (List ℕ)

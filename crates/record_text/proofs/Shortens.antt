@@ -188,7 +188,7 @@ took_of_lines true x y f rest still took =
     }
 took_of_lines false x y f rest still none = still.left ∙ records_none still.turns st.StartRecord x.now none
 
--- the same for readers of either kind
+-- what a read of a line says of a reader, and then what a copy does
 pub took_line : (found : Bool) (a b : RecordReader) (x y : Bor (List ℕ)) (f : List (List ℕ)) → a ≡ Lines x → b ≡ Lines y → (IsPlain x.now → TookLine found x.now f y.now)
     → (rest : List (List (List ℕ))) → StillGives a rest → TookFirst found f b rest
 took_line found a b x y f is after took = subst (λ r. (rest : List (List (List ℕ))) → StillGives r rest → TookFirst found f b rest) (sym is)

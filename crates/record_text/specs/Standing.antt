@@ -37,7 +37,7 @@ pub record LinesGive (text : List ℕ) (rest : List (List (List ℕ))) : Type 0 
   pub enough : IsEnough turns st.StartRecord text
   pub left : rest ≡ records_from default_config turns st.StartRecord text
 
--- the same for either kind of reader
+-- what a reader of either kind has yet to give
 abbrev pub EitherGives : RecordReader → List (List (List ℕ)) → Type 0
 EitherGives (Lines text) rest = LinesGive text.now rest
 EitherGives (Copies reader) rest = CopiesGive reader rest
