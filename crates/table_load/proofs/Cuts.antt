@@ -1,11 +1,11 @@
 -- Texts cut in two.
-use Rattle.std.proofs.Common.{◌≡◌, ◌≢◌, ◌∙◌, sym, refl, ap, subst, ℕ, ◌+◌, ◌-◌, ◌≤◌, ◌<◌, ◌==◌, ◌&&◌, min, arith, suc, zero, Bool, true, false, List, [], ◌∷◌, ◌++◌, length, take, drop, get_or, length-take, get_or-take, Option, None, Some}
+use Rattle.std.proofs.Common.{◌≡◌, ◌≢◌, ◌∙◌, sym, refl, ap, subst, ℕ, ◌+◌, ◌-◌, ◌<◌, ◌==◌, arith, Bool, true, false, List, [], ◌∷◌, length, take, drop, get_or, length-take, get_or-take, Option, None, Some}
 use Rattle.std.specs.Prelude.{All}
 use Rattle.std.specs.Bool.{OnFalse}
 use Rattle.std.specs.Option.{is_some}
 use Rattle.std.proofs.lemmas.List.{take-append-drop, get_or_default}
 use Rattle.memchr.specs.Find.{IsFirstByte, is_byte}
-use Rattle.csv.specs.Reading.{is_bom, strip_bom}
+use Rattle.csv.specs.Reading.{strip_bom}
 use Rattle.table_load.specs.InParts.{AreParts}
 
 -- a text whose first byte is no mark's has none
