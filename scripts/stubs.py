@@ -116,6 +116,11 @@ def without_bodies(text, names):
     return CYCLE.sub(lambda found: "" if found[2] in names else found[0], "".join(parts) + text[left:])
 
 
+def without_any_body(text):
+    """The text without the bodies of its functions."""
+    return without_bodies(text, {name for name, _, _ in bodies(text)})
+
+
 def rewrite(path, text):
     with open(path, "w", encoding="utf-8") as file:
         file.write(text)

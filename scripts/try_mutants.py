@@ -23,6 +23,9 @@ mutant. That the crate is proved without its mutants is what `rt ci` has shown. 
 copy without stubs. With --unchanged the same copies are checked without mutants, and no function may be refused. It is run when these
 scripts or the toolchain change; the gate does not run it.
 
+A function is proved by its own body and the statements of others. So mutants that change nothing but bodies share a copy, if each
+names another function and another clause. Of such a mutant only what the check says of its function counts.
+
 It prints a line for each mutant, and those that were not refused last; then the status is 1. With --times it prints the processor
 seconds of all checks. Without the libraries it ends with 1, without `rt` with 0, each with a line that says so. It writes into a
 temporary folder alone.
@@ -43,8 +46,8 @@ import mutants
 import stubs
 
 # the copies that a check reads, and the memory that it may take
-MOST = 12
-MEMORY = 4_500_000_000
+MOST = 16
+MEMORY = 6_000_000_000
 PARTS = ("src", "specs", "proofs")
 # the crate whose libraries the copies are, and its text
 TOP = "all_copies"
@@ -67,6 +70,33 @@ def refusal_of(path):
     if len(found) != 1:
         raise Unfit(f"{path}: it has not one line 'refused: FUNCTION CLAUSE'")
     return found[0]
+
+
+def is_of_bodies(tried):
+    """Whether a mutant changes the bodies of functions and nothing else: no statement, definition, constant or proof."""
+    mutant = tried[0]
+    if not mutant.file.startswith("src/"):
+        return False
+    with open(f"crates/{mutant.crate}/{mutant.file}", encoding="utf-8") as file:
+        text = file.read()
+    return stubs.without_any_body(text) == stubs.without_any_body(changed(mutant, text))
+
+
+def share(copy, tried):
+    """Whether a mutant can be made in a copy beside these."""
+    return is_of_bodies(tried) and all(is_of_bodies(it) and it[1] != tried[1] and it[2] != tried[2] for it in copy)
+
+
+def copies(crate):
+    """The mutants of a crate, by the copies that they are made in."""
+    found = []
+    for tried in mutants_of(crate):
+        shared = next((copy for copy in found if share(copy, tried)), None)
+        if shared is None:
+            found.append([tried])
+        else:
+            shared.append(tried)
+    return found
 
 
 def crates_with_mutants():
@@ -114,16 +144,20 @@ def check_words(crates, kit):
     return [*words, "--antt-project", f"{kit}/rattle/logic/antt-project.json", "--logic-built", f"{kit}/logic_built", "--jobs", "1"]
 
 
-def make(mutant, room):
-    """Makes a mutant in a copy of its crate."""
-    path = f"{room}/{mutant.file}"
-    with open(path, encoding="utf-8") as file:
-        text = file.read()
+def changed(mutant, text):
+    """The text of a mutant's file with the mutant made."""
     for old, new in mutant.pairs:
         if text.count(old) != 1:
             raise Unfit(f"{mutant.crate}/{mutant.name}: an old text is {text.count(old)} times in {mutant.file}, and not once")
         text = text.replace(old, new)
-    with open(path, "w", encoding="utf-8") as file:
+    return text
+
+
+def make(mutant, room):
+    """Makes a mutant in a copy of its crate."""
+    with open(f"{room}/{mutant.file}", encoding="utf-8") as file:
+        text = changed(mutant, file.read())
+    with open(f"{room}/{mutant.file}", "w", encoding="utf-8") as file:
         file.write(text)
 
 
@@ -137,33 +171,45 @@ def rename(room, crate, name):
             file.write(own.sub(lambda found: found[0].replace(crate, name), text))
 
 
-def copy_of(tried, room, name, has_stubs, is_unchanged):
-    """Makes the copy of a mutant's crate: a library of this name in this folder."""
-    mutant, function, _ = tried
+def copy_of(copy, room, name, has_stubs, is_unchanged):
+    """Makes the copy of a crate with these mutants: a library of this name in this folder."""
+    crate = copy[0][0].crate
     for part in PARTS:
-        if os.path.isdir(f"crates/{mutant.crate}/{part}"):
-            shutil.copytree(f"crates/{mutant.crate}/{part}", f"{room}/{part}")
+        if os.path.isdir(f"crates/{crate}/{part}"):
+            shutil.copytree(f"crates/{crate}/{part}", f"{room}/{part}")
     if not is_unchanged:
-        make(mutant, room)
+        for mutant, _, _ in copy:
+            make(mutant, room)
     if has_stubs:
         try:
-            stubs.put(mutant.crate, f"{library(mutant.crate)}/{mutant.crate}.rlib", room, {function})
+            stubs.put(crate, f"{library(crate)}/{crate}.rlib", room, {function for _, function, _ in copy})
         except (OSError, LookupError, TypeError, ValueError) as fault:
-            raise Unfit(f"{mutant.crate}: no stubs: {fault}") from fault
-    rename(room, mutant.crate, name)
+            raise Unfit(f"{crate}: no stubs: {fault}") from fault
+    rename(room, crate, name)
+
+
+def told_of(copy, name, room, lines):
+    """For each mutant of a copy what a check says of it: the line of its function and those that name the folder, or the function's
+    own folder of proofs if the copy has other mutants."""
+    told = []
+    for _, function, _ in copy:
+        start, folder = f"fn {name}::{function}: ", room if len(copy) == 1 else f"{room}/proofs/{function.replace('::', '/')}"
+        told.append([line for line in lines if line.startswith(start) or f"{folder}/" in line])
+    return told
 
 
 def output_of(batch, kit, has_stubs, is_unchanged):
-    """For each mutant of a batch what a check says of its copy: the lines that name the copy's folder, and that of the function."""
+    """For each mutant of a batch of copies what a check says of it."""
     with tempfile.TemporaryDirectory(prefix="mutants-") as room:
         os.makedirs(f"{room}/{TOP}/src")
         with open(f"{room}/{TOP}/src/lib.rt", "w", encoding="utf-8") as file:
             file.write(TOP_TEXT)
-        words = check_words([mutant.crate for mutant, _, _ in batch], kit)
-        for place, tried in enumerate(batch):
-            name = f"copy_{place}"
-            copy_of(tried, f"{room}/{name}", name, has_stubs, is_unchanged)
-            words += ["--lib", f"{name}={room}/{name}/src/lib.rt", "--only", f"{name}::{tried[1]}"]
+        words = check_words([copy[0][0].crate for copy in batch], kit)
+        names = [f"copy_{place}" for place, _ in enumerate(batch)]
+        for copy, name in zip(batch, names):
+            copy_of(copy, f"{room}/{name}", name, has_stubs, is_unchanged)
+            words += ["--lib", f"{name}={room}/{name}/src/lib.rt"]
+            words += [word for _, function, _ in copy for word in ("--only", f"{name}::{function}")]
         words += ["--allow-holes"] if has_stubs else []
         ran = subprocess.run(words, cwd=f"{room}/{TOP}", stdin=subprocess.DEVNULL, stdout=subprocess.PIPE, stderr=subprocess.STDOUT, text=True, errors="replace", check=False)
         lines = ran.stdout.splitlines()
@@ -171,9 +217,8 @@ def output_of(batch, kit, has_stubs, is_unchanged):
             raise Unfit("the check gave no verdict; its last lines:\n" + "\n".join(lines[-5:]))
         if has_stubs and UNFIT_STUB.search(ran.stdout):
             raise Unfit(f"a stub does not fit: {UNFIT_STUB.search(ran.stdout)[0]}")
-        marks = [(f"{room}/copy_{place}/", f"fn copy_{place}::{function}: ") for place, (_, function, _) in enumerate(batch)]
         lines = [line for line in lines if LOST_NAME not in line]
-        return [[line for line in lines if folder in line or line.startswith(start)] for folder, start in marks]
+        return [told for copy, name in zip(batch, names) for told in told_of(copy, name, f"{room}/{name}", lines)]
 
 
 def is_refused(clause, lines):
@@ -200,22 +245,24 @@ def verdict(tried, lines, is_unchanged):
 
 
 def verdicts(batch, kit, is_unchanged, has_stubs=True):
-    """For each mutant of a batch whether all is well, and what to say. What is not well is checked alone, at last without stubs."""
+    """For each mutant of a batch of copies whether all is well, and what to say. What is not well is checked alone, at last without
+    stubs."""
+    tries = [tried for copy in batch for tried in copy]
     try:
         outputs = output_of(batch, kit, has_stubs, is_unchanged)
-        found = [verdict(tried, lines, is_unchanged) for tried, lines in zip(batch, outputs)]
+        found = [verdict(tried, lines, is_unchanged) for tried, lines in zip(tries, outputs)]
     except Unfit as fault:
-        found = [(False, f"{mutant.crate}/{mutant.name}: {fault}") for mutant, _, _ in batch]
-    if len(batch) == 1 and not has_stubs:
+        found = [(False, f"{mutant.crate}/{mutant.name}: {fault}") for mutant, _, _ in tries]
+    if len(tries) == 1 and not has_stubs:
         return found
-    again = [tried for tried, (well, _) in zip(batch, found) if not well]
-    return [it for it in found if it[0]] + [it for one in again for it in verdicts([one], kit, is_unchanged, has_stubs=len(batch) > 1)]
+    again = [[[tried]] for tried, (well, _) in zip(tries, found) if not well]
+    return [it for it in found if it[0]] + [it for one in again for it in verdicts(one, kit, is_unchanged, has_stubs=len(tries) > 1)]
 
 
 def batches(crates):
-    """The mutants by checks, those of crates with few libraries first."""
-    tried = [it for crate in sorted(crates, key=lambda crate: (len(below(crate)), crate)) for it in mutants_of(crate)]
-    return [tried[at : at + MOST] for at in range(0, len(tried), MOST)]
+    """The copies by checks, those of crates with few libraries first."""
+    found = [it for crate in sorted(crates, key=lambda crate: (len(below(crate)), crate)) for it in copies(crate)]
+    return [found[at : at + MOST] for at in range(0, len(found), MOST)]
 
 
 def processes():
@@ -241,7 +288,7 @@ def run(crates, number, kit, is_unchanged):
             for well, told in one.result():
                 print(told, flush=True)
                 failed += [] if well else [told]
-    count = sum(map(len, checks))
+    count = sum(len(copy) for batch in checks for copy in batch)
     told = "functions proved unchanged" if is_unchanged else "mutants refused"
     print(f"try_mutants: {count - len(failed)} of {count} {told}, in {len(checks)} checks of {len(crates)} crates")
     for told in failed:
