@@ -3,12 +3,13 @@
 //! If both ids of a pair are from 0 to below 2^32, the pair, which is packed into 128 bits (`id_pair`), is packed into
 //! one number of 64 bits, which costs less to sort. Each pair is read back from its packed key.
 
-ghost use Rattle.std.specs.Prelude.{◌≡◌, ◌+◌, ◌*◌, ◌^◌, ◌≤◌, [], IfSome, IsPermutation, IsSorted, length, map, vec_capacity, vec_len};
+ghost use Rattle.std.specs.Prelude.{◌≡◌, ◌+◌, ◌*◌, ◌^◌, ◌≤◌, [], IfSome, IsPermutation, IsSorted, length, map, OnOk, vec_capacity, vec_len};
 ghost use Rattle.std.specs.Bool.{OnTrue};
 ghost use Rattle.std.specs.Ordering.{nat_cmp};
 ghost use Rattle.partial_rows.specs.PackedKeys.{pair_in};
 
 use answer_table::lists::room;
+use sky_io::Memory;
 use std::alloc::Global;
 
 /// How many numbers one half of a packed key can hold.
@@ -98,12 +99,12 @@ fn arrange(alloc: Global, pairs: &mut [u128])
     put_pairs(pairs, keys.as_slice());
 }
 
-/// Sorts the pairs. Allocates memory for packed keys, and does without if there is none. Pairs that are in order are only
-/// gone through by the sort at the end.
-pub(crate) fn sort_pairs(alloc: Global, pairs: &mut Vec<u128>)
+/// Sorts the pairs. Allocates memory for packed keys, and does without if there is none. The sort at the end only goes
+/// through pairs that are in order; if they are not, it allocates as much memory as the pairs take.
+pub(crate) fn sort_pairs(alloc: Global, pairs: &mut Vec<u128>) -> Result<(), Memory>
     ensures permutation { IsPermutation pairs.old.items pairs.new.items }
-    ensures sorted { IsSorted nat_cmp pairs.new.items }
+    ensures sorted { OnOk result (IsSorted nat_cmp pairs.new.items) }
 {
     arrange(alloc, pairs.as_mut_slice());
-    pairs.sort_unstable();
+    Ok(pairs.sort()?)
 }

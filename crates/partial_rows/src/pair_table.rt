@@ -60,8 +60,8 @@ fn pair_table(alloc: Global, pairs: &[u128], items: &[MergeItem]) -> Result<Tabl
     Ok(Table::of(values, items.len(), pairs.len()))
 }
 
-/// Returns the table of pairs in any order. Allocates memory for the table, and before that for packed keys, half as much
-/// as the pairs take.
+/// Returns the table of pairs in any order. Allocates memory for the table, and before that for the sort, at most as
+/// much as the pairs take.
 pub(crate) fn sorted_pair_table(
     alloc: Global,
     mut pairs: Vec<u128>,
@@ -70,7 +70,7 @@ pub(crate) fn sorted_pair_table(
     requires { AreApart row_order (map pair_row pairs.items) }
     ensures { IfOk result (λ table. table ≡ merged_rows merge.now (map pair_row pairs.items)) }
 {
-    sort_pairs(alloc, &mut pairs);
+    sort_pairs(alloc, &mut pairs)?;
     cut(&mut pairs, merge.limit);
     pair_table(alloc, pairs.as_slice(), merge.items.as_slice())
 }

@@ -10,11 +10,11 @@ use Rattle.partial_rows.proofs.Pairs.{first_pairs, sorted_pairs}
 use Rattle.partial_rows.proofs.pair_table.sorted_pair_table.Goals as goal
 
 -- the rows of the table are the first of those in order
-rows_are : (c : goal.After-drop-pairs) → map pair_row c.as_slice.result.now ≡ first (limit_of c.args.merge.now.limit) (in_order row_order (map pair_row c.args.pairs.items))
+rows_are : (c : goal.After-drop-pairs-2) → map pair_row c.as_slice.result.now ≡ first (limit_of c.args.merge.now.limit) (in_order row_order (map pair_row c.args.pairs.items))
 rows_are c =
     ap (λ (ps : List ℕ). map pair_row ps) (c.as_slice.ensures.value ∙ c.cut.ensures)
     ∙ first_pairs (limit_of c.args.merge.now.limit) c.sort_pairs.new.pairs.items
-    ∙ ap (first (limit_of c.args.merge.now.limit)) (sorted_pairs c.args.pairs.items c.sort_pairs.new.pairs.items c.requires c.sort_pairs.ensures.permutation c.sort_pairs.ensures.sorted)
+    ∙ ap (first (limit_of c.args.merge.now.limit)) (sorted_pairs c.args.pairs.items c.sort_pairs.new.pairs.items c.requires c.sort_pairs.ensures.permutation c.in_ok-sort_pairs.ensures.sorted)
 
 pub returns : goal.returns
 returns c =
