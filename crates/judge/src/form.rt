@@ -1,9 +1,7 @@
 //! How lines are evaluated.
 use sky_io::{Fetch, Shelf};
 use sky_plan::SkyPlan;
-use sky_row::Schema;
 use std::alloc::Global;
-use std::str::SplitWhitespace;
 use text_rules::limits::SKY_TEXT_MOST;
 
 /// How lines are evaluated.
@@ -13,23 +11,10 @@ pub(crate) enum Form {
     Read,
     /// As queries, which are printed back.
     Print,
-    /// As queries over a table.
-    Bind(Schema),
     /// As positions of a sky.
     Place(SkyPlan),
     /// As kernels that are run.
     Kernel,
-}
-
-// Returns the schema with these extra columns, if each can be one.
-fn schema_of(alloc: Global, columns: SplitWhitespace<'_>) -> Option<Schema> {
-    let mut schema = Schema::new(alloc);
-    for column in columns {
-        if schema.push(column.as_bytes()).is_err() {
-            return None;
-        }
-    }
-    Some(schema)
 }
 
 // Returns the plan that a file describes.
@@ -49,8 +34,6 @@ pub(crate) fn form_of<S: Shelf>(shelf: &mut S, alloc: Global, words: &str) -> Op
         Some(Form::Read)
     } else if form == "print" {
         Some(Form::Print)
-    } else if form == "bind" {
-        Some(Form::Bind(schema_of(alloc, words)?))
     } else if form == "place" {
         Some(Form::Place(plan_of(shelf, alloc, words.next()?)?))
     } else if form == "kernel" {

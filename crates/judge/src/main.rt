@@ -4,7 +4,6 @@
 //!
 //! - `read`: `query`, or the first fault of the text;
 //! - `print`: the printed text of the query, or the first fault of the text;
-//! - `bind COLUMN ..`: what the text is as a query over a table with these extra columns, or its first fault there;
 //! - `place SKY`: the chunks of the position `x y z` in the sky plan of that file, as `chunk C sub S near N N ..`;
 //! - `kernel`: the result of running a kernel, from `NAME RUNS`.
 //!
@@ -12,12 +11,11 @@
 //! UTF-8.
 //!
 //! It is for checks from outside: `scripts/random_queries.py` and `scripts/compare_places.py` compute the same results
-//! independently, and `bench/kernels.py` measures runs. Below: `sql_reader` and `sql_print` for texts, `sql_bind` for
-//! queries, `sky_plan` and `overlap_tables` for positions, `lane_filter` and `column_eval` for kernels, over rows of
-//! `sky_generate`. It has no rows but the demo's. No clause is about what it writes, so nothing is proved of that.
+//! independently, and `bench/kernels.py` measures runs. Below: `sql_reader` and `sql_print` for texts, `sky_plan` and
+//! `overlap_tables` for positions, and for kernels `lane_filter` and `column_eval`, over rows of `sky_generate` and
+//! expressions that `sql_bind` has bound. It has no rows but the demo's. No clause is about what it writes, so nothing is proved of that.
 #![tactic(auto)]
 
-mod bound;
 mod evaluated;
 mod form;
 mod kernel;
@@ -25,7 +23,6 @@ mod place;
 mod text;
 mod told;
 
-use crate::bound::put_bound;
 use crate::form::{Form, form_of};
 use crate::kernel::put_run;
 use crate::place::put_place;
@@ -40,7 +37,6 @@ fn put_judged<K: Sink>(sink: &mut K, alloc: Global, form: &Form, line: &[u8]) ->
     let put = match form {
         Form::Read => put_text(sink, alloc, line, false),
         Form::Print => put_text(sink, alloc, line, true),
-        Form::Bind(schema) => put_bound(sink, alloc, schema, line),
         Form::Place(plan) => put_place(sink, alloc, plan, line),
         Form::Kernel => put_run(sink, alloc, line),
     };

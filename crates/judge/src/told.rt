@@ -1,4 +1,4 @@
-//! Words, and the numbers after them or before them.
+//! Words, and a number after them.
 use sky_io::{Put, Sink};
 use sky_text::put_int;
 
@@ -7,13 +7,5 @@ pub(crate) fn put_number<K: Sink>(sink: &mut K, words: &[u8], number: i128) -> P
     match sink.put(words) {
         Put::Failed => Put::Failed,
         Put::Done => put_int(sink, number),
-    }
-}
-
-/// Writes a number after a comma, and the words that it counts.
-pub(crate) fn put_counted<K: Sink>(sink: &mut K, count: usize, words: &[u8]) -> Put {
-    match put_number(sink, b", ", count as i128) {
-        Put::Failed => Put::Failed,
-        Put::Done => sink.put(words),
     }
 }
