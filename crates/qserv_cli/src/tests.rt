@@ -10,10 +10,8 @@ use std::thread::Threads;
 use top_call::{qserv, status};
 
 mod classes;
-mod cuts;
 mod gates;
 mod journal;
-mod limits;
 mod raw_calls;
 mod sources;
 
@@ -26,15 +24,8 @@ pub(crate) const SCRIPT: &[u8] = b"SELECT objectId FROM Object\n";
 
 pub(crate) const ANSWER: &[u8] = b"query 1\nobjectId\n1\n2\n3\n4\n5\n6\n6 rows, 3 chunks\n";
 
-// The words that ask for the answers of the script with the given number of workers.
-pub(crate) fn words_of(alloc: Global, workers: &str) -> Result<Vec<String>, Fail> {
-    words_for(alloc, "query", workers)
-}
-
-// The words of a command over the script with the given number of workers.
-pub(crate) fn words_for(alloc: Global, command: &str, workers: &str) -> Result<Vec<String>, Fail> {
-    words_in(alloc, &[command, "sky", "csv", "script", workers])
-}
+/// The sky plan of a run, its catalogue and its script.
+pub(crate) type Texts<'t> = (&'t [u8], &'t [u8], &'t [u8]);
 
 // These words.
 pub(crate) fn words_in(alloc: Global, list: &[&str]) -> Result<Vec<String>, Fail> {
@@ -43,29 +34,6 @@ pub(crate) fn words_in(alloc: Global, list: &[&str]) -> Result<Vec<String>, Fail
         words.push(String::from_str(alloc, word)?)?;
     }
     Ok(words)
-}
-
-// The sky plan, a catalogue and a script by their names.
-pub(crate) fn texts_of<'t>(
-    alloc: Global,
-    catalogue: &'t [u8],
-    script: &'t [u8],
-) -> Result<Vec<(String, Vec<u8>)>, Fail> {
-    texts_over(alloc, SKY, catalogue, script)
-}
-
-// A sky plan, a catalogue and a script by their names.
-pub(crate) fn texts_over<'t>(
-    alloc: Global,
-    sky: &'t [u8],
-    catalogue: &'t [u8],
-    script: &'t [u8],
-) -> Result<Vec<(String, Vec<u8>)>, Fail> {
-    let mut texts = Vec::new(alloc);
-    for (name, text) in [("sky", sky), ("csv", catalogue), ("script", script)] {
-        add_text(alloc, &mut texts, name, text)?;
-    }
-    Ok(texts)
 }
 
 // Appends a text with its name.
@@ -77,6 +45,18 @@ pub(crate) fn add_text(
 ) -> Result<(), Fail> {
     texts.push((String::from_str(alloc, name)?, text.to_vec(alloc)?))?;
     Ok(())
+}
+
+// A sky plan, a catalogue and a script by their names.
+pub(crate) fn texts_of<'t>(
+    alloc: Global,
+    given: Texts<'t>,
+) -> Result<Vec<(String, Vec<u8>)>, Fail> {
+    let mut texts = Vec::new(alloc);
+    for (name, text) in [("sky", given.0), ("csv", given.1), ("script", given.2)] {
+        add_text(alloc, &mut texts, name, text)?;
+    }
+    Ok(texts)
 }
 
 // The status of the top call over a shelf, past a gate.
@@ -92,18 +72,60 @@ pub(crate) fn status_past<R: Threads + Wait + Sync, S: Shelf>(
     status(&outcome)
 }
 
-// The status of a command over a script, with a number of workers, past a gate.
+// The status of a command over a shelf, with a number of workers, past a gate.
+fn run_over<R: Threads + Wait + Sync, S: Shelf>(
+    rt: &R,
+    alloc: Global,
+    asked: (&str, &str),
+    shelf: &mut S,
+    sink: &mut MemSink,
+    gate: &TestGate<'_>,
+) -> Result<u8, Fail> {
+    let words = words_in(alloc, &[asked.0, "sky", "csv", "script", asked.1])?;
+    Ok(status_past(rt, alloc, words.as_slice(), shelf, sink, gate))
+}
+
+// The status of a command over texts, with a number of workers, past a gate.
 pub(crate) fn run_past<R: Threads + Wait + Sync>(
     rt: &R,
     alloc: Global,
     asked: (&str, &str),
-    script: &[u8],
+    texts: Texts<'_>,
     sink: &mut MemSink,
     gate: &TestGate<'_>,
 ) -> Result<u8, Fail> {
-    let words = words_for(alloc, asked.0, asked.1)?;
-    let mut shelf = PlainShelf::new(texts_of(alloc, CATALOGUE, script)?);
-    Ok(status_past(rt, alloc, words.as_slice(), &mut shelf, sink, gate))
+    let mut shelf = PlainShelf::new(texts_of(alloc, texts)?);
+    run_over(rt, alloc, asked, &mut shelf, sink, gate)
+}
+
+// Whether a command over texts, with a number of workers, past a gate, has the status 0 and writes this.
+pub(crate) fn is_written<R: Threads + Wait + Sync>(
+    rt: &R,
+    alloc: Global,
+    asked: (&str, &str),
+    texts: Texts<'_>,
+    gate: &TestGate<'_>,
+    want: &[u8],
+) -> Result<bool, Fail> {
+    let mut sink = MemSink::new(alloc, 1000, Vec::new(alloc))?;
+    let found = run_past(rt, alloc, asked, texts, &mut sink, gate)?;
+    Ok(found == 0 && sink.bytes() == want)
+}
+
+// The first pass, from 0, that was not made by worker 0 over the chunk in its place, or that has none; `None` if the passes
+// are those of the chunks, in their order.
+pub(crate) fn first_other(gate: &mut NoteGate, chunks: &[u32]) -> Option<u32> {
+    let mut pass = 0u32;
+    for chunk in chunks {
+        if gate.noted(pass) != Some((0, *chunk)) {
+            return Some(pass);
+        }
+        pass = pass.wrapping_add(1);
+    }
+    match gate.noted(pass) {
+        Some(_) => Some(pass),
+        None => None,
+    }
 }
 
 // A sink that fails at one call. A put that fails there keeps some bytes of its piece, or none by `MemSink::new`.
@@ -124,8 +146,8 @@ fn run_failing_at<R: Threads + Wait + Sync>(
     keep: u32,
 ) -> Result<(u8, bool), Fail> {
     let mut sink = failing_sink(alloc, call, keep)?;
-    let open = TestGate::Open;
-    let status = run_past(rt, alloc, ("query", "0"), SCRIPT, &mut sink, &open)?;
+    let texts = (SKY, CATALOGUE, SCRIPT);
+    let status = run_past(rt, alloc, ("query", "0"), texts, &mut sink, &TestGate::Open)?;
     let is_kept = call > 1 || sink.bytes().len() == keep as usize;
     let is_whole = status > 0 || sink.bytes() == ANSWER;
     Ok((
@@ -160,31 +182,50 @@ fn a_sink_that_fails_at_any_call_has_a_prefix_of_the_answer(rt: HostRuntime) -> 
     Ok(())
 }
 
+// Whether the script's run over a sink with room for so many bytes is a fault, and they are the first ones of the answer.
+fn is_filled<R: Threads + Wait + Sync>(rt: &R, alloc: Global, room: usize) -> Result<bool, Fail> {
+    let mut sink = MemSink::cutting(alloc, room, Vec::new(alloc), 1000)?;
+    let texts = (SKY, CATALOGUE, SCRIPT);
+    let found = run_past(rt, alloc, ("query", "0"), texts, &mut sink, &TestGate::Open)?;
+    let bytes = sink.bytes();
+    Ok(found == 8 && bytes.len() == room && ANSWER.starts_with(bytes))
+}
+
 #[test]
 fn a_full_sink_has_what_it_has_room_for(rt: HostRuntime) -> Result<(), Fail> {
-    let alloc = rt.alloc();
     for room in 0..ANSWER.len() {
-        let mut sink = MemSink::cutting(alloc, room, Vec::new(alloc), 1000)?;
-        let open = TestGate::Open;
-        let status = run_past(&rt, alloc, ("query", "0"), SCRIPT, &mut sink, &open)?;
-        assert_eq!(rt; (status, sink.bytes()), (8, &ANSWER[..room]), "room {room}");
+        assert!(rt; is_filled(&rt, rt.alloc(), room)?, "room {room}");
     }
     Ok(())
 }
 
+// A shelf of the script's texts that fails at its second fetch.
+fn failing_shelf(alloc: Global) -> Result<MemShelf, Fail> {
+    let failing = vec![in alloc; 2]?;
+    Ok(MemShelf::new(alloc, texts_of(alloc, (SKY, CATALOGUE, SCRIPT))?, failing))
+}
+
+// The status of the script's run over that shelf, and how many bytes it writes.
+fn run_with_failing_fetch<R: Threads + Wait + Sync>(
+    rt: &R,
+    alloc: Global,
+) -> Result<(u8, usize), Fail> {
+    let mut shelf = failing_shelf(alloc)?;
+    let mut sink = MemSink::new(alloc, 1000, Vec::new(alloc))?;
+    let found = run_over(
+        rt,
+        alloc,
+        ("query", "0"),
+        &mut shelf,
+        &mut sink,
+        &TestGate::Open,
+    )?;
+    Ok((found, sink.bytes().len()))
+}
+
 #[test]
 fn a_shelf_that_fails_at_its_second_fetch_is_a_fault(rt: HostRuntime) -> Result<(), Fail> {
-    let alloc = rt.alloc();
-    let mut sink = MemSink::new(alloc, 1000, Vec::new(alloc))?;
-    let words = words_of(alloc, "0")?;
-    let mut shelf = MemShelf::new(
-        alloc,
-        texts_of(alloc, CATALOGUE, SCRIPT)?,
-        vec![in alloc; 2]?,
-    );
-    let open = TestGate::Open;
-    let found = status_past(&rt, alloc, words.as_slice(), &mut shelf, &mut sink, &open);
-    assert_eq!(rt; (found, sink.bytes().len()), (7, 0));
+    assert_eq!(rt; run_with_failing_fetch(&rt, rt.alloc())?, (7, 0));
     Ok(())
 }
 
@@ -195,12 +236,10 @@ pub(crate) fn meet_by<R: Abort + Threads + Wait + Sync>(
     command: &str,
 ) -> Result<(), Fail> {
     let gate = StepGate::new(2, 10000000);
-    let mut sink = MemSink::new(alloc, 1000, Vec::new(alloc))?;
     let step = TestGate::Step(&gate);
-    run_past(rt, alloc, (command, "2"), SCRIPT, &mut sink, &step)?;
-    assert_eq!(rt; sink.bytes(), ANSWER);
-    assert!(rt; gate.met());
-    assert!(rt; !gate.given_up());
+    let texts = (SKY, CATALOGUE, SCRIPT);
+    assert!(rt; is_written(rt, alloc, (command, "2"), texts, &step, ANSWER)?);
+    assert_eq!(rt; (gate.met(), gate.given_up()), (true, false));
     Ok(())
 }
 
@@ -209,12 +248,26 @@ fn two_work_on_chunks_at_one_time(rt: HostRuntime) -> Result<(), Fail> {
     meet_by(&rt, rt.alloc(), "query")
 }
 
-// Appends a piece the given number of times.
-pub(crate) fn repeat(text: &mut Vec<u8>, piece: &[u8], times: usize) -> Result<(), Fail> {
-    for _ in 0..times {
-        text.extend_from_slice(piece)?;
+// A script of 65 queries.
+fn counting(alloc: Global) -> Result<Vec<u8>, Fail> {
+    let mut text = Vec::new(alloc);
+    for _ in 0..65 {
+        text.extend_from_slice(b"SELECT COUNT(*) FROM Object\n")?;
     }
-    Ok(())
+    Ok(text)
+}
+
+// The status of a command over that script, with no workers, past a gate.
+fn count_past<R: Threads + Wait + Sync>(
+    rt: &R,
+    alloc: Global,
+    command: &str,
+    gate: &TestGate<'_>,
+) -> Result<u8, Fail> {
+    let script = counting(alloc)?;
+    let mut sink = MemSink::new(alloc, 10000, Vec::new(alloc))?;
+    let texts = (SKY, CATALOGUE, script.as_slice());
+    run_past(rt, alloc, (command, "0"), texts, &mut sink, gate)
 }
 
 // Runs 65 queries by a command. 64 of them run together, so that each chunk is passed once for them all.
@@ -223,18 +276,10 @@ pub(crate) fn count_by<R: Abort + Threads + Wait + Sync>(
     alloc: Global,
     command: &str,
 ) -> Result<(), Fail> {
-    let mut script = Vec::new(alloc);
-    repeat(&mut script, b"SELECT COUNT(*) FROM Object\n", 65)?;
     let mut gate = NoteGate::new();
-    let mut sink = MemSink::new(alloc, 10000, Vec::new(alloc))?;
-    let note = TestGate::Note(&gate);
-    let asked = (command, "0");
-    let found = run_past(rt, alloc, asked, script.as_slice(), &mut sink, &note)?;
-    assert_eq!(rt; found, 0);
-    for (pass, chunk) in [(0, 0), (1, 4), (2, 7), (3, 0), (4, 4), (5, 7)] {
-        assert_eq!(rt; gate.noted(pass), Some((0, chunk)), "pass {pass}");
-    }
-    assert_eq!(rt; gate.noted(6), None);
+    let found = count_past(rt, alloc, command, &TestGate::Note(&gate))?;
+    let other = first_other(&mut gate, &[0, 4, 7, 0, 4, 7]);
+    assert_eq!(rt; (found, other), (0, None));
     Ok(())
 }
 
@@ -264,16 +309,24 @@ fn is_transcript(bytes: &[u8]) -> bool {
     }
 }
 
+// Whether the three queries, by two workers in an order that is held, are answered, but for the one that is cancelled.
+fn is_answered_in<R: Threads + Wait + Sync>(
+    rt: &R,
+    alloc: Global,
+    order: [u32; 3],
+) -> Result<bool, Fail> {
+    let gate = ListGate::new(order.to_vec(alloc)?, 10000);
+    let list = TestGate::List(&gate);
+    let mut sink = MemSink::new(alloc, 1000, Vec::new(alloc))?;
+    let texts = (SKY, CATALOGUE, CANCELLING);
+    let found = run_past(rt, alloc, ("query", "2"), texts, &mut sink, &list)?;
+    Ok(found == 0 && is_transcript(sink.bytes()))
+}
+
 #[test]
 fn no_order_of_workers_changes_what_is_not_cancelled(rt: HostRuntime) -> Result<(), Fail> {
-    let alloc = rt.alloc();
     for order in [[1, 2, 1], [2, 2, 0], [0, 0, 0]] {
-        let gate = ListGate::new(order.to_vec(alloc)?, 10000);
-        let mut sink = MemSink::new(alloc, 1000, Vec::new(alloc))?;
-        let list = TestGate::List(&gate);
-        let found = run_past(&rt, alloc, ("query", "2"), CANCELLING, &mut sink, &list)?;
-        assert_eq!(rt; found, 0);
-        assert!(rt; is_transcript(sink.bytes()), "gave up: {}", gate.given_up());
+        assert!(rt; is_answered_in(&rt, rt.alloc(), order)?, "order {order:?}");
     }
     Ok(())
 }

@@ -1,7 +1,7 @@
 //! The command `classes`: threads meet, queries share a chunk's scan, and short queries are scanned before long ones.
 use crate::tests::gates::TestGate;
-use crate::tests::{count_by, meet_by, status_past, texts_over, words_for};
-use sky_io::{MemSink, NoteGate, PlainShelf};
+use crate::tests::{count_by, first_other, is_written, meet_by};
+use sky_io::NoteGate;
 use std::alloc::Global;
 use std::process::Abort;
 use std::sync::Wait;
@@ -23,41 +23,31 @@ const SCRIPT: &[u8] =
 const ANSWERS: &[u8] =
     b"query 1\nCOUNT(*)\n17\n1 rows, 17 chunks\nquery 2\nCOUNT(*)\n1\n1 rows, 1 chunks\n";
 
-// The passes of the script's run by a command, with no workers.
-fn passes_by<R: Abort + Threads + Wait + Sync>(
+// Runs the script by a command, with no workers. The passes are those of the chunks, in this order.
+fn pass_by<R: Abort + Threads + Wait + Sync>(
     rt: &R,
     alloc: Global,
     command: &str,
-) -> Result<NoteGate, Fail> {
-    let gate = NoteGate::new();
-    let mut sink = MemSink::new(alloc, 1000, Vec::new(alloc))?;
-    let words = words_for(alloc, command, "0")?;
-    let mut shelf = PlainShelf::new(texts_over(alloc, SKY, CATALOGUE, SCRIPT)?);
+    chunks: &[u32],
+) -> Result<(), Fail> {
+    let mut gate = NoteGate::new();
+    let texts = (SKY, CATALOGUE, SCRIPT);
     let note = TestGate::Note(&gate);
-    status_past(rt, alloc, words.as_slice(), &mut shelf, &mut sink, &note);
-    assert_eq!(rt; sink.bytes(), ANSWERS);
-    Ok(gate)
+    assert!(rt; is_written(rt, alloc, (command, "0"), texts, &note, ANSWERS)?);
+    assert_eq!(rt; first_other(&mut gate, chunks), None);
+    Ok(())
 }
 
 #[test]
 fn a_short_query_is_scanned_before_a_long_one(rt: HostRuntime) -> Result<(), Fail> {
-    let mut gate = passes_by(&rt, rt.alloc(), "classes")?;
-    assert_eq!(rt; gate.noted(0), Some((0, 3)));
-    for chunk in 1..18 {
-        assert_eq!(rt; gate.noted(chunk), Some((0, chunk)), "chunk {chunk}");
-    }
-    assert_eq!(rt; gate.noted(18), None);
-    Ok(())
+    let chunks = [3, 1, 2, 3, 4, 5, 6, 7, 8, 9, 10, 11, 12, 13, 14, 15, 16, 17];
+    pass_by(&rt, rt.alloc(), "classes", chunks.as_slice())
 }
 
 #[test]
 fn on_one_board_a_short_query_shares_a_long_ones_scan(rt: HostRuntime) -> Result<(), Fail> {
-    let mut gate = passes_by(&rt, rt.alloc(), "query")?;
-    for chunk in 1..18 {
-        assert_eq!(rt; gate.noted(chunk - 1), Some((0, chunk)), "chunk {chunk}");
-    }
-    assert_eq!(rt; gate.noted(17), None);
-    Ok(())
+    let chunks = [1, 2, 3, 4, 5, 6, 7, 8, 9, 10, 11, 12, 13, 14, 15, 16, 17];
+    pass_by(&rt, rt.alloc(), "query", chunks.as_slice())
 }
 
 #[test]

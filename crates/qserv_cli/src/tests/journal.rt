@@ -1,11 +1,13 @@
 //! The journal of a session shows that two threads work on chunks at one time.
 use crate::tests::gates::TestGate;
-use crate::tests::{CATALOGUE, SCRIPT, status_past, texts_of, words_for};
+use crate::tests::{CATALOGUE, SCRIPT, SKY, run_past};
 use scan_history::read_journal;
 use scan_rules::{Journal, JournalLine};
-use sky_io::{MemSink, PlainShelf, StepGate};
+use sky_io::{MemSink, StepGate};
 use std::alloc::Global;
+use std::sync::Wait;
 use std::test::Fail;
+use std::thread::Threads;
 use text_rules::limits::TEXT_MOST;
 
 // The journal that was written.
@@ -55,18 +57,28 @@ fn is_at_one_time(lines: &[JournalLine]) -> bool {
     false
 }
 
+// Whether two work at one time by the journal that was written.
+fn is_shared(alloc: Global, text: &[u8]) -> Result<bool, Fail> {
+    let journal = journal_in(alloc, text)?;
+    Ok(is_at_one_time(journal.lines.as_slice()))
+}
+
+// Whether the script's run is traced, and two work at one time by its journal.
+fn is_traced<R: Threads + Wait + Sync>(
+    rt: &R,
+    alloc: Global,
+    gate: &TestGate<'_>,
+) -> Result<bool, Fail> {
+    let mut sink = MemSink::new(alloc, 4000, Vec::new(alloc))?;
+    let texts = (SKY, CATALOGUE, SCRIPT);
+    let found = run_past(rt, alloc, ("trace", "2"), texts, &mut sink, gate)?;
+    Ok(found == 0 && is_shared(alloc, sink.bytes())?)
+}
+
 #[test]
 fn two_work_on_chunks_at_one_time_in_the_journal(rt: HostRuntime) -> Result<(), Fail> {
-    let alloc = rt.alloc();
     let gate = StepGate::new(2, 10000000);
-    let mut sink = MemSink::new(alloc, 4000, Vec::new(alloc))?;
-    let words = words_for(alloc, "trace", "2")?;
-    let mut shelf = PlainShelf::new(texts_of(alloc, CATALOGUE, SCRIPT)?);
-    let step = TestGate::Step(&gate);
-    let found = status_past(&rt, alloc, words.as_slice(), &mut shelf, &mut sink, &step);
-    assert_eq!(rt; found, 0);
+    assert!(rt; is_traced(&rt, rt.alloc(), &TestGate::Step(&gate))?);
     assert!(rt; gate.met());
-    let journal = journal_in(alloc, sink.bytes())?;
-    assert!(rt; is_at_one_time(journal.lines.as_slice()));
     Ok(())
 }

@@ -1,4 +1,6 @@
 //! What no clause of `sky_io` says: that its calls succeed, and how many raw calls they make.
+ghost use Rattle.std.specs.Prelude.{◌<◌};
+
 use crate::tests::add_text;
 use sky_io::{Buffered, Fetch, FileShelf, FolderShelf, MemFiles, MemOutput, Put, Shelf, Sink};
 use std::alloc::Global;
@@ -26,32 +28,40 @@ fn whole_of(alloc: Global) -> Result<Vec<u8>, Fail> {
     Ok(whole)
 }
 
+// Whether the pieces arrive one after another over an output that takes at most so many bytes a write.
+fn is_whole(alloc: Global, most: u32, whole: &[u8]) -> Result<bool, Fail>
+    requires { 0 < most }
+{
+    let output = MemOutput::new(alloc, 20000, most, Vec::new(alloc))?;
+    let mut sink = Buffered::over(output);
+    let put = write_pieces(&mut sink);
+    Ok(put == Put::Done && sink.output().bytes() == whole)
+}
+
 #[test]
 fn pieces_come_in_order_however_few_bytes_a_write_takes(rt: HostRuntime) -> Result<(), Fail> {
     let alloc = rt.alloc();
     let whole = whole_of(alloc)?;
     for most in [1, 3, 5000, 8192, 20000] {
-        let output = MemOutput::new(alloc, 20000, most, Vec::new(alloc))?;
-        let mut sink = Buffered::over(output);
-        let put = write_pieces(&mut sink);
-        assert_eq!(rt; put, Put::Done, "at most {most} bytes a write");
-        assert!(rt;
-            sink.output().bytes() == whole.as_slice(),
-            "at most {most} bytes a write"
-        );
+        let is_whole = is_whole(alloc, most, whole.as_slice())?;
+        assert!(rt; is_whole, "at most {most} bytes a write");
     }
     Ok(())
 }
 
+// Whether the pieces are written over an output whose write of this number fails, and how many bytes of them are.
+fn written_until(alloc: Global, call: u64) -> Result<(bool, usize), Fail> {
+    let output = MemOutput::new(alloc, 20000, 20000, vec![in alloc; call]?)?;
+    let mut sink = Buffered::over(output);
+    let put = write_pieces(&mut sink);
+    Ok((put == Put::Done, sink.output().bytes().len()))
+}
+
 #[test]
 fn a_full_buffer_is_one_write(rt: HostRuntime) -> Result<(), Fail> {
-    let alloc = rt.alloc();
     // the write that fails, and the bytes written before it: no fifth write is made
     for (call, bytes) in [(1, 0), (2, 8192), (3, 8193), (4, 17193), (5, 17200)] {
-        let output = MemOutput::new(alloc, 20000, 20000, vec![in alloc; call]?)?;
-        let mut sink = Buffered::over(output);
-        let put = write_pieces(&mut sink);
-        let found = (put == Put::Done, sink.output().bytes().len());
+        let found = written_until(rt.alloc(), call)?;
         assert_eq!(rt; found, (call == 5, bytes), "write {call} fails");
     }
     Ok(())
@@ -77,9 +87,24 @@ fn texts_of(alloc: Global) -> Result<Vec<(String, Vec<u8>)>, Fail> {
     Ok(texts)
 }
 
+// Whether the text of these files is fetched up to a limit, or is not, and what comes of it.
+fn is_fetched(alloc: Global, files: MemFiles, limit: usize, want: (Fetch, &str)) -> bool {
+    let mut shelf = FileShelf::over(files, alloc);
+    let mut into = Vec::new(alloc);
+    let fetch = shelf.fetch("five", limit, &mut into);
+    fetch == want.0 && into.as_slice() == want.1.as_bytes()
+}
+
+// Whether the text comes up to a limit if a read gives at most so many bytes.
+fn comes(alloc: Global, most: u32, limit: usize, want: &str) -> Result<bool, Fail>
+    requires { 0 < most }
+{
+    let files = MemFiles::new(alloc, texts_of(alloc)?, most, Vec::new(alloc));
+    Ok(is_fetched(alloc, files, limit, (Fetch::Done, want)))
+}
+
 #[test]
 fn a_text_comes_whole_however_few_bytes_a_read_gives(rt: HostRuntime) -> Result<(), Fail> {
-    let alloc = rt.alloc();
     for most in [1, 2, 5, 100] {
         for (limit, want) in [
             (0, "a"),
@@ -88,33 +113,27 @@ fn a_text_comes_whole_however_few_bytes_a_read_gives(rt: HostRuntime) -> Result<
             (5, "abcde"),
             (9000, "abcde"),
         ] {
-            let files = MemFiles::new(alloc, texts_of(alloc)?, most, Vec::new(alloc));
-            let mut shelf = FileShelf::over(files, alloc);
-            let mut into = Vec::new(alloc);
-            let fetch = shelf.fetch("five", limit, &mut into);
-            assert_eq!(rt; fetch, Fetch::Done, "{most} bytes a read, limit {limit}");
-            assert_eq!(rt;
-                into.as_slice(),
-                want.as_bytes(),
-                "{most} bytes a read, limit {limit}"
-            );
+            let comes = comes(rt.alloc(), most, limit, want)?;
+            assert!(rt; comes, "{most} bytes a read, limit {limit}");
         }
     }
     Ok(())
 }
 
+// Whether a fetch is so if the raw call of this number fails and a read gives at most two bytes.
+fn is_fetched_failing(alloc: Global, call: u64, want: (Fetch, &str)) -> Result<bool, Fail> {
+    let files = MemFiles::new(alloc, texts_of(alloc)?, 2, vec![in alloc; call]?);
+    Ok(is_fetched(alloc, files, 9, want))
+}
+
 #[test]
 fn a_raw_call_that_fails_is_a_fetch_that_fails(rt: HostRuntime) -> Result<(), Fail> {
-    let alloc = rt.alloc();
     // an open and reads of two, two, one and no bytes
-    for (call, want) in [(1, ""), (2, ""), (3, ""), (4, ""), (5, ""), (6, "abcde")] {
-        let files = MemFiles::new(alloc, texts_of(alloc)?, 2, vec![in alloc; call]?);
-        let mut shelf = FileShelf::over(files, alloc);
-        let mut into = Vec::new(alloc);
-        let fetch = shelf.fetch("five", 9, &mut into);
-        assert_eq!(rt; fetch == Fetch::Failed, call < 6, "call {call} fails");
-        assert_eq!(rt; into.as_slice(), want.as_bytes(), "call {call} fails");
+    for call in 1..6 {
+        let is_failed = is_fetched_failing(rt.alloc(), call, (Fetch::Failed, ""))?;
+        assert!(rt; is_failed, "call {call} fails");
     }
+    assert!(rt; is_fetched_failing(rt.alloc(), 6, (Fetch::Done, "abcde"))?);
     Ok(())
 }
 
