@@ -12,9 +12,10 @@ it is answered with 0, 1, 4 and 16 workers, by `classes` with 0 and 4, and expla
 Runs of other kinds are in scripts/worked_runs.py: sky plans and catalogues with their reports or their first faults, scripts
 that wait and cancel, the demo, words of no form, and an outcome of each status that a run can be brought to. Texts at each
 limit, and one beyond it, are in scripts/worked_limits.py. A larger sky, whose rows are drawn, is in scripts/worked_world.py,
-catalogues of certain lengths in scripts/worked_lanes.py, lists of ids in scripts/worked_ids.py, as many queries and chunks as there
-may be in scripts/worked_laps.py, runs of `sources` in scripts/worked_children.py, runs over pipes in scripts/worked_streams.py, and
-what the demo of 20,000 objects and that of as many as there may be have to write in scripts/worked_demo.py.
+catalogues of certain lengths in scripts/worked_lanes.py, lists of ids in scripts/worked_ids.py, pairs of neighbours in
+scripts/worked_pairs.py, as many queries and chunks as there may be in scripts/worked_laps.py, runs of `sources` in
+scripts/worked_children.py, runs over pipes in scripts/worked_streams.py, and what the demo of 20,000 objects and that of as many as
+there may be have to write in scripts/worked_demo.py.
 
 It prints a line for each run that ended otherwise, with the row and with what is wanted, and then how many rows it has
 compared. The status is 0 where none differs, and 1 else, also where there is no program.
@@ -33,6 +34,7 @@ import worked_children
 import worked_ids
 import worked_lanes
 import worked_limits
+import worked_pairs
 import worked_runs
 import worked_streams
 import worked_world
@@ -121,6 +123,11 @@ def made_parts():
         texts[f"ids_{length}.csv"] = worked_ids.csv(length)
         rows = [Row(f"ids of {length} rows", *query) for query in worked_ids.queries(length)]
         found.append(Part(["query"], "ids.txt", f"ids_{length}.csv", rows))
+    texts["pairs.txt"] = worked_pairs.SKY
+    for kind in ("low", "around", "high", "one"):
+        texts[f"pairs_{kind}.csv"] = worked_pairs.csv(kind)
+        rows = [Row(f"pairs of {kind} ids", *query) for query in worked_pairs.queries(kind)]
+        found.append(Part(["query"], "pairs.txt", f"pairs_{kind}.csv", rows))
     return found, texts
 
 
