@@ -125,6 +125,10 @@ ACCEPTED = [
     ("\xef\xbb\xbfobjectId,x,y,z", NONE),
     ('"objectId",x,y,z\r1,268435456,0,0\r2,268435456,0,0', in_chunk_4(2)),
     ("\n\r\nobjectId,x,y,z\r\n\n1,268435456,0,0\r\n\n", in_chunk_4(1)),
+    # lines with nothing alone, and a quote or a carriage return in the last line alone
+    ("\n\nobjectId,x,y,z\n\n\n1,268435456,0,0\n\n2,268435456,0,0\n\n\n", in_chunk_4(2)),
+    (FOUR + '1,268435456,0,0\n2,268435456,0,"0"\n', in_chunk_4(2)),
+    (FOUR + "1,268435456,0,0\n2,268435456,0,0\r\n", in_chunk_4(2)),
 ]
 # the first fault of a text and its place
 CSV_FAULTS = [
@@ -141,6 +145,10 @@ CSV_FAULTS = [
     (FLUX.removesuffix(",0,"), "row 1: 3 fields"),
     (FOUR + '""\n', "row 1: 1 fields"),
     (FOUR + "  \n", "row 1: 1 fields"),
+    # a line of a comma has two fields, and one with a comma at its end one more; a line with nothing is no row
+    (FOUR + ",", "row 1: 2 fields"),
+    (FOUR + "1,268435456,0,0,\n", "row 1: 5 fields"),
+    (FOUR + "1,268435456,0,0\n\n\n2,268435456,0\n", "row 2: 3 fields"),
     # the quote goes on to the end
     (FOUR + '1,"268435456,0,0\n2,268435456,0,0\n', "row 1: 2 fields"),
     (FOUR + "1,+5,0,0\n", "row 1: field 2 is not a number"),
