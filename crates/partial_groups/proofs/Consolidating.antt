@@ -150,11 +150,11 @@ each_reversed : {X : Type 0} (P : X → Type 0) (xs : List X) → Each P xs → 
 each_reversed P [] h = tt
 each_reversed P (x ∷ xs) h = subst (Each P) (sym (reverse-append (x ∷ []) xs)) (each_both P (reverse xs) (x ∷ []) (each_reversed P xs h.1) (h.0, tt))
 
-abbrev first_ways : Gathered → List Way
+abbrev pub first_ways : Gathered → List Way
 first_ways [] = []
 first_ways (g ∷ gs) = ways_in g
 
-have_first : (gs : Gathered) → AreAlike gs → HaveWays (first_ways gs) gs
+pub have_first : (gs : Gathered) → AreAlike gs → HaveWays (first_ways gs) gs
 have_first [] a = tt
 have_first (g ∷ gs) a = a
 
@@ -469,7 +469,7 @@ put_short : (g : Partial Key Sums) (hs : Gathered) → length (put_group key_ord
 put_short g [] = omega arith
 put_short g (h ∷ hs) = put_length g h hs (put_group key_order add_own_sums g hs) (key_order g.key h.key) (put_short g hs)
 
-gathered_short : (gs : Gathered) → length (gather key_order add_own_sums gs) ≤ length gs
+pub gathered_short : (gs : Gathered) → length (gather key_order add_own_sums gs) ≤ length gs
 gathered_short [] = omega arith
 gathered_short (g ∷ gs) = omega (arith, put_short g (gather key_order add_own_sums gs), gathered_short gs)
 

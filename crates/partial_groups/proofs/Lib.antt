@@ -10,3 +10,5 @@ pub mod Increasing
 pub mod Gaining
 pub mod Firsts
 pub mod Walking
+pub mod Holding
+pub mod RowCounts

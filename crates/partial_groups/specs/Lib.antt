@@ -3,3 +3,5 @@ pub mod Adding
 pub mod Sharing
 pub mod Merging
 pub mod Lines
+pub mod Ungrouped
+pub mod Counts

@@ -2,7 +2,7 @@
 //!
 //! It may hold a key more than once. Contracts see the list in which the groups with the same key are added up.
 
-ghost use Rattle.std.specs.Prelude.{◌≡◌, ◌+◌, ◌≤◌, ◌*◌, ◌++◌, ◌∷◌, [], All, Err, length, map, IfErr, IfOk, Ok, OnErr, OnOk, vec_capacity, vec_len};
+ghost use Rattle.std.specs.Prelude.{◌≡◌, ◌+◌, ◌≤◌, ◌<◌, ◌*◌, ◌^◌, ◌++◌, ◌∷◌, [], All, Err, length, map, IfErr, IfOk, Ok, OnErr, OnOk, vec_capacity, vec_len};
 ghost use Rattle.answer_rules.specs.Finish.{groups_merged, merged_groups};
 ghost use Rattle.answer_rules.specs.Gather.{gather};
 ghost use Rattle.answer_rules.specs.Keys.{key_order};
@@ -238,7 +238,9 @@ impl AggregationTable {
 
     /// Returns the number of groups, where one key may count more than once. Does not allocate.
     pub fn len(&self) -> usize
-        ensures { length self.now ≤ result }
+        ensures most { length self.now ≤ result }
+        ensures small { result < 2 ^ 63 }
+        ensures gathered { gather key_order add_own_sums self.now ≡ self.now }
     {
         self.groups.len()
     }
