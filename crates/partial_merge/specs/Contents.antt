@@ -14,7 +14,7 @@ use Rattle.partial_groups.specs.Groups.{MayGather}
 -- what callers see
 abbrev pub view_in : Contents → PieceView
 view_in (contents.Rows multiset) = OfRows multiset.pushed multiset.rows
-view_in (contents.Groups aggregation_table) = OfGroups aggregation_table
+view_in (contents.Groups grouped_rows) = OfGroups grouped_rows
 
 -- both hold rows with the same limit, or groups with the same combine functions
 abbrev pub MayCombine : Contents → Contents → Type 0

@@ -20,7 +20,7 @@ use Rattle.answer_rules.specs.Rewriting.{merge_plan_of}
 use Rattle.answer_rules.specs.Small.{IsSmallGroup}
 use Rattle.partial_rows.specs.declared.rank.Rank.{Rank}
 use Rattle.partial_rows.specs.Multisets.{ComesBeforeNone, out_row}
-use Rattle.partial_groups.specs.Groups.{MayGather}
+use Rattle.partial_groups.specs.Groups.{Gathered, MayGather}
 
 -- Both represent one chunk query of one base, over disjoint sets of chunks.
 pub record MayJoin (mine other : PieceView) : Type 0 where
@@ -81,6 +81,16 @@ MayTakeGroup (OfGroups parts) g = MayGather parts (g ∷ []) × IsSmallGroup g
 abbrev pub with_group : PieceView → Partial Key Sums → PieceView
 with_group (OfRows pushed rows) g = OfRows pushed rows
 with_group (OfGroups parts) g = OfGroups (gather key_order add_own_sums (parts ++ g ∷ []))
+
+-- the piece is of groups, and these have the same combine functions
+abbrev pub MayTakeGroups : PieceView → Gathered → Type 0
+MayTakeGroups (OfRows pushed rows) gs = ⊥
+MayTakeGroups (OfGroups parts) gs = MayGather parts gs
+
+-- the piece with more groups, each added to the group with its key
+abbrev pub with_groups : PieceView → Gathered → PieceView
+with_groups (OfRows pushed rows) gs = OfRows pushed rows
+with_groups (OfGroups parts) gs = OfGroups (gather key_order add_own_sums (parts ++ gs))
 
 -- The piece's chunk query and the merge are the two parts into which a query that can be run is split.
 pub record MayFinish (merge : MergePlan) (view : PieceView) : Type 0 where

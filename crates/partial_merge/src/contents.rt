@@ -8,8 +8,9 @@ ghost use Rattle.answer_rules.specs.Ranks.{row_order};
 ghost use Rattle.answer_rules.specs.Rows.{limit_of};
 ghost use Rattle.partial_merge.specs.Contents.{IsCombined, MayCombine, rows_of, view_in};
 ghost use Rattle.partial_rows.specs.Multisets.{out_row};
-ghost use Rattle.partial_merge.specs.Joining.{IsNoneOfFirst, IsOfRows, IsReportedLate, MayTakeGroup, TakesRow, with_group};
+ghost use Rattle.partial_merge.specs.Joining.{IsNoneOfFirst, IsOfRows, IsReportedLate, MayTakeGroup, MayTakeGroups, TakesRow, with_group, with_groups};
 ghost use Rattle.partial_groups.specs.Groups.{group_by};
+ghost use Rattle.partial_groups.specs.Ungrouped.{rows_of as row_groups};
 ghost use Rattle.partial_merge.specs.Sizes.{IsWithin, size_of};
 ghost use Rattle.answer_rules.specs.Finish.{finished};
 ghost use Rattle.answer_rules.specs.Pieces.{OfGroups, OfRows};
@@ -20,7 +21,7 @@ use answer_rules::{ChunkQuery, MergePlan, TotalOut};
 use answer_table::Table;
 use group_key::Key;
 use partial_groups::Tally;
-use partial_groups::aggregation_table::AggregationTable;
+use partial_groups::grouped_rows::GroupedRows;
 use partial_rows::Rank;
 use partial_rows::multiset::Multiset;
 use sky_io::{Memory, Stop};
@@ -32,7 +33,7 @@ use std::alloc::Global;
 #[derive(Drop)]
 pub(crate) enum Contents {
     Rows(Multiset),
-    Groups(AggregationTable),
+    Groups(GroupedRows),
 }
 
 /// Returns a limit as a number of rows.
@@ -49,7 +50,7 @@ pub(crate) fn nothing(alloc: Global, query: &ChunkQuery) -> Contents
     match &query.shape {
         Shape::Rows => Contents::Rows(Multiset::empty(alloc, limit(query.limit))),
         Shape::Pairs { limit: _ } => Contents::Rows(Multiset::empty(alloc, limit(query.limit))),
-        Shape::Groups { keys: _ } => Contents::Groups(AggregationTable::empty(alloc)),
+        Shape::Groups { keys: _ } => Contents::Groups(GroupedRows::empty(alloc)),
     }
 }
 
@@ -115,7 +116,24 @@ pub(crate) fn push_group(
 {
     match contents {
         Contents::Rows(_) => unreachable!(),
-        Contents::Groups(aggregation_table) => aggregation_table.push(key, rows, parts),
+        Contents::Groups(grouped_rows) => grouped_rows.push(key, rows, parts),
+    }
+}
+
+/// Adds rows with these numbers as their keys. After `Err` nothing has changed.
+pub(crate) fn push_rows(
+    contents: &mut Contents,
+    counted: Vec<bool>,
+    values: Vec<i64>,
+) -> Result<(), Memory>
+    requires alike { MayTakeGroups (view_in contents.old) (row_groups counted.items values.items) }
+    ensures put { OnOk result (view_in contents.new
+        ≡ with_groups (view_in contents.old) (row_groups counted.items values.items)) }
+    ensures same { OnErr result (view_in contents.new ≡ view_in contents.old) }
+{
+    match contents {
+        Contents::Rows(_) => unreachable!(),
+        Contents::Groups(grouped_rows) => grouped_rows.push_rows(counted, values),
     }
 }
 
@@ -127,7 +145,7 @@ pub(crate) fn count(contents: &Contents) -> usize
 {
     match contents {
         Contents::Rows(multiset) => multiset.row_count(),
-        Contents::Groups(aggregation_table) => aggregation_table.len(),
+        Contents::Groups(grouped_rows) => grouped_rows.len(),
     }
 }
 
@@ -144,7 +162,7 @@ pub(crate) fn finish(
 {
     match contents {
         Contents::Rows(multiset) => Ok(multiset.finish(alloc, merge)?),
-        Contents::Groups(aggregation_table) => finish_groups(alloc, aggregation_table, merge),
+        Contents::Groups(grouped_rows) => finish_groups(alloc, grouped_rows, merge),
     }
 }
 
@@ -167,16 +185,16 @@ pub(crate) fn finish_rows(
 /// Returns the table of groups, or the first total that is out of range.
 fn finish_groups(
     alloc: Global,
-    aggregation_table: AggregationTable,
+    grouped_rows: GroupedRows,
     merge: &MergePlan,
 ) -> Result<Table, Stop<TotalOut>>
-    requires { CanMerge merge.now.shape merge.now.items aggregation_table }
-    ensures ok { IfOk result (λ table. finished merge.now (OfGroups aggregation_table) ≡ Ok table) }
+    requires { CanMerge merge.now.shape merge.now.items grouped_rows }
+    ensures ok { IfOk result (λ table. finished merge.now (OfGroups grouped_rows) ≡ Ok table) }
     ensures out { IfErr result (λ stop. IfBad stop (λ out.
-        finished merge.now (OfGroups aggregation_table) ≡ Err out.total)) }
+        finished merge.now (OfGroups grouped_rows) ≡ Err out.total)) }
 {
     match &merge.shape {
-        Shape::Groups { keys } => aggregation_table.finish(alloc, keys, merge),
+        Shape::Groups { keys } => grouped_rows.finish(alloc, keys, merge),
         _ => unreachable!(),
     }
 }

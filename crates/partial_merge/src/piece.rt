@@ -18,14 +18,15 @@ ghost use Rattle.answer_rules.specs.Rows.{limit_of};
 ghost use Rattle.partial_merge.specs.Contents.{rows_of};
 ghost use Rattle.partial_rows.specs.Multisets.{out_row};
 ghost use Rattle.partial_merge.specs.Joining.{AbsorbsRows, IsNoneOfFirst, IsOfRows, IsReportedLate, Joins};
-ghost use Rattle.partial_merge.specs.Joining.{MayAbsorbRows, MayFinish, MayJoin, MayTakeGroup, TakesRow, with_group};
+ghost use Rattle.partial_merge.specs.Joining.{MayAbsorbRows, MayFinish, MayJoin, MayTakeGroup, MayTakeGroups, TakesRow, with_group, with_groups};
 ghost use Rattle.partial_groups.specs.Groups.{group_by};
+ghost use Rattle.partial_groups.specs.Ungrouped.{rows_of as row_groups};
 ghost use Rattle.partial_merge.specs.Sizes.{IsWithin, size_of};
 ghost use Rattle.sky_io.specs.Stops.{IfBad};
 
 use crate::contents::{
     Contents, combine_contents, count, finish, finish_rows, is_too_late, no_rows, nothing,
-    push_group, push_row,
+    push_group, push_row, push_rows,
 };
 use answer_rules::{ChunkQuery, MergePlan, TotalOut};
 use answer_table::Table;
@@ -106,6 +107,17 @@ impl<'w> Piece<'w> {
         ensures same { OnErr result (self.new ≡ self.old) }
     {
         push_group(&mut self.contents, key, rows, parts)
+    }
+
+    /// Adds rows with these numbers as their keys, one row for each number, which are grouped at the end. `counted` tells
+    /// of each aggregate whether it counts the rows. After `Err` nothing has changed.
+    pub fn push_rows(&mut self, counted: Vec<bool>, values: Vec<i64>) -> Result<(), Memory>
+        requires alike { MayTakeGroups self.old (row_groups counted.items values.items) }
+        ensures put { OnOk result (self.new
+            ≡ with_groups self.old (row_groups counted.items values.items)) }
+        ensures same { OnErr result (self.new ≡ self.old) }
+    {
+        push_rows(&mut self.contents, counted, values)
     }
 
     /// Returns the number of rows, which is at most n for a chunk query with LIMIT n. For groups it returns their
