@@ -92,7 +92,7 @@ pub have_ways : (items : List ChunkItem) (gs : Gathered) → AreOf items gs → 
 have_ways items [] h = tt
 have_ways items (g ∷ gs) h = (h.0, have_ways items gs h.1)
 
-rows_of_singles : (keys : List BoundCol) (items : List ChunkItem) (rows : List Pick) → rows_in (map (single (key_of keys) (sums_over items)) rows) ≡ length rows
+pub rows_of_singles : (keys : List BoundCol) (items : List ChunkItem) (rows : List Pick) → rows_in (map (single (key_of keys) (sums_over items)) rows) ≡ length rows
 rows_of_singles keys items [] = refl
 rows_of_singles keys items (p ∷ rows) =
     omega (arith, sum_by-cons (λ (g : Partial Key Sums). g.part.rows) (single (key_of keys) (sums_over items) p) (map (single (key_of keys) (sums_over items)) rows), rows_of_singles keys items rows)
@@ -113,7 +113,7 @@ own_way ys (item.Min e) = refl
 own_way ys (item.Max e) = refl
 
 -- some rows as a group of their own are for the aggregates
-own_ways : (ys : List Pick) (items : List ChunkItem) → map (λ (p : Part). p.way) (map (part_over ys) items) ≡ map way_of items
+pub own_ways : (ys : List Pick) (items : List ChunkItem) → map (λ (p : Part). p.way) (map (part_over ys) items) ≡ map way_of items
 own_ways ys [] = refl
 own_ways ys (i ∷ items) = cc (own_way ys i, own_ways ys items)
 

@@ -9,3 +9,4 @@ pub mod Apart
 pub mod Stretches
 pub mod Dealing
 pub mod Prefetching
+pub mod Ungrouping

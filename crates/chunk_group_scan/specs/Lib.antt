@@ -4,3 +4,4 @@ pub mod Runs
 pub mod Words
 pub mod Dealt
 pub mod Prefetched
+pub mod Ungrouped

@@ -24,6 +24,7 @@ use crate::one_group::one_group;
 use crate::prefetched_key::{cell, copied, first_value};
 use crate::runs::{run_end, starts};
 use crate::states::fill;
+use crate::ungrouped::ungrouped;
 use answer_rules::ChunkQuery;
 use chunk_filter::Scratch;
 use column_block::Block;
@@ -56,8 +57,32 @@ pub fn piece_of_groups<'w>(
     }
 }
 
-/// Returns the piece of the groups of the selected rows, after it has made rows with the same key adjacent.
+/// Returns the piece of the groups of the selected rows. If most of them would be groups of their own, they are not
+/// grouped here (`ungrouped`).
 fn by_keys<'w>(
+    alloc: Global,
+    block: &Block,
+    query: &ChunkQuery,
+    keys: &[BoundCol],
+    places: &[u32],
+    scratch: &mut Scratch,
+) -> Result<Piece<'w>, Memory>
+    requires shape { query.now.shape ≡ Groups keys.now }
+    requires sound { IsSoundChunk (FIRST_COLUMNS + block.now.width) query.now }
+    requires small { length block.now.objects ≤ ROWS_MOST }
+    requires few { length places.now ≤ ROWS_MOST }
+    requires there { All (λ place. place < length block.now.objects) places.now }
+    ensures { IfOk result (λ piece. piece ≡ OfGroups (partials_of keys.now query.now.items
+        (map row (objects_at block.now.objects places.now)))) }
+{
+    match ungrouped(alloc, block, query, keys, places)? {
+        Some(piece) => Ok(piece),
+        None => in_order(alloc, block, query, keys, places, scratch),
+    }
+}
+
+/// Returns the piece of the groups of the selected rows, after it has made rows with the same key adjacent.
+fn in_order<'w>(
     alloc: Global,
     block: &Block,
     query: &ChunkQuery,

@@ -18,3 +18,4 @@ mod prefetched_key;
 mod radix_partition;
 mod runs;
 mod states;
+mod ungrouped;

@@ -14,7 +14,6 @@ use Rattle.partial_merge.specs.Joining.{MayTakeGroup}
 use Rattle.column_vectors.proofs.Reading.{rows_there}
 use Rattle.chunk_group_scan.specs.Grouped.{is_sound_total}
 use Rattle.chunk_filter.specs.Values.{IsReady}
-use Rattle.chunk_group_scan.specs.States.{argument_of}
 use Rattle.chunk_group_scan.proofs.Running.{all_put, run_may}
 use Rattle.chunk_group_scan.proofs.Sizing.{parts_between, ready}
 use Rattle.chunk_group_scan.proofs.Sounding.{totals_sound}

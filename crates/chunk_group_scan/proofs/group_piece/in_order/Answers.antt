@@ -3,7 +3,7 @@ use Rattle.std.specs.Prelude.{All}
 use Rattle.std.specs.List.Sorted.{IsPermutation}
 use Rattle.std.proofs.lemmas.List.Sorted.{All-permutation, length_permutation}
 use Rattle.chunk_group_scan.proofs.Groups.{reordered}
-use Rattle.chunk_group_scan.proofs.group_piece.by_keys.Goals as goal
+use Rattle.chunk_group_scan.proofs.group_piece.in_order.Goals as goal
 
 pub group_piece-requires-clause-few : goal.group_piece-requires-clause-few
 group_piece-requires-clause-few c =
