@@ -23,8 +23,8 @@ mutant. That the crate is proved without its mutants is what `rt ci` has shown. 
 copy without stubs. With --unchanged the same copies are checked without mutants, and no function may be refused. It is run when these
 scripts or the toolchain change; the gate does not run it.
 
-A function is proved by its own body and the statements of others. So mutants that change nothing but bodies share a copy, if each
-names another function and another clause. Of such a mutant only what the check says of its function counts.
+A function is proved by its own body and the statements of others. So mutants that change nothing but the body of the function that they
+name share a copy, if each names another function and another clause. Of such a mutant only what the check says of its function counts.
 
 It prints a line for each mutant, and those that were not refused last; then the status is 1. With --times it prints the processor
 seconds of all checks. Without the libraries it ends with 1, without `rt` with 0, each with a line that says so. It writes into a
@@ -72,19 +72,27 @@ def refusal_of(path):
     return found[0]
 
 
-def is_of_bodies(tried):
-    """Whether a mutant changes the bodies of functions and nothing else: no statement, definition, constant or proof."""
-    mutant = tried[0]
+def changed_bodies(text, new):
+    """The functions whose bodies differ, if the texts have the same functions in the same order."""
+    both = zip(stubs.bodies(text), stubs.bodies(new))
+    return {name for (name, begin, end), (_, other, last) in both if text[begin:end] != new[other:last]}
+
+
+def is_of_its_body(tried):
+    """Whether a mutant changes the body of the function that it names and nothing else: no other body, statement, definition,
+    constant or proof."""
+    mutant, function, _ = tried
     if not mutant.file.startswith("src/"):
         return False
     with open(f"crates/{mutant.crate}/{mutant.file}", encoding="utf-8") as file:
         text = file.read()
-    return stubs.without_any_body(text) == stubs.without_any_body(changed(mutant, text))
+    new = changed(mutant, text)
+    return stubs.without_any_body(text) == stubs.without_any_body(new) and changed_bodies(text, new) == {function.rpartition("::")[2]}
 
 
 def share(copy, tried):
     """Whether a mutant can be made in a copy beside these."""
-    return is_of_bodies(tried) and all(is_of_bodies(it) and it[1] != tried[1] and it[2] != tried[2] for it in copy)
+    return is_of_its_body(tried) and all(is_of_its_body(it) and it[1] != tried[1] and it[2] != tried[2] for it in copy)
 
 
 def copies(crate):

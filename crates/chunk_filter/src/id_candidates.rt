@@ -51,7 +51,7 @@ fn batch(wanted: &[i64], from: usize) -> [i64; BATCH] {
     batch
 }
 
-/// Moves each position to the last of the ids that is not above its wanted one.
+/// Moves each position to the last of the ids that is not above its wanted one, and to the first if all are above it.
 fn search(places: &mut [usize; BATCH], ids: &[i64], batch: &[i64; BATCH]) {
     if ids.is_empty() {
         return;
@@ -60,9 +60,13 @@ fn search(places: &mut [usize; BATCH], ids: &[i64], batch: &[i64; BATCH]) {
     for turn in 0..bits {
         step(places, ids, batch, bits - 1 - turn);
     }
+    let last = ids.len() - 1;
+    for j in 0..BATCH {
+        places[j] = places[j].min(last);
+    }
 }
 
-/// Adds 2^bit to each position at which that is not above its wanted id. Behind the last id the last one is compared.
+/// Adds 2^bit to each position at which that is not above its wanted id. After the last id the last one is compared.
 fn step(places: &mut [usize; BATCH], ids: &[i64], batch: &[i64; BATCH], bit: u32)
     requires some { 0 < length ids.now }
     requires few { bit < 64 }

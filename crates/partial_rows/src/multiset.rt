@@ -184,7 +184,7 @@ impl Multiset {
     }
 
     /// Returns the table of the rows: the first of them in order, and the merged items of each. Allocates memory for
-    /// the table and, unless there is a limit, for packed keys or for copies of the rows.
+    /// the table and, unless there is a limit, for packed keys, for a sort of pairs or for copies of the rows.
     pub fn finish(self, alloc: Global, merge: &MergePlan) -> Result<Table, Memory>
         requires { AreApart row_order self.rows }
         ensures { IfOk result (λ table. table ≡ merged_rows merge.now self.rows) }

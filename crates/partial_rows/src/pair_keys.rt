@@ -99,8 +99,8 @@ fn arrange(alloc: Global, pairs: &mut [u128])
     put_pairs(pairs, keys.as_slice());
 }
 
-/// Sorts the pairs. Allocates memory for packed keys, and does without if there is none. The sort at the end only goes
-/// through pairs that are in order; if they are not, it allocates as much memory as the pairs take.
+/// Sorts the pairs. Allocates memory for packed keys, and does without if there is none. The sort at the end, which takes
+/// a buffer, finds the pairs in order if each has a packed key.
 pub(crate) fn sort_pairs(alloc: Global, pairs: &mut Vec<u128>) -> Result<(), Memory>
     ensures permutation { IsPermutation pairs.old.items pairs.new.items }
     ensures sorted { OnOk result (IsSorted nat_cmp pairs.new.items) }

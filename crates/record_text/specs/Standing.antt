@@ -16,7 +16,7 @@ use Rattle.text_rules.specs.declared.limits.TheConstants.{TEXT_MOST}
 abbrev pub IsEnough : ℕ → State → List ℕ → Type 0
 IsEnough n s bytes = (length bytes < n) ⊎ (next_record default_config s [] [] bytes ≡ None)
 
--- Such a reader of `csv` continues its text, and these are the records that are left.
+-- A reader of `csv` continues its text, and these are the records that are left.
 pub record CopiesGive (reader : Reader (Bor (List ℕ))) (rest : List (List (List ℕ))) : Type 0 where
   pub plain : reader.trim ≡ trim.None
   pub ready : Ready reader

@@ -1,7 +1,7 @@
 //! The records of a text, one at a time.
 //!
-//! A text without double quotes and carriage returns is read line by line, any other by the `csv` library. The other modules
-//! know a reader by the records that it has yet to return (`specs/Standing.antt`).
+//! A text without double quotes, carriage returns and a byte order mark is read line by line, any other by the `csv` library. The
+//! other modules know a reader by the records that it has yet to return (`specs/Standing.antt`).
 ghost use Rattle.std.specs.Prelude.{◌≤◌, List, ℕ, IfOk, length};
 ghost use Rattle.csv.specs.Reading.{default_config, records, strip_bom};
 ghost use Rattle.record_text.specs.Standing.{CopiesGive, StillGives, TookFirst};
@@ -46,7 +46,8 @@ pub fn reader_of<'a>(alloc: Global, text: &'a [u8]) -> RecordReader<'a>
     }
 }
 
-/// Reads the next record into `fields`, and returns whether there was one.
+/// Reads the next record into `fields`, and returns whether there was one. Allocates memory if `fields` has no room. After an
+/// error nothing is known of the reader and of `fields`.
 #[tactic(auto, using(crate::proofs::Shortens::took_line, crate::proofs::Shortens::took_copy))]
 pub fn read_next<'a>(reader: &mut RecordReader<'a>, fields: &mut Record<'a>) -> Result<bool, Memory>
     ensures { IfOk result (λ found. (rest : List (List (List ℕ))) → StillGives reader.old rest

@@ -18,6 +18,9 @@ const ONCE: &[u8] =
 const ANSWER: &[u8] =
     b"query 1\no.objectId,s.sourceId,s.flux-o.flux\n1,101,1\n1,103,2\n4,102,1\n5,105,1\n4 rows, 3 chunks\n";
 
+const ANSWERS: &[u8] =
+    b"query 1\no.objectId,s.sourceId,s.flux-o.flux\n1,101,1\n1,103,2\n4,102,1\n5,105,1\n4 rows, 3 chunks\nquery 2\no.objectId,s.sourceId,s.flux-o.flux\n1,101,1\n1,103,2\n4,102,1\n5,105,1\n4 rows, 3 chunks\n";
+
 /// The query twice.
 const TWICE: &[u8] =
     b"SELECT o.objectId,s.sourceId,s.flux-o.flux FROM Object o,Source s WHERE o.objectId=s.objectId\nSELECT o.objectId,s.sourceId,s.flux-o.flux FROM Object o,Source s WHERE o.objectId=s.objectId\n";
@@ -41,23 +44,24 @@ fn sources_past<R: Threads + Wait + Sync>(
     Ok(status_past(rt, alloc, words.as_slice(), &mut shelf, sink, gate))
 }
 
-// Whether the command over a script has the status 0, and its text begins with the answer of the query.
+// Whether the command over a script has the status 0 and writes this.
 fn is_joined<R: Threads + Wait + Sync>(
     rt: &R,
     alloc: Global,
     workers: &str,
     script: &[u8],
     gate: &TestGate<'_>,
+    want: &[u8],
 ) -> Result<bool, Fail> {
     let mut sink = MemSink::new(alloc, 1000, Vec::new(alloc))?;
     let found = sources_past(rt, alloc, workers, script, &mut sink, gate)?;
-    Ok(found == 0 && sink.bytes().starts_with(ANSWER))
+    Ok(found == 0 && sink.bytes() == want)
 }
 
 #[test]
 fn two_work_on_chunks_of_sources_at_one_time(rt: HostRuntime) -> Result<(), Fail> {
     let gate = StepGate::new(2, 10000000);
-    assert!(rt; is_joined(&rt, rt.alloc(), "2", ONCE, &TestGate::Step(&gate))?);
+    assert!(rt; is_joined(&rt, rt.alloc(), "2", ONCE, &TestGate::Step(&gate), ANSWER)?);
     assert_eq!(rt; (gate.met(), gate.given_up()), (true, false));
     Ok(())
 }
@@ -65,7 +69,7 @@ fn two_work_on_chunks_of_sources_at_one_time(rt: HostRuntime) -> Result<(), Fail
 #[test]
 fn a_chunk_is_passed_once_for_both_queries(rt: HostRuntime) -> Result<(), Fail> {
     let mut gate = NoteGate::new();
-    assert!(rt; is_joined(&rt, rt.alloc(), "0", TWICE, &TestGate::Note(&gate))?);
+    assert!(rt; is_joined(&rt, rt.alloc(), "0", TWICE, &TestGate::Note(&gate), ANSWERS)?);
     assert_eq!(rt; first_other(&mut gate, &[0, 4, 7]), None);
     Ok(())
 }
