@@ -12,10 +12,10 @@ it is answered with 0, 1, 4 and 16 workers, by `classes` with 0 and 4, and expla
 Runs of other kinds are in scripts/worked_runs.py: sky plans and catalogues with their reports or their first faults, scripts
 that wait and cancel, the demo, words of no form, and an outcome of each status that a run can be brought to. Texts at each
 limit, and one beyond it, are in scripts/worked_limits.py. A larger sky, whose rows are drawn, is in scripts/worked_world.py,
-catalogues of certain lengths in scripts/worked_lanes.py, lists of ids in scripts/worked_ids.py, pairs of neighbours in
-scripts/worked_pairs.py, as many queries and chunks as there may be in scripts/worked_laps.py, runs of `sources` in
-scripts/worked_children.py, runs over pipes in scripts/worked_streams.py, and what the demo of 20,000 objects and that of as many as
-there may be have to write in scripts/worked_demo.py.
+catalogues of certain lengths in scripts/worked_lanes.py, rows counted by the values of a column in scripts/worked_groups.py, lists of
+ids in scripts/worked_ids.py, pairs of neighbours in scripts/worked_pairs.py, as many queries and chunks as there may be in
+scripts/worked_laps.py, runs of `sources` in scripts/worked_children.py, runs over pipes in scripts/worked_streams.py, and what the demo
+of 20,000 objects and that of as many as there may be have to write in scripts/worked_demo.py.
 
 It prints a line for each run that ended otherwise, with the row and with what is wanted, and then how many rows it has
 compared. The status is 0 where none differs, and 1 else, also where there is no program.
@@ -31,6 +31,7 @@ import sys
 import tempfile
 
 import worked_children
+import worked_groups
 import worked_ids
 import worked_lanes
 import worked_limits
@@ -128,6 +129,10 @@ def made_parts():
         texts[f"pairs_{kind}.csv"] = worked_pairs.csv(kind)
         rows = [Row(f"pairs of {kind} ids", *query) for query in worked_pairs.queries(kind)]
         found.append(Part(["query"], "pairs.txt", f"pairs_{kind}.csv", rows))
+    texts["groups.txt"], texts["groups.csv"] = worked_groups.SKY, worked_groups.csv()
+    for column in worked_groups.COLUMNS:
+        rows = [Row(f"counts by {column}", *query) for query in worked_groups.queries(column)]
+        found.append(Part(["query"], "groups.txt", "groups.csv", rows))
     return found, texts
 
 
