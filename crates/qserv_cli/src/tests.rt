@@ -1,7 +1,7 @@
 //! What no clause says: that a failing output or input is a fault, that threads meet, and that queries which run
 //! together share a chunk's scan.
 use crate::tests::gates::TestGate;
-use sky_io::{ListGate, MemShelf, MemSink, NoteGate, PlainShelf, Shelf, StepGate};
+use sky_io::{ListGate, MemShelf, MemSink, NoteGate, StepGate};
 use std::alloc::Global;
 use std::process::Abort;
 use std::sync::Wait;
@@ -59,12 +59,18 @@ pub(crate) fn texts_of<'t>(
     Ok(texts)
 }
 
+// A shelf of these texts, of which each can be fetched. All shelves of these tests have one type, so that the engine is
+// compiled once for all of them.
+pub(crate) fn shelf_of(alloc: Global, texts: Vec<(String, Vec<u8>)>) -> MemShelf {
+    MemShelf::new(alloc, texts, Vec::new(alloc))
+}
+
 // The status of the top call over a shelf, past a gate.
-pub(crate) fn status_past<R: Threads + Wait + Sync, S: Shelf>(
+pub(crate) fn status_past<R: Threads + Wait + Sync>(
     rt: &R,
     alloc: Global,
     words: &[String],
-    shelf: &mut S,
+    shelf: &mut MemShelf,
     sink: &mut MemSink,
     gate: &TestGate<'_>,
 ) -> u8 {
@@ -73,11 +79,11 @@ pub(crate) fn status_past<R: Threads + Wait + Sync, S: Shelf>(
 }
 
 // The status of a command over a shelf, with a number of workers, past a gate.
-fn run_over<R: Threads + Wait + Sync, S: Shelf>(
+fn run_over<R: Threads + Wait + Sync>(
     rt: &R,
     alloc: Global,
     asked: (&str, &str),
-    shelf: &mut S,
+    shelf: &mut MemShelf,
     sink: &mut MemSink,
     gate: &TestGate<'_>,
 ) -> Result<u8, Fail> {
@@ -94,7 +100,7 @@ pub(crate) fn run_past<R: Threads + Wait + Sync>(
     sink: &mut MemSink,
     gate: &TestGate<'_>,
 ) -> Result<u8, Fail> {
-    let mut shelf = PlainShelf::new(texts_of(alloc, texts)?);
+    let mut shelf = shelf_of(alloc, texts_of(alloc, texts)?);
     run_over(rt, alloc, asked, &mut shelf, sink, gate)
 }
 

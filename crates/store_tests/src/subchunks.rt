@@ -10,7 +10,7 @@ use std::test::Fail;
 use std::thread::Threads;
 
 /// Two stripes of four chunks, each with two columns and two rows, below and above the equator.
-const SKY: &[u8] = b"overlap 5\nstripe -268435472 4 2 2\nstripe 0 4 2 2\n";
+pub(crate) const SKY: &[u8] = b"overlap 5\nstripe -268435472 4 2 2\nstripe 0 4 2 2\n";
 
 /// The ids and positions of the rows: the first is on the x axis, four are near it, and one is at the pole.
 const ROWS: [(u32, i64, i64, i64); 6] = [
@@ -49,8 +49,16 @@ fn fill(columns: &mut Columns) -> Result<(), Memory> {
     Ok(())
 }
 
+// The plan of a short text, or none.
+pub(crate) fn plan_of(alloc: Global, sky: &[u8]) -> Option<SkyPlan> {
+    if sky.len() > 99 {
+        return None;
+    }
+    SkyPlan::read(alloc, sky).ok()
+}
+
 // The store of the rows, built by three threads.
-fn store_of<R: Threads + Sync>(
+pub(crate) fn store_of<R: Threads + Sync>(
     rt: &R,
     alloc: Global,
     plan: SkyPlan,
@@ -96,10 +104,7 @@ fn fault_over<R: Threads + Sync>(
     alloc: Global,
     sky: &[u8],
 ) -> Result<Option<&'static str>, Fail> {
-    if sky.len() > 99 {
-        return Ok(Some("a long text"));
-    }
-    let Ok(plan) = SkyPlan::read(alloc, sky) else {
+    let Some(plan) = plan_of(alloc, sky) else {
         return Ok(Some("no plan"));
     };
     let Some(store) = store_of(rt, alloc, plan)? else {

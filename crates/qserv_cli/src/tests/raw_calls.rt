@@ -1,8 +1,8 @@
-//! What no clause of `sky_io` says: that its calls succeed, and how many raw calls they make.
-ghost use Rattle.std.specs.Prelude.{◌<◌};
-
+//! What no clause of `sky_io` says: how many raw calls are made, and that a rest is written by a later call.
 use crate::tests::add_text;
-use sky_io::{Buffered, Fetch, FileShelf, FolderShelf, MemFiles, MemOutput, Put, Shelf, Sink};
+use sky_io::{
+    Buffered, Fetch, FileShelf, FolderShelf, MemFiles, MemOutput, PlainShelf, Put, Shelf, Sink,
+};
 use std::alloc::Global;
 use std::test::Fail;
 
@@ -17,36 +17,6 @@ fn write_pieces(sink: &mut Buffered<MemOutput>) -> Put {
         }
     }
     sink.flush_out()
-}
-
-// The pieces one after another.
-fn whole_of(alloc: Global) -> Result<Vec<u8>, Fail> {
-    let mut whole = Vec::new(alloc);
-    for piece in PIECES {
-        whole.extend_from_slice(piece)?;
-    }
-    Ok(whole)
-}
-
-// Whether the pieces arrive one after another over an output that takes at most so many bytes a write.
-fn is_whole(alloc: Global, most: u32, whole: &[u8]) -> Result<bool, Fail>
-    requires { 0 < most }
-{
-    let output = MemOutput::new(alloc, 20000, most, Vec::new(alloc))?;
-    let mut sink = Buffered::over(output);
-    let put = write_pieces(&mut sink);
-    Ok(put == Put::Done && sink.output().bytes() == whole)
-}
-
-#[test]
-fn pieces_come_in_order_however_few_bytes_a_write_takes(rt: HostRuntime) -> Result<(), Fail> {
-    let alloc = rt.alloc();
-    let whole = whole_of(alloc)?;
-    for most in [1, 3, 5000, 8192, 20000] {
-        let is_whole = is_whole(alloc, most, whole.as_slice())?;
-        assert!(rt; is_whole, "at most {most} bytes a write");
-    }
-    Ok(())
 }
 
 // Whether the pieces are written over an output whose write of this number fails, and how many bytes of them are.
@@ -95,31 +65,6 @@ fn is_fetched(alloc: Global, files: MemFiles, limit: usize, want: (Fetch, &str))
     fetch == want.0 && into.as_slice() == want.1.as_bytes()
 }
 
-// Whether the text comes up to a limit if a read gives at most so many bytes.
-fn comes(alloc: Global, most: u32, limit: usize, want: &str) -> Result<bool, Fail>
-    requires { 0 < most }
-{
-    let files = MemFiles::new(alloc, texts_of(alloc)?, most, Vec::new(alloc));
-    Ok(is_fetched(alloc, files, limit, (Fetch::Done, want)))
-}
-
-#[test]
-fn a_text_comes_whole_however_few_bytes_a_read_gives(rt: HostRuntime) -> Result<(), Fail> {
-    for most in [1, 2, 5, 100] {
-        for (limit, want) in [
-            (0, "a"),
-            (3, "abcd"),
-            (4, "abcde"),
-            (5, "abcde"),
-            (9000, "abcde"),
-        ] {
-            let comes = comes(rt.alloc(), most, limit, want)?;
-            assert!(rt; comes, "{most} bytes a read, limit {limit}");
-        }
-    }
-    Ok(())
-}
-
 // Whether a fetch is so if the raw call of this number fails and a read gives at most two bytes.
 fn is_fetched_failing(alloc: Global, call: u64, want: (Fetch, &str)) -> Result<bool, Fail> {
     let files = MemFiles::new(alloc, texts_of(alloc)?, 2, vec![in alloc; call]?);
@@ -134,6 +79,16 @@ fn a_raw_call_that_fails_is_a_fetch_that_fails(rt: HostRuntime) -> Result<(), Fa
         assert!(rt; is_failed, "call {call} fails");
     }
     assert!(rt; is_fetched_failing(rt.alloc(), 6, (Fetch::Done, "abcde"))?);
+    Ok(())
+}
+
+#[test]
+fn a_text_in_memory_comes_up_to_the_limit(rt: HostRuntime) -> Result<(), Fail> {
+    let alloc = rt.alloc();
+    let mut shelf = PlainShelf::new(texts_of(alloc)?);
+    let mut into = Vec::new(alloc);
+    assert_eq!(rt; shelf.fetch("five", 3, &mut into), Fetch::Done);
+    assert_eq!(rt; into.as_slice(), b"abcd".as_slice());
     Ok(())
 }
 

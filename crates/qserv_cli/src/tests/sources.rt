@@ -1,7 +1,9 @@
 //! The command `sources`: threads meet, and queries share a chunk's scan.
 use crate::tests::gates::TestGate;
-use crate::tests::{CATALOGUE, SKY, add_text, first_other, status_past, texts_of, words_in};
-use sky_io::{MemSink, NoteGate, PlainShelf, StepGate};
+use crate::tests::{
+    CATALOGUE, SKY, add_text, first_other, shelf_of, status_past, texts_of, words_in,
+};
+use sky_io::{MemSink, NoteGate, StepGate};
 use std::alloc::Global;
 use std::sync::Wait;
 use std::test::Fail;
@@ -40,7 +42,7 @@ fn sources_past<R: Threads + Wait + Sync>(
     )?;
     let mut all = texts_of(alloc, (SKY, CATALOGUE, script))?;
     add_text(alloc, &mut all, "measured", SOURCES)?;
-    let mut shelf = PlainShelf::new(all);
+    let mut shelf = shelf_of(alloc, all);
     Ok(status_past(rt, alloc, words.as_slice(), &mut shelf, sink, gate))
 }
 

@@ -2,10 +2,9 @@
 ghost use Rattle.std.specs.Prelude.{◌<◌};
 ghost use Rattle.sky_rules.specs.Partition.{chunk_count};
 
-use catalogue_load::load;
+use crate::subchunks::{SKY, plan_of, store_of};
 use chunk_store::Store;
 use object_index::Index;
-use sky_plan::SkyPlan;
 use source_load::load_sources;
 use source_row::Sources;
 use source_store::SourceStore;
@@ -13,27 +12,9 @@ use std::alloc::Global;
 use std::test::Fail;
 use std::thread::Threads;
 
-/// Two stripes of four chunks, each with two columns and two rows, below and above the equator.
-const HALVES: &[u8] = b"overlap 5\nstripe -268435472 4 2 2\nstripe 0 4 2 2\n";
-
-/// The first object is on the x axis, four are near it, one of them below the equator, and one is at the pole.
-const SIX: &[u8] =
-    b"objectId,x,y,z\n1,268435456,0,0\n2,268435456,3,0\n3,268435456,0,4\n4,268435456,-3,0\n5,268435456,0,-1\n6,0,0,268435456\n";
-
 /// Five sources, of which the fourth is of an unknown object.
 const FIVE: &[u8] =
     b"sourceId,objectId,flux,t\n101,1,11,1\n102,4,41,1\n103,1,12,2\n104,99,5,2\n105,5,51,2\n";
-
-// The store of the objects, or none.
-fn store_of<R: Threads + Sync>(rt: &R, alloc: Global) -> Result<Option<Store>, Fail> {
-    let Ok(plan) = SkyPlan::read(alloc, HALVES) else {
-        return Ok(None);
-    };
-    let Ok(rows) = load(rt, alloc, 1, SIX) else {
-        return Ok(None);
-    };
-    Ok(Some(Store::build(rt, alloc, 1, plan, rows)?))
-}
 
 // Whether the first, the fifth and the last chunk have the sources of their objects, and the second has none.
 fn lists_are(sources: &SourceStore<'_>) -> bool
@@ -64,14 +45,30 @@ fn are_by_chunk(alloc: Global, store: &Store, sources: Sources) -> Result<bool, 
     Ok(lists_are(&sources) && columns_are(&sources) && sources.sources().len() == 5)
 }
 
+// Whether the sources of a short text are by chunk in the store of the rows over the sky of another one.
+fn has_sources<R: Threads + Sync>(
+    rt: &R,
+    alloc: Global,
+    sky: &[u8],
+    text: &[u8],
+) -> Result<bool, Fail> {
+    if text.len() > 99 {
+        return Ok(false);
+    }
+    let Ok(sources) = load_sources(rt, alloc, 1, text) else {
+        return Ok(false);
+    };
+    let Some(plan) = plan_of(alloc, sky) else {
+        return Ok(false);
+    };
+    let Some(store) = store_of(rt, alloc, plan)? else {
+        return Ok(false);
+    };
+    are_by_chunk(alloc, &store, sources)
+}
+
 #[test]
 fn a_chunk_has_the_sources_of_its_objects(rt: HostRuntime) -> Result<(), Fail> {
-    let Ok(sources) = load_sources(&rt, rt.alloc(), 1, FIVE) else {
-        panic!(rt; "no sources");
-    };
-    let Some(store) = store_of(&rt, rt.alloc())? else {
-        panic!(rt; "no store");
-    };
-    assert!(rt; are_by_chunk(rt.alloc(), &store, sources)?);
+    assert!(rt; has_sources(&rt, rt.alloc(), SKY, FIVE)?);
     Ok(())
 }

@@ -59,13 +59,20 @@ fn flux_is(sources: &Sources) -> bool {
         )
 }
 
+// Whether a short text is loaded, as the five sources.
+fn are_loaded<R: Threads + Sync>(rt: &R, alloc: Global, text: &[u8]) -> bool {
+    if text.len() > 99 {
+        return false;
+    }
+    match load_sources(rt, alloc, 1, text) {
+        Ok(sources) => ids_are(&sources) && flux_is(&sources),
+        Err(_) => false,
+    }
+}
+
 #[test]
 fn sources_are_in_ascending_id(rt: HostRuntime) -> Result<(), Fail> {
-    let Ok(sources) = load_sources(&rt, rt.alloc(), 1, FIVE) else {
-        panic!(rt; "no sources");
-    };
-    assert!(rt; ids_are(&sources));
-    assert!(rt; flux_is(&sources));
+    assert!(rt; are_loaded(&rt, rt.alloc(), FIVE));
     Ok(())
 }
 
