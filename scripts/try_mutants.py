@@ -46,8 +46,8 @@ import mutants
 import stubs
 
 # the copies that a check reads, and the memory that it may take
-MOST = 16
-MEMORY = 6_000_000_000
+MOST = 24
+MEMORY = 9_000_000_000
 PARTS = ("src", "specs", "proofs")
 # the crate whose libraries the copies are, and its text
 TOP = "all_copies"
