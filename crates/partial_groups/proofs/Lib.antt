@@ -12,3 +12,5 @@ pub mod Firsts
 pub mod Walking
 pub mod Holding
 pub mod RowCounts
+pub mod NumberLists
+pub mod Runs

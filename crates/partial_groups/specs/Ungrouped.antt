@@ -1,5 +1,7 @@
 -- Rows that are not in a group yet. Each has one number as its key, and is the group of that one row.
 use Rattle.std.specs.Prelude.{◌≡◌, ◌≤◌, ◌+◌, ℕ, ℤ, Bool, List, [], ◌∷◌, ◌++◌, map, Some, if◌then◌else◌}
+use Rattle.std.specs.Global.{Vec}
+use Rattle.std.specs.List.{flat_map}
 use Rattle.answer_rules.specs.declared.way.Way.{Way}
 use Rattle.answer_rules.specs.Gather.{Partial, gather}
 use Rattle.answer_rules.specs.Keys.{Key, key_order}
@@ -18,6 +20,10 @@ counted_group counted n value = group_by (Some value ∷ []) n (counts_of counte
 -- the groups of one row each, by the numbers that are their keys
 abbrev pub rows_of : List Bool → List ℤ → Gathered
 rows_of counted values = map (counted_group counted 1) values
+
+-- the numbers of all lists, one list after another
+abbrev pub values_in : List (Vec ℤ) → List ℤ
+values_in lists = flat_map (λ list. list.items) lists
 
 -- Groups, and rows that are not in a group yet, with the same combine functions, and few enough rows together.
 pub record AreHeld (groups rows : Gathered) : Type 0 where

@@ -1,13 +1,13 @@
 //! The groups of a piece, some of whose rows may not be in a group yet.
 //!
 //! If most rows of a chunk differ in the key column, little is gained by grouping them chunk by chunk: nearly every row is
-//! a group of its own, which is then searched for among the groups of the other chunks. Such rows are kept as a list of
-//! the numbers that are their keys, and are grouped at the end, all at once (`counting`). A row can be kept so if its key
-//! is one number, and each aggregate counts either all rows or none.
+//! a group of its own, which is then searched for among the groups of the other chunks. Such rows are kept as the numbers
+//! that are their keys, in one list for each chunk (`number_lists`), and are grouped at the end, all at once (`counting`).
+//! A row can be kept so if its key is one number, and each aggregate counts either all rows or none.
 //!
 //! Contracts see what the groups and the rows add up to.
 
-ghost use Rattle.std.specs.Prelude.{◌≡◌, ◌+◌, ◌≤◌, ◌++◌, ◌∷◌, [], All, Err, length, map, IfErr, IfOk, Ok, OnErr, OnOk, vec_capacity, vec_len};
+ghost use Rattle.std.specs.Prelude.{◌≡◌, ◌≤◌, ◌++◌, ◌∷◌, [], All, Err, length, IfErr, IfOk, Ok, OnErr, OnOk};
 ghost use Rattle.std.specs.Bool.{OnTrue};
 ghost use Rattle.answer_rules.specs.Finish.{groups_merged, merged_groups};
 ghost use Rattle.answer_rules.specs.Gather.{gather};
@@ -17,10 +17,11 @@ ghost use Rattle.answer_rules.specs.Small.{IsSmallGroup};
 ghost use Rattle.partial_groups.specs.Merging.{MayMerge};
 ghost use Rattle.sky_io.specs.Stops.{IfBad};
 ghost use Rattle.partial_groups.specs.Groups.{MayGather, group_by};
-ghost use Rattle.partial_groups.specs.Ungrouped.{AreHeld, BothHeld, IsJoined, rows_of};
+ghost use Rattle.partial_groups.specs.Ungrouped.{BothHeld, IsJoined, rows_of, values_in};
 
 use crate::aggregation_table::AggregationTable;
 use crate::counting::grouped;
+use crate::number_lists::{append_lists, number_count, one_list};
 use crate::tally::Tally;
 use answer_rules::{MergePlan, TotalOut};
 use answer_table::Table;
@@ -31,14 +32,14 @@ use sql_bound::ColList;
 use std::alloc::Global;
 use std::marker::Model;
 
-/// The groups of a piece, and the numbers of the rows that are not in a group yet. `counted` tells of each aggregate
-/// whether it counts these rows.
+/// The groups of a piece, and the numbers of the rows that are not in a group yet, one list for each chunk. `counted` tells
+/// of each aggregate whether it counts these rows.
 #[derive(Drop)]
 pub struct GroupedRows {
     alloc: Global,
     groups: AggregationTable,
     counted: Vec<bool>,
-    values: Vec<i64>,
+    lists: Vec<Vec<i64>>,
 }
 
 impl Model for GroupedRows {
@@ -47,14 +48,15 @@ impl Model for GroupedRows {
     ghost use Rattle.answer_rules.specs.Keys.{key_order};
     ghost use Rattle.answer_rules.specs.Parts.{add_own_sums};
     ghost use Rattle.partial_groups.specs.Groups.{Gathered};
-    ghost use Rattle.partial_groups.specs.Ungrouped.{AreHeld, rows_of};
+    ghost use Rattle.partial_groups.specs.Ungrouped.{AreHeld, rows_of, values_in};
 
     ghost Value = { Gathered };
 
     ghost view = { λ p. gather key_order add_own_sums
-        (p.groups ++ rows_of p.counted.items p.values.items) };
+        (p.groups ++ rows_of p.counted.items (values_in p.lists.items)) };
 
-    ghost invariant = { λ p. AreHeld p.groups (rows_of p.counted.items p.values.items) };
+    ghost invariant = { λ p. AreHeld p.groups
+        (rows_of p.counted.items (values_in p.lists.items)) };
 }
 
 /// Returns whether both are equal.
@@ -80,36 +82,26 @@ fn are_same(a: &[bool], b: &[bool]) -> bool
     true
 }
 
-/// Appends the numbers. Does not allocate.
-fn put_values(values: &mut Vec<i64>, others: &[i64])
-    requires { vec_len values.old + length others.now ≤ vec_capacity values.old }
-    ensures { values.new.items ≡ values.old.items ++ others.now }
-{
-    for value in others {
-        values.push_reserved(*value);
-    }
-}
-
 /// Adds groups to the groups, and rows that are counted in the same way to the rows.
 fn append(
     groups: &mut AggregationTable,
     counted: &Vec<bool>,
-    values: &mut Vec<i64>,
+    lists: &mut Vec<Vec<i64>>,
     more: AggregationTable,
-    others: Vec<i64>,
+    others: Vec<Vec<i64>>,
 ) -> Result<(), Memory>
-    requires { BothHeld groups.old (rows_of counted.now.items values.old.items) more
-        (rows_of counted.now.items others.items) }
+    requires { BothHeld groups.old (rows_of counted.now.items (values_in lists.old.items)) more
+        (rows_of counted.now.items (values_in others.items)) }
     ensures joined { OnOk result (IsJoined groups.old
-        (rows_of counted.now.items values.old.items) more
-        (rows_of counted.now.items others.items) groups.new
-        (rows_of counted.now.items values.new.items)) }
+        (rows_of counted.now.items (values_in lists.old.items)) more
+        (rows_of counted.now.items (values_in others.items)) groups.new
+        (rows_of counted.now.items (values_in lists.new.items))) }
     ensures groups { OnErr result (groups.new ≡ groups.old) }
-    ensures values { OnErr result (values.new.items ≡ values.old.items) }
+    ensures lists { OnErr result (lists.new.items ≡ lists.old.items) }
 {
-    reserve(values, others.len())?;
+    reserve(lists, others.len())?;
     groups.absorb(more)?;
-    put_values(values, others.as_slice());
+    append_lists(lists, others);
     Ok(())
 }
 
@@ -119,13 +111,13 @@ fn absorb_grouped(
     groups: &mut AggregationTable,
     more: AggregationTable,
     counted: &[bool],
-    others: Vec<i64>,
+    others: Vec<Vec<i64>>,
 ) -> Result<(), Memory>
-    requires own { MayGather more (rows_of counted.now others.items) }
+    requires own { MayGather more (rows_of counted.now (values_in others.items)) }
     requires alike { MayGather groups.old (gather key_order add_own_sums
-        (more ++ rows_of counted.now others.items)) }
+        (more ++ rows_of counted.now (values_in others.items))) }
     ensures joined { OnOk result (groups.new ≡ gather key_order add_own_sums (groups.old
-        ++ gather key_order add_own_sums (more ++ rows_of counted.now others.items))) }
+        ++ gather key_order add_own_sums (more ++ rows_of counted.now (values_in others.items)))) }
     ensures same { OnErr result (groups.new ≡ groups.old) }
 {
     let whole = grouped(alloc, more, counted, others)?;
@@ -141,35 +133,35 @@ impl GroupedRows {
             alloc,
             groups: AggregationTable::empty(alloc),
             counted: Vec::new(alloc),
-            values: Vec::new(alloc),
+            lists: Vec::new(alloc),
         }
     }
 
-    /// Adds groups, and rows with these numbers as their keys. After `Err` nothing has changed.
+    /// Adds groups, and rows with the numbers of these lists as their keys. After `Err` nothing has changed.
     fn join(
         &mut self,
         groups: AggregationTable,
         counted: Vec<bool>,
-        values: Vec<i64>,
+        lists: Vec<Vec<i64>>,
     ) -> Result<(), Memory>
-        requires { MayGather self.old (groups ++ rows_of counted.items values.items) }
+        requires { MayGather self.old (groups ++ rows_of counted.items (values_in lists.items)) }
         ensures joined { OnOk result (self.new ≡ gather key_order add_own_sums
-            (self.old ++ (groups ++ rows_of counted.items values.items))) }
+            (self.old ++ (groups ++ rows_of counted.items (values_in lists.items)))) }
         ensures same { OnErr result (self.new ≡ self.old) }
     {
-        if self.values.len() == 0 {
+        if self.lists.len() == 0 {
             self.groups.absorb(groups)?;
             self.counted = counted;
-            self.values = values;
+            self.lists = lists;
             return Ok(());
         }
         if are_same(self.counted.as_slice(), counted.as_slice()) {
             return append(
                 &mut self.groups,
                 &self.counted,
-                &mut self.values,
+                &mut self.lists,
                 groups,
-                values,
+                lists,
             );
         }
         absorb_grouped(
@@ -177,7 +169,7 @@ impl GroupedRows {
             &mut self.groups,
             groups,
             counted.as_slice(),
-            values,
+            lists,
         )
     }
 
@@ -201,7 +193,8 @@ impl GroupedRows {
         ensures same { OnErr result (self.new ≡ self.old) }
     {
         let none = AggregationTable::empty(self.alloc);
-        self.join(none, counted, values)
+        let lists = one_list(self.alloc, values)?;
+        self.join(none, counted, lists)
     }
 
     /// Adds the groups and rows of another piece with the same combine functions. After `Err` nothing has changed.
@@ -215,9 +208,9 @@ impl GroupedRows {
             alloc: _,
             groups,
             counted,
-            values,
+            lists,
         } = other;
-        self.join(groups, counted, values)
+        self.join(groups, counted, lists)
     }
 
     /// Returns the table of the groups by these keys, or the first total that is out of range.
@@ -238,9 +231,9 @@ impl GroupedRows {
             alloc: _,
             groups,
             counted,
-            values,
+            lists,
         } = self;
-        let whole = grouped(alloc, groups, counted.as_slice(), values)?;
+        let whole = grouped(alloc, groups, counted.as_slice(), lists)?;
         whole.finish(alloc, keys, merge)
     }
 
@@ -249,6 +242,7 @@ impl GroupedRows {
     pub fn len(&self) -> usize
         ensures { length self.now ≤ result }
     {
-        self.groups.len().saturating_add(self.values.len())
+        let rows = number_count(self.lists.as_slice());
+        self.groups.len().saturating_add(rows)
     }
 }
