@@ -14,7 +14,7 @@ use Rattle.answer_rules.proofs.JoinedAlone.{AreOf, gathers}
 use Rattle.answer_rules.proofs.PartsAdd.{sums_add, sums_add_up}
 use Rattle.answer_rules.proofs.Totals.{key_total, same_keys}
 use Rattle.partial_groups.specs.Groups.{Gathered, HaveWays, MayGather, group_by, most_rows}
-use Rattle.partial_groups.specs.Ungrouped.{counted_group, counts_of, rows_of}
+use Rattle.partial_groups.specs.Ungrouped.{counted_group, counts_of, row_groups}
 use Rattle.chunk_group_scan.specs.Ungrouped.{AreCounted, IsCounted}
 use Rattle.chunk_group_scan.proofs.Groups.{have_ways, own_ways, rows_of_singles}
 
@@ -39,7 +39,7 @@ counted_more items i item counted one lt is all this = λ p.
 
 -- the group of a row is that of its value
 rows_are : (k : BoundCol) (items : List ChunkItem) (counted : List Bool) (values : List ℤ) (objects : List Obj) → AreCounted items counted → map Some values ≡ map (λ o. cell_of (row o) k) objects
-    → rows_of counted values ≡ map (single (key_of (k ∷ [])) (sums_over items)) (map row objects)
+    → row_groups counted values ≡ map (single (key_of (k ∷ [])) (sums_over items)) (map row objects)
 rows_are k items counted [] [] h e = refl
 rows_are k items counted [] (o ∷ objects) h e = absurd (cc e)
 rows_are k items counted (v ∷ values) [] h e = absurd (cc e)
@@ -48,7 +48,7 @@ rows_are k items counted (v ∷ values) (o ∷ objects) h e =
     let key : Some v ≡ cell_of r k = ap (head_or (Some v)) e in
     let one : counted_group counted 1 v ≡ single (key_of (k ∷ [])) (sums_over items) r =
     ap (λ (c : Option ℤ). group_by (c ∷ []) 1 (counts_of counted 1)) key ∙ ap (λ (ps : List Part). group_by (cell_of r k ∷ []) 1 ps) (sym (h r)) in
-    ap (λ (g : Partial Key Sums). g ∷ rows_of counted values) one
+    ap (λ (g : Partial Key Sums). g ∷ row_groups counted values) one
     ∙ ap (λ (gs : Gathered). single (key_of (k ∷ [])) (sums_over items) r ∷ gs) (rows_are k items counted values objects h (ap rest_of e))
 
 singles_are : (k : BoundCol) (items : List ChunkItem) (rows : List Pick) → AreOf items (map (single (key_of (k ∷ [])) (sums_over items)) rows)
@@ -57,7 +57,7 @@ singles_are k items (r ∷ rows) = (own_ways (r ∷ []) items, singles_are k ite
 
 -- and all of them come to the groups of the rows
 pub rows_grouped : (k : BoundCol) (items : List ChunkItem) (counted : List Bool) (values : List ℤ) (objects : List Obj) → AreCounted items counted → map Some values ≡ map (λ o. cell_of (row o) k) objects
-    → gather key_order add_own_sums (rows_of counted values) ≡ partials_of (k ∷ []) items (map row objects)
+    → gather key_order add_own_sums (row_groups counted values) ≡ partials_of (k ∷ []) items (map row objects)
 rows_grouped k items counted values objects h e =
     let rows : List Pick = map row objects in
     let singles : Gathered = map (single (key_of (k ∷ [])) (sums_over items)) rows in
@@ -67,11 +67,11 @@ rows_grouped k items counted values objects h e =
 
 -- a piece without groups may take them
 pub rows_may : (k : BoundCol) (items : List ChunkItem) (counted : List Bool) (values : List ℤ) (objects : List Obj) → AreCounted items counted → map Some values ≡ map (λ o. cell_of (row o) k) objects
-    → length objects ≤ most_rows → MayGather [] (rows_of counted values)
+    → length objects ≤ most_rows → MayGather [] (row_groups counted values)
 rows_may k items counted values objects h e few =
     let rows : List Pick = map row objects in
     let singles : Gathered = map (single (key_of (k ∷ [])) (sums_over items)) rows in
-    let are : rows_of counted values ≡ singles = rows_are k items counted values objects h e in
+    let are : row_groups counted values ≡ singles = rows_are k items counted values objects h e in
     record {
       own = map way_of items;
       this = tt;

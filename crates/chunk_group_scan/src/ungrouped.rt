@@ -16,7 +16,7 @@ ghost use Rattle.answer_rules.specs.Gather.{gather};
 ghost use Rattle.answer_rules.specs.Keys.{key_order};
 ghost use Rattle.answer_rules.specs.Parts.{add_own_sums, partials_of};
 ghost use Rattle.partial_groups.specs.Groups.{MayGather};
-ghost use Rattle.partial_groups.specs.Ungrouped.{rows_of};
+ghost use Rattle.partial_groups.specs.Ungrouped.{row_groups};
 ghost use Rattle.answer_rules.specs.Pieces.{OfGroups};
 ghost use Rattle.chunk_group_scan.specs.Ungrouped.{AreCounted, IsCounted};
 
@@ -155,9 +155,9 @@ fn piece_of_rows<'w>(
     values: Vec<i64>,
 ) -> Result<Piece<'w>, Memory>
     requires shape { query.now.shape ≡ Groups keys.now }
-    requires alike { MayGather [] (rows_of counted.items values.items) }
+    requires alike { MayGather [] (row_groups counted.items values.items) }
     ensures { IfOk result (λ piece. piece
-        ≡ OfGroups (gather key_order add_own_sums (rows_of counted.items values.items))) }
+        ≡ OfGroups (gather key_order add_own_sums (row_groups counted.items values.items))) }
 {
     let mut piece = Piece::empty(alloc, query);
     piece.push_rows(counted, values)?;

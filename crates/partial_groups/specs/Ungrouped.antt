@@ -18,8 +18,8 @@ abbrev pub counted_group : List Bool → ℕ → ℤ → Partial Key Sums
 counted_group counted n value = group_by (Some value ∷ []) n (counts_of counted n)
 
 -- the groups of one row each, by the numbers that are their keys
-abbrev pub rows_of : List Bool → List ℤ → Gathered
-rows_of counted values = map (counted_group counted 1) values
+abbrev pub row_groups : List Bool → List ℤ → Gathered
+row_groups counted values = map (counted_group counted 1) values
 
 -- the numbers of all lists, one list after another
 abbrev pub values_in : List (Vec ℤ) → List ℤ

@@ -17,7 +17,7 @@ ghost use Rattle.answer_rules.specs.Small.{IsSmallGroup};
 ghost use Rattle.partial_groups.specs.Merging.{MayMerge};
 ghost use Rattle.sky_io.specs.Stops.{IfBad};
 ghost use Rattle.partial_groups.specs.Groups.{MayGather, group_by};
-ghost use Rattle.partial_groups.specs.Ungrouped.{BothHeld, IsJoined, rows_of, values_in};
+ghost use Rattle.partial_groups.specs.Ungrouped.{BothHeld, IsJoined, row_groups, values_in};
 
 use crate::aggregation_table::AggregationTable;
 use crate::counting::grouped;
@@ -48,15 +48,15 @@ impl Model for GroupedRows {
     ghost use Rattle.answer_rules.specs.Keys.{key_order};
     ghost use Rattle.answer_rules.specs.Parts.{add_own_sums};
     ghost use Rattle.partial_groups.specs.Groups.{Gathered};
-    ghost use Rattle.partial_groups.specs.Ungrouped.{AreHeld, rows_of, values_in};
+    ghost use Rattle.partial_groups.specs.Ungrouped.{AreHeld, row_groups, values_in};
 
     ghost Value = { Gathered };
 
     ghost view = { λ p. gather key_order add_own_sums
-        (p.groups ++ rows_of p.counted.items (values_in p.lists.items)) };
+        (p.groups ++ row_groups p.counted.items (values_in p.lists.items)) };
 
     ghost invariant = { λ p. AreHeld p.groups
-        (rows_of p.counted.items (values_in p.lists.items)) };
+        (row_groups p.counted.items (values_in p.lists.items)) };
 }
 
 /// Returns whether both are equal.
@@ -90,12 +90,12 @@ fn append(
     more: AggregationTable,
     others: Vec<Vec<i64>>,
 ) -> Result<(), Memory>
-    requires { BothHeld groups.old (rows_of counted.now.items (values_in lists.old.items)) more
-        (rows_of counted.now.items (values_in others.items)) }
+    requires { BothHeld groups.old (row_groups counted.now.items (values_in lists.old.items)) more
+        (row_groups counted.now.items (values_in others.items)) }
     ensures joined { OnOk result (IsJoined groups.old
-        (rows_of counted.now.items (values_in lists.old.items)) more
-        (rows_of counted.now.items (values_in others.items)) groups.new
-        (rows_of counted.now.items (values_in lists.new.items))) }
+        (row_groups counted.now.items (values_in lists.old.items)) more
+        (row_groups counted.now.items (values_in others.items)) groups.new
+        (row_groups counted.now.items (values_in lists.new.items))) }
     ensures groups { OnErr result (groups.new ≡ groups.old) }
     ensures lists { OnErr result (lists.new.items ≡ lists.old.items) }
 {
@@ -113,11 +113,12 @@ fn absorb_grouped(
     counted: &[bool],
     others: Vec<Vec<i64>>,
 ) -> Result<(), Memory>
-    requires own { MayGather more (rows_of counted.now (values_in others.items)) }
+    requires own { MayGather more (row_groups counted.now (values_in others.items)) }
     requires alike { MayGather groups.old (gather key_order add_own_sums
-        (more ++ rows_of counted.now (values_in others.items))) }
+        (more ++ row_groups counted.now (values_in others.items))) }
     ensures joined { OnOk result (groups.new ≡ gather key_order add_own_sums (groups.old
-        ++ gather key_order add_own_sums (more ++ rows_of counted.now (values_in others.items)))) }
+        ++ gather key_order add_own_sums
+        (more ++ row_groups counted.now (values_in others.items)))) }
     ensures same { OnErr result (groups.new ≡ groups.old) }
 {
     let whole = grouped(alloc, more, counted, others)?;
@@ -144,9 +145,9 @@ impl GroupedRows {
         counted: Vec<bool>,
         lists: Vec<Vec<i64>>,
     ) -> Result<(), Memory>
-        requires { MayGather self.old (groups ++ rows_of counted.items (values_in lists.items)) }
+        requires { MayGather self.old (groups ++ row_groups counted.items (values_in lists.items)) }
         ensures joined { OnOk result (self.new ≡ gather key_order add_own_sums
-            (self.old ++ (groups ++ rows_of counted.items (values_in lists.items)))) }
+            (self.old ++ (groups ++ row_groups counted.items (values_in lists.items)))) }
         ensures same { OnErr result (self.new ≡ self.old) }
     {
         if self.lists.len() == 0 {
@@ -187,9 +188,9 @@ impl GroupedRows {
     /// Adds rows with these numbers as their keys, one row for each number. `counted` tells of each aggregate whether it
     /// counts the rows. After `Err` nothing has changed.
     pub fn push_rows(&mut self, counted: Vec<bool>, values: Vec<i64>) -> Result<(), Memory>
-        requires { MayGather self.old (rows_of counted.items values.items) }
+        requires { MayGather self.old (row_groups counted.items values.items) }
         ensures put { OnOk result (self.new ≡ gather key_order add_own_sums
-            (self.old ++ rows_of counted.items values.items)) }
+            (self.old ++ row_groups counted.items values.items)) }
         ensures same { OnErr result (self.new ≡ self.old) }
     {
         let none = AggregationTable::empty(self.alloc);

@@ -10,7 +10,7 @@ ghost use Rattle.partial_merge.specs.Contents.{IsCombined, MayCombine, rows_of, 
 ghost use Rattle.partial_rows.specs.Multisets.{out_row};
 ghost use Rattle.partial_merge.specs.Joining.{IsNoneOfFirst, IsOfRows, IsReportedLate, MayTakeGroup, MayTakeGroups, TakesRow, with_group, with_groups};
 ghost use Rattle.partial_groups.specs.Groups.{group_by};
-ghost use Rattle.partial_groups.specs.Ungrouped.{rows_of as row_groups};
+ghost use Rattle.partial_groups.specs.Ungrouped.{row_groups};
 ghost use Rattle.partial_merge.specs.Sizes.{IsWithin, size_of};
 ghost use Rattle.answer_rules.specs.Finish.{finished};
 ghost use Rattle.answer_rules.specs.Pieces.{OfGroups, OfRows};

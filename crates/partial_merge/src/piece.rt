@@ -20,7 +20,7 @@ ghost use Rattle.partial_rows.specs.Multisets.{out_row};
 ghost use Rattle.partial_merge.specs.Joining.{AbsorbsRows, IsNoneOfFirst, IsOfRows, IsReportedLate, Joins};
 ghost use Rattle.partial_merge.specs.Joining.{MayAbsorbRows, MayFinish, MayJoin, MayTakeGroup, MayTakeGroups, TakesRow, with_group, with_groups};
 ghost use Rattle.partial_groups.specs.Groups.{group_by};
-ghost use Rattle.partial_groups.specs.Ungrouped.{rows_of as row_groups};
+ghost use Rattle.partial_groups.specs.Ungrouped.{row_groups};
 ghost use Rattle.partial_merge.specs.Sizes.{IsWithin, size_of};
 ghost use Rattle.sky_io.specs.Stops.{IfBad};
 

@@ -6,16 +6,16 @@ use Rattle.answer_rules.specs.Keys.{key_order}
 use Rattle.answer_rules.specs.Parts.{add_own_sums}
 use Rattle.partial_groups.specs.Groups.{Gathered, MayGather}
 use Rattle.partial_groups.specs.Merging.{MayMerge}
-use Rattle.partial_groups.specs.Ungrouped.{rows_of, values_in}
+use Rattle.partial_groups.specs.Ungrouped.{row_groups, values_in}
 use Rattle.partial_groups.proofs.Holding.{may_group}
 use Rattle.partial_groups.proofs.grouped_rows.GroupedRows.finish.Goals as goal
 
 pub grouped-requires : goal.grouped-requires
 grouped-requires c =
-    subst (λ (k : List Bool). MayGather c.self.inside.groups (rows_of k (values_in c.self.inside.lists.items))) (sym c.as_slice.ensures.value) (may_group c.self.inside.groups (rows_of c.self.inside.counted.items (values_in c.self.inside.lists.items)) c.self.invariant)
+    subst (λ (k : List Bool). MayGather c.self.inside.groups (row_groups k (values_in c.self.inside.lists.items))) (sym c.as_slice.ensures.value) (may_group c.self.inside.groups (row_groups c.self.inside.counted.items (values_in c.self.inside.lists.items)) c.self.invariant)
 
 pub finish-requires : goal.finish-requires
 finish-requires c =
     let is : c.in_ok-whole.whole ≡ c.args.self =
-    c.in_ok-whole.ensures ∙ ap (λ (k : List Bool). gather key_order add_own_sums (c.self.inside.groups ++ rows_of k (values_in c.self.inside.lists.items))) c.as_slice.ensures.value ∙ c.self.view_is in
+    c.in_ok-whole.ensures ∙ ap (λ (k : List Bool). gather key_order add_own_sums (c.self.inside.groups ++ row_groups k (values_in c.self.inside.lists.items))) c.as_slice.ensures.value ∙ c.self.view_is in
     subst (λ (gs : Gathered). All (λ g. All (MayMerge c.args.keys.now g) c.args.merge.now.items) (groups_merged c.args.keys.now gs)) (sym is) c.requires

@@ -1,7 +1,7 @@
 use Rattle.std.proofs.Common.{◌++◌, ◌≤◌, ℤ, List, ap, arith, length, length-append, subst}
 use Rattle.std.proofs.lemmas.List.{length-map}
 use Rattle.partial_groups.specs.Groups.{Gathered}
-use Rattle.partial_groups.specs.Ungrouped.{counted_group, rows_of, values_in}
+use Rattle.partial_groups.specs.Ungrouped.{counted_group, row_groups, values_in}
 use Rattle.partial_groups.proofs.Consolidating.{gathered_short}
 use Rattle.partial_groups.proofs.Holding.{rows_both}
 use Rattle.partial_groups.proofs.RowCounts.{rows_long}
@@ -10,7 +10,7 @@ use Rattle.partial_groups.proofs.grouped_rows.GroupedRows.len.Goals as goal
 pub returns : goal.returns
 returns c =
     let values : List ℤ = values_in c.self.inside.lists.items in
-    let rows : Gathered = rows_of c.self.inside.counted.items values in
+    let rows : Gathered = row_groups c.self.inside.counted.items values in
     subst (λ (gs : Gathered). length gs ≤ c.saturating_add.result) c.self.view_is
     (omega (
       arith,
