@@ -10,7 +10,7 @@ pub mod Increasing
 pub mod Gaining
 pub mod Firsts
 pub mod Walking
-pub mod Holding
+pub mod Combinable
 pub mod RowCounts
 pub mod NumberLists
 pub mod Runs

@@ -26,12 +26,12 @@ abbrev pub values_in : List (Vec ℤ) → List ℤ
 values_in lists = flat_map (λ list. list.items) lists
 
 -- Groups, and rows that are not in a group yet, with the same combine functions, and few enough rows together.
-pub record AreHeld (groups rows : Gathered) : Type 0 where
+pub record AreCombinable (groups rows : Gathered) : Type 0 where
   pub alike : AreAlike (groups ++ rows)
   pub few : rows_in (groups ++ rows) ≤ most_rows
 
 -- Groups and rows of two pieces that have the same combine functions, and few enough rows together.
-pub record BothHeld (groups rows more others : Gathered) : Type 0 where
+pub record AreBothCombinable (groups rows more others : Gathered) : Type 0 where
   pub own : List Way
   pub this : HaveWays own (groups ++ rows)
   pub that : HaveWays own (more ++ others)
@@ -39,6 +39,6 @@ pub record BothHeld (groups rows more others : Gathered) : Type 0 where
 
 -- The groups and rows of two pieces, put together: what they add up to is what all groups and rows of both add up to.
 pub record IsJoined (groups rows more others now left : Gathered) : Type 0 where
-  pub held : AreHeld now left
+  pub combinable : AreCombinable now left
   pub same : gather key_order add_own_sums (now ++ left)
       ≡ gather key_order add_own_sums (gather key_order add_own_sums (groups ++ rows) ++ (more ++ others))

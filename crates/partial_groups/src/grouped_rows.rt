@@ -17,7 +17,7 @@ ghost use Rattle.answer_rules.specs.Small.{IsSmallGroup};
 ghost use Rattle.partial_groups.specs.Merging.{MayMerge};
 ghost use Rattle.sky_io.specs.Stops.{IfBad};
 ghost use Rattle.partial_groups.specs.Groups.{MayGather, group_by};
-ghost use Rattle.partial_groups.specs.Ungrouped.{BothHeld, IsJoined, row_groups, values_in};
+ghost use Rattle.partial_groups.specs.Ungrouped.{AreBothCombinable, IsJoined, row_groups, values_in};
 
 use crate::aggregation_table::AggregationTable;
 use crate::counting::grouped;
@@ -48,14 +48,14 @@ impl Model for GroupedRows {
     ghost use Rattle.answer_rules.specs.Keys.{key_order};
     ghost use Rattle.answer_rules.specs.Parts.{add_own_sums};
     ghost use Rattle.partial_groups.specs.Groups.{Gathered};
-    ghost use Rattle.partial_groups.specs.Ungrouped.{AreHeld, row_groups, values_in};
+    ghost use Rattle.partial_groups.specs.Ungrouped.{AreCombinable, row_groups, values_in};
 
     ghost Value = { Gathered };
 
     ghost view = { λ p. gather key_order add_own_sums
         (p.groups ++ row_groups p.counted.items (values_in p.lists.items)) };
 
-    ghost invariant = { λ p. AreHeld p.groups
+    ghost invariant = { λ p. AreCombinable p.groups
         (row_groups p.counted.items (values_in p.lists.items)) };
 }
 
@@ -67,7 +67,7 @@ fn is_same(a: bool, b: bool) -> bool
 }
 
 /// Returns true only if both lists are equal.
-#[tactic(auto, using(crate::proofs::Holding::same_taken))]
+#[tactic(auto, using(crate::proofs::Combinable::same_taken))]
 fn are_same(a: &[bool], b: &[bool]) -> bool
     ensures { OnTrue result (a.now ≡ b.now) }
 {
@@ -90,7 +90,8 @@ fn append(
     more: AggregationTable,
     others: Vec<Vec<i64>>,
 ) -> Result<(), Memory>
-    requires { BothHeld groups.old (row_groups counted.now.items (values_in lists.old.items)) more
+    requires { AreBothCombinable groups.old
+        (row_groups counted.now.items (values_in lists.old.items)) more
         (row_groups counted.now.items (values_in others.items)) }
     ensures joined { OnOk result (IsJoined groups.old
         (row_groups counted.now.items (values_in lists.old.items)) more

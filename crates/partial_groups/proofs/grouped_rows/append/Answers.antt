@@ -2,7 +2,7 @@ use Rattle.std.proofs.Common.{◌≡◌, ◌∙◌, ◌++◌, ℤ, List, ap, sub
 use Rattle.std.specs.Global.{Vec}
 use Rattle.partial_groups.specs.Groups.{Gathered}
 use Rattle.partial_groups.specs.Ungrouped.{IsJoined, row_groups, values_in}
-use Rattle.partial_groups.proofs.Holding.{is_joined, may_join}
+use Rattle.partial_groups.proofs.Combinable.{is_joined, may_join}
 use Rattle.partial_groups.proofs.RowCounts.{rows_append}
 use Rattle.partial_groups.proofs.grouped_rows.append.Goals as goal
 

@@ -7,7 +7,7 @@ use Rattle.answer_rules.specs.Parts.{add_own_sums}
 use Rattle.partial_groups.specs.Groups.{Gathered, MayGather}
 use Rattle.partial_groups.specs.Merging.{MayMerge}
 use Rattle.partial_groups.specs.Ungrouped.{row_groups, values_in}
-use Rattle.partial_groups.proofs.Holding.{may_group}
+use Rattle.partial_groups.proofs.Combinable.{may_group}
 use Rattle.partial_groups.proofs.grouped_rows.GroupedRows.finish.Goals as goal
 
 pub grouped-requires : goal.grouped-requires

@@ -3,7 +3,7 @@ use Rattle.std.proofs.lemmas.List.{length-map}
 use Rattle.partial_groups.specs.Groups.{Gathered}
 use Rattle.partial_groups.specs.Ungrouped.{counted_group, row_groups, values_in}
 use Rattle.partial_groups.proofs.Consolidating.{gathered_short}
-use Rattle.partial_groups.proofs.Holding.{rows_both}
+use Rattle.partial_groups.proofs.Combinable.{rows_both}
 use Rattle.partial_groups.proofs.RowCounts.{rows_long}
 use Rattle.partial_groups.proofs.grouped_rows.GroupedRows.len.Goals as goal
 

@@ -1,4 +1,4 @@
--- Groups, and rows that are not in a group yet: what both come to.
+-- Groups, and rows that are not in a group yet: what both add up to.
 use Rattle.std.proofs.Common.{◌≡◌, ℕ, ◌+◌, ◌≤◌, List, [], ◌∷◌, ◌++◌, length, refl, sym, ap, subst, ◌∙◌, arith, IsPermutation, Result, Ok, Err, OnOk, OnErr, take}
 use Rattle.std.proofs.lemmas.List.{append-nil, append_assoc, take_all}
 use Rattle.std.proofs.lemmas.List.Sums.{sum_by-append}
@@ -10,7 +10,7 @@ use Rattle.answer_rules.specs.Parts.{Sums, add_own_sums}
 use Rattle.answer_rules.specs.Small.{rows_in}
 use Rattle.answer_rules.proofs.OwnWays.{gathered_have, own_again, own_alike, own_permuted, own_rows}
 use Rattle.partial_groups.specs.Groups.{Gathered, HaveWays, MayGather}
-use Rattle.partial_groups.specs.Ungrouped.{AreHeld, BothHeld, IsJoined}
+use Rattle.partial_groups.specs.Ungrouped.{AreCombinable, AreBothCombinable, IsJoined}
 use Rattle.partial_groups.proofs.Appending.{alike_from, have_from}
 use Rattle.partial_groups.proofs.Consolidating.{first_ways, have_first}
 
@@ -52,9 +52,9 @@ swapped a b c d =
     (subst (IsPermutation (a ++ ((b ++ c) ++ d))) after (IsPermutation-append_right a ((b ++ c) ++ d) ((c ++ b) ++ d) (IsPermutation-append_left d (b ++ c) (c ++ b) inner)))
 
 -- groups and rows that are each put behind those of another piece come to what both pieces come to
-pub held_joined : (own : List Way) (groups rows more others : Gathered) → HaveWays own (groups ++ rows) → HaveWays own (more ++ others)
+pub rows_join : (own : List Way) (groups rows more others : Gathered) → HaveWays own (groups ++ rows) → HaveWays own (more ++ others)
     → gather_own (gather_own (groups ++ more) ++ (rows ++ others)) ≡ gather_own (gather_own (groups ++ rows) ++ (more ++ others))
-held_joined own groups rows more others h k =
+rows_join own groups rows more others h k =
     let a : HaveWays own groups = have_front own groups rows h in
     let b : HaveWays own rows = have_back own groups rows h in
     let c : HaveWays own more = have_front own more others k in
@@ -63,15 +63,15 @@ held_joined own groups rows more others h k =
     ∙ own_permuted own ((groups ++ rows) ++ (more ++ others)) ((groups ++ more) ++ (rows ++ others)) (have_both own (groups ++ rows) (more ++ others) h k) (swapped groups rows more others)
     ∙ sym (own_left own (groups ++ rows) (more ++ others) h k)
 
--- ---- what is held has the ways that it comes to
+-- ---- combinable groups and rows have the ways of what they add up to
 
-pub held_have : (own : List Way) (groups rows : Gathered) → AreHeld groups rows → HaveWays own (gather_own (groups ++ rows)) → HaveWays own (groups ++ rows)
-held_have own groups rows held h = have_from own (groups ++ rows) held.alike h
+pub combinable_have : (own : List Way) (groups rows : Gathered) → AreCombinable groups rows → HaveWays own (gather_own (groups ++ rows)) → HaveWays own (groups ++ rows)
+combinable_have own groups rows combinable h = have_from own (groups ++ rows) combinable.alike h
 
 -- so the groups of other groups and rows may be added, one by one
-pub may_hold : (mine groups rows : Gathered) → AreHeld groups rows → MayGather mine (gather_own (groups ++ rows)) → MayGather mine (groups ++ rows)
-may_hold mine groups rows held m =
-    let that : HaveWays m.own (groups ++ rows) = held_have m.own groups rows held m.that in
+pub may_combine : (mine groups rows : Gathered) → AreCombinable groups rows → MayGather mine (gather_own (groups ++ rows)) → MayGather mine (groups ++ rows)
+may_combine mine groups rows combinable m =
+    let that : HaveWays m.own (groups ++ rows) = combinable_have m.own groups rows combinable m.that in
     record {
       own = m.own;
       this = m.this;
@@ -80,9 +80,9 @@ may_hold mine groups rows held m =
     }
 
 -- what is known of two pieces that may be joined
-pub both_held : (groups rows more others : Gathered) → AreHeld groups rows → MayGather (gather_own (groups ++ rows)) (more ++ others) → BothHeld groups rows more others
-both_held groups rows more others held m =
-    let this : HaveWays m.own (groups ++ rows) = held_have m.own groups rows held m.this in
+pub both_combinable : (groups rows more others : Gathered) → AreCombinable groups rows → MayGather (gather_own (groups ++ rows)) (more ++ others) → AreBothCombinable groups rows more others
+both_combinable groups rows more others combinable m =
+    let this : HaveWays m.own (groups ++ rows) = combinable_have m.own groups rows combinable m.this in
     record {
       own = m.own;
       this = this;
@@ -91,7 +91,7 @@ both_held groups rows more others held m =
     }
 
 -- groups may be put to the groups
-pub may_join : (groups rows more others : Gathered) → BothHeld groups rows more others → MayGather groups more
+pub may_join : (groups rows more others : Gathered) → AreBothCombinable groups rows more others → MayGather groups more
 may_join groups rows more others b = record {
   own = b.own;
   this = have_front b.own groups rows b.this;
@@ -99,9 +99,9 @@ may_join groups rows more others b = record {
   few = omega (arith, b.few, rows_both groups rows, rows_both more others);
 }
 
--- and then hold all rows
-joined_held : (groups rows more others now : Gathered) → BothHeld groups rows more others → now ≡ gather_own (groups ++ more) → AreHeld now (rows ++ others)
-joined_held groups rows more others now b e =
+-- and then are combinable with all rows
+joined_combinable : (groups rows more others now : Gathered) → AreBothCombinable groups rows more others → now ≡ gather_own (groups ++ more) → AreCombinable now (rows ++ others)
+joined_combinable groups rows more others now b e =
     let mine : HaveWays b.own (groups ++ more) = have_both b.own groups more (have_front b.own groups rows b.this) (have_front b.own more others b.that) in
     let rest : HaveWays b.own (rows ++ others) = have_both b.own rows others (have_back b.own groups rows b.this) (have_back b.own more others b.that) in
     let all : HaveWays b.own (now ++ (rows ++ others)) = have_both b.own now (rows ++ others) (subst (HaveWays b.own) (sym e) (gathered_have b.own (groups ++ more) mine)) rest in
@@ -121,19 +121,19 @@ joined_held groups rows more others now b e =
     }
 
 -- and come to what both come to
-joined_view : (groups rows more others now : Gathered) → BothHeld groups rows more others → now ≡ gather_own (groups ++ more)
+joined_view : (groups rows more others now : Gathered) → AreBothCombinable groups rows more others → now ≡ gather_own (groups ++ more)
     → gather_own (now ++ (rows ++ others)) ≡ gather_own (gather_own (groups ++ rows) ++ (more ++ others))
-joined_view groups rows more others now b e = ap (λ gs. gather_own (gs ++ (rows ++ others))) e ∙ held_joined b.own groups rows more others b.this b.that
+joined_view groups rows more others now b e = ap (λ gs. gather_own (gs ++ (rows ++ others))) e ∙ rows_join b.own groups rows more others b.this b.that
 
 -- the groups are put to the groups, and the rows to the rows
-pub is_joined : (groups rows more others now : Gathered) → BothHeld groups rows more others → now ≡ gather_own (groups ++ more) → IsJoined groups rows more others now (rows ++ others)
+pub is_joined : (groups rows more others now : Gathered) → AreBothCombinable groups rows more others → now ≡ gather_own (groups ++ more) → IsJoined groups rows more others now (rows ++ others)
 is_joined groups rows more others now b e = record {
-  held = joined_held groups rows more others now b e;
+  combinable = joined_combinable groups rows more others now b e;
   same = joined_view groups rows more others now b e;
 }
 
 -- the other groups and rows may be grouped first
-others_alone : (groups rows more others whole : Gathered) → BothHeld groups rows more others → whole ≡ gather_own (more ++ others) → BothHeld groups rows whole []
+others_alone : (groups rows more others whole : Gathered) → AreBothCombinable groups rows more others → whole ≡ gather_own (more ++ others) → AreBothCombinable groups rows whole []
 others_alone groups rows more others whole b e = record {
   own = b.own;
   this = b.this;
@@ -142,15 +142,15 @@ others_alone groups rows more others whole b e = record {
 }
 
 -- and then they are groups alone
-pub may_join_whole : (groups rows more others whole : Gathered) → BothHeld groups rows more others → whole ≡ gather_own (more ++ others) → MayGather groups whole
+pub may_join_whole : (groups rows more others whole : Gathered) → AreBothCombinable groups rows more others → whole ≡ gather_own (more ++ others) → MayGather groups whole
 may_join_whole groups rows more others whole b e = may_join groups rows whole [] (others_alone groups rows more others whole b e)
 
-pub is_joined_whole : (groups rows more others whole now : Gathered) → BothHeld groups rows more others → whole ≡ gather_own (more ++ others) → now ≡ gather_own (groups ++ whole) → IsJoined groups rows more others now rows
+pub is_joined_whole : (groups rows more others whole now : Gathered) → AreBothCombinable groups rows more others → whole ≡ gather_own (more ++ others) → now ≡ gather_own (groups ++ whole) → IsJoined groups rows more others now rows
 is_joined_whole groups rows more others whole now b e f =
     let j : IsJoined groups rows whole [] now (rows ++ []) = is_joined groups rows whole [] now (others_alone groups rows more others whole b e) f in
     let view : Gathered = gather_own (groups ++ rows) in
     record {
-      held = subst (AreHeld now) (append-nil rows) j.held;
+      combinable = subst (AreCombinable now) (append-nil rows) j.combinable;
       same =
           ap (λ l. gather_own (now ++ l)) (sym (append-nil rows))
           ∙ j.same
@@ -159,7 +159,7 @@ is_joined_whole groups rows more others whole now b e f =
     }
 
 -- the rows of a piece may be put to its own groups
-pub others_may : (groups rows more others : Gathered) → BothHeld groups rows more others → MayGather more others
+pub others_may : (groups rows more others : Gathered) → AreBothCombinable groups rows more others → MayGather more others
 others_may groups rows more others b = record {
   own = b.own;
   this = have_front b.own more others b.that;
@@ -168,31 +168,31 @@ others_may groups rows more others b = record {
 }
 
 -- as another piece
-pub absorbed : (mine groups rows new : Gathered) → AreHeld groups rows → MayGather mine (gather_own (groups ++ rows)) → new ≡ gather_own (mine ++ (groups ++ rows))
+pub absorbed : (mine groups rows new : Gathered) → AreCombinable groups rows → MayGather mine (gather_own (groups ++ rows)) → new ≡ gather_own (mine ++ (groups ++ rows))
     → new ≡ gather_own (mine ++ gather_own (groups ++ rows))
-absorbed mine groups rows new held m e = e ∙ sym (own_right m.own mine (groups ++ rows) m.this (held_have m.own groups rows held m.that))
+absorbed mine groups rows new combinable m e = e ∙ sym (own_right m.own mine (groups ++ rows) m.this (combinable_have m.own groups rows combinable m.that))
 
 -- groups alone are put to the groups
-pub alone_joined : (groups rows more now : Gathered) → BothHeld groups rows more [] → now ≡ gather_own (groups ++ more) → IsJoined groups rows more [] now rows
+pub alone_joined : (groups rows more now : Gathered) → AreBothCombinable groups rows more [] → now ≡ gather_own (groups ++ more) → IsJoined groups rows more [] now rows
 alone_joined groups rows more now b e = subst (IsJoined groups rows more [] now) (append-nil rows) (is_joined groups rows more [] now b e)
 
--- whether it could be done or not, what is left is held
-pub held_if : {T E : Type 0} (r : Result T E) (groups rows now : Gathered) {P : Type 0} → AreHeld groups rows → (P → AreHeld now rows) → OnOk r P → OnErr r (now ≡ groups) → AreHeld now rows
-held_if (Ok x) groups rows now held done ok err = done ok
-held_if (Err x) groups rows now held done ok err = subst (λ gs. AreHeld gs rows) (sym err) held
+-- after a success and after a failure, what is left is combinable
+pub combinable_if : {T E : Type 0} (r : Result T E) (groups rows now : Gathered) {P : Type 0} → AreCombinable groups rows → (P → AreCombinable now rows) → OnOk r P → OnErr r (now ≡ groups) → AreCombinable now rows
+combinable_if (Ok x) groups rows now combinable done ok err = done ok
+combinable_if (Err x) groups rows now combinable done ok err = subst (λ gs. AreCombinable gs rows) (sym err) combinable
 
 -- lists of one length that agree in all their elements are one list
 pub same_taken : {X : Type 0} (xs ys : List X) (n : ℕ) → length xs ≤ n → length xs ≡ length ys → take n xs ≡ take n ys → xs ≡ ys
 same_taken xs ys n h e f = sym (take_all n xs h) ∙ f ∙ take_all n ys (omega (arith, h, e))
 
--- groups that are held may be grouped with their rows
-pub may_group : (groups rows : Gathered) → AreHeld groups rows → MayGather groups rows
-may_group groups rows held =
+-- combinable groups may be grouped with their rows
+pub may_group : (groups rows : Gathered) → AreCombinable groups rows → MayGather groups rows
+may_group groups rows combinable =
     let own : List Way = first_ways (groups ++ rows) in
-    let all : HaveWays own (groups ++ rows) = have_first (groups ++ rows) held.alike in
+    let all : HaveWays own (groups ++ rows) = have_first (groups ++ rows) combinable.alike in
     record {
       own = own;
       this = have_front own groups rows all;
       that = have_back own groups rows all;
-      few = omega (arith, held.few, rows_both groups rows);
+      few = omega (arith, combinable.few, rows_both groups rows);
     }
