@@ -6,4 +6,5 @@ pub mod Finishing
 pub mod Vacuuming
 pub mod CompactRows
 pub mod Pairs
+pub mod ShortPairs
 pub mod PackedKeys

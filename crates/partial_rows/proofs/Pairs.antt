@@ -41,16 +41,20 @@ use Rattle.answer_table.proofs.Tabling.{flat_long, flat_short, flat_table, map_m
 
 -- ---- beside the other rows
 
-row_among : {X : Type 0} (xs ys : List X) (x : X) → IsPermutation ((xs ++ x ∷ []) ++ ys) ((xs ++ ys) ++ x ∷ [])
+pub row_among : {X : Type 0} (xs ys : List X) (x : X) → IsPermutation ((xs ++ x ∷ []) ++ ys) ((xs ++ ys) ++ x ∷ [])
 row_among xs ys x =
     let front : IsPermutation ((xs ++ ys) ++ x ∷ []) (x ∷ (xs ++ ys)) = IsPermutation-to_front (xs ++ ys) x in
     let middle : IsPermutation (xs ++ x ∷ ys) (x ∷ (xs ++ ys)) = IsPermutation-middle xs x ys in
     subst (λ l. IsPermutation l ((xs ++ ys) ++ x ∷ [])) (sym (append_assoc xs (x ∷ []) ys)) (IsPermutation-trans _ _ _ middle (IsPermutation-sym _ _ front))
 
-swap_middle : {X : Type 0} (a b c d : List X) → IsPermutation ((a ++ b) ++ (c ++ d)) ((a ++ c) ++ (b ++ d))
+pub swap_middle : {X : Type 0} (a b c d : List X) → IsPermutation ((a ++ b) ++ (c ++ d)) ((a ++ c) ++ (b ++ d))
 swap_middle a b c d =
     let inner : IsPermutation (b ++ (c ++ d)) (c ++ (b ++ d)) = rw (← append_assoc b c d) (rw (← append_assoc c b d) (IsPermutation-append_left d _ _ (IsPermutation-append_comm b c))) in
     rw (append_assoc a b (c ++ d)) (rw (append_assoc a c (b ++ d)) (IsPermutation-append_right a _ _ inner))
+
+-- pairs in another order
+pairs_reordered : (rows : List OutRow) (pairs new : List ℕ) → IsPermutation pairs new → IsPermutation (rows ++ map pair_row pairs) (rows ++ map pair_row new)
+pairs_reordered rows pairs new p = IsPermutation-append_right rows _ _ (IsPermutation-map pair_row pairs new p)
 
 -- another row is put
 pub row_kept : (limit : Option ℕ) (old new others : List OutRow) (row : OutRow) → KeepsFirst row_order limit (old ++ row ∷ []) new → KeepsFirst row_order limit ((old ++ others) ++ row ∷ []) (new ++ others)
@@ -59,18 +63,21 @@ row_kept limit old new others row k =
     (keeps_joined row_order limit (old ++ row ∷ []) others new others k (keeps_itself limit others))
 
 -- a pair is put
-pub pair_kept : (limit : Option ℕ) (rows : List OutRow) (pairs : List ℕ) (pair : ℕ) → KeepsFirst row_order limit ((rows ++ map pair_row pairs) ++ pair_row pair ∷ []) (rows ++ map pair_row (pairs ++ pair ∷ []))
-pair_kept limit rows pairs pair =
+pub pair_kept : (limit : Option ℕ) (rows : List OutRow) (pairs new : List ℕ) (pair : ℕ) → IsPermutation (pairs ++ pair ∷ []) new → KeepsFirst row_order limit ((rows ++ map pair_row pairs) ++ pair_row pair ∷ []) (rows ++ map pair_row new)
+pair_kept limit rows pairs new pair p =
+    let last : KeepsFirst row_order limit ((rows ++ map pair_row pairs) ++ pair_row pair ∷ []) (rows ++ map pair_row (pairs ++ pair ∷ [])) =
     keeps_same limit ((rows ++ map pair_row pairs) ++ pair_row pair ∷ []) (rows ++ map pair_row (pairs ++ pair ∷ []))
     (ap (λ l. rows ++ l) (map-append pair_row pairs (pair ∷ [])) ∙ sym (append_assoc rows (map pair_row pairs) (pair_row pair ∷ [])))
+    in
+    keeps_reordered row_order limit _ _ _ _ (IsPermutation-refl ((rows ++ map pair_row pairs) ++ pair_row pair ∷ [])) (pairs_reordered rows (pairs ++ pair ∷ []) new p) last
 
 -- the rows and the pairs of two multisets
-pub both_kept : (limit : Option ℕ) (mine theirs new : List OutRow) (pairs more : List ℕ) → KeepsFirst row_order limit (mine ++ theirs) new → KeepsFirst row_order limit ((mine ++ map pair_row pairs) ++ (theirs ++ map pair_row more)) (new ++ map pair_row (pairs ++ more))
-both_kept limit mine theirs new pairs more k =
+pub both_kept : (limit : Option ℕ) (mine theirs new : List OutRow) (pairs more joined : List ℕ) → KeepsFirst row_order limit (mine ++ theirs) new → IsPermutation (pairs ++ more) joined → KeepsFirst row_order limit ((mine ++ map pair_row pairs) ++ (theirs ++ map pair_row more)) (new ++ map pair_row joined)
+both_kept limit mine theirs new pairs more joined k p =
     let pair_rows : List OutRow = map pair_row pairs ++ map pair_row more in
-    subst (λ (l : List OutRow). KeepsFirst row_order limit ((mine ++ map pair_row pairs) ++ (theirs ++ map pair_row more)) (new ++ l)) (sym (map-append pair_row pairs more))
-    (keeps_reordered row_order limit _ _ _ _ (swap_middle mine theirs (map pair_row pairs) (map pair_row more)) (IsPermutation-refl (new ++ pair_rows))
-    (keeps_joined row_order limit (mine ++ theirs) pair_rows new pair_rows k (keeps_itself limit pair_rows)))
+    keeps_reordered row_order limit _ _ _ _ (swap_middle mine theirs (map pair_row pairs) (map pair_row more))
+    (subst (λ (l : List OutRow). IsPermutation (new ++ l) (new ++ map pair_row joined)) (map-append pair_row pairs more) (pairs_reordered new (pairs ++ more) joined p))
+    (keeps_joined row_order limit (mine ++ theirs) pair_rows new pair_rows k (keeps_itself limit pair_rows))
 
 -- a multiset can be counted
 pub multiset_long : (cells : List (Option ℤ)) (ranks : List Ranked) (pairs : List ℕ) → length (map (row_of cells) ranks ++ map pair_row pairs) ≡ length ranks + length pairs
@@ -84,10 +91,14 @@ row_few cells now limit old new pairs row many h l k =
     let fewer : length (map (row_of now) new) ≤ length (map (row_of cells) old ++ row ∷ []) = kept_few limit _ _ k in
     omega (arith, h, l, multiset_long cells old pairs, fewer, length-append (map (row_of cells) old) (row ∷ []), length-map old (row_of cells), length-map new (row_of now))
 
-pub both_few : (cells more now : List (Option ℤ)) (limit : Option ℕ) (mine theirs new : List Ranked) (pairs others : List ℕ) (many that : ℕ) → many ≡ length (map (row_of cells) mine ++ map pair_row pairs) → that ≡ length (map (row_of more) theirs ++ map pair_row others) → many + that ≤ 2 ^ 64 - 1 → KeepsFirst row_order limit (map (row_of cells) mine ++ map (row_of more) theirs) (map (row_of now) new) → length new + length (pairs ++ others) ≤ 2 ^ 64 - 1
-both_few cells more now limit mine theirs new pairs others many that h t l k =
+pub both_few : (cells more now : List (Option ℤ)) (limit : Option ℕ) (mine theirs new : List Ranked) (pairs others joined : List ℕ) (many that : ℕ) → many ≡ length (map (row_of cells) mine ++ map pair_row pairs) → that ≡ length (map (row_of more) theirs ++ map pair_row others) → many + that ≤ 2 ^ 64 - 1 → KeepsFirst row_order limit (map (row_of cells) mine ++ map (row_of more) theirs) (map (row_of now) new) → IsPermutation (pairs ++ others) joined → length new + length joined ≤ 2 ^ 64 - 1
+both_few cells more now limit mine theirs new pairs others joined many that h t l k p =
     let fewer : length (map (row_of now) new) ≤ length (map (row_of cells) mine ++ map (row_of more) theirs) = kept_few limit _ _ k in
-    omega (arith, h, t, l, multiset_long cells mine pairs, multiset_long more theirs others, fewer, length-append (map (row_of cells) mine) (map (row_of more) theirs), length-map mine (row_of cells), length-map theirs (row_of more), length-map new (row_of now), length-append pairs others)
+    omega (arith, h, t, l, multiset_long cells mine pairs, multiset_long more theirs others, fewer, length-append (map (row_of cells) mine) (map (row_of more) theirs), length-map mine (row_of cells), length-map theirs (row_of more), length-map new (row_of now), length-append pairs others, length_permutation (pairs ++ others) joined p)
+
+pub pair_few : (cells : List (Option ℤ)) (rows : List Ranked) (pairs new : List ℕ) (pair many : ℕ) → many ≡ length (map (row_of cells) rows ++ map pair_row pairs) → many + 1 ≤ 2 ^ 64 - 1 → IsPermutation (pairs ++ pair ∷ []) new → length rows + length new ≤ 2 ^ 64 - 1
+pair_few cells rows pairs new pair many h l p =
+    omega (arith, h, l, multiset_long cells rows pairs, length-append pairs (pair ∷ []), length_permutation (pairs ++ pair ∷ []) new p)
 
 -- a row that is none of the first n
 pub late_for_all : (cells : List (Option ℤ)) (rank : Rank) (k : RowBuffer) (pairs : List ℕ) (late : Bool) → OnTrue late (IsTooLate (ranked_at rank 0 0) k)
@@ -123,9 +134,13 @@ back_apart xs ys h x =
     omega (arith, h x, both)
 
 -- with a limit there are no pairs
-pub none_joined : (limit : Option ℕ) (pairs more : List ℕ) → IfSome limit (λ n. pairs ≡ []) → IfSome limit (λ n. more ≡ []) → IfSome limit (λ n. pairs ++ more ≡ [])
-none_joined None pairs more h k = tt
-none_joined (Some n) pairs more h k = ap (λ l. l ++ more) h ∙ k
+no_pairs : (pairs : List ℕ) → IsPermutation [] pairs → pairs ≡ []
+no_pairs [] p = refl
+no_pairs (x ∷ pairs) p = absurd (omega (arith, length_permutation [] (x ∷ pairs) p))
+
+pub none_joined : (limit : Option ℕ) (pairs more joined : List ℕ) → IfSome limit (λ n. pairs ≡ []) → IfSome limit (λ n. more ≡ []) → IsPermutation (pairs ++ more) joined → IfSome limit (λ n. joined ≡ [])
+none_joined None pairs more joined h k p = tt
+none_joined (Some n) pairs more joined h k p = no_pairs joined (subst (λ (l : List ℕ). IsPermutation l joined) (ap (λ l. l ++ more) h ∙ k) p)
 
 -- ---- put among the other rows
 
@@ -143,6 +158,10 @@ pub merged_any : (merge : MergePlan) (full kept : List OutRow) → AreApart row_
 merged_any merge full kept h p =
     ap (map (λ (r : OutRow). map (column_value r.cells) merge.items))
     (first_kept row_order row_total (limit_of merge.limit) full kept h (keeps_all row_order (limit_of merge.limit) full kept p))
+
+-- the pairs of a list that is another
+pub pairs_read : (rows new : List OutRow) (read pairs : List ℕ) → read ≡ pairs → IsPermutation (rows ++ map pair_row read) new → IsPermutation (rows ++ map pair_row pairs) new
+pairs_read rows new read pairs e p = subst (λ (ps : List ℕ). IsPermutation (rows ++ map pair_row ps) new) e p
 
 -- ---- in order
 
@@ -168,18 +187,21 @@ not_under : (x y : ℤ) → y ≤ℤ x → int_lt x y ≡ false
 not_under x y h = grind (arith, ints)
 
 -- a pair that is not packed into a lesser number than another does not come before it
-in_order_too : (a b : ℕ) → is_lt (nat_cmp a b) ≡ false → is_lt (row_order (pair_row a) (pair_row b)) ≡ false
-in_order_too a b h =
-    let le : b ≤ a = ltb-false a b (not_less (nat_lt a b) (a == b) h) in
+pub in_order_too : (a b : ℕ) → b ≤ a → is_lt (row_order (pair_row a) (pair_row b)) ≡ false
+in_order_too a b le =
     not_before (int_lt (first_id_of a) (first_id_of b)) (int_lt (first_id_of b) (first_id_of a)) (int_lt (second_id_of a) (second_id_of b)) (int_lt (second_id_of b) (second_id_of a))
     (not_under (first_id_of a) (first_id_of b) (omega (arith, ints, le))) (λ k. not_under (second_id_of a) (second_id_of b) (omega (arith, ints, le, under (first_id_of a) (first_id_of b) k)))
+
+-- a number that does not come before another is not below it
+pub at_least : (a b : ℕ) → is_lt (nat_cmp a b) ≡ false → b ≤ a
+at_least a b h = ltb-false a b (not_less (nat_lt a b) (a == b) h)
 
 -- the pairs of ascending numbers are in order
 pairs_ascend : (pairs : List ℕ) → Ascends nat_cmp pairs → Ascends row_order (map pair_row pairs)
 pairs_ascend [] h = tt
 pairs_ascend (p ∷ pairs) h = (
   each_map (λ y. is_lt (row_order y (pair_row p)) ≡ false) pair_row pairs
-      (each_weaker (λ q. is_lt (nat_cmp q p) ≡ false) (λ q. is_lt (row_order (pair_row q) (pair_row p)) ≡ false) (λ q k. in_order_too q p k) pairs h.0),
+      (each_weaker (λ q. is_lt (nat_cmp q p) ≡ false) (λ q. is_lt (row_order (pair_row q) (pair_row p)) ≡ false) (λ q k. in_order_too q p (at_least q p k)) pairs h.0),
   pairs_ascend pairs h.1,
 )
 
@@ -207,8 +229,8 @@ pairs_table items pairs =
     flat_table (pair_values items) (length items) (λ p. length-map items (column_value (pair_row p).cells)) pairs
     ∙ sym (map_map pair_row (λ r. map (column_value r.cells) items) pairs)
 
--- the values of one pair more
-pub one_pair_more : (items : List MergeItem) (pairs : List ℕ) (i : ℕ) (d : ℕ) (old new : List Value) → i < length pairs → new ≡ old ++ pair_values items (get_or pairs i d) → old ≡ flat_map (pair_values items) (take i pairs) → new ≡ flat_map (pair_values items) (take (i + 1) pairs)
-one_pair_more items pairs i d old new l e g =
-    e ∙ ap (λ vs. vs ++ pair_values items (get_or pairs i d)) g ∙ ap (λ vs. flat_map (pair_values items) (take i pairs) ++ vs) (sym (append-nil (pair_values items (get_or pairs i d))))
-    ∙ sym (flat_map-append (pair_values items) (take i pairs) (get_or pairs i d ∷ [])) ∙ ap (flat_map (pair_values items)) (sym (take_more pairs i d l))
+-- the values of one more
+pub one_more_flat : {X : Type 0} (f : X → List Value) (xs : List X) (i : ℕ) (d : X) (old new : List Value) → i < length xs → new ≡ old ++ f (get_or xs i d) → old ≡ flat_map f (take i xs) → new ≡ flat_map f (take (i + 1) xs)
+one_more_flat f xs i d old new l e g =
+    e ∙ ap (λ vs. vs ++ f (get_or xs i d)) g ∙ ap (λ vs. flat_map f (take i xs) ++ vs) (sym (append-nil (f (get_or xs i d))))
+    ∙ sym (flat_map-append f (take i xs) (get_or xs i d ∷ [])) ∙ ap (flat_map f) (sym (take_more xs i d l))

@@ -6,8 +6,8 @@
 //! the list of values has doubled. Then the values of the remaining rows are copied into a new list (`vacuum`).
 //!
 //! A join whose answer is the two ids of each pair has millions of rows whose values repeat their sort keys. Without a
-//! limit and without an order key such a pair is stored in a third list as one number, in which its two ids are packed,
-//! and has no other values. If the multiset holds nothing else, the table is written from that list alone
+//! limit and without an order key such a pair is stored apart as one number, in which its two ids are packed, and has no
+//! other values (`id_pairs`). If the multiset holds nothing else, the table is written from these numbers alone
 //! (`multiset_table`).
 
 ghost use Rattle.std.specs.Prelude.{◌≡◌, ◌≤◌, ◌++◌, ◌∷◌, [], ℤ, length, IfOk, IfSome, List, None, OnErr, OnOk, Option, true};
@@ -21,7 +21,7 @@ ghost use Rattle.partial_rows.specs.Pairs.{pair_row};
 use crate::buffer_cells::{join_and_vacuum, put_and_vacuum};
 use crate::cell::Cell;
 use crate::id_pair::pair_of;
-use crate::id_pairs::{append_pair, count_more, join_pairs, make_room};
+use crate::id_pairs::{IdPairs, count_more};
 use crate::multiset_table::multiset_table;
 use crate::rank::Rank;
 use crate::row_buffer::{RowBuffer, count, empty_row_buffer, is_too_late};
@@ -40,7 +40,7 @@ pub struct Multiset {
     cells: Vec<Cell>,
     vacuumed: usize,
     /// The pairs whose values are their own ids, each packed into one number.
-    pairs: Vec<u128>,
+    pairs: IdPairs,
 }
 
 /// The multiset is vacuumed for the first time when it has twice this number of values.
@@ -53,10 +53,11 @@ impl Model for Multiset {
 
     ghost use Rattle.std.specs.Prelude.{length};
     ghost use Rattle.partial_rows.specs.Multisets.{IsMultiset, view_of};
+    ghost use Rattle.partial_rows.specs.Pairs.{pairs_in};
 
-    ghost view = { λ b. view_of b.buffer b.cells.items b.pairs.items };
+    ghost view = { λ b. view_of b.buffer b.cells.items (pairs_in b.pairs) };
 
-    ghost invariant = { λ b. IsMultiset (length b.cells.items) b.buffer b.pairs.items };
+    ghost invariant = { λ b. IsMultiset (length b.cells.items) b.buffer (pairs_in b.pairs) };
 }
 
 /// Returns the pair with this sort key and these values, if all rows are kept and only the pair's ids have to be
@@ -82,7 +83,7 @@ impl Multiset {
             buffer: empty_row_buffer(alloc, limit),
             cells: Vec::new(alloc),
             vacuumed: SHORT,
-            pairs: Vec::new(alloc),
+            pairs: IdPairs::new(alloc),
         }
     }
 
@@ -108,7 +109,8 @@ impl Multiset {
         ensures same { OnErr result (self.new ≡ self.old) }
     {
         count_more(self.row_count(), 1)?;
-        append_pair(&mut self.pairs, pair)
+        self.pairs.push(pair)?;
+        Ok(())
     }
 
     /// Adds any row with this sort key and these values. After `Err` nothing has changed.
@@ -162,7 +164,7 @@ impl Multiset {
             vacuumed: _,
             pairs,
         } = other;
-        make_room(&mut self.pairs, pairs.len())?;
+        self.pairs.make_room(&pairs)?;
         self.vacuumed = join_and_vacuum(
             self.alloc,
             &mut self.buffer,
@@ -171,7 +173,7 @@ impl Multiset {
             buffer,
             cells,
         )?;
-        join_pairs(&mut self.pairs, pairs);
+        self.pairs.join(pairs);
         Ok(())
     }
 
@@ -184,7 +186,7 @@ impl Multiset {
     }
 
     /// Returns the table of the rows: the first of them in order, and the merged items of each. Allocates memory for
-    /// the table and, unless there is a limit, for packed keys, for a sort of pairs or for copies of the rows.
+    /// the table and, unless there is a limit, for packed keys, for a sort of pairs or for copies of rows and pairs.
     pub fn finish(self, alloc: Global, merge: &MergePlan) -> Result<Table, Memory>
         requires { AreApart row_order self.rows }
         ensures { IfOk result (λ table. table ≡ merged_rows merge.now self.rows) }

@@ -5,12 +5,13 @@ ghost use Rattle.answer_rules.specs.Finish.{merged_rows};
 ghost use Rattle.answer_rules.specs.Keeps.{AreApart};
 ghost use Rattle.answer_rules.specs.Ranks.{row_order};
 ghost use Rattle.partial_rows.specs.Multisets.{IsMultiset, IsRowBuffer, pushed_in, rows_in};
-ghost use Rattle.partial_rows.specs.Pairs.{pair_row};
+ghost use Rattle.partial_rows.specs.Pairs.{pair_row, pairs_in};
 
 use crate::buffer_cells::put_row;
 use crate::buffer_table::buffer_table;
 use crate::cell::Cell;
 use crate::id_pair::{pair_cell, pair_sort_key};
+use crate::id_pairs::{IdPairs, all_wide};
 use crate::pair_table::sorted_pair_table;
 use crate::row_buffer::{RowBuffer, count};
 use answer_rules::MergePlan;
@@ -56,16 +57,18 @@ fn both_table(
     alloc: Global,
     mut buffer: RowBuffer,
     mut cells: Vec<Cell>,
-    pairs: &[u128],
+    pairs: IdPairs,
     merge: &MergePlan,
 ) -> Result<Table, Memory>
     requires mine { IsRowBuffer (length cells.items) buffer }
     requires all { pushed_in buffer ≡ None }
-    requires apart { AreApart row_order (rows_in cells.items buffer ++ map pair_row pairs.now) }
+    requires apart { AreApart row_order
+        (rows_in cells.items buffer ++ map pair_row (pairs_in pairs)) }
     ensures { IfOk result (λ table. table
-        ≡ merged_rows merge.now (rows_in cells.items buffer ++ map pair_row pairs.now)) }
+        ≡ merged_rows merge.now (rows_in cells.items buffer ++ map pair_row (pairs_in pairs))) }
 {
-    put_pairs(&mut buffer, &mut cells, pairs)?;
+    let wide = all_wide(pairs)?;
+    put_pairs(&mut buffer, &mut cells, wide.as_slice())?;
     buffer_table(alloc, buffer, cells.as_slice(), merge)
 }
 
@@ -74,19 +77,20 @@ pub(crate) fn multiset_table(
     alloc: Global,
     buffer: RowBuffer,
     cells: Vec<Cell>,
-    pairs: Vec<u128>,
+    pairs: IdPairs,
     merge: &MergePlan,
 ) -> Result<Table, Memory>
-    requires multiset { IsMultiset (length cells.items) buffer pairs.items }
-    requires apart { AreApart row_order (rows_in cells.items buffer ++ map pair_row pairs.items) }
+    requires multiset { IsMultiset (length cells.items) buffer (pairs_in pairs) }
+    requires apart { AreApart row_order
+        (rows_in cells.items buffer ++ map pair_row (pairs_in pairs)) }
     ensures { IfOk result (λ table. table
-        ≡ merged_rows merge.now (rows_in cells.items buffer ++ map pair_row pairs.items)) }
+        ≡ merged_rows merge.now (rows_in cells.items buffer ++ map pair_row (pairs_in pairs))) }
 {
     if pairs.is_empty() {
         buffer_table(alloc, buffer, cells.as_slice(), merge)
     } else if count(&buffer) == 0 {
         sorted_pair_table(alloc, pairs, merge)
     } else {
-        both_table(alloc, buffer, cells, pairs.as_slice(), merge)
+        both_table(alloc, buffer, cells, pairs, merge)
     }
 }

@@ -5,10 +5,11 @@ ghost use Rattle.std.specs.List.{flat_map};
 ghost use Rattle.answer_rules.specs.Finish.{column_value, merged_rows};
 ghost use Rattle.answer_rules.specs.Keeps.{AreApart};
 ghost use Rattle.answer_rules.specs.Ranks.{row_order};
-ghost use Rattle.partial_rows.specs.Pairs.{pair_row, pair_values};
+ghost use Rattle.partial_rows.specs.Pairs.{pair_row, pair_values, pairs_in};
 
 use crate::id_pair::pair_cell;
-use crate::pair_keys::sort_pairs;
+use crate::id_pairs::{IdPairs, all_wide};
+use crate::short_pair_table::sorted_short_pair_table;
 use answer_rules::{MergeItem, MergePlan};
 use answer_table::lists::cut;
 use answer_table::values::{put, values_room};
@@ -60,9 +61,9 @@ fn pair_table(alloc: Global, pairs: &[u128], items: &[MergeItem]) -> Result<Tabl
     Ok(Table::of(values, items.len(), pairs.len()))
 }
 
-/// Returns the table of pairs in any order. Allocates memory for the table, and before that for the sort, at most as
+/// Returns the table of wide pairs in any order. Allocates memory for the table, and before that for the sort, at most as
 /// much as the pairs take.
-pub(crate) fn sorted_pair_table(
+fn sorted_wide_pair_table(
     alloc: Global,
     mut pairs: Vec<u128>,
     merge: &MergePlan,
@@ -70,7 +71,24 @@ pub(crate) fn sorted_pair_table(
     requires { AreApart row_order (map pair_row pairs.items) }
     ensures { IfOk result (λ table. table ≡ merged_rows merge.now (map pair_row pairs.items)) }
 {
-    sort_pairs(alloc, &mut pairs)?;
+    pairs.sort()?;
     cut(&mut pairs, merge.limit);
     pair_table(alloc, pairs.as_slice(), merge.items.as_slice())
+}
+
+/// Returns the table of pairs in any order. Allocates memory for the table and, unless all pairs are short, for the short
+/// ones as wide ones and for a sort.
+pub(crate) fn sorted_pair_table(
+    alloc: Global,
+    pairs: IdPairs,
+    merge: &MergePlan,
+) -> Result<Table, Memory>
+    requires { AreApart row_order (map pair_row (pairs_in pairs)) }
+    ensures { IfOk result (λ table. table ≡ merged_rows merge.now (map pair_row (pairs_in pairs))) }
+{
+    if pairs.wide.is_empty() {
+        sorted_short_pair_table(alloc, pairs.short, merge)
+    } else {
+        sorted_wide_pair_table(alloc, all_wide(pairs)?, merge)
+    }
 }

@@ -1,22 +1,16 @@
-use Rattle.std.proofs.Common.{ℕ, ◌≡◌, map, ap, subst, ◌∙◌, List}
-use Rattle.std.specs.Prelude.{IfOk}
-use Rattle.answer_rules.specs.Finish.{column_value}
-use Rattle.answer_rules.specs.InOrder.{first, in_order}
+use Rattle.std.proofs.Common.{◌≡◌, ◌∙◌, [], ℕ, ◌++◌, List, map, subst, sym, vec_len}
+use Rattle.std.proofs.lemmas.Bool.{eqb-true}
+use Rattle.std.proofs.lemmas.List.{nil_from_length}
+use Rattle.answer_rules.specs.Keeps.{AreApart}
 use Rattle.answer_rules.specs.Ranks.{row_order}
-use Rattle.answer_rules.specs.Rows.{limit_of}
-use Rattle.answer_rules.specs.declared.row.OutRow.{OutRow}
+use Rattle.partial_rows.specs.PackedKeys.{pair_in}
 use Rattle.partial_rows.specs.Pairs.{pair_row}
-use Rattle.partial_rows.proofs.Pairs.{first_pairs, sorted_pairs}
 use Rattle.partial_rows.proofs.pair_table.sorted_pair_table.Goals as goal
 
--- the rows of the table are the first of those in order
-rows_are : (c : goal.After-drop-pairs-2) → map pair_row c.as_slice.result.now ≡ first (limit_of c.args.merge.now.limit) (in_order row_order (map pair_row c.args.pairs.items))
-rows_are c =
-    ap (λ (ps : List ℕ). map pair_row ps) (c.as_slice.ensures.value ∙ c.cut.ensures)
-    ∙ first_pairs (limit_of c.args.merge.now.limit) c.sort_pairs.new.pairs.items
-    ∙ ap (first (limit_of c.args.merge.now.limit)) (sorted_pairs c.args.pairs.items c.sort_pairs.new.pairs.items c.requires c.sort_pairs.ensures.permutation c.in_ok-sort_pairs.ensures.sorted)
+pub sorted_short_pair_table-requires : goal.sorted_short_pair_table-requires
+sorted_short_pair_table-requires c =
+    let none : c.args.pairs.wide.items ≡ [] = nil_from_length c.args.pairs.wide.items (sym c.args.pairs.wide.ok.0 ∙ eqb-true (vec_len c.args.pairs.wide) 0 (sym c.is_empty.ensures ∙ c.if-is_empty.true)) in
+    subst (λ (ps : List ℕ). AreApart row_order (map pair_row (ps ++ map pair_in c.args.pairs.short.items))) none c.requires
 
-pub returns : goal.returns
-returns c =
-    subst (λ (rs : List OutRow). IfOk c.pair_table.result (λ table. table ≡ map (λ r. map (column_value r.cells) c.args.merge.now.items) rs)) (rows_are c)
-    (subst (λ items. IfOk c.pair_table.result (λ table. table ≡ map (λ r. map (column_value r.cells) items) (map pair_row c.as_slice.result.now))) c.as_slice-2.ensures c.pair_table.ensures)
+pub sorted_wide_pair_table-requires : goal.sorted_wide_pair_table-requires
+sorted_wide_pair_table-requires c = subst (λ (ps : List ℕ). AreApart row_order (map pair_row ps)) (sym c.in_ok-all_wide.ensures) c.requires
