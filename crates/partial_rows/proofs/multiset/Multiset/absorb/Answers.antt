@@ -1,4 +1,4 @@
-use Rattle.std.proofs.Common.{◌≡◌, ℕ, ◌++◌, ◌+◌, ◌-◌, ◌^◌, ◌≤◌, [], List, Option, length, map, ap, arith, subst, sym, ◌∙◌, IsPermutation}
+use Rattle.std.proofs.Common.{◌≡◌, ℕ, ◌++◌, [], List, Option, length, map, ap, arith, subst, sym, ◌∙◌, IsPermutation}
 use Rattle.std.specs.Prelude.{IfSome}
 use Rattle.answer_rules.specs.Keeps.{KeepsFirst}
 use Rattle.answer_rules.specs.Ranks.{row_order}
