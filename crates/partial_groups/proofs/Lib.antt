@@ -12,5 +12,7 @@ pub mod Firsts
 pub mod Walking
 pub mod Combinable
 pub mod RowCounts
+pub mod CountedGroups
+pub mod Pruned
 pub mod NumberLists
 pub mod Runs

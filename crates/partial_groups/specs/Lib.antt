@@ -5,3 +5,4 @@ pub mod Merging
 pub mod Lines
 pub mod Ungrouped
 pub mod Counts
+pub mod Pruning

@@ -21,6 +21,7 @@ ghost use Rattle.partial_groups.specs.Ungrouped.{AreBothCombinable, IsJoined, ro
 
 use crate::aggregation_table::AggregationTable;
 use crate::counting::grouped;
+use crate::frequent::{rows_table, whole_table};
 use crate::number_lists::{append_lists, number_count, one_list};
 use crate::tally::Tally;
 use answer_rules::{MergePlan, TotalOut};
@@ -235,8 +236,10 @@ impl GroupedRows {
             counted,
             lists,
         } = self;
-        let whole = grouped(alloc, groups, counted.as_slice(), lists)?;
-        whole.finish(alloc, keys, merge)
+        if groups.len() == 0 {
+            return rows_table(alloc, groups, &counted, lists, keys, merge);
+        }
+        whole_table(alloc, groups, &counted, lists, keys, merge)
     }
 
     /// Returns the number of groups and of rows that are not in a group yet, where one key may count more than once. Does
