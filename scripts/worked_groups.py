@@ -11,7 +11,7 @@ import itertools
 # rows up to -1 are in the first chunk, and rows from 64 on in the last one
 SKY = "overlap 5\nstripe -268435472 1 1 1\nstripe 0 1 1 1\nstripe 64 1 1 1\n"
 # the lowest row of each chunk, and how many rows the chunk has
-CHUNKS = [(-40, 350), (0, 200), (64, 120)]
+CHUNKS = [(-40, 350), (0, 200), (64, 140)]
 COLUMNS = ["objectId", "x", "y", "z", "dense", "spread", "wide", "mixed", "few"]
 Row = collections.namedtuple("Row", COLUMNS)
 

@@ -10,3 +10,4 @@ pub mod Stretches
 pub mod Dealing
 pub mod Prefetching
 pub mod Ungrouping
+pub mod KeyColumn

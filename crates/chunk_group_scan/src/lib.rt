@@ -12,6 +12,7 @@ mod arguments;
 mod clustering;
 pub mod group_piece;
 mod key_order;
+mod key_values;
 mod one_group;
 mod packed_key;
 mod prefetched_key;

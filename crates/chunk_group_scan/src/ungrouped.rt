@@ -20,6 +20,7 @@ ghost use Rattle.partial_groups.specs.Ungrouped.{row_groups};
 ghost use Rattle.answer_rules.specs.Pieces.{OfGroups};
 ghost use Rattle.chunk_group_scan.specs.Ungrouped.{AreCounted, IsCounted};
 
+use crate::key_values::key_values;
 use crate::prefetched_key::cell;
 use answer_rules::{ChunkItem, ChunkQuery};
 use column_block::Block;
@@ -28,11 +29,8 @@ use sky_io::Memory;
 use sql_bound::BoundCol;
 use std::alloc::Global;
 
-/// The number of selected rows whose values tell whether most values differ.
-const SAMPLE: usize = 64;
-
-/// The rows are not grouped if at least this number of the values in the sample differ.
-const VARIED: usize = 56;
+/// The number of selected rows in a sample, whose values tell whether most values differ.
+const SAMPLE: usize = 128;
 
 /// Returns whether the aggregate counts each row or none, if it does either.
 fn counts(item: &ChunkItem) -> Option<bool>
@@ -83,15 +81,27 @@ fn sample_of(block: &Block, key: &BoundCol, places: &[u32]) -> [i64; SAMPLE]
     sample
 }
 
-/// Returns the number of different values in a list that is not empty, if equal values are adjacent.
-fn different(values: &[i64]) -> usize {
-    let mut count = 1usize;
+/// Returns how many values are equal to the one before, which are all repeats if equal values are adjacent.
+fn repeats(values: &[i64]) -> usize {
+    let mut count = 0usize;
     for i in 1..values.len() {
-        if values[i - 1] != values[i] {
+        if values[i - 1] == values[i] {
             count = count.saturating_add(1);
         }
     }
     count
+}
+
+/// Returns whether at least half of the given number of rows seem to have values of their own, if a sample has this
+/// number of repeats.
+///
+/// If d values are equally frequent, a sample of s rows has about s² / 2d repeats. So d is about s² / 2r for r repeats, where
+/// one of them is left out as chance. This holds only if few of the sample are repeats.
+fn are_mostly_distinct(repeats: usize, rows: usize) -> bool {
+    if repeats > SAMPLE / 4 {
+        return false;
+    }
+    repeats.saturating_sub(1).saturating_mul(rows) <= SAMPLE * SAMPLE
 }
 
 /// Returns whether most of the selected rows have values of their own, as a sample suggests.
@@ -104,46 +114,7 @@ fn are_varied(block: &Block, key: &BoundCol, places: &[u32]) -> bool
     }
     let mut sample = sample_of(block, key, places);
     sample.sort_unstable();
-    different(&sample) >= VARIED
-}
-
-/// Appends the values of the key column on the selected rows, up to a NULL. Returns whether there is none. Does not
-/// allocate.
-fn put_values(values: &mut Vec<i64>, block: &Block, key: &BoundCol, places: &[u32]) -> bool
-    requires empty { values.old.items ≡ [] }
-    requires room { length places.now ≤ vec_capacity values.old }
-    requires none { vec_len values.old ≡ 0 }
-    requires there { All (λ place. place < length block.now.objects) places.now }
-    requires col { IsTrue (has_col (FIRST_COLUMNS + block.now.width) false key.now) }
-    ensures { OnTrue result (map Some values.new.items
-        ≡ map (λ o. cell_of (row o) key.now) (objects_at block.now.objects places.now)) }
-{
-    for place in places {
-        let Some(value) = cell(block, key, *place as usize) else {
-            return false;
-        };
-        values.push_reserved(value);
-    }
-    true
-}
-
-/// Returns the values of the key column on the selected rows, if none is NULL.
-fn values_of(
-    alloc: Global,
-    block: &Block,
-    key: &BoundCol,
-    places: &[u32],
-) -> Result<Option<Vec<i64>>, Memory>
-    requires there { All (λ place. place < length block.now.objects) places.now }
-    requires col { IsTrue (has_col (FIRST_COLUMNS + block.now.width) false key.now) }
-    ensures { IfOk result (λ all. IfSome all (λ values. map Some values.items
-        ≡ map (λ o. cell_of (row o) key.now) (objects_at block.now.objects places.now))) }
-{
-    let mut values = Vec::with_capacity(alloc, places.len())?;
-    if put_values(&mut values, block, key, places) {
-        return Ok(Some(values));
-    }
-    Ok(None)
+    are_mostly_distinct(repeats(&sample), places.len())
 }
 
 /// Returns the piece of rows that are not grouped.
@@ -182,13 +153,13 @@ fn of_column<'w>(
         ≡ OfGroups (partials_of keys.now query.now.items
         (map row (objects_at block.now.objects places.now))))) }
 {
-    if !are_varied(block, key, places) {
-        return Ok(None);
-    }
     let Some(counted) = all_counts(alloc, query.items.as_slice())? else {
         return Ok(None);
     };
-    let Some(values) = values_of(alloc, block, key, places)? else {
+    if !are_varied(block, key, places) {
+        return Ok(None);
+    }
+    let Some(values) = key_values(alloc, block, key, places)? else {
         return Ok(None);
     };
     let piece = piece_of_rows(alloc, query, keys, counted, values)?;

@@ -1,7 +1,7 @@
 use Rattle.std.proofs.Common.{◌≡◌, ◌+◌, ◌≤◌, Some, drop, length, map, take, vec_capacity, vec_len}
 use Rattle.sky_row.specs.Columns.{objects_at}
 use Rattle.value_rules.specs.Values.{cell_of, row}
-use Rattle.chunk_group_scan.proofs.ungrouped.put_values.Given as goal
+use Rattle.chunk_group_scan.proofs.key_values.put_values.Given as goal
 
 abbrev pub invariant-loop-place : goal.invariant-loop-place
 invariant-loop-place l = record {
