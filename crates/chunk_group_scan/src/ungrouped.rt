@@ -4,14 +4,13 @@
 //! one among those of the other chunks. So the piece takes the values, and they are grouped at the end. This can be done if
 //! there is one key column, if no row has NULL in it, and if each aggregate counts either all rows or none.
 
-ghost use Rattle.std.specs.Prelude.{◌≡◌, ◌+◌, ◌<◌, ◌≤◌, ◌∷◌, [], All, IfOk, IfSome, IsTrue, Some, false, length, map, vec_capacity, vec_len};
-ghost use Rattle.std.specs.Bool.{OnTrue};
+ghost use Rattle.std.specs.Prelude.{◌≡◌, ◌+◌, ◌<◌, ◌≤◌, ◌∷◌, [], All, IfOk, IfSome, IsTrue, Some, false, length, map};
 ghost use Rattle.std.specs.List.{list_all};
 ghost use Rattle.table_rules.specs.declared.limits.TheConstants.{FIRST_COLUMNS, ROWS_MOST};
 ghost use Rattle.sky_row.specs.Columns.{objects_at};
 ghost use Rattle.sql_bound.specs.declared.query.Shape.TheVariants.{Groups};
 ghost use Rattle.value_rules.specs.Sound.{has_col};
-ghost use Rattle.value_rules.specs.Values.{cell_of, row};
+ghost use Rattle.value_rules.specs.Values.{row};
 ghost use Rattle.answer_rules.specs.Gather.{gather};
 ghost use Rattle.answer_rules.specs.Keys.{key_order};
 ghost use Rattle.answer_rules.specs.Parts.{add_own_sums, partials_of};
