@@ -33,8 +33,8 @@ use sql_bound::ColList;
 use std::alloc::Global;
 use std::marker::Model;
 
-/// The groups of a piece, and the numbers of the rows that are not in a group yet, one list for each chunk. `counted` tells
-/// of each aggregate whether it counts these rows.
+/// The groups of a piece, and the numbers of the rows that are not in a group yet, one list for each chunk. `counted` says
+/// for each aggregate whether it counts these rows.
 #[derive(Drop)]
 pub struct GroupedRows {
     alloc: Global,
@@ -187,7 +187,7 @@ impl GroupedRows {
         self.groups.push(key, rows, parts)
     }
 
-    /// Adds rows with these numbers as their keys, one row for each number. `counted` tells of each aggregate whether it
+    /// Adds rows with these numbers as their keys, one row for each number. `counted` says for each aggregate whether it
     /// counts the rows. After `Err` nothing has changed.
     pub fn push_rows(&mut self, counted: Vec<bool>, values: Vec<i64>) -> Result<(), Memory>
         requires { MayGather self.old (row_groups counted.items values.items) }

@@ -45,7 +45,7 @@ fn are_by_chunk(alloc: Global, store: &Store, sources: Sources) -> Result<bool, 
     Ok(lists_are(&sources) && columns_are(&sources) && sources.sources().len() == 5)
 }
 
-// Whether the sources of a short text are by chunk in the store of the rows over the sky of another one.
+// Whether the sources of a text are by chunk in the store of the rows over a sky plan, if both texts are short.
 fn has_sources<R: Threads + Sync>(
     rt: &R,
     alloc: Global,
