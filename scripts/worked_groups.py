@@ -1,7 +1,7 @@
 """A catalogue of three chunks, and queries that count its rows by the values of one column: scripts/worked_rows.py runs the program
 over them.
 
-Where nearly each row of a chunk has a value of its own, and none is NULL, the rows are grouped after the scan: in a table with a
+Where most rows of a chunk have a value of their own, and none is NULL, the rows are grouped after the scan: in a table with a
 count for each number if the values are near one another, and else sorted. So there is a column for each way, and two that take
 different ways in different chunks.
 """

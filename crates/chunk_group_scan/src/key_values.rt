@@ -1,7 +1,8 @@
 //! The values of one key column on the selected rows, if none of them is NULL.
 //!
 //! The ids, and an extra column without a NULL, are slices of 64-bit numbers in the block. Of such a column each value is
-//! one read, and if all rows are selected, the slice is copied as a whole. In another column each row is asked on its own.
+//! one read, and if all rows are selected, the slice is copied as a whole. In any other column the value of each row
+//! is read by itself, up to the first NULL.
 
 ghost use Rattle.std.specs.Prelude.{◌≡◌, ◌+◌, ◌<◌, ◌≤◌, [], All, IfOk, IfSome, IsTrue, Some, false, length, map, vec_capacity, vec_len};
 ghost use Rattle.std.specs.Bool.{OnTrue};
@@ -69,7 +70,7 @@ fn selected(alloc: Global, numbers: &[i64], places: &[u32]) -> Result<Vec<i64>, 
     Ok(values)
 }
 
-/// Returns whether these are the numbers of `count` rows, from 0, each once and in ascending order.
+/// Returns true only if these are the numbers of `count` rows, from 0, each once and in ascending order.
 fn are_all_rows(places: &[u32], count: usize) -> bool
     ensures { OnTrue result (places.now ≡ range_with_len 0 count) }
 {
@@ -102,7 +103,7 @@ fn present_values(
     Ok(None)
 }
 
-/// Appends the values of the key column on the selected rows, up to a NULL. Returns whether there is none. Does not
+/// Appends the values of the key column on the selected rows, up to a NULL. Returns true only if there is none. Does not
 /// allocate.
 fn put_values(values: &mut Vec<i64>, block: &Block, key: &BoundCol, places: &[u32]) -> bool
     requires empty { values.old.items ≡ [] }

@@ -1,6 +1,6 @@
 //! The piece of a chunk whose selected rows are not grouped here: the values of the one key column.
 //!
-//! If nearly each row has a value of its own, the groups of a chunk are as many as its rows, and are searched for one by
+//! If most rows have a value of their own, the groups of a chunk are nearly as many as its rows, and are searched for one by
 //! one among those of the other chunks. So the piece takes the values, and they are grouped at the end. This can be done if
 //! there is one key column, if no row has NULL in it, and if each aggregate counts either all rows or none.
 
@@ -28,7 +28,7 @@ use sky_io::Memory;
 use sql_bound::BoundCol;
 use std::alloc::Global;
 
-/// The number of selected rows in a sample, whose values tell whether most values differ.
+/// The number of selected rows in a sample, whose values suggest whether most values differ.
 const SAMPLE: usize = 128;
 
 /// Returns whether the aggregate counts each row or none, if it does either.

@@ -27,7 +27,7 @@ use sky_io::{Memory, Stop};
 use sql_bound::ColList;
 use std::alloc::Global;
 
-/// Returns whether the item is the number of rows of each group of counted rows.
+/// Returns true only if the item is the number of rows of each group of counted rows.
 fn counts_rows(counted: &[bool], item: &MergeItem) -> bool
     ensures { OnTrue result (CountsRows counted.now item.now) }
 {
@@ -47,7 +47,7 @@ fn counts_at(counted: &[bool], n: usize) -> bool
     }
 }
 
-/// Returns whether groups of counted rows are ordered by the number of their rows.
+/// Returns true only if groups of counted rows are ordered by the number of their rows.
 fn is_row_count(counted: &[bool], items: &[MergeItem], key: MergeKey) -> bool
     ensures { OnTrue result (IsRowCount counted.now items.now key) }
 {
@@ -61,7 +61,7 @@ fn is_row_count(counted: &[bool], items: &[MergeItem], key: MergeKey) -> bool
     }
 }
 
-/// Returns whether the merge puts groups with more rows before those with fewer.
+/// Returns true only if the merge puts groups with more rows before those with fewer.
 fn is_by_row_count(counted: &[bool], merge: &MergePlan) -> bool
     ensures { OnTrue result (IsByRowCount counted.now merge.now) }
 {
@@ -220,8 +220,8 @@ pub(crate) fn whole_table(
     whole.finish(alloc, keys, merge)
 }
 
-/// Returns the table of the rows whose keys are the numbers of these lists, where there are no other groups. Makes only
-/// groups that can be among the first of the answer, if it can tell which.
+/// Returns the table of the rows whose keys are the numbers of these lists, if there are no other groups. Makes only
+/// groups that can be among the first of the answer, if a cutoff is found.
 pub(crate) fn rows_table(
     alloc: Global,
     groups: AggregationTable,

@@ -60,7 +60,7 @@ impl Model for GroupedRows {
         (row_groups p.counted.items (values_in p.lists.items)) };
 }
 
-/// Returns whether both are equal.
+/// Returns true only if both are equal.
 fn is_same(a: bool, b: bool) -> bool
     ensures { OnTrue result (a ≡ b) }
 {

@@ -1,8 +1,8 @@
 //! The pairs of a multiset whose values are their own two ids.
 //!
 //! A pair whose ids are both from 0 to below 2^32 is stored as its packed key of 64 bits (`pair_key`), and any other pair as
-//! one number of 128 bits (`id_pair`). If all pairs have a packed key, they are sorted and written by their packed keys
-//! alone.
+//! one number of 128 bits (`id_pair`). If the multiset has only such pairs, and all have a packed key, they are sorted and
+//! written by their packed keys alone.
 
 ghost use Rattle.std.specs.Prelude.{◌≡◌, ◌==◌, ◌≤◌, ◌<◌, ◌+◌, ◌++◌, ◌∷◌, [], ◌-◌, ◌^◌, IfOk, IsPermutation, length, map, OnErr, OnOk, vec_capacity, vec_len};
 ghost use Rattle.std.specs.Bool.{OnTrue};

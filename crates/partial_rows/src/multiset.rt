@@ -186,7 +186,8 @@ impl Multiset {
     }
 
     /// Returns the table of the rows: the first of them in order, and the merged items of each. Allocates memory for
-    /// the table and, unless there is a limit, for packed keys, for a sort of pairs or for copies of rows and pairs.
+    /// the table. It may allocate, unless there is a limit, for packed keys, for a sort of pairs or for copies of rows and
+    /// pairs.
     pub fn finish(self, alloc: Global, merge: &MergePlan) -> Result<Table, Memory>
         requires { AreApart row_order self.rows }
         ensures { IfOk result (λ table. table ≡ merged_rows merge.now self.rows) }

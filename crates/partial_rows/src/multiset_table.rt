@@ -52,7 +52,8 @@ fn put_pairs(buffer: &mut RowBuffer, cells: &mut Vec<Cell>, pairs: &[u128]) -> R
     Ok(())
 }
 
-/// Returns the table of rows and of pairs. Allocates memory for the table, and for a copy of the pairs.
+/// Returns the table of rows and of pairs. Allocates memory for the table, for the short pairs as wide ones, and for the
+/// rows of all pairs.
 fn both_table(
     alloc: Global,
     mut buffer: RowBuffer,
