@@ -47,7 +47,7 @@ import stubs
 
 # the copies that a check reads, and the memory that it may take
 MOST = 24
-MEMORY = 9_000_000_000
+MEMORY = 6_000_000_000
 PARTS = ("src", "specs", "proofs")
 # the crate whose libraries the copies are, and its text
 TOP = "all_copies"
