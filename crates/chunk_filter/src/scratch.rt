@@ -6,7 +6,6 @@ use std::alloc::Global;
 
 /// What scans reuse from one chunk and one query to the next. It begins with no vectors. It grows to as many
 /// vectors of each kind as a scan used at one time. Each has room for the most rows that it was used for.
-#[derive(Drop)]
 pub struct Scratch {
     /// The vectors of the evaluator.
     pub columns: Columns,
@@ -18,6 +17,19 @@ pub struct Scratch {
     pub places: Pool<u32>,
     /// Packed keys, by which the scan of groups brings rows with the same key together.
     pub words: Pool<u64>,
+}
+
+// A derived drop would be proved again in each crate that drops one.
+impl Drop for Scratch {
+    fn drop(self) {
+        let Scratch {
+            columns,
+            flags,
+            cells,
+            places,
+            words,
+        } = self;
+    }
 }
 
 impl Scratch {

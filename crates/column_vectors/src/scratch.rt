@@ -5,11 +5,21 @@ use sky_io::Memory;
 use std::alloc::Global;
 
 /// The vectors of an evaluation. It begins with none and keeps those that it allocated, for the next evaluation.
-#[derive(Drop)]
 pub struct Scratch {
     pub(crate) narrow: Pool<i64>,
     pub(crate) wide: Pool<i128>,
     pub flags: Pool<bool>,
+}
+
+// A derived drop would be proved again in each crate that drops one.
+impl Drop for Scratch {
+    fn drop(self) {
+        let Scratch {
+            narrow,
+            wide,
+            flags,
+        } = self;
+    }
 }
 
 impl Scratch {

@@ -32,13 +32,25 @@ use std::alloc::Global;
 use std::marker::Model;
 
 /// The groups of a piece.
-#[derive(Drop)]
 pub struct AggregationTable {
     alloc: Global,
     groups: Vec<GroupEntry>,
     tallies: Vec<Tally>,
     consolidated: usize,
     cache: GroupCache,
+}
+
+// A derived drop would be proved again in each crate that drops one.
+impl Drop for AggregationTable {
+    fn drop(self) {
+        let AggregationTable {
+            alloc,
+            groups,
+            tallies,
+            consolidated,
+            cache,
+        } = self;
+    }
 }
 
 /// The aggregation table is consolidated for the first time when it has twice this number of groups.

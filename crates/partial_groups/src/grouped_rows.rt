@@ -35,12 +35,23 @@ use std::marker::Model;
 
 /// The groups of a piece, and the numbers of the rows that are not in a group yet, one list for each chunk. `counted` says
 /// for each aggregate whether it counts these rows.
-#[derive(Drop)]
 pub struct GroupedRows {
     alloc: Global,
     groups: AggregationTable,
     counted: Vec<bool>,
     lists: Vec<Vec<i64>>,
+}
+
+// A derived drop would be proved again in each crate that drops one.
+impl Drop for GroupedRows {
+    fn drop(self) {
+        let GroupedRows {
+            alloc,
+            groups,
+            counted,
+            lists,
+        } = self;
+    }
 }
 
 impl Model for GroupedRows {

@@ -41,11 +41,21 @@ use std::marker::{Model, PhantomData};
 
 /// The partial result of a chunk query over a set of chunks. It is defined over the rows of a session, though it holds
 /// no reference to them.
-#[derive(Drop)]
 pub struct Piece<'w> {
     alloc: Global,
     contents: Contents,
     of: PhantomData<&'w Rows>,
+}
+
+// A derived drop would be proved again in each crate that drops one.
+impl Drop for Piece<'_> {
+    fn drop(self) {
+        let Piece {
+            alloc,
+            contents,
+            of,
+        } = self;
+    }
 }
 
 impl<'w> Model for Piece<'w> {

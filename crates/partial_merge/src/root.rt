@@ -20,11 +20,21 @@ use std::snapshot::Snapshot;
 
 /// What the pieces of a session are defined over. It holds references to the plan and the rows, and the number of each
 /// chunk query, from 1 to 255. The chunk queries themselves are visible to contracts alone.
-#[derive(Drop)]
 pub struct PieceRoot<'w> {
     plan: &'w SkyPlan,
     rows: &'w Rows,
     queries: Vec<(u32, Snapshot<ChunkQuery>)>,
+}
+
+// A derived drop would be proved again in each crate that drops one.
+impl Drop for PieceRoot<'_> {
+    fn drop(self) {
+        let PieceRoot {
+            plan,
+            rows,
+            queries,
+        } = self;
+    }
 }
 
 impl<'w> Model for PieceRoot<'w> {

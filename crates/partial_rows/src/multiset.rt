@@ -33,7 +33,6 @@ use std::alloc::Global;
 use std::marker::Model;
 
 /// The rows of a piece, in any order.
-#[derive(Drop)]
 pub struct Multiset {
     alloc: Global,
     buffer: RowBuffer,
@@ -41,6 +40,19 @@ pub struct Multiset {
     vacuumed: usize,
     /// The pairs whose values are their own ids, each packed into one number.
     pairs: IdPairs,
+}
+
+// A derived drop would be proved again in each crate that drops one.
+impl Drop for Multiset {
+    fn drop(self) {
+        let Multiset {
+            alloc,
+            buffer,
+            cells,
+            vacuumed,
+            pairs,
+        } = self;
+    }
 }
 
 /// The multiset is vacuumed for the first time when it has twice this number of values.

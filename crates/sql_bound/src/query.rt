@@ -2,6 +2,7 @@
 
 use crate::area::{Areas, IdTests};
 use crate::cond::BoundConds;
+use crate::drops::drop_expr;
 use crate::expr::{BoundCol, BoundExpr};
 use sql_tree::Int;
 use sqlite_items::Items;
@@ -22,7 +23,6 @@ pub enum Shape {
 
 /// An item of a query: an expression of a row, a pair or a group's keys, or an aggregate of a group. `Count` counts the
 /// rows, and the other aggregates ignore rows for which their expression is NULL.
-#[derive(Drop)]
 pub enum BoundItem {
     Plain(BoundExpr),
     Count,
@@ -31,6 +31,21 @@ pub enum BoundItem {
     Min(BoundExpr),
     Max(BoundExpr),
     Avg(BoundExpr),
+}
+
+// A derived drop would be proved again in each crate that drops one.
+impl Drop for BoundItem {
+    fn drop(self) {
+        match self {
+            BoundItem::Count => {}
+            BoundItem::Plain(expr) => drop_expr(expr),
+            BoundItem::CountOf(expr) => drop_expr(expr),
+            BoundItem::Sum(expr) => drop_expr(expr),
+            BoundItem::Min(expr) => drop_expr(expr),
+            BoundItem::Max(expr) => drop_expr(expr),
+            BoundItem::Avg(expr) => drop_expr(expr),
+        }
+    }
 }
 
 /// The items of a query, in their order.
@@ -52,7 +67,6 @@ pub struct BoundOrder {
 
 /// A bound query. `conds` are the top-level conjuncts of WHERE, except a join's chord test, which is the limit of its
 /// shape. The area tests and the id tests are among them, and again in `areas` and `ids`.
-#[derive(Drop)]
 pub struct Bound {
     pub shape: Shape,
     pub items: BoundItems,
@@ -61,4 +75,19 @@ pub struct Bound {
     pub ids: IdTests,
     pub order: Option<BoundOrder>,
     pub limit: Option<Int>,
+}
+
+// A derived drop would be proved again in each crate that drops one.
+impl Drop for Bound {
+    fn drop(self) {
+        let Bound {
+            shape,
+            items,
+            conds,
+            areas,
+            ids,
+            order,
+            limit,
+        } = self;
+    }
 }

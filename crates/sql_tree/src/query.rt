@@ -7,7 +7,6 @@ use sql_token::{Int, Span};
 use sqlite_items::Items;
 
 /// A written query.
-#[derive(Drop)]
 pub struct Query {
     pub items: Selection,
     pub first: TableRef,
@@ -18,6 +17,21 @@ pub struct Query {
     pub group: Items<Col>,
     pub order: Option<OrderBy>,
     pub limit: Option<Int>,
+}
+
+// A derived drop would be proved again in each crate that drops one.
+impl Drop for Query {
+    fn drop(self) {
+        let Query {
+            items,
+            first,
+            second,
+            cond,
+            group,
+            order,
+            limit,
+        } = self;
+    }
 }
 
 /// The select list, between SELECT and FROM.
