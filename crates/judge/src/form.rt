@@ -13,8 +13,6 @@ pub(crate) enum Form {
     Print,
     /// As positions of a sky.
     Place(SkyPlan),
-    /// As kernels that are run.
-    Kernel,
 }
 
 // Returns the plan that a file describes.
@@ -36,8 +34,6 @@ pub(crate) fn form_of<S: Shelf>(shelf: &mut S, alloc: Global, words: &str) -> Op
         Some(Form::Print)
     } else if form == "place" {
         Some(Form::Place(plan_of(shelf, alloc, words.next()?)?))
-    } else if form == "kernel" {
-        Some(Form::Kernel)
     } else {
         None
     }

@@ -1,30 +1,25 @@
-//! Evaluates each line of standard input, as a text, a position or a kernel, and writes a line for each.
+//! Evaluates each line of standard input, as a text or a position, and writes a line for each.
 //!
 //! A line `judge COMMAND` writes nothing: it says how the lines after it are evaluated. COMMAND is one of
 //!
 //! - `read`: `query`, or the first fault of the text;
 //! - `print`: the printed text of the query, or the first fault of the text;
-//! - `place SKY`: the chunks of the position `x y z` in the sky plan of that file, as `chunk C sub S near N N ..`;
-//! - `kernel`: the result of running a kernel, from `NAME RUNS`.
+//! - `place SKY`: the chunks of the position `x y z` in the sky plan of that file, as `chunk C sub S near N N ..`.
 //!
 //! The program ends with status 1 at a line before the first command, at any other COMMAND, and at a line that is not
 //! UTF-8.
 //!
 //! It is for checks from outside: `scripts/random_queries.py` and `scripts/compare_places.py` compute the same results
-//! independently, and `bench/kernels.py` measures runs. Below: `sql_reader` and `sql_print` for texts, `sky_plan` and
-//! `overlap_tables` for positions, and for kernels `lane_filter` and `column_eval`, over rows of `sky_generate` and
-//! expressions that `sql_bind` has bound. It has no rows but the demo's. No clause is about what it writes, so nothing is proved of that.
+//! independently. Below: `sql_reader` and `sql_print` for texts, `sky_plan` and `overlap_tables` for positions. It has no
+//! rows. No clause is about what it writes, so nothing is proved of that.
 #![tactic(auto)]
 
-mod evaluated;
 mod form;
-mod kernel;
 mod place;
 mod text;
 mod told;
 
 use crate::form::{Form, form_of};
-use crate::kernel::put_run;
 use crate::place::put_place;
 use crate::text::put_text;
 use sky_io::{FolderShelf, OutSink, Put, Shelf, Sink};
@@ -38,7 +33,6 @@ fn put_judged<K: Sink>(sink: &mut K, alloc: Global, form: &Form, line: &[u8]) ->
         Form::Read => put_text(sink, alloc, line, false),
         Form::Print => put_text(sink, alloc, line, true),
         Form::Place(plan) => put_place(sink, alloc, plan, line),
-        Form::Kernel => put_run(sink, alloc, line),
     };
     match put {
         Put::Failed => Put::Failed,
