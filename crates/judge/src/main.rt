@@ -10,8 +10,8 @@
 //! UTF-8.
 //!
 //! It is for checks from outside: `scripts/random_queries.py` and `scripts/compare_places.py` compute the same results
-//! independently. Below: `sql_reader` and `sql_print` for texts, `sky_plan` and `overlap_tables` for positions. It has no
-//! rows. No clause is about what it writes, so nothing is proved of that.
+//! independently. Below: `sql_reader` and `sql_print` for texts, `sky_plan` and `overlap_tables` for positions. It reads
+//! no catalogue. No clause is about what it writes, so nothing is proved of that.
 #![tactic(auto)]
 
 mod form;
