@@ -136,29 +136,29 @@ module _ {ring : ℕ} {lines : Journal} {done here : ℕ} {closed : Bool} {slots
       (recorded_on (take done lines) (Attach s q chunks) taken refl refl h.recorded)
 
   -- the next chunk of the scan
-  pub next_here : IsReplayed ring lines done here closed slots taken → (step chunk : ℕ) (xs : List Slot) → step ≡ least_from ring here ring xs → xs ≡ slots → step < ring → chunk ≡ chunk_at ring here step → Nearest ring slots (take done lines) step chunk
-  next_here h step chunk xs least same low at = nearest_here h.kept step chunk (step_is h.kept step xs least same) low at
+  pub next_here : IsReplayed ring lines done here closed slots taken → (step chunk : ℕ) → step ≡ least_from ring here ring slots → step < ring → chunk ≡ chunk_at ring here step → Nearest ring slots (take done lines) step chunk
+  next_here h step chunk least low at = nearest_here h.kept step chunk (step_is h.kept step least) low at
 
   -- why a chunk may not be taken
-  pub none_refused : IsReplayed ring lines done here closed slots taken → (step : ℕ) (xs : List Slot) → step ≡ least_from ring here ring xs → xs ≡ slots → ring ≤ step → (t c : ℕ) (queries : List ℕ) → MayTake ring (take done lines) t c queries → ⊥
-  none_refused h step xs least same high t c queries m = let n = next_none h.kept step (step_is h.kept step xs least same) high in let y = m.next in absurd (cc)
+  pub none_refused : IsReplayed ring lines done here closed slots taken → (step : ℕ) → step ≡ least_from ring here ring slots → ring ≤ step → (t c : ℕ) (queries : List ℕ) → MayTake ring (take done lines) t c queries → ⊥
+  none_refused h step least high t c queries m = let n = next_none h.kept step (step_is h.kept step least) high in let y = m.next in absurd (cc)
 
   -- the take that a board would hand out
-  take_is : IsReplayed ring lines done here closed slots taken → (step chunk : ℕ) (xs : List Slot) → step ≡ least_from ring here ring xs → xs ≡ slots → Nearest ring slots (take done lines) step chunk → (takers : List ℕ) → ((d : Slot) → takers ≡ served slots d chunk 256) → MayTake ring (take done lines) (length taken) chunk takers
-  take_is h step chunk xs least same n takers all = may_take h.kept step chunk (step_is h.kept step xs least same) n 0 (length taken) takers refl all
+  take_is : IsReplayed ring lines done here closed slots taken → (step chunk : ℕ) → step ≡ least_from ring here ring slots → Nearest ring slots (take done lines) step chunk → (takers : List ℕ) → ((d : Slot) → takers ≡ served slots d chunk 256) → MayTake ring (take done lines) (length taken) chunk takers
+  take_is h step chunk least n takers all = may_take h.kept step chunk (step_is h.kept step least) n 0 (length taken) takers refl all
 
   -- a take with another chunk, ticket or list of queries may not follow
-  pub chunk_refused : IsReplayed ring lines done here closed slots taken → (step chunk : ℕ) (xs : List Slot) → step ≡ least_from ring here ring xs → xs ≡ slots → Nearest ring slots (take done lines) step chunk → (t c : ℕ) (queries : List ℕ) → (chunk ≡ c → ⊥) → MayTake ring (take done lines) t c queries → ⊥
-  chunk_refused h step chunk xs least same n t c queries ne m = ne (one_chunk chunk c (sym (next_is h.kept step chunk (step_is h.kept step xs least same) n) ∙ m.next))
+  pub chunk_refused : IsReplayed ring lines done here closed slots taken → (step chunk : ℕ) → step ≡ least_from ring here ring slots → Nearest ring slots (take done lines) step chunk → (t c : ℕ) (queries : List ℕ) → (chunk ≡ c → ⊥) → MayTake ring (take done lines) t c queries → ⊥
+  chunk_refused h step chunk least n t c queries ne m = ne (one_chunk chunk c (sym (next_is h.kept step chunk (step_is h.kept step least) n) ∙ m.next))
 
   pub ticket_refused : IsReplayed ring lines done here closed slots taken → (t c : ℕ) (queries : List ℕ) → (t ≡ length taken → ⊥) → MayTake ring (take done lines) t c queries → ⊥
   ticket_refused h t c queries ne m = ne (m.counted ∙ sym h.kept.counted)
 
-  pub queries_refused : IsReplayed ring lines done here closed slots taken → (step chunk : ℕ) (xs : List Slot) → step ≡ least_from ring here ring xs → xs ≡ slots → Nearest ring slots (take done lines) step chunk → (takers : List ℕ) → ((d : Slot) → takers ≡ served slots d chunk 256) → (t : ℕ) (queries : List ℕ) → (takers ≡ queries → ⊥) → MayTake ring (take done lines) t chunk queries → ⊥
-  queries_refused h step chunk xs least same n takers all t queries ne m = ne ((take_is h step chunk xs least same n takers all).all ∙ sym m.all)
+  pub queries_refused : IsReplayed ring lines done here closed slots taken → (step chunk : ℕ) → step ≡ least_from ring here ring slots → Nearest ring slots (take done lines) step chunk → (takers : List ℕ) → ((d : Slot) → takers ≡ served slots d chunk 256) → (t : ℕ) (queries : List ℕ) → (takers ≡ queries → ⊥) → MayTake ring (take done lines) t chunk queries → ⊥
+  queries_refused h step chunk least n takers all t queries ne m = ne ((take_is h step chunk least n takers all).all ∙ sym m.all)
 
-  pub take_right : IsReplayed ring lines done here closed slots taken → (step chunk : ℕ) (xs : List Slot) → step ≡ least_from ring here ring xs → xs ≡ slots → Nearest ring slots (take done lines) step chunk → (takers : List ℕ) → ((d : Slot) → takers ≡ served slots d chunk 256) → (t : ℕ) (queries : List ℕ) → t ≡ length taken → takers ≡ queries → MayTake ring (take done lines) t chunk queries
-  take_right h step chunk xs least same n takers all t queries et eq = rw (et, sym eq) (take_is h step chunk xs least same n takers all)
+  pub take_right : IsReplayed ring lines done here closed slots taken → (step chunk : ℕ) → step ≡ least_from ring here ring slots → Nearest ring slots (take done lines) step chunk → (takers : List ℕ) → ((d : Slot) → takers ≡ served slots d chunk 256) → (t : ℕ) (queries : List ℕ) → t ≡ length taken → takers ≡ queries → MayTake ring (take done lines) t chunk queries
+  take_right h step chunk least n takers all t queries et eq = rw (et, sym eq) (take_is h step chunk least n takers all)
 
   -- a Take
   pub take_step : IsReplayed ring lines done here closed slots taken → (s t c : ℕ) (queries : List ℕ) → IsNext (Take s t c queries) (shown ring lines done) → MayTake ring (take done lines) t c queries → (step : ℕ) → Nearest ring slots (take done lines) step c → t ≡ length taken → (after : List Slot) → PoppedAll c slots after 256 → (it : TakeRecord) (more : List TakeRecord) → it.seat ≡ s → it.queries ≡ queries → it.delivered ≡ false → more ≡ taken ++ it ∷ [] → IsReplayed ring lines (done + 1) (chunk_at ring c 1) closed after more

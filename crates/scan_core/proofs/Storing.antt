@@ -176,16 +176,16 @@ module _ {P : Type 0} {asks : ℕ → ℕ → Type 0} {stands : ℕ → List ℕ
   lawful h = record { run = h.kept.run; asked = h.asked }
 
   -- the least step leads to the nearest chunk
-  pub found : Stored asks stands ring here tickets flights closed slots pieces capacity past → (d c : ℕ) (xs : List Slot) → d ≡ least_from ring here ring xs → xs ≡ slots → d < ring → c ≡ chunk_at ring here d → Nearest ring slots past d c
-  found h d c xs least same low at = nearest_here h.kept d c (step_is h.kept d xs least same) low at
+  pub found : Stored asks stands ring here tickets flights closed slots pieces capacity past → (d c : ℕ) → d ≡ least_from ring here ring slots → d < ring → c ≡ chunk_at ring here d → Nearest ring slots past d c
+  found h d c least low at = nearest_here h.kept d c (step_is h.kept d least) low at
 
   -- which may be taken now, for the slots that need it
-  pub may_be_taken : Stored asks stands ring here tickets flights closed slots pieces capacity past → (d c : ℕ) (xs : List Slot) → d ≡ least_from ring here ring xs → xs ≡ slots → Nearest ring slots past d c → (queries : List ℕ) → ((b : Slot) → queries ≡ served slots b c 256) → MayTake ring past tickets c queries
-  may_be_taken h d c xs least same n queries all = may_take h.kept d c (step_is h.kept d xs least same) n 0 tickets queries refl all
+  pub may_be_taken : Stored asks stands ring here tickets flights closed slots pieces capacity past → (d c : ℕ) → d ≡ least_from ring here ring slots → Nearest ring slots past d c → (queries : List ℕ) → ((b : Slot) → queries ≡ served slots b c 256) → MayTake ring past tickets c queries
+  may_be_taken h d c least n queries all = may_take h.kept d c (step_is h.kept d least) n 0 tickets queries refl all
 
   -- where the least step is the ring's length, nothing is needed
-  pub none_found : Stored asks stands ring here tickets flights closed slots pieces capacity past → (d : ℕ) (xs : List Slot) → d ≡ least_from ring here ring xs → xs ≡ slots → ring ≤ d → next_chunk ring past ≡ None
-  none_found h d xs least same high = next_none h.kept d (step_is h.kept d xs least same) high
+  pub none_found : Stored asks stands ring here tickets flights closed slots pieces capacity past → (d : ℕ) → d ≡ least_from ring here ring slots → ring ≤ d → next_chunk ring past ≡ None
+  none_found h d least high = next_none h.kept d (step_is h.kept d least) high
 
   -- the task and the line of its take name the same queries
   pub same_served : Stored asks stands ring here tickets flights closed slots pieces capacity past → (c : ℕ) (queries set : List ℕ) → ((b : Slot) → queries ≡ served slots b c 256) → ((b : Slot) → set ≡ served slots b c 256) → queries ≡ set

@@ -360,8 +360,8 @@ add_served slots d c n old new s e o i = e ∙ (ap (λ (l : List ℕ). l ++ cond
 
 module _ {ring here tickets : ℕ} {closed : Bool} {slots : List Slot} {past : Journal} where
   -- the least step from the board's place is that from the scan's
-  pub step_is : Kept ring here tickets closed slots past → (d : ℕ) (xs : List Slot) → d ≡ least_from ring here ring xs → xs ≡ slots → d ≡ least_from ring (place ring past) ring slots
-  step_is k d xs e x = e ∙ (ap (least_from ring here ring) x ∙ ap (λ p. least_from ring p ring slots) k.stands)
+  pub step_is : Kept ring here tickets closed slots past → (d : ℕ) → d ≡ least_from ring here ring slots → d ≡ least_from ring (place ring past) ring slots
+  step_is k d e = e ∙ ap (λ p. least_from ring p ring slots) k.stands
 
   -- the place of a board that may take lies on the ring
   pub here_low : Kept ring here tickets closed slots past → (d : ℕ) → d < ring → here < ring

@@ -18,14 +18,11 @@ ghost use Rattle.scan_core.specs.Delivering.{DeliversTask, InFlight, PiecesFit};
 use crate::ahead::ahead_of;
 use crate::answers::{Attach, Collect, Take};
 use crate::board_root::BoardRoot;
-use crate::deliveries::{hand_all, pay_all};
-use crate::next::{chunk_at, least_step, pop_all, takers_at, takers_set};
+use crate::deliveries::hand_all;
+use crate::next::chunk_at;
 use crate::pieces::{end_of, no_pieces, put_at, take_at};
-use crate::slot::Slot;
-use crate::slots::{
-    attached_at, blank_slots, cancelled_at, collect_at, enter_at, lost_at, running_in, runs_at,
-    stop_at, waits_at,
-};
+use crate::slot_table::SlotTable;
+use crate::slots::{attached_at, cancelled_at, lost_at, runs_at, waits_at};
 use crate::task::Task;
 use crate::work::Work;
 use scan_rules::limits::{QUERY_MOST, RUNNING_MOST};
@@ -47,7 +44,7 @@ pub struct Board<P: Work> {
     flights: u32,
     closed: bool,
     /// The slots, one for each query number, and one for 0, which is no query's.
-    slots: Vec<Slot>,
+    slots: SlotTable,
     /// The piece of each query, by its number.
     pieces: Vec<Option<P>>,
     journal: Vec<JournalLine>,
@@ -64,7 +61,7 @@ impl<P: Work> Model for Board<P> {
     ghost view = { λ b. record { root = b.root; ring = b.ring; past = b.journal.items } };
 
     ghost invariant = { λ b. Stored (P.asks b.root) (P.stands b.root)
-        b.ring b.place b.tickets b.flights b.closed b.slots.items b.pieces.items
+        b.ring b.place b.tickets b.flights b.closed b.slots b.pieces.items
         (vec_capacity b.journal) b.journal.items };
 }
 
@@ -77,7 +74,7 @@ impl<P: Work> Board<P> {
             board ≡ record { root = root; ring = ring; past = [] }) }
         ensures lawful { IfOk result (λ board. IsLawful P.asks board) }
     {
-        let slots = blank_slots(alloc)?;
+        let slots = SlotTable::blank(alloc)?;
         let pieces = no_pieces(alloc)?;
         let journal = room_for_close(alloc)?;
         Ok(Board {
@@ -129,10 +126,10 @@ impl<P: Work> Board<P> {
         if self.closed {
             return Attach::Closed { chunks, empty };
         }
-        if attached_at(&self.slots, q as usize) {
+        if attached_at(self.slots.list(), q as usize) {
             return Attach::Again { chunks, empty };
         }
-        if running_in(&self.slots) >= RUNNING_MOST {
+        if self.slots.running() >= RUNNING_MOST {
             return Attach::Full { chunks, empty };
         }
         let list = chunks.as_slice();
@@ -146,7 +143,7 @@ impl<P: Work> Board<P> {
         }
         self.journal
             .push_reserved(JournalLine::Attach { seat, q, chunks });
-        enter_at(&mut self.slots, q as usize, owed, ahead);
+        self.slots.enter(q as usize, owed, ahead);
         put_at(&mut self.pieces, q as usize, empty);
         Attach::Attached
     }
@@ -172,11 +169,11 @@ impl<P: Work> Board<P> {
         ensures same { result ≡ false → self.new ≡ self.old }
         ensures lawful { IsLawful P.asks self.new }
     {
-        if !runs_at(&self.slots, q) {
+        if !runs_at(self.slots.list(), q) {
             return false;
         }
         self.journal.push_reserved(JournalLine::Cancel { seat, q });
-        stop_at(&mut self.slots, q as usize);
+        self.slots.stop(q as usize);
         let _dropped = take_at(&mut self.pieces, q as usize);
         true
     }
@@ -187,7 +184,7 @@ impl<P: Work> Board<P> {
         ensures flies { IfTask result (λ task. InFlight self.new.past seat task) }
         ensures lawful { IsLawful P.asks self.new }
     {
-        let step = least_step(self.ring, self.place, &self.slots);
+        let step = self.slots.least_step(self.ring, self.place);
         if step >= self.ring {
             if self.closed {
                 return Take::Ended;
@@ -195,8 +192,8 @@ impl<P: Work> Board<P> {
             return Take::Idle;
         }
         let chunk = chunk_at(self.ring, self.place, step);
-        let queries = takers_at(&self.slots, chunk);
-        let set = takers_set(&self.slots, chunk);
+        let queries = self.slots.takers(chunk);
+        let set = self.slots.takers_set(chunk);
         let ticket = self.tickets;
         self.journal.push_reserved(JournalLine::Take {
             seat,
@@ -204,7 +201,7 @@ impl<P: Work> Board<P> {
             chunk,
             queries: set,
         });
-        pop_all(&mut self.slots, chunk);
+        self.slots.pop(chunk);
         self.place = chunk_at(self.ring, chunk, 1);
         self.tickets = ticket + 1;
         self.flights += 1;
@@ -216,16 +213,16 @@ impl<P: Work> Board<P> {
         ensures answer { AnswersCollect P.stands seat self.old q result self.new }
         ensures lawful { IsLawful P.asks self.new }
     {
-        if runs_at(&self.slots, q) {
+        if runs_at(self.slots.list(), q) {
             return Collect::NotYet;
         }
-        if !waits_at(&self.slots, q) {
+        if !waits_at(self.slots.list(), q) {
             return Collect::Gone;
         }
-        let cancelled = cancelled_at(&self.slots, q as usize);
-        let lost = lost_at(&self.slots, q as usize);
+        let cancelled = cancelled_at(self.slots.list(), q as usize);
+        let lost = lost_at(self.slots.list(), q as usize);
         self.journal.push_reserved(JournalLine::Collect { seat, q });
-        collect_at(&mut self.slots, q as usize);
+        self.slots.collect(q as usize);
         let piece = take_at(&mut self.pieces, q as usize);
         end_of(cancelled, lost, piece)
     }
@@ -239,13 +236,13 @@ impl<P: Work> Board<P> {
         ensures delivered { DeliversTask P.refuses seat task pieces.items self.old self.new }
         ensures lawful { IsLawful P.asks self.new }
     {
-        let lost = hand_all(&self.slots, &mut self.pieces, task.queries(), pieces);
+        let lost = hand_all(self.slots.list(), &mut self.pieces, task.queries(), pieces);
         self.journal.push_reserved(JournalLine::Deliver {
             seat,
             ticket: task.ticket(),
             lost,
         });
-        pay_all(&mut self.slots, task.queries(), &lost);
+        self.slots.pay(task.queries(), &lost);
         self.flights -= 1;
     }
 }

@@ -1,4 +1,5 @@
 //! Which chunk the scan takes next, and for which queries. Both are read off the slots, whatever the ring's length.
+//! The loops inspect the slots from `from` to `to` alone; all others are at rest.
 ghost use Rattle.std.specs.Prelude.{◌≡◌, ℕ, ◌<◌, ◌≤◌, List, [], ◌∷◌, ◌++◌, length, get_or, true, cond, IfSome, None};
 ghost use Rattle.std.specs.List.{last_or};
 ghost use Rattle.scan_rules.specs.declared.limits.TheConstants.{RING_MOST};
@@ -7,8 +8,9 @@ ghost use Rattle.scan_core.specs.declared.limits.TheConstants.{SLOTS, TAKERS_MOS
 ghost use Rattle.scan_core.specs.declared.slot.Slot.{Slot};
 ghost use Rattle.scan_core.specs.Taking.{next_of, first_step, least_from, is_next, served, CanServe, Popped};
 ghost use Rattle.scan_core.specs.Taking.{PoppedAt, PoppedAll};
+ghost use Rattle.scan_core.specs.Rest.{RestOutside};
 
-use crate::limits::{SLOTS, TAKERS_MOST};
+use crate::limits::TAKERS_MOST;
 use crate::slot::Slot;
 use arrayvec::ArrayVec;
 use scan_rules::QuerySet;
@@ -61,13 +63,14 @@ fn first_step(ring: u32, place: u32, slot: &Slot) -> u32
 }
 
 /// Returns how many steps away the next needed chunk is, or the ring's length if none is needed.
-pub fn least_step(ring: u32, place: u32, slots: &[Slot]) -> u32
-    requires { place ≤ ring }
-    ensures { result ≡ least_from ring place ring slots.now }
+pub fn least_step(slots: &Vec<Slot>, from: usize, to: usize, ring: u32, place: u32) -> u32
+    requires low { place ≤ ring }
+    requires rest { RestOutside slots.now.items from to }
+    ensures { result ≡ least_from ring place ring slots.now.items }
 {
     let mut best = ring;
-    for slot in slots {
-        best = best.min(first_step(ring, place, slot));
+    for q in from..to {
+        best = best.min(first_step(ring, place, &slots[q]));
     }
     best
 }
@@ -93,14 +96,19 @@ fn add_next(queries: &mut ArrayVec<u32, TAKERS_MOST>, slot: &Slot, q: u32, chunk
 }
 
 /// Returns the queries that need this chunk next, ascending.
-pub fn takers_at(slots: &Vec<Slot>, chunk: u32) -> ArrayVec<u32, TAKERS_MOST>
-    requires full { length slots.now.items ≡ SLOTS }
+pub fn takers_at(
+    slots: &Vec<Slot>,
+    from: usize,
+    to: usize,
+    chunk: u32,
+) -> ArrayVec<u32, TAKERS_MOST>
+    requires rest { RestOutside slots.now.items from to }
     requires few { CanServe slots.now.items chunk }
     ensures { (d : Slot) → result.items ≡ served slots.now.items d chunk SLOTS }
 {
     let mut queries = ArrayVec::new();
-    for q in 0..SLOTS as u32 {
-        add_next(&mut queries, &slots[q as usize], q, chunk);
+    for q in from..to {
+        add_next(&mut queries, &slots[q], q as u32, chunk);
     }
     queries
 }
@@ -118,14 +126,14 @@ fn note_next(queries: &mut QuerySet, slot: &Slot, q: u32, chunk: u32)
 }
 
 /// Returns the queries that need this chunk next, as a set.
-pub fn takers_set(slots: &Vec<Slot>, chunk: u32) -> QuerySet
-    requires full { length slots.now.items ≡ SLOTS }
+pub fn takers_set(slots: &Vec<Slot>, from: usize, to: usize, chunk: u32) -> QuerySet
+    requires rest { RestOutside slots.now.items from to }
     requires few { CanServe slots.now.items chunk }
     ensures { (d : Slot) → result ≡ served slots.now.items d chunk SLOTS }
 {
     let mut queries = QuerySet::new();
-    for q in 0..SLOTS as u32 {
-        note_next(&mut queries, &slots[q as usize], q, chunk);
+    for q in from..to {
+        note_next(&mut queries, &slots[q], q as u32, chunk);
     }
     queries
 }
@@ -149,11 +157,11 @@ fn pop_at(slots: &mut Vec<Slot>, q: usize, chunk: u32)
 }
 
 /// Does so for each query that needs the chunk next.
-pub fn pop_all(slots: &mut Vec<Slot>, chunk: u32)
-    requires { length slots.old.items ≡ SLOTS }
+pub fn pop_all(slots: &mut Vec<Slot>, from: usize, to: usize, chunk: u32)
+    requires rest { RestOutside slots.old.items from to }
     ensures { PoppedAll chunk slots.old.items slots.new.items SLOTS }
 {
-    for q in 0..SLOTS {
+    for q in from..to {
         pop_at(slots, q, chunk);
     }
 }

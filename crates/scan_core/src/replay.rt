@@ -19,13 +19,11 @@ ghost use Rattle.scan_core.specs.declared.slot.Slot.{Slot};
 ghost use Rattle.scan_core.specs.Replays.{IsNext, Decides, DeliveredAt, runs_among};
 
 use crate::ahead::ahead_of;
-use crate::deliveries::pay_all;
 use crate::limits::SLOTS;
-use crate::next::{chunk_at, least_step, pop_all, takers_at};
+use crate::next::chunk_at;
 use crate::slot::Slot;
-use crate::slots::{
-    attached_at, blank_slots, collect_at, enter_at, running_in, runs_at, stop_at, waits_at,
-};
+use crate::slot_table::SlotTable;
+use crate::slots::{attached_at, runs_at, waits_at};
 use crate::take_record::TakeRecord;
 use scan_rules::limits::{QUERY_MOST, RUNNING_MOST};
 use scan_rules::{ChunkSet, JournalLine, QuerySet};
@@ -42,7 +40,7 @@ pub struct Replay<'a> {
     /// The chunk at which the scan continues.
     place: u32,
     closed: bool,
-    slots: Vec<Slot>,
+    slots: SlotTable,
     /// A record of each take, at the position of its ticket.
     taken: Vec<TakeRecord>,
 }
@@ -55,7 +53,7 @@ impl<'a> Model for Replay<'a> {
 
     ghost view = { λ r. shown r.ring r.lines.now r.done };
 
-    ghost invariant = { λ r. IsReplayed r.ring r.lines.now r.done r.place r.closed r.slots.items r.taken.items };
+    ghost invariant = { λ r. IsReplayed r.ring r.lines.now r.done r.place r.closed r.slots r.taken.items };
 }
 
 /// Returns whether each chunk is below the length of the ring.
@@ -108,7 +106,7 @@ impl<'a> Replay<'a> {
         ensures { IfOk result (λ replay.
             replay ≡ record { ring = ring; past = []; rest = lines.now }) }
     {
-        let slots = blank_slots(alloc)?;
+        let slots = SlotTable::blank(alloc)?;
         Ok(Replay {
             ring,
             lines,
@@ -158,7 +156,7 @@ impl<'a> Replay<'a> {
         }
         let owed = list.len() as u32;
         let ahead = ahead_of(*self.taken.allocator(), self.place, list)?;
-        enter_at(&mut self.slots, q as usize, owed, ahead);
+        self.slots.enter(q as usize, owed, ahead);
         self.done += 1;
         Ok(true)
     }
@@ -174,10 +172,10 @@ impl<'a> Replay<'a> {
         if q < 1 || q > QUERY_MOST {
             return false;
         }
-        if attached_at(&self.slots, q as usize) {
+        if attached_at(self.slots.list(), q as usize) {
             return false;
         }
-        if running_in(&self.slots) >= RUNNING_MOST {
+        if self.slots.running() >= RUNNING_MOST {
             return false;
         }
         all_below(chunks, self.ring)
@@ -196,7 +194,7 @@ impl<'a> Replay<'a> {
             Decides (TakeLine seat ticket chunk queries.now) self.old may self.new) }
         ensures same { OnErr result (self.new ≡ self.old) }
     {
-        let step = least_step(self.ring, self.place, &self.slots);
+        let step = self.slots.least_step(self.ring, self.place);
         if step >= self.ring {
             return Ok(false);
         }
@@ -207,7 +205,7 @@ impl<'a> Replay<'a> {
         if ticket as usize != self.taken.len() {
             return Ok(false);
         }
-        let takers = takers_at(&self.slots, next);
+        let takers = self.slots.takers(next);
         let named = queries.list();
         if takers.as_slice() != named.as_slice() {
             return Ok(false);
@@ -217,7 +215,7 @@ impl<'a> Replay<'a> {
             queries: *queries,
             delivered: false,
         })?;
-        pop_all(&mut self.slots, next);
+        self.slots.pop(next);
         self.place = chunk_at(self.ring, next, 1);
         self.done += 1;
         Ok(true)
@@ -241,11 +239,11 @@ impl<'a> Replay<'a> {
         }
         let queries = it.queries;
         let losing = lost.list();
-        if !may_lose_all(&self.slots, &queries, losing.as_slice()) {
+        if !may_lose_all(self.slots.list(), &queries, losing.as_slice()) {
             return false;
         }
         let named = queries.list();
-        pay_all(&mut self.slots, named.as_slice(), lost);
+        self.slots.pay(named.as_slice(), lost);
         deliver_at(&mut self.taken, ticket as usize);
         self.done += 1;
         true
@@ -256,10 +254,10 @@ impl<'a> Replay<'a> {
         requires { IsNext (CancelLine seat q) self.old }
         ensures { Decides (CancelLine seat q) self.old result self.new }
     {
-        if !runs_at(&self.slots, q) {
+        if !runs_at(self.slots.list(), q) {
             return false;
         }
-        stop_at(&mut self.slots, q as usize);
+        self.slots.stop(q as usize);
         self.done += 1;
         true
     }
@@ -269,13 +267,13 @@ impl<'a> Replay<'a> {
         requires { IsNext (CollectLine seat q) self.old }
         ensures { Decides (CollectLine seat q) self.old result self.new }
     {
-        if runs_at(&self.slots, q) {
+        if runs_at(self.slots.list(), q) {
             return false;
         }
-        if !waits_at(&self.slots, q) {
+        if !waits_at(self.slots.list(), q) {
             return false;
         }
-        collect_at(&mut self.slots, q as usize);
+        self.slots.collect(q as usize);
         self.done += 1;
         true
     }

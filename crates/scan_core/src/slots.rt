@@ -4,6 +4,7 @@ ghost use Rattle.scan_core.specs.declared.limits.TheConstants.{SLOTS};
 ghost use Rattle.scan_core.specs.declared.slot.Slot.{Slot};
 ghost use Rattle.scan_core.specs.Slots.{runs, running_below, waits};
 ghost use Rattle.scan_core.specs.Changes.{AreBlank, CollectedAt, EnteredAt, IsBlank, StoppedAt};
+ghost use Rattle.scan_core.specs.Rest.{RestOutside};
 
 use crate::limits::SLOTS;
 use crate::slot::Slot;
@@ -93,13 +94,13 @@ fn count_at(slots: &Vec<Slot>, q: u32) -> u32
 }
 
 /// Returns how many queries run.
-pub fn running_in(slots: &Vec<Slot>) -> u32
-    requires full { length slots.now.items ≡ SLOTS }
+pub fn running_in(slots: &Vec<Slot>, from: usize, to: usize) -> u32
+    requires rest { RestOutside slots.now.items from to }
     ensures { (d : Slot) → result ≡ running_below slots.now.items d SLOTS }
 {
     let mut count = 0u32;
-    for q in 0..SLOTS as u32 {
-        count += count_at(slots, q);
+    for q in from..to {
+        count += count_at(slots, q as u32);
     }
     count
 }

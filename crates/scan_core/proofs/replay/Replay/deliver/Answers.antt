@@ -29,13 +29,13 @@ returns-then-not-may_lose_all c =
     let seat_is : c.index-it.result.now.seat ≡ c.args.seat = search rules in
     let f = subst (λ s. Flight (take c.self.inside.done c.self.inside.lines.now) s c.args.ticket w.0 c.index-it.result.now.queries) seat_is w.1 in
     let losing : c.as_slice.result.now ≡ c.args.lost.now = search rules in
-    let d = some_slot 0 c.self.inside.slots.items (omega (arith, c.self.invariant.kept.full)) in
-    let all : list_all (runs_among c.self.inside.slots.items c.index-it.result.now.queries d) c.args.lost.now ≡ false = ap (λ (l : List ℕ). list_all (runs_among c.self.inside.slots.items c.index-it.result.now.queries d) l) (sym losing) ∙ (sym (c.may_lose_all.ensures d) ∙ search rules) in
+    let d = some_slot 0 c.self.inside.slots (omega (arith, c.self.invariant.kept.full)) in
+    let all : list_all (runs_among c.self.inside.slots c.index-it.result.now.queries d) c.args.lost.now ≡ false = ap (λ (l : List ℕ). list_all (runs_among c.self.inside.slots c.index-it.result.now.queries d) l) (sym losing) ∙ (sym ((rw c.list.ensures.items at c.may_lose_all.ensures) d) ∙ search rules) in
     rw (← c.self.view_is) (decided_wrong c.self.inside.ring c.self.inside.lines.now c.self.inside.done (Deliver c.args.seat c.args.ticket c.args.lost.now)
     (λ m. lost_refused c.self.invariant c.args.seat c.args.ticket w.0 c.index-it.result.now.queries f d c.args.lost.now all m))
 
-pub pay_all-requires-clause-tasked : goal.pay_all-requires-clause-tasked
-pay_all-requires-clause-tasked c =
+pub pay-requires-clause-tasked : goal.pay-requires-clause-tasked
+pay-requires-clause-tasked c =
     let low : c.args.ticket < length c.self.inside.taken.items = search rules in
     let w = its_flight c.self.invariant c.args.ticket c.index-it.result.now low c.index-it.ensures (search rules) in
     let seat_is : c.index-it.result.now.seat ≡ c.args.seat = search rules in
@@ -43,8 +43,8 @@ pay_all-requires-clause-tasked c =
     let named : c.as_slice-2.result.now ≡ c.index-it.result.now.queries = search rules in
     rw named f.tasked
 
-pub pay_all-requires-clause-owed : goal.pay_all-requires-clause-owed
-pay_all-requires-clause-owed c =
+pub pay-requires-clause-owed : goal.pay-requires-clause-owed
+pay-requires-clause-owed c =
     let low : c.args.ticket < length c.self.inside.taken.items = search rules in
     let w = its_flight c.self.invariant c.args.ticket c.index-it.result.now low c.index-it.ensures (search rules) in
     let seat_is : c.index-it.result.now.seat ≡ c.args.seat = search rules in
@@ -59,12 +59,12 @@ invariant_of-self c =
     let seat_is : c.index-it.result.now.seat ≡ c.args.seat = search rules in
     let f = subst (λ s. Flight (take c.self.inside.done c.self.inside.lines.now) s c.args.ticket w.0 c.index-it.result.now.queries) seat_is w.1 in
     let losing : c.as_slice.result.now ≡ c.args.lost.now = search rules in
-    let d = some_slot 0 c.self.inside.slots.items (omega (arith, c.self.invariant.kept.full)) in
-    let all : list_all (runs_among c.self.inside.slots.items c.index-it.result.now.queries d) c.args.lost.now ≡ true = ap (λ (l : List ℕ). list_all (runs_among c.self.inside.slots.items c.index-it.result.now.queries d) l) (sym losing) ∙ (sym (c.may_lose_all.ensures d) ∙ search rules) in
+    let d = some_slot 0 c.self.inside.slots (omega (arith, c.self.invariant.kept.full)) in
+    let all : list_all (runs_among c.self.inside.slots c.index-it.result.now.queries d) c.args.lost.now ≡ true = ap (λ (l : List ℕ). list_all (runs_among c.self.inside.slots c.index-it.result.now.queries d) l) (sym losing) ∙ (sym ((rw c.list.ensures.items at c.may_lose_all.ensures) d) ∙ search rules) in
     let may = may_deliver_now c.self.invariant c.args.seat c.args.ticket w.0 c.index-it.result.now.queries f c.index-it.result.now low c.index-it.ensures (search rules) d c.args.lost.now all in
     let next = subst (λ s. IsNext (Deliver c.args.seat c.args.ticket c.args.lost.now) s) (sym c.self.view_is) c.requires in
     let named : c.as_slice-2.result.now ≡ c.index-it.result.now.queries = search rules in
-    let paid : PaidAll c.index-it.result.now.queries c.args.lost.now c.self.inside.slots.items c.pay_all.new.slots.items (length c.index-it.result.now.queries) = rw named at c.pay_all.ensures in
+    let paid : PaidAll c.index-it.result.now.queries c.args.lost.now c.self.inside.slots c.pay.new.self (length c.index-it.result.now.queries) = rw named at c.pay.ensures in
     deliver_step c.self.invariant c.args.seat c.args.ticket w.0 c.index-it.result.now.queries c.args.lost.now next f may d all low _ paid _ c.deliver_at.ensures
 
 pub returns : goal.returns
@@ -74,8 +74,8 @@ returns c =
     let seat_is : c.index-it.result.now.seat ≡ c.args.seat = search rules in
     let f = subst (λ s. Flight (take c.self.inside.done c.self.inside.lines.now) s c.args.ticket w.0 c.index-it.result.now.queries) seat_is w.1 in
     let losing : c.as_slice.result.now ≡ c.args.lost.now = search rules in
-    let d = some_slot 0 c.self.inside.slots.items (omega (arith, c.self.invariant.kept.full)) in
-    let all : list_all (runs_among c.self.inside.slots.items c.index-it.result.now.queries d) c.args.lost.now ≡ true = ap (λ (l : List ℕ). list_all (runs_among c.self.inside.slots.items c.index-it.result.now.queries d) l) (sym losing) ∙ (sym (c.may_lose_all.ensures d) ∙ search rules) in
+    let d = some_slot 0 c.self.inside.slots (omega (arith, c.self.invariant.kept.full)) in
+    let all : list_all (runs_among c.self.inside.slots c.index-it.result.now.queries d) c.args.lost.now ≡ true = ap (λ (l : List ℕ). list_all (runs_among c.self.inside.slots c.index-it.result.now.queries d) l) (sym losing) ∙ (sym ((rw c.list.ensures.items at c.may_lose_all.ensures) d) ∙ search rules) in
     let may = may_deliver_now c.self.invariant c.args.seat c.args.ticket w.0 c.index-it.result.now.queries f c.index-it.result.now low c.index-it.ensures (search rules) d c.args.lost.now all in
     let next = subst (λ s. IsNext (Deliver c.args.seat c.args.ticket c.args.lost.now) s) (sym c.self.view_is) c.requires in
     rw (← c.self.view_is) (decided_right c.self.inside.ring c.self.inside.lines.now c.self.inside.done (Deliver c.args.seat c.args.ticket c.args.lost.now) next may)
