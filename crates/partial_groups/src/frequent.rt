@@ -19,7 +19,7 @@ ghost use Rattle.sky_io.specs.Stops.{IfBad};
 use crate::aggregation_table::AggregationTable;
 use crate::counting::{counted_in, grouped, number_at, width};
 use crate::cutoff::{Cutoff, cutoff_for, kept, kept_groups};
-use crate::number_lists::{bounds, number_count};
+use crate::number_lists::{Bounds, number_count};
 use crate::row_runs::put_rows;
 use answer_rules::{MergeItem, MergeKey, MergePlan, TotalOut};
 use answer_table::Table;
@@ -169,6 +169,7 @@ fn frequent_of(
     alloc: Global,
     counted: &[bool],
     lists: &[Vec<i64>],
+    bounds: Bounds,
     keys: &ColList,
     merge: &MergePlan,
 ) -> Result<Option<Table>, Stop<TotalOut>>
@@ -186,14 +187,13 @@ fn frequent_of(
     if frequent_limit(counted, keys, merge).is_none() {
         return Ok(None);
     }
-    let (least, greatest) = bounds(lists);
-    let Some(width) = width(least, greatest, number_count(lists)) else {
+    let Some(width) = width(bounds, number_count(lists)) else {
         return Ok(None);
     };
-    let Some(counts) = counted_in(alloc, lists, least, width) else {
+    let Some(counts) = counted_in(alloc, lists, bounds.least, width) else {
         return Ok(None);
     };
-    frequent_table(alloc, counted, least, counts.as_slice(), keys, merge)
+    frequent_table(alloc, counted, bounds.least, counts.as_slice(), keys, merge)
 }
 
 /// Returns the table of these groups and of the rows whose keys are the numbers of these lists. Makes all groups.
@@ -202,6 +202,7 @@ pub(crate) fn whole_table(
     groups: AggregationTable,
     counted: &Vec<bool>,
     lists: Vec<Vec<i64>>,
+    bounds: Bounds,
     keys: &ColList,
     merge: &MergePlan,
 ) -> Result<Table, Stop<TotalOut>>
@@ -216,7 +217,7 @@ pub(crate) fn whole_table(
         merged_groups keys.now merge.now (groups_merged keys.now (gather key_order add_own_sums
         (groups ++ row_groups counted.now.items (values_in lists.items)))) ≡ Err out.total)) }
 {
-    let whole = grouped(alloc, groups, counted.as_slice(), lists)?;
+    let whole = grouped(alloc, groups, counted.as_slice(), lists, bounds)?;
     whole.finish(alloc, keys, merge)
 }
 
@@ -227,6 +228,7 @@ pub(crate) fn rows_table(
     groups: AggregationTable,
     counted: &Vec<bool>,
     lists: Vec<Vec<i64>>,
+    bounds: Bounds,
     keys: &ColList,
     merge: &MergePlan,
 ) -> Result<Table, Stop<TotalOut>>
@@ -242,9 +244,16 @@ pub(crate) fn rows_table(
         merged_groups keys.now merge.now (groups_merged keys.now (gather key_order add_own_sums
         (groups ++ row_groups counted.now.items (values_in lists.items)))) ≡ Err out.total)) }
 {
-    let made = frequent_of(alloc, counted.as_slice(), lists.as_slice(), keys, merge)?;
+    let made = frequent_of(
+        alloc,
+        counted.as_slice(),
+        lists.as_slice(),
+        bounds,
+        keys,
+        merge,
+    )?;
     match made {
         Some(table) => Ok(table),
-        None => whole_table(alloc, groups, counted, lists, keys, merge),
+        None => whole_table(alloc, groups, counted, lists, bounds, keys, merge),
     }
 }

@@ -22,7 +22,9 @@ ghost use Rattle.partial_groups.specs.Ungrouped.{AreBothCombinable, IsJoined, ro
 use crate::aggregation_table::AggregationTable;
 use crate::counting::grouped;
 use crate::frequent::{rows_table, whole_table};
-use crate::number_lists::{append_lists, number_count, one_list};
+use crate::number_lists::{
+    Bounds, append_lists, bounds_of, bounds_of_both, no_bounds, number_count, one_list,
+};
 use crate::tally::Tally;
 use answer_rules::{MergePlan, TotalOut};
 use answer_table::Table;
@@ -40,6 +42,8 @@ pub struct GroupedRows {
     groups: AggregationTable,
     counted: Vec<bool>,
     lists: Vec<Vec<i64>>,
+    /// The bounds of these numbers: each list is inspected once, as it comes.
+    bounds: Bounds,
 }
 
 // A derived drop would be proved again in each crate that drops one.
@@ -50,6 +54,7 @@ impl Drop for GroupedRows {
             groups,
             counted,
             lists,
+            bounds,
         } = self;
     }
 }
@@ -125,6 +130,7 @@ fn absorb_grouped(
     more: AggregationTable,
     counted: &[bool],
     others: Vec<Vec<i64>>,
+    bounds: Bounds,
 ) -> Result<(), Memory>
     requires own { MayGather more (row_groups counted.now (values_in others.items)) }
     requires alike { MayGather groups.old (gather key_order add_own_sums
@@ -134,7 +140,7 @@ fn absorb_grouped(
         (more ++ row_groups counted.now (values_in others.items)))) }
     ensures same { OnErr result (groups.new ≡ groups.old) }
 {
-    let whole = grouped(alloc, more, counted, others)?;
+    let whole = grouped(alloc, more, counted, others, bounds)?;
     groups.absorb(whole)
 }
 
@@ -148,6 +154,7 @@ impl GroupedRows {
             groups: AggregationTable::empty(alloc),
             counted: Vec::new(alloc),
             lists: Vec::new(alloc),
+            bounds: no_bounds(),
         }
     }
 
@@ -157,6 +164,7 @@ impl GroupedRows {
         groups: AggregationTable,
         counted: Vec<bool>,
         lists: Vec<Vec<i64>>,
+        bounds: Bounds,
     ) -> Result<(), Memory>
         requires { MayGather self.old (groups ++ row_groups counted.items (values_in lists.items)) }
         ensures joined { OnOk result (self.new ≡ gather key_order add_own_sums
@@ -167,9 +175,11 @@ impl GroupedRows {
             self.groups.absorb(groups)?;
             self.counted = counted;
             self.lists = lists;
+            self.bounds = bounds;
             return Ok(());
         }
         if are_same(self.counted.as_slice(), counted.as_slice()) {
+            self.bounds = bounds_of_both(self.bounds, bounds);
             return append(
                 &mut self.groups,
                 &self.counted,
@@ -184,6 +194,7 @@ impl GroupedRows {
             groups,
             counted.as_slice(),
             lists,
+            bounds,
         )
     }
 
@@ -207,8 +218,9 @@ impl GroupedRows {
         ensures same { OnErr result (self.new ≡ self.old) }
     {
         let none = AggregationTable::empty(self.alloc);
+        let bounds = bounds_of(values.as_slice());
         let lists = one_list(self.alloc, values)?;
-        self.join(none, counted, lists)
+        self.join(none, counted, lists, bounds)
     }
 
     /// Adds the groups and rows of another piece with the same combine functions. After `Err` nothing has changed.
@@ -223,8 +235,9 @@ impl GroupedRows {
             groups,
             counted,
             lists,
+            bounds,
         } = other;
-        self.join(groups, counted, lists)
+        self.join(groups, counted, lists, bounds)
     }
 
     /// Returns the table of the groups by these keys, or the first total that is out of range.
@@ -246,11 +259,12 @@ impl GroupedRows {
             groups,
             counted,
             lists,
+            bounds,
         } = self;
         if groups.len() == 0 {
-            return rows_table(alloc, groups, &counted, lists, keys, merge);
+            return rows_table(alloc, groups, &counted, lists, bounds, keys, merge);
         }
-        whole_table(alloc, groups, &counted, lists, keys, merge)
+        whole_table(alloc, groups, &counted, lists, bounds, keys, merge)
     }
 
     /// Returns the number of groups and of rows that are not in a group yet, where one key may count more than once. Does
