@@ -20,25 +20,28 @@ in_areas g q c = list_all (area_meets (bounds_of g c)) q.areas
 abbrev has_ids : Partition → List Obj → Bound → ℕ → Bool
 has_ids g table q c = list_all (holds_id g table c) q.ids
 
-and_twice : (a b c : Bool) → ((a && b) && c) ≡ (a && b && c)
-and_twice true b c = refl
-and_twice false b c = refl
+and_swapped : (a b c : Bool) → ((a && c) && b) ≡ (a && b && c)
+and_swapped true true true = refl
+and_swapped true true false = refl
+and_swapped true false true = refl
+and_swapped true false false = refl
+and_swapped false b c = refl
 
--- of the filled chunks, those that pass the area tests, and of these those that pass the id tests
-chosen : (g : Partition) (table : List Obj) (q : Bound) → filter (has_ids g table q) (filter (in_areas g q) (filled_chunks g table)) ≡ plan_of g table q
+-- of the filled chunks, those that pass the id tests, and of these those that pass the area tests
+chosen : (g : Partition) (table : List Obj) (q : Bound) → filter (in_areas g q) (filter (has_ids g table q) (filled_chunks g table)) ≡ plan_of g table q
 chosen g table q =
-    ap (filter (has_ids g table q)) (filter_twice (is_filled g table) (in_areas g q) (all_chunks g))
-    ∙ filter_twice (λ c. is_filled g table c && in_areas g q c) (has_ids g table q) (all_chunks g)
-    ∙ filter_same (λ c. (is_filled g table c && in_areas g q c) && has_ids g table q c) (is_needed g table q) (all_chunks g)
-    (λ c. and_twice (is_filled g table c) (in_areas g q c) (has_ids g table q c))
+    ap (filter (in_areas g q)) (filter_twice (is_filled g table) (has_ids g table q) (all_chunks g))
+    ∙ filter_twice (λ c. is_filled g table c && has_ids g table q c) (in_areas g q) (all_chunks g)
+    ∙ filter_same (λ c. (is_filled g table c && has_ids g table q c) && in_areas g q c) (is_needed g table q) (all_chunks g)
+    (λ c. and_swapped (is_filled g table c) (in_areas g q c) (has_ids g table q c))
 
 -- so it is of what is kept of a list of the filled chunks
 pub plan_from : (g : Partition) (table : List Obj) (q : Bound) (filled kept chunks : List ℕ) (areas : List AreaTest) (ids : List (List ℤ))
-    → areas ≡ q.areas → ids ≡ q.ids → kept ≡ filter (λ c. list_all (area_meets (bounds_of g c)) areas) filled
-    → chunks ≡ filter (λ c. list_all (holds_id g table c) ids) kept → filled ≡ filled_chunks g table → chunks ≡ plan_of g table q
+    → areas ≡ q.areas → ids ≡ q.ids → kept ≡ filter (λ c. list_all (holds_id g table c) ids) filled
+    → chunks ≡ filter (λ c. list_all (area_meets (bounds_of g c)) areas) kept → filled ≡ filled_chunks g table → chunks ≡ plan_of g table q
 plan_from g table q filled kept chunks areas ids a i k e full =
-    e ∙ ap (λ (tests : List (List ℤ)). filter (λ c. list_all (holds_id g table c) tests) kept) i
-    ∙ ap (filter (has_ids g table q)) (k ∙ ap (λ (tests : List AreaTest). filter (λ c. list_all (area_meets (bounds_of g c)) tests) filled) a ∙ ap (filter (in_areas g q)) full)
+    e ∙ ap (λ (tests : List AreaTest). filter (λ c. list_all (area_meets (bounds_of g c)) tests) kept) a
+    ∙ ap (filter (in_areas g q)) (k ∙ ap (λ (tests : List (List ℤ)). filter (λ c. list_all (holds_id g table c) tests) filled) i ∙ ap (filter (has_ids g table q)) full)
     ∙ chosen g table q
 
 -- what follows from what holds of an answer holds of it

@@ -1,5 +1,5 @@
 -- Filters of lists, and of lists that ascend.
-use Rattle.std.proofs.Common.{◌≡◌, ℕ, ◌+◌, ◌<◌, Bool, true, false, cond, ◌&&◌, List, [], ◌∷◌, ◌++◌, filter, length, take, get_or, refl, sym, ap, subst, ◌∙◌, arith, None}
+use Rattle.std.proofs.Common.{◌≡◌, ℕ, ◌+◌, ◌<◌, ◌==◌, Bool, true, false, cond, ◌&&◌, List, [], ◌∷◌, ◌++◌, filter, length, take, get_or, refl, sym, ap, subst, ◌∙◌, arith, None}
 use Rattle.std.specs.Prelude.{AllPairs, All}
 use Rattle.std.specs.Option.{IfSome}
 use Rattle.std.specs.List.{last_or, list_all}
@@ -21,10 +21,24 @@ pub filter_same : {X : Type 0} (p q : X → Bool) (xs : List X) → ((x : X) →
 filter_same p q [] h = refl
 filter_same p q (x ∷ xs) h = ap (λ b. cond b (x ∷ filter p xs) (filter p xs)) (h x) ∙ ap (λ l. cond (q x) (x ∷ l) l) (filter_same p q xs h)
 
--- nothing is left out by no test
-pub filter_all : {X : Type 0} (xs : List X) → filter (λ x. true) xs ≡ xs
+and_true : (a : Bool) → (a && true) ≡ a
+and_true true = refl
+and_true false = refl
+
+filter_all : {X : Type 0} (xs : List X) → filter (λ x. true) xs ≡ xs
 filter_all [] = refl
 filter_all (x ∷ xs) = ap (λ l. x ∷ l) (filter_all xs)
+
+-- nothing is left out by no test
+pub without_tests : {A : Type 0} (f : ℕ → A → Bool) (tests : List A) (chunks : List ℕ) → (length tests == 0) ≡ true → chunks ≡ filter (λ c. list_all (f c) tests) chunks
+without_tests f [] chunks none = sym (filter_all chunks)
+without_tests f (test ∷ tests) chunks none = absurd (grind (arith, none))
+
+-- the first test alone
+pub first_test : {A : Type 0} (f : ℕ → A → Bool) (tests : List A) (test : A) (chunks : List ℕ) → 0 < length tests → test ≡ get_or tests 0 test
+    → filter (λ c. f c test) chunks ≡ filter (λ c. list_all (f c) (take 1 tests)) chunks
+first_test f [] test chunks some is = absurd (omega (arith, some))
+first_test f (x ∷ tests) test chunks some is = filter_same (λ c. f c test) (λ c. f c x && true) chunks (λ c. ap (f c) is ∙ sym (and_true (f c x)))
 
 -- in a list that ascends all before a place are below what stands there
 below_next : (xs : List ℕ) (i e : ℕ) → AllPairs (λ a b. a < b) xs → i < length xs → All (λ y. y < get_or xs i e) (take i xs)
@@ -34,6 +48,12 @@ below_next xs i e up low k d within =
     let there = get_or_default xs i d e low in
     let here = get_or-take i xs k d before in
     omega (arith, rise, there, here)
+
+-- so the last of those before a place is below what stands there
+pub taken_above : (xs kept : List ℕ) (i e : ℕ) → kept ≡ take i xs → AllPairs (λ a b. a < b) xs → i < length xs
+    → IfSome (last_or None kept) (λ last. last < get_or xs i e)
+taken_above xs kept i e is up low =
+    subst (λ (l : List ℕ). IfSome (last_or None l) (λ last. last < get_or xs i e)) (sym is) (last_below (take i xs) (get_or xs i e) (below_next xs i e up low))
 
 -- and so is the last of those of them that pass a test
 pub kept_above : (p : ℕ → Bool) (xs kept : List ℕ) (i e : ℕ) → kept ≡ filter p (take i xs) → AllPairs (λ a b. a < b) xs → i < length xs
@@ -48,10 +68,6 @@ kept_below p xs kept n is below = subst (λ (l : List ℕ). All (λ c. c < n) l)
 
 all_more : {A : Type 0} (p : A → Bool) (xs : List A) (x : A) → list_all p (xs ++ x ∷ []) ≡ (list_all p xs && p x)
 all_more p [] x = and_true (p x)
-  where
-    and_true : (a : Bool) → (a && true) ≡ a
-    and_true true = refl
-    and_true false = refl
 all_more p (y ∷ xs) x = ap (λ l. p y && l) (all_more p xs x) ∙ and_assoc (p y) (list_all p xs) (p x)
   where
     and_assoc : (a b c : Bool) → (a && (b && c)) ≡ ((a && b) && c)

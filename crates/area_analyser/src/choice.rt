@@ -18,7 +18,7 @@ use sql_bound::{AreaTest, Bound};
 use std::alloc::Global;
 
 /// Returns the chunks that a query needs, among those that have rows: each passes the query's area tests, and contains
-/// one of the ids of each of its id tests. Allocates memory for the chunks, and for a mark a chunk while it looks ids
+/// one of the ids of each of its id tests. Allocates memory for the chunks, and for a mark a chunk while it looks several ids
 /// up.
 pub fn plan(
     alloc: Global,
@@ -34,33 +34,35 @@ pub fn plan(
         → chunks ≡ plan_of sky.now index.now.rows bound.now) }
     ensures there { IfOk result (λ chunks. All (λ c. c < chunk_count sky.now) chunks) }
 {
-    let chunks = in_areas(alloc, sky, bound.areas.as_slice(), filled)?;
-    with_ids(alloc, index, bound.ids.as_slice(), chunks)
+    let chunks = with_ids(alloc, index, bound.ids.as_slice(), filled)?;
+    in_areas(alloc, sky, bound.areas.as_slice(), chunks)
 }
 
-/// Returns those of the chunks in which each of the areas may have a point.
+/// Returns those of the chunks in which each of the areas may have a point. Without areas these are all, and none is read.
 fn in_areas(
     alloc: Global,
     sky: &SkyPlan,
     areas: &[AreaTest],
-    chunks: &[u32],
+    chunks: ChunkSet,
 ) -> Result<ChunkSet, Memory>
-    requires there { All (λ c. c < chunk_count sky.now) chunks.now }
-    requires ascend { AllPairs (λ a b. a < b) chunks.now }
+    requires { All (λ c. c < chunk_count sky.now) chunks }
     ensures { IfOk result (λ kept.
-        kept ≡ filter (λ c. list_all (area_meets (bounds_of sky.now c)) areas.now) chunks.now) }
+        kept ≡ filter (λ c. list_all (area_meets (bounds_of sky.now c)) areas.now) chunks) }
 {
+    if areas.is_empty() {
+        return Ok(chunks);
+    }
     let mut kept = ChunkSet::new(alloc);
-    for chunk in chunks {
+    for chunk in chunks.as_slice() {
         push_if(&mut kept, areas_meet_chunk(areas, sky, *chunk), *chunk)?;
     }
     Ok(kept)
 }
 
-/// Returns whether each of the areas may have a point in the chunk. Without areas its bounds are not computed.
+/// Returns whether each of the areas may have a point in the chunk.
 fn areas_meet_chunk(areas: &[AreaTest], sky: &SkyPlan, chunk: u32) -> bool
     requires { chunk < chunk_count sky.now }
     ensures { result ≡ list_all (area_meets (bounds_of sky.now chunk)) areas.now }
 {
-    areas.is_empty() || areas_meet(areas, &sky.region(chunk))
+    areas_meet(areas, &sky.region(chunk))
 }
