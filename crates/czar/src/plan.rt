@@ -37,7 +37,7 @@ pub fn explain(alloc: Global, world: &World<'_>, script: &Script<'_>) -> Result<
     ensures { IfOk result (λ plans.
         ArePlans world.now.plan world.now.rows (query_lines script.now) plans.items) }
 {
-    let mut plans = Vec::new(alloc);
+    let mut plans = Vec::with_capacity(alloc, script.queries() as usize)?;
     for before in 0..script.queries() {
         push_plan(alloc, world, script, before, &mut plans)?;
     }
