@@ -29,7 +29,7 @@ use Rattle.partial_groups.specs.declared.cutoff.Cutoff.{Cutoff}
 use Rattle.partial_groups.specs.Counts.{numbers_counted}
 use Rattle.partial_groups.specs.Groups.{Gathered, HaveWays, MayGather, ways_in}
 use Rattle.partial_groups.specs.Merging.{MayMerge}
-use Rattle.partial_groups.specs.Pruning.{IsByRowCount, group_count, is_kept, kept_count, kept_counts}
+use Rattle.partial_groups.specs.Pruning.{IsByRowCount, group_count, is_before_cutoff, count_before, counts_before}
 use Rattle.partial_groups.specs.Ungrouped.{counted_group, row_groups}
 use Rattle.partial_groups.proofs.CountedGroups.{group_if, groups_from, many_groups, none_out, numbers_from, places, numbers_all, number_groups, then_equal, unsigned}
 use Rattle.partial_groups.proofs.Rise.{lines_apart}
@@ -90,7 +90,7 @@ map_filter f p (x ∷ xs) = map_step f x (filter (λ x. p (f x)) xs) (filter p (
 
 -- the line at the cutoff
 abbrev pivot : ℤ → Cutoff → GroupLine
-pivot least c = record { class = 0; value = neg_ℤ (pos c.count); key = Some (least +ℤ pos c.place) ∷ []; values = [] }
+pivot least c = record { class = 0; value = neg_ℤ (pos c.count); key = Some (least +ℤ pos c.position) ∷ []; values = [] }
 
 abbrev is_before : List BoundCol → MergePlan → ℤ → Cutoff → Partial Key Sums → Bool
 is_before keys merge least c g = before group_order (pivot least c) (merged_line keys merge g)
@@ -109,17 +109,17 @@ turned : (m n : ℕ) → int_cmp (neg_ℤ (pos n)) (neg_ℤ (pos m)) ≡ nat_cmp
 turned m n = negated (pos n) (pos m) ∙ unsigned m n
 
 line_before : (down : Bool) (key : Option ℤ) (least : ℤ) (c : Cutoff) (n i : ℕ) → down ≡ true → key ≡ Some (pos n)
-    → is_lt (ordering_then (nat_cmp (rank_class down key) 0) (ordering_then (int_cmp (rank_value down key) (neg_ℤ (pos c.count))) (key_order (Some (least +ℤ pos i) ∷ []) (Some (least +ℤ pos c.place) ∷ []))))
-    ≡ is_kept c n i
+    → is_lt (ordering_then (nat_cmp (rank_class down key) 0) (ordering_then (int_cmp (rank_value down key) (neg_ℤ (pos c.count))) (key_order (Some (least +ℤ pos i) ∷ []) (Some (least +ℤ pos c.position) ∷ []))))
+    ≡ is_before_cutoff c n i
 line_before down key least c n i d k =
-    let last : Ordering = key_order (Some (least +ℤ pos i) ∷ []) (Some (least +ℤ pos c.place) ∷ []) in
+    let last : Ordering = key_order (Some (least +ℤ pos i) ∷ []) (Some (least +ℤ pos c.position) ∷ []) in
     ap (λ b. is_lt (ordering_then (nat_cmp (rank_class b key) 0) (ordering_then (int_cmp (rank_value b key) (neg_ℤ (pos c.count))) last))) d
     ∙ ap (λ o. is_lt (ordering_then (nat_cmp (rank_class true o) 0) (ordering_then (int_cmp (rank_value true o) (neg_ℤ (pos c.count))) last))) k
     ∙ ap (λ o. is_lt (ordering_then o last)) (turned c.count n)
-    ∙ ap (λ o. is_lt (ordering_then (nat_cmp c.count n) o)) (then_equal (int_cmp (least +ℤ pos i) (least +ℤ pos c.place)) ∙ places least i c.place)
-    ∙ tests (nat_lt c.count n) (c.count == n) (nat_lt i c.place) (i == c.place)
+    ∙ ap (λ o. is_lt (ordering_then (nat_cmp c.count n) o)) (then_equal (int_cmp (least +ℤ pos i) (least +ℤ pos c.position)) ∙ places least i c.position)
+    ∙ tests (nat_lt c.count n) (c.count == n) (nat_lt i c.position) (i == c.position)
 
-group_before : (counted : List Bool) (keys : List BoundCol) (merge : MergePlan) → IsByRowCount counted merge → (least : ℤ) (c : Cutoff) (n i : ℕ) → is_before keys merge least c (counted_group counted n (least +ℤ pos i)) ≡ is_kept c n i
+group_before : (counted : List Bool) (keys : List BoundCol) (merge : MergePlan) → IsByRowCount counted merge → (least : ℤ) (c : Cutoff) (n i : ℕ) → is_before keys merge least c (counted_group counted n (least +ℤ pos i)) ≡ is_before_cutoff c n i
 group_before counted keys merge by least c n i =
     line_before (merge_down merge.order) (merged_order keys merge.items (counted_group counted n (least +ℤ pos i)) merge.order) least c n i by.down (by.count keys n (least +ℤ pos i))
 
@@ -133,15 +133,15 @@ kept_step counted value (suc n) p rest left h false e =
     let g : Partial Key Sums = counted_group counted (suc n) value in
     h ∙ ap (λ (b : Bool). cond b (g ∷ filter p left) (filter p left)) (sym e)
 
-kept_are : (counted : List Bool) (keys : List BoundCol) (merge : MergePlan) → IsByRowCount counted merge → (least : ℤ) (c : Cutoff) (i : ℕ) (ns : List ℕ) → groups_from counted least i (kept_counts c i ns) ≡ filter (is_before keys merge least c) (groups_from counted least i ns)
+kept_are : (counted : List Bool) (keys : List BoundCol) (merge : MergePlan) → IsByRowCount counted merge → (least : ℤ) (c : Cutoff) (i : ℕ) (ns : List ℕ) → groups_from counted least i (counts_before c i ns) ≡ filter (is_before keys merge least c) (groups_from counted least i ns)
 kept_are counted keys merge by least c i [] = refl
 kept_are counted keys merge by least c i (n ∷ ns) =
-    kept_step counted (least +ℤ pos i) n (is_before keys merge least c) (groups_from counted least (suc i) (kept_counts c (suc i) ns)) (groups_from counted least (suc i) ns)
-    (kept_are counted keys merge by least c (suc i) ns) (is_kept c n i) (group_before counted keys merge by least c n i)
+    kept_step counted (least +ℤ pos i) n (is_before keys merge least c) (groups_from counted least (suc i) (counts_before c (suc i) ns)) (groups_from counted least (suc i) ns)
+    (kept_are counted keys merge by least c (suc i) ns) (is_before_cutoff c n i) (group_before counted keys merge by least c n i)
 
 -- ---- the answer of the groups before a cutoff
 
-pub long_kept : (c : Cutoff) (i : ℕ) (ns : List ℕ) → length (kept_counts c i ns) ≡ length ns
+pub long_kept : (c : Cutoff) (i : ℕ) (ns : List ℕ) → length (counts_before c i ns) ≡ length ns
 long_kept c i [] = refl
 long_kept c i (n ∷ ns) = ap suc (long_kept c (suc i) ns)
 
@@ -181,18 +181,18 @@ pub record Pruned (keys : List BoundCol) (merge : MergePlan) (all kept : Gathere
   pub may : MayMergeAll keys merge (groups_merged keys all) → MayMergeAll keys merge (groups_merged keys kept)
   pub same : merged_groups keys merge (groups_merged keys kept) ≡ merged_groups keys merge (groups_merged keys all)
 
-pruned : (counted : List Bool) (keys : List BoundCol) (merge : MergePlan) (n : ℕ) (least : ℤ) (c : Cutoff) (counts : List ℕ) → 0 < length keys → IsByRowCount counted merge → limit_of merge.limit ≡ Some n → n ≤ group_count (kept_counts c 0 counts)
-    → Pruned keys merge (gather_own (row_groups counted (numbers_counted least counts (length counts)))) (gather_own (row_groups counted (numbers_counted least (kept_counts c 0 counts) (length counts))))
+pruned : (counted : List Bool) (keys : List BoundCol) (merge : MergePlan) (n : ℕ) (least : ℤ) (c : Cutoff) (counts : List ℕ) → 0 < length keys → IsByRowCount counted merge → limit_of merge.limit ≡ Some n → n ≤ group_count (counts_before c 0 counts)
+    → Pruned keys merge (gather_own (row_groups counted (numbers_counted least counts (length counts)))) (gather_own (row_groups counted (numbers_counted least (counts_before c 0 counts) (length counts))))
 pruned counted keys merge n least c counts keyed by limit enough =
     let all : Gathered = gather_own (row_groups counted (numbers_counted least counts (length counts))) in
-    let kept : Gathered = gather_own (row_groups counted (numbers_counted least (kept_counts c 0 counts) (length counts))) in
+    let kept : Gathered = gather_own (row_groups counted (numbers_counted least (counts_before c 0 counts) (length counts))) in
     let full : Gathered = groups_from counted least 0 counts in
     let all_is : all ≡ full = number_groups counted least counts (length counts) refl in
-    let kept_is : kept ≡ groups_from counted least 0 (kept_counts c 0 counts) = number_groups counted least (kept_counts c 0 counts) (length counts) (sym (long_kept c 0 counts)) in
-    let filtered : groups_from counted least 0 (kept_counts c 0 counts) ≡ filter (is_before keys merge least c) full = kept_are counted keys merge by least c 0 counts in
+    let kept_is : kept ≡ groups_from counted least 0 (counts_before c 0 counts) = number_groups counted least (counts_before c 0 counts) (length counts) (sym (long_kept c 0 counts)) in
+    let filtered : groups_from counted least 0 (counts_before c 0 counts) ≡ filter (is_before keys merge least c) full = kept_are counted keys merge by least c 0 counts in
     let rise : Rise key_order full = subst (Rise key_order) all_is (rise_gather key_order add_own_sums key_total (row_groups counted (numbers_counted least counts (length counts)))) in
-    let many : n ≤ length (filter (is_before keys merge least c) full) = omega (arith, enough, many_groups counted least 0 (kept_counts c 0 counts), ap length filtered) in
-    let none : merged_out merge.items (filter (is_before keys merge least c) full) ≡ None = ap (merged_out merge.items) (sym filtered) ∙ none_out counted least merge.items 0 (kept_counts c 0 counts) in
+    let many : n ≤ length (filter (is_before keys merge least c) full) = omega (arith, enough, many_groups counted least 0 (counts_before c 0 counts), ap length filtered) in
+    let none : merged_out merge.items (filter (is_before keys merge least c) full) ≡ None = ap (merged_out merge.items) (sym filtered) ∙ none_out counted least merge.items 0 (counts_before c 0 counts) in
     let lines = same_lines keys merge (limit_of merge.limit) n (pivot least c) full rise limit many in
     record {
       may = λ h.
@@ -205,12 +205,12 @@ pruned counted keys merge n least c counts keyed by limit enough =
     }
 
 -- so has a table of these groups
-pub table_pruned : (counted : List Bool) (keys : List BoundCol) (merge : MergePlan) (n : ℕ) (least number : ℤ) (c : Cutoff) (counts : List ℕ) (table : Gathered) → 0 < length keys → IsByRowCount counted merge → limit_of merge.limit ≡ Some n → n ≤ group_count (kept_counts c 0 counts)
-    → number ≡ least → table ≡ gather_own (row_groups counted (numbers_counted number (kept_counts c 0 counts) (length counts)))
+pub table_pruned : (counted : List Bool) (keys : List BoundCol) (merge : MergePlan) (n : ℕ) (least number : ℤ) (c : Cutoff) (counts : List ℕ) (table : Gathered) → 0 < length keys → IsByRowCount counted merge → limit_of merge.limit ≡ Some n → n ≤ group_count (counts_before c 0 counts)
+    → number ≡ least → table ≡ gather_own (row_groups counted (numbers_counted number (counts_before c 0 counts) (length counts)))
     → Pruned keys merge (gather_own (row_groups counted (numbers_counted least counts (length counts)))) table
 table_pruned counted keys merge n least number c counts table keyed by limit enough e is =
     subst (Pruned keys merge (gather_own (row_groups counted (numbers_counted least counts (length counts)))))
-    (sym (is ∙ ap (λ (l : ℤ). gather_own (row_groups counted (numbers_counted l (kept_counts c 0 counts) (length counts)))) e))
+    (sym (is ∙ ap (λ (l : ℤ). gather_own (row_groups counted (numbers_counted l (counts_before c 0 counts) (length counts)))) e))
     (pruned counted keys merge n least c counts keyed by limit enough)
 
 -- ---- the rows of the groups before a cutoff may be added up
@@ -219,28 +219,28 @@ kept_most : (b : Bool) (n : ℕ) → cond b n 0 ≤ n
 kept_most true n = omega arith
 kept_most false n = omega arith
 
-fewer_numbers : (least : ℤ) (c : Cutoff) (i : ℕ) (ns : List ℕ) → length (numbers_from least i (kept_counts c i ns)) ≤ length (numbers_from least i ns)
+fewer_numbers : (least : ℤ) (c : Cutoff) (i : ℕ) (ns : List ℕ) → length (numbers_from least i (counts_before c i ns)) ≤ length (numbers_from least i ns)
 fewer_numbers least c i [] = omega arith
 fewer_numbers least c i (n ∷ ns) =
     let value : ℤ = least +ℤ pos i in
-    let left : List ℤ = numbers_from least (suc i) (kept_counts c (suc i) ns) in
+    let left : List ℤ = numbers_from least (suc i) (counts_before c (suc i) ns) in
     let all : List ℤ = numbers_from least (suc i) ns in
-    let few : length (replicate (kept_count c n i) value ++ left) ≡ kept_count c n i + length left =
-    length-append (replicate (kept_count c n i) value) left ∙ ap (λ k. k + length left) (length-replicate (kept_count c n i) value)
+    let few : length (replicate (count_before c n i) value ++ left) ≡ count_before c n i + length left =
+    length-append (replicate (count_before c n i) value) left ∙ ap (λ k. k + length left) (length-replicate (count_before c n i) value)
     in
     let many : length (replicate n value ++ all) ≡ n + length all = length-append (replicate n value) all ∙ ap (λ k. k + length all) (length-replicate n value) in
-    let less : kept_count c n i ≤ n = kept_most (is_kept c n i) n in
+    let less : count_before c n i ≤ n = kept_most (is_before_cutoff c n i) n in
     let rest : length left ≤ length all = fewer_numbers least c (suc i) ns in
-    let both : length (replicate (kept_count c n i) value ++ left) ≤ length (replicate n value ++ all) = omega (arith, few, many, less, rest) in
+    let both : length (replicate (count_before c n i) value ++ left) ≤ length (replicate n value ++ all) = omega (arith, few, many, less, rest) in
     both
 
 rows_have : (counted : List Bool) (values : List ℤ) → HaveWays (ways_in (counted_group counted 1 (pos 0))) (row_groups counted values)
 rows_have counted [] = tt
 rows_have counted (v ∷ values) = (refl, rows_have counted values)
 
-pub kept_may : (counted : List Bool) (least : ℤ) (c : Cutoff) (counts : List ℕ) → MayGather [] (row_groups counted (numbers_counted least counts (length counts))) → MayGather [] (row_groups counted (numbers_counted least (kept_counts c 0 counts) (length counts)))
+pub kept_may : (counted : List Bool) (least : ℤ) (c : Cutoff) (counts : List ℕ) → MayGather [] (row_groups counted (numbers_counted least counts (length counts))) → MayGather [] (row_groups counted (numbers_counted least (counts_before c 0 counts) (length counts)))
 kept_may counted least c counts m =
-    let left : List ℤ = numbers_counted least (kept_counts c 0 counts) (length counts) in
+    let left : List ℤ = numbers_counted least (counts_before c 0 counts) (length counts) in
     let all : List ℤ = numbers_counted least counts (length counts) in
     record {
       own = ways_in (counted_group counted 1 (pos 0));
@@ -252,33 +252,33 @@ kept_may counted least c counts m =
         rows_long counted left,
         rows_long counted all,
         fewer_numbers least c 0 counts,
-        ap length (numbers_all least (kept_counts c 0 counts) (length counts) (sym (long_kept c 0 counts))),
+        ap length (numbers_all least (counts_before c 0 counts) (length counts) (sym (long_kept c 0 counts))),
         ap length (numbers_all least counts (length counts) refl),
       );
     }
 
 -- ---- the counts of a cutoff, one by one
 
-kept_at : (c : Cutoff) (j i : ℕ) (ns : List ℕ) → i < length ns → get_or (kept_counts c j ns) i 0 ≡ kept_count c (get_or ns i 0) (j + i)
+kept_at : (c : Cutoff) (j i : ℕ) (ns : List ℕ) → i < length ns → get_or (counts_before c j ns) i 0 ≡ count_before c (get_or ns i 0) (j + i)
 kept_at c j i [] l = absurd (omega (arith, l))
-kept_at c j zero (n ∷ ns) l = (let same : j ≡ j + 0 = omega arith in ap (kept_count c n) same)
+kept_at c j zero (n ∷ ns) l = (let same : j ≡ j + 0 = omega arith in ap (count_before c n) same)
 kept_at c j (suc i) (n ∷ ns) l =
     let next : suc j + i ≡ j + suc i = omega arith in
-    kept_at c (suc j) i ns (omega (arith, l)) ∙ ap (kept_count c (get_or ns i 0)) next
+    kept_at c (suc j) i ns (omega (arith, l)) ∙ ap (count_before c (get_or ns i 0)) next
 
-kept_here : (c : Cutoff) (i count : ℕ) (ns : List ℕ) → i < length ns → count ≡ kept_count c (get_or ns i 0) i → get_or (kept_counts c 0 ns) i 0 ≡ count
-kept_here c i count ns l e = (let same : 0 + i ≡ i = omega arith in kept_at c 0 i ns l ∙ ap (kept_count c (get_or ns i 0)) same ∙ sym e)
+kept_here : (c : Cutoff) (i count : ℕ) (ns : List ℕ) → i < length ns → count ≡ count_before c (get_or ns i 0) i → get_or (counts_before c 0 ns) i 0 ≡ count
+kept_here c i count ns l e = (let same : 0 + i ≡ i = omega arith in kept_at c 0 i ns l ∙ ap (count_before c (get_or ns i 0)) same ∙ sym e)
 
 -- the rows of the next number may be put
-pub kept_next_may : (now : Gathered) (counted : List Bool) (least value : ℤ) (c : Cutoff) (counts : List ℕ) (n count : ℕ) → value ≡ least +ℤ pos n → n < length counts → count ≡ kept_count c (get_or counts n 0) n
-    → MayGather [] (row_groups counted (numbers_counted least (kept_counts c 0 counts) (length counts))) → now ≡ gather_own (row_groups counted (numbers_counted least (kept_counts c 0 counts) n)) → MayGather now (row_groups counted (replicate count value))
+pub kept_next_may : (now : Gathered) (counted : List Bool) (least value : ℤ) (c : Cutoff) (counts : List ℕ) (n count : ℕ) → value ≡ least +ℤ pos n → n < length counts → count ≡ count_before c (get_or counts n 0) n
+    → MayGather [] (row_groups counted (numbers_counted least (counts_before c 0 counts) (length counts))) → now ≡ gather_own (row_groups counted (numbers_counted least (counts_before c 0 counts) n)) → MayGather now (row_groups counted (replicate count value))
 kept_next_may now counted least value c counts n count is l e m h =
     subst (λ k. MayGather now (row_groups counted (replicate k value))) (kept_here c n count counts l e)
-    (next_may [] now counted least value (kept_counts c 0 counts) n (length counts) is l m h)
+    (next_may [] now counted least value (counts_before c 0 counts) n (length counts) is l m h)
 
-pub kept_next_put : (now new : Gathered) (counted : List Bool) (least value : ℤ) (c : Cutoff) (counts : List ℕ) (n count : ℕ) → value ≡ least +ℤ pos n → n < length counts → count ≡ kept_count c (get_or counts n 0) n
-    → MayGather [] (row_groups counted (numbers_counted least (kept_counts c 0 counts) (length counts))) → now ≡ gather_own (row_groups counted (numbers_counted least (kept_counts c 0 counts) n)) → new ≡ gather_own (now ++ row_groups counted (replicate count value))
-    → new ≡ gather_own (row_groups counted (numbers_counted least (kept_counts c 0 counts) (n + 1)))
+pub kept_next_put : (now new : Gathered) (counted : List Bool) (least value : ℤ) (c : Cutoff) (counts : List ℕ) (n count : ℕ) → value ≡ least +ℤ pos n → n < length counts → count ≡ count_before c (get_or counts n 0) n
+    → MayGather [] (row_groups counted (numbers_counted least (counts_before c 0 counts) (length counts))) → now ≡ gather_own (row_groups counted (numbers_counted least (counts_before c 0 counts) n)) → new ≡ gather_own (now ++ row_groups counted (replicate count value))
+    → new ≡ gather_own (row_groups counted (numbers_counted least (counts_before c 0 counts) (n + 1)))
 kept_next_put now new counted least value c counts n count is l e m h f =
-    next_put [] now new counted least value (kept_counts c 0 counts) n (length counts) is l m h
+    next_put [] now new counted least value (counts_before c 0 counts) n (length counts) is l m h
     (f ∙ ap (λ k. gather_own (now ++ row_groups counted (replicate k value))) (sym (kept_here c n count counts l e)))

@@ -10,17 +10,17 @@ use Rattle.partial_groups.specs.declared.cutoff.Cutoff.{Cutoff}
 use Rattle.partial_groups.specs.Ungrouped.{counted_group}
 
 -- the group of n rows at position i is before the cutoff: it has more rows, or as many at a lower position
-abbrev pub is_kept : Cutoff → ℕ → ℕ → Bool
-is_kept c n i = nat_lt c.count n || (c.count == n && nat_lt i c.place)
+abbrev pub is_before_cutoff : Cutoff → ℕ → ℕ → Bool
+is_before_cutoff c n i = nat_lt c.count n || (c.count == n && nat_lt i c.position)
 
 -- the count, or 0 if its group is not before the cutoff
-abbrev pub kept_count : Cutoff → ℕ → ℕ → ℕ
-kept_count c n i = cond (is_kept c n i) n 0
+abbrev pub count_before : Cutoff → ℕ → ℕ → ℕ
+count_before c n i = cond (is_before_cutoff c n i) n 0
 
 -- these counts, which begin at position i, with 0 for each whose group is not before the cutoff
-abbrev pub kept_counts : Cutoff → ℕ → List ℕ → List ℕ
-kept_counts c i [] = []
-kept_counts c i (n ∷ ns) = kept_count c n i ∷ kept_counts c (suc i) ns
+abbrev pub counts_before : Cutoff → ℕ → List ℕ → List ℕ
+counts_before c i [] = []
+counts_before c i (n ∷ ns) = count_before c n i ∷ counts_before c (suc i) ns
 
 -- 1 for a count that has a group, and 0 for the count 0
 abbrev pub one_group : ℕ → ℕ

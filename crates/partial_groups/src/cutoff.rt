@@ -4,14 +4,14 @@
 //! many groups with this number of rows are among the n. Whether n groups are before a cutoff is checked where it is used.
 
 ghost use Rattle.std.specs.Prelude.{◌≡◌, ◌<◌};
-ghost use Rattle.partial_groups.specs.Pruning.{group_count, kept_count, kept_counts, one_group};
+ghost use Rattle.partial_groups.specs.Pruning.{group_count, count_before, counts_before, one_group};
 
 /// The groups with more than `count` rows are before the cutoff, and of those with just as many the ones at positions
-/// before `place`.
+/// before `position`.
 #[derive(Clone, Copy)]
 pub(crate) struct Cutoff {
     pub(crate) count: u32,
-    pub(crate) place: usize,
+    pub(crate) position: usize,
 }
 
 /// The number of sizes: each count below the last size has a size of its own.
@@ -53,7 +53,7 @@ fn last_size(sizes: &[u32; SIZES], n: usize) -> Option<(u32, usize)> {
 }
 
 /// Returns the position after the first counts that are equal to `count`, the given number of them.
-fn place_after(counts: &[u32], count: u32, ties: usize) -> usize {
+fn position_after(counts: &[u32], count: u32, ties: usize) -> usize {
     let mut left = ties;
     for i in 0..counts.len() {
         if counts[i] == count {
@@ -74,20 +74,20 @@ pub(crate) fn cutoff_for(counts: &[u32], n: usize) -> Option<Cutoff> {
     if size == LAST_SIZE {
         return Some(Cutoff {
             count: LAST_SIZE - 1,
-            place: 0,
+            position: 0,
         });
     }
     Some(Cutoff {
         count: size,
-        place: place_after(counts, size, ties),
+        position: position_after(counts, size, ties),
     })
 }
 
 /// Returns the count at position i, or 0 if its group is not before the cutoff.
-pub(crate) fn kept(cutoff: Cutoff, count: u32, i: usize) -> u32
-    ensures { result ≡ kept_count cutoff count i }
+pub(crate) fn count_before(cutoff: Cutoff, count: u32, i: usize) -> u32
+    ensures { result ≡ count_before cutoff count i }
 {
-    if cutoff.count < count || (cutoff.count == count && i < cutoff.place) {
+    if cutoff.count < count || (cutoff.count == count && i < cutoff.position) {
         count
     } else {
         0
@@ -102,12 +102,12 @@ fn one_if_there(count: u32) -> usize
 }
 
 /// Returns the number of groups before the cutoff.
-pub(crate) fn kept_groups(cutoff: Cutoff, counts: &[u32]) -> usize
-    ensures { result ≡ group_count (kept_counts cutoff 0 counts.now) }
+pub(crate) fn groups_before(cutoff: Cutoff, counts: &[u32]) -> usize
+    ensures { result ≡ group_count (counts_before cutoff 0 counts.now) }
 {
     let mut groups = 0usize;
     for i in 0..counts.len() {
-        groups += one_if_there(kept(cutoff, counts[i], i));
+        groups += one_if_there(count_before(cutoff, counts[i], i));
     }
     groups
 }

@@ -12,13 +12,13 @@ ghost use Rattle.partial_groups.specs.declared.counting.TheConstants.{COUNTS_MOS
 ghost use Rattle.partial_groups.specs.Counts.{numbers_counted};
 ghost use Rattle.partial_groups.specs.Groups.{MayGather};
 ghost use Rattle.partial_groups.specs.Merging.{MayMerge};
-ghost use Rattle.partial_groups.specs.Pruning.{CountsRows, IsByRowCount, IsRowCount, group_count, kept_counts};
+ghost use Rattle.partial_groups.specs.Pruning.{CountsRows, IsByRowCount, IsRowCount, group_count, counts_before};
 ghost use Rattle.partial_groups.specs.Ungrouped.{row_groups, values_in};
 ghost use Rattle.sky_io.specs.Stops.{IfBad};
 
 use crate::aggregation_table::AggregationTable;
 use crate::counting::{counted_in, grouped, number_at, width};
-use crate::cutoff::{Cutoff, cutoff_for, kept, kept_groups};
+use crate::cutoff::{Cutoff, count_before, cutoff_for, groups_before};
 use crate::number_lists::{Bounds, number_count};
 use crate::row_runs::put_rows;
 use answer_rules::{MergeItem, MergeKey, MergePlan, TotalOut};
@@ -54,7 +54,7 @@ fn is_row_count(counted: &[bool], items: &[MergeItem], key: MergeKey) -> bool
     match key {
         MergeKey::ChunkKey => false,
         MergeKey::Key(_) => false,
-        MergeKey::Item(place) => match items.get(place) {
+        MergeKey::Item(position) => match items.get(position) {
             None => false,
             Some(item) => counts_rows(counted, item),
         },
@@ -93,10 +93,10 @@ fn frequent_limit(counted: &[bool], keys: &ColList, merge: &MergePlan) -> Option
 
 /// Returns a cutoff before which there are n groups.
 fn cutoff_after(counts: &[u32], n: usize) -> Option<Cutoff>
-    ensures { IfSome result (λ c. n ≤ group_count (kept_counts c 0 counts.now)) }
+    ensures { IfSome result (λ c. n ≤ group_count (counts_before c 0 counts.now)) }
 {
     let cutoff = cutoff_for(counts, n)?;
-    if kept_groups(cutoff, counts) < n {
+    if groups_before(cutoff, counts) < n {
         None
     } else {
         Some(cutoff)
@@ -104,7 +104,7 @@ fn cutoff_after(counts: &[u32], n: usize) -> Option<Cutoff>
 }
 
 /// Returns the groups before the cutoff, of rows whose numbers are counted in a table.
-fn kept_table(
+fn table_before(
     alloc: Global,
     counted: &[bool],
     least: i64,
@@ -114,15 +114,15 @@ fn kept_table(
     requires low { least ≤ℤ pos (2 ^ 62) }
     requires short { length counts.now ≤ COUNTS_MOST }
     requires alike { MayGather [] (row_groups counted.now
-        (numbers_counted least (kept_counts cutoff 0 counts.now) (length counts.now))) }
+        (numbers_counted least (counts_before cutoff 0 counts.now) (length counts.now))) }
     ensures { IfOk result (λ table. table ≡ gather key_order add_own_sums (row_groups counted.now
-        (numbers_counted least (kept_counts cutoff 0 counts.now) (length counts.now)))) }
+        (numbers_counted least (counts_before cutoff 0 counts.now) (length counts.now)))) }
 {
     let mut table = AggregationTable::empty(alloc);
     let mut states = Vec::new(alloc);
     for i in 0..counts.len() {
         let value = number_at(least, i);
-        let count = kept(cutoff, counts[i], i);
+        let count = count_before(cutoff, counts[i], i);
         put_rows(&mut table, &mut states, counted, value, count)?;
     }
     Ok(table)
@@ -159,7 +159,7 @@ fn frequent_table(
     let Some(cutoff) = cutoff_after(counts, n) else {
         return Ok(None);
     };
-    let table = kept_table(alloc, counted, least, counts, cutoff)?;
+    let table = table_before(alloc, counted, least, counts, cutoff)?;
     Ok(Some(table.finish(alloc, keys, merge)?))
 }
 

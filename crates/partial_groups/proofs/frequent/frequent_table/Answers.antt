@@ -10,8 +10,8 @@ use Rattle.partial_groups.specs.Ungrouped.{row_groups}
 use Rattle.partial_groups.proofs.Pruned.{kept_may, table_pruned}
 use Rattle.partial_groups.proofs.frequent.frequent_table.Goals as goal
 
-pub kept_table-requires-clause-alike : goal.kept_table-requires-clause-alike
-kept_table-requires-clause-alike c =
+pub table_before-requires-clause-alike : goal.table_before-requires-clause-alike
+table_before-requires-clause-alike c =
     let least_fits : FitsSigned w64 c.args.least = search rules in
     kept_may c.args.counted.now _ c.in-Some-cutoff_after.cutoff c.args.counts.now
     (subst (λ (l : ℤ). MayGather [] (row_groups c.args.counted.now (numbers_counted l c.args.counts.now (length c.args.counts.now)))) (sym (to_z-of_z w64 c.args.least least_fits)) c.requires.alike)
