@@ -13,7 +13,7 @@ from skyq_lib.errors import SkyqError
 CHECKOUT = os.path.dirname(os.path.dirname(os.path.dirname(os.path.abspath(__file__))))
 MOST_QUERIES = 255                  # of a script
 BUILDING = "qserv: crate "          # how the launcher's lines begin that tell how far it has built
-# What the launcher sets for the program's memory, unless the number of workers is 0.
+# What the launcher sets for the program's memory if there are more than four workers; it sets other values for fewer.
 MEMORY = {
     "MALLOC_TOP_PAD_": "1048576",
     "MALLOC_TRIM_THRESHOLD_": "2000000000",

@@ -49,12 +49,6 @@ below_next xs i e up low k d within =
     let here = get_or-take i xs k d before in
     omega (arith, rise, there, here)
 
--- so the last of those before a place is below what stands there
-pub taken_above : (xs kept : List ℕ) (i e : ℕ) → kept ≡ take i xs → AllPairs (λ a b. a < b) xs → i < length xs
-    → IfSome (last_or None kept) (λ last. last < get_or xs i e)
-taken_above xs kept i e is up low =
-    subst (λ (l : List ℕ). IfSome (last_or None l) (λ last. last < get_or xs i e)) (sym is) (last_below (take i xs) (get_or xs i e) (below_next xs i e up low))
-
 -- and so is the last of those of them that pass a test
 pub kept_above : (p : ℕ → Bool) (xs kept : List ℕ) (i e : ℕ) → kept ≡ filter p (take i xs) → AllPairs (λ a b. a < b) xs → i < length xs
     → IfSome (last_or None kept) (λ last. last < get_or xs i e)

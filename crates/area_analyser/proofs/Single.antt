@@ -11,7 +11,7 @@ use Rattle.object_index.specs.Indexes.{IsPlaceOf}
 use Rattle.answer_rules.specs.Plans.{holds_id}
 use Rattle.area_analyser.proofs.Held.{held, unheld}
 
--- of chunks above it none is it
+-- a chunk is not among chunks that are all above it
 none_above : (chunk : ℕ) (chunks : List ℕ) → All (λ c. chunk < c) chunks → filter (λ c. chunk == c) chunks ≡ []
 none_above chunk [] above = refl
 none_above chunk (c ∷ chunks) above =
@@ -27,7 +27,7 @@ module _ (chunk c : ℕ) (chunks : List ℕ) (up : AllPairs (λ a b. a < b) (c �
   abbrev later : Bool
   later = list_any (λ d. d == chunk) chunks
 
-  -- it is the first one, so no later one is it
+  -- if the first chunk is it, no later one is
   first_is : (chunk == c) ≡ true → cond (chunk == c) (c ∷ rest) rest ≡ cond ((c == chunk) || later) (chunk ∷ []) []
   first_is is =
       let same : c ≡ chunk = grind (arith, is) in
@@ -38,13 +38,13 @@ module _ (chunk c : ℕ) (chunks : List ℕ) (up : AllPairs (λ a b. a < b) (c �
       ∙ ap (λ n. n ∷ []) same
       ∙ sym (ap (λ b. cond (b || later) (chunk ∷ []) []) first)
 
-  -- it is among the later ones
+  -- if the first chunk is another, only later ones can be it
   later_is : (chunk == c) ≡ false → rest ≡ cond later (chunk ∷ []) [] → cond (chunk == c) (c ∷ rest) rest ≡ cond ((c == chunk) || later) (chunk ∷ []) []
   later_is is e =
       let other : (c == chunk) ≡ false = grind (arith, is) in
       ap (λ b. cond b (c ∷ rest) rest) is ∙ e ∙ sym (ap (λ b. cond (b || later) (chunk ∷ []) []) other)
 
--- of chunks that ascend it is one at most
+-- filtering ascending chunks for one chunk gives that chunk, or nothing
 pub one_at_most : (chunk : ℕ) (chunks : List ℕ) → AllPairs (λ a b. a < b) chunks
     → filter (λ c. chunk == c) chunks ≡ cond (list_any (λ c. c == chunk) chunks) (chunk ∷ []) []
 one_at_most chunk [] up = refl
@@ -53,7 +53,7 @@ one_at_most chunk (c ∷ chunks) up = ⊎_elim
     (λ is. later_is chunk c chunks up is (one_at_most chunk chunks (λ i j d low within. up (suc i) (suc j) d (omega (arith, low)) (omega (arith, within)))))
     (cases_Bool (chunk == c))
 
--- of chunks of the partition, that of the id's place holds it
+-- a chunk holds an id exactly if it is the chunk of the id's place
 pub its_chunk : (g : Partition) (rows : List Obj) (id : ℤ) (chunk row : ℕ) (chunks : List ℕ) → IsPlaceOf g rows id chunk row → All (λ c. c < chunk_count g) chunks
     → filter (λ c. holds_id g rows c (id ∷ [])) chunks ≡ filter (λ c. chunk == c) chunks
 its_chunk g rows id chunk row [] place low = refl
@@ -62,7 +62,7 @@ its_chunk g rows id chunk row (c ∷ chunks) place low =
     (held g rows c id chunk row (All-head (λ d. d < chunk_count g) c chunks low) place)
     ∙ ap (λ (l : List ℕ). cond (chunk == c) (c ∷ l) l) (its_chunk g rows id chunk row chunks place (All-tail (λ d. d < chunk_count g) c chunks low))
 
--- of an id that no row has it is none
+-- no chunk holds an id that no row has
 pub no_chunk : (g : Partition) (rows : List Obj) (id : ℤ) (chunks : List ℕ) → has_id rows id ≡ false → filter (λ c. holds_id g rows c (id ∷ [])) chunks ≡ []
 no_chunk g rows id [] none = refl
 no_chunk g rows id (c ∷ chunks) none =

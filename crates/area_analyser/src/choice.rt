@@ -18,8 +18,8 @@ use sql_bound::{AreaTest, Bound};
 use std::alloc::Global;
 
 /// Returns the chunks that a query needs, among those that have rows: each passes the query's area tests, and contains
-/// one of the ids of each of its id tests. Allocates memory for the chunks, and for a mark a chunk while it looks several ids
-/// up.
+/// one of the ids of each of its id tests. Allocates memory for the chunks, and for a mark a chunk while it looks several
+/// ids up. The bounds of chunks without such an id are not computed.
 pub fn plan(
     alloc: Global,
     bound: &Bound,
@@ -34,35 +34,38 @@ pub fn plan(
         → chunks ≡ plan_of sky.now index.now.rows bound.now) }
     ensures there { IfOk result (λ chunks. All (λ c. c < chunk_count sky.now) chunks) }
 {
-    let chunks = with_ids(alloc, index, bound.ids.as_slice(), filled)?;
-    in_areas(alloc, sky, bound.areas.as_slice(), chunks)
+    let areas = bound.areas.as_slice();
+    let tests = bound.ids.as_slice();
+    if tests.is_empty() {
+        return in_areas(alloc, sky, areas, filled);
+    }
+    let chunks = with_ids(alloc, index, tests, filled)?;
+    in_areas(alloc, sky, areas, chunks.as_slice())
 }
 
-/// Returns those of the chunks in which each of the areas may have a point. Without areas these are all, and none is read.
+/// Returns those of the chunks in which each of the areas may have a point.
 fn in_areas(
     alloc: Global,
     sky: &SkyPlan,
     areas: &[AreaTest],
-    chunks: ChunkSet,
+    chunks: &[u32],
 ) -> Result<ChunkSet, Memory>
-    requires { All (λ c. c < chunk_count sky.now) chunks }
+    requires there { All (λ c. c < chunk_count sky.now) chunks.now }
+    requires ascend { AllPairs (λ a b. a < b) chunks.now }
     ensures { IfOk result (λ kept.
-        kept ≡ filter (λ c. list_all (area_meets (bounds_of sky.now c)) areas.now) chunks) }
+        kept ≡ filter (λ c. list_all (area_meets (bounds_of sky.now c)) areas.now) chunks.now) }
 {
-    if areas.is_empty() {
-        return Ok(chunks);
-    }
     let mut kept = ChunkSet::new(alloc);
-    for chunk in chunks.as_slice() {
+    for chunk in chunks {
         push_if(&mut kept, areas_meet_chunk(areas, sky, *chunk), *chunk)?;
     }
     Ok(kept)
 }
 
-/// Returns whether each of the areas may have a point in the chunk.
+/// Returns whether each of the areas may have a point in the chunk. Without areas its bounds are not computed.
 fn areas_meet_chunk(areas: &[AreaTest], sky: &SkyPlan, chunk: u32) -> bool
     requires { chunk < chunk_count sky.now }
     ensures { result ≡ list_all (area_meets (bounds_of sky.now chunk)) areas.now }
 {
-    areas_meet(areas, &sky.region(chunk))
+    areas.is_empty() || areas_meet(areas, &sky.region(chunk))
 }
