@@ -59,7 +59,9 @@ def fifo(words, is_alone):
 
 def launched(workers):
     """The environment that ./qserv gives the program for this number of workers."""
-    pad, mapped = (1 << 26, 1 << 25) if not workers else (1 << 23, 1 << 22) if workers <= 4 else (1 << 20, 1 << 19)
+    pad, mapped = (1 << 20, 1 << 19) if workers else (1 << 26, 1 << 25)
+    if 1 <= workers <= 4:
+        pad, mapped = 1 << 23, 1 << 22
     words = {"MALLOC_TOP_PAD_": pad, "MALLOC_TRIM_THRESHOLD_": 2000000000, "MALLOC_MMAP_THRESHOLD_": mapped}
     if 1 <= workers <= 4:
         words["MALLOC_ARENA_MAX"] = 1

@@ -9,7 +9,7 @@ pub record IsAtRest (slot : Slot) : Type 0 where
   pub still : runs slot ≡ false
   pub none : slot.ahead.items ≡ []
 
--- the slots before `from`, and those from `to` on, are at rest
+-- there are all slots; those before `from`, and those from `to` on, are at rest
 pub record RestOutside (slots : List Slot) (from to : ℕ) : Type 0 where
   pub full : length slots ≡ SLOTS
   pub order : from ≤ to

@@ -143,7 +143,7 @@ impl<P: Work> Board<P> {
         }
         self.journal
             .push_reserved(JournalLine::Attach { seat, q, chunks });
-        self.slots.enter(q as usize, owed, ahead);
+        self.slots.attach(q as usize, owed, ahead);
         put_at(&mut self.pieces, q as usize, empty);
         Attach::Attached
     }
@@ -173,7 +173,7 @@ impl<P: Work> Board<P> {
             return false;
         }
         self.journal.push_reserved(JournalLine::Cancel { seat, q });
-        self.slots.stop(q as usize);
+        self.slots.cancel(q as usize);
         let _dropped = take_at(&mut self.pieces, q as usize);
         true
     }
@@ -201,7 +201,7 @@ impl<P: Work> Board<P> {
             chunk,
             queries: set,
         });
-        self.slots.pop(chunk);
+        self.slots.take(chunk);
         self.place = chunk_at(self.ring, chunk, 1);
         self.tickets = ticket + 1;
         self.flights += 1;
@@ -242,7 +242,7 @@ impl<P: Work> Board<P> {
             ticket: task.ticket(),
             lost,
         });
-        self.slots.pay(task.queries(), &lost);
+        self.slots.deliver(task.queries(), &lost);
         self.flights -= 1;
     }
 }

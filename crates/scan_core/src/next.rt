@@ -1,5 +1,5 @@
 //! Which chunk the scan takes next, and for which queries. Both are read off the slots, whatever the ring's length.
-//! The loops inspect the slots from `from` to `to` alone; all others are at rest.
+//! The loops inspect the slots from `from` on and below `to`; all others are at rest.
 ghost use Rattle.std.specs.Prelude.{◌≡◌, ℕ, ◌<◌, ◌≤◌, List, [], ◌∷◌, ◌++◌, length, get_or, true, cond, IfSome, None};
 ghost use Rattle.std.specs.List.{last_or};
 ghost use Rattle.scan_rules.specs.declared.limits.TheConstants.{RING_MOST};

@@ -156,7 +156,7 @@ impl<'a> Replay<'a> {
         }
         let owed = list.len() as u32;
         let ahead = ahead_of(*self.taken.allocator(), self.place, list)?;
-        self.slots.enter(q as usize, owed, ahead);
+        self.slots.attach(q as usize, owed, ahead);
         self.done += 1;
         Ok(true)
     }
@@ -215,7 +215,7 @@ impl<'a> Replay<'a> {
             queries: *queries,
             delivered: false,
         })?;
-        self.slots.pop(next);
+        self.slots.take(next);
         self.place = chunk_at(self.ring, next, 1);
         self.done += 1;
         Ok(true)
@@ -243,7 +243,7 @@ impl<'a> Replay<'a> {
             return false;
         }
         let named = queries.list();
-        self.slots.pay(named.as_slice(), lost);
+        self.slots.deliver(named.as_slice(), lost);
         deliver_at(&mut self.taken, ticket as usize);
         self.done += 1;
         true
@@ -257,7 +257,7 @@ impl<'a> Replay<'a> {
         if !runs_at(self.slots.list(), q) {
             return false;
         }
-        self.slots.stop(q as usize);
+        self.slots.cancel(q as usize);
         self.done += 1;
         true
     }

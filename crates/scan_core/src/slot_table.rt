@@ -71,8 +71,8 @@ fn end_of_use(slots: &Vec<Slot>, from: usize, to: usize) -> usize
     requires { RestOutside slots.now.items from to }
     ensures { RestOutside slots.now.items from result }
 {
-    for turn in 0..to - from {
-        let end = to - turn;
+    for n in 0..to - from {
+        let end = to - n;
         if !is_at_rest(slots, end - 1) {
             return end;
         }
@@ -80,7 +80,7 @@ fn end_of_use(slots: &Vec<Slot>, from: usize, to: usize) -> usize
     from
 }
 
-/// Returns the start of the least range that has a given range, if that is not empty, and a slot.
+/// Returns the start of the least range that contains a given range, if that is not empty, and a slot.
 fn start_with(from: usize, to: usize, q: usize) -> usize
     ensures low { result ≤ q }
     ensures covers { from < to → result ≤ from }
@@ -88,7 +88,7 @@ fn start_with(from: usize, to: usize, q: usize) -> usize
     if from < to { from.min(q) } else { q }
 }
 
-/// Returns the end of the least range that has a given range, if that is not empty, and a slot.
+/// Returns the end of the least range that contains a given range, if that is not empty, and a slot.
 fn end_with(from: usize, to: usize, q: usize) -> usize
     requires high { to ≤ SLOTS }
     requires below { q < SLOTS }
@@ -152,7 +152,7 @@ impl SlotTable {
     }
 
     /// Attaches the query: it is owed the given number of chunks, and needs those in `ahead`.
-    pub fn enter(&mut self, q: usize, owed: u32, ahead: Vec<u32>)
+    pub fn attach(&mut self, q: usize, owed: u32, ahead: Vec<u32>)
         requires { q < SLOTS }
         ensures { EnteredAt owed ahead.items self.old self.new q }
     {
@@ -164,7 +164,7 @@ impl SlotTable {
     }
 
     /// Cancels the query, which then needs nothing more.
-    pub fn stop(&mut self, q: usize)
+    pub fn cancel(&mut self, q: usize)
         requires { q < SLOTS }
         ensures { StoppedAt self.old self.new q }
     {
@@ -180,14 +180,14 @@ impl SlotTable {
     }
 
     /// Removes the chunk from those that a query needs, for each query that needs it next.
-    pub fn pop(&mut self, chunk: u32)
+    pub fn take(&mut self, chunk: u32)
         ensures { PoppedAll chunk self.old self.new SLOTS }
     {
         pop_all(&mut self.slots, self.from, self.to, chunk);
     }
 
     /// Counts one more chunk as delivered to each query of a task; a lost query needs nothing more.
-    pub fn pay(&mut self, queries: &[u32], lost: &QuerySet)
+    pub fn deliver(&mut self, queries: &[u32], lost: &QuerySet)
         requires tasked { AreTasked queries.now }
         requires owed { AllOwed self.old queries.now }
         ensures { PaidAll queries.now lost.now self.old self.new (length queries.now) }

@@ -20,8 +20,8 @@ overflow_cast-owed c =
     let short : length c.args.chunks.now ≤ 16384 = list_short c.self.invariant c.args.q c.args.chunks.now may up in
     rw c.as_slice-list.ensures.items (search rules)
 
-pub enter-requires : goal.enter-requires
-enter-requires c =
+pub attach-requires : goal.attach-requires
+attach-requires c =
     let may : MayAttach c.self.inside.ring (take c.self.inside.done c.self.inside.lines.now) c.args.q c.args.chunks.now = (rw (← c.self.view_is, c.as_slice-list.ensures.items) at c.may_attach.ensures.right) (search rules) in
     let low : c.args.q < 256 = may.to_255 in
     omega (arith, low, c.self.invariant.kept.full)
@@ -31,7 +31,7 @@ invariant_of-self c =
     let may : MayAttach c.self.inside.ring (take c.self.inside.done c.self.inside.lines.now) c.args.q c.args.chunks.now = (rw (← c.self.view_is, c.as_slice-list.ensures.items) at c.may_attach.ensures.right) (search rules) in
     let up : AllPairs (λ a b. a < b) c.args.chunks.now = rw (← c.as_slice-list.ensures.items) c.as_slice-list.ensures.ascending in
     let next = subst (λ s. IsNext (Attach c.args.seat c.args.q c.args.chunks.now) s) (sym c.self.view_is) c.requires in
-    let entered : EnteredAt (length c.args.chunks.now) (ahead_in c.self.inside.place c.args.chunks.now) c.self.inside.slots c.enter.new.self c.args.q = rw (← c.as_slice-list.ensures.items) (rw (← c.in_ok-ahead.ensures) c.enter.ensures) in
+    let entered : EnteredAt (length c.args.chunks.now) (ahead_in c.self.inside.place c.args.chunks.now) c.self.inside.slots c.attach.new.self c.args.q = rw (← c.as_slice-list.ensures.items) (rw (← c.in_ok-ahead.ensures) c.attach.ensures) in
     attach_step c.self.invariant c.args.seat c.args.q c.args.chunks.now next may up _ entered
 
 pub returns-clause-decided : goal.returns-clause-decided

@@ -16,7 +16,7 @@ pub invariant_of-self : goal.invariant_of-self
 invariant_of-self c =
     let ran = runs_at_told c.self.invariant.kept c.args.q c.runs_at.result (rw c.list.ensures.items at c.runs_at.ensures.known) c.runs_at.ensures.beyond in
     let next = subst (λ s. IsNext (Cancel c.args.seat c.args.q) s) (sym c.self.view_is) c.requires in
-    cancel_step c.self.invariant c.args.seat c.args.q next (sym ran ∙ search rules) _ c.stop.ensures
+    cancel_step c.self.invariant c.args.seat c.args.q next (sym ran ∙ search rules) _ c.cancel.ensures
 
 pub returns : goal.returns
 returns c =

@@ -34,8 +34,8 @@ returns-then-not-may_lose_all c =
     rw (← c.self.view_is) (decided_wrong c.self.inside.ring c.self.inside.lines.now c.self.inside.done (Deliver c.args.seat c.args.ticket c.args.lost.now)
     (λ m. lost_refused c.self.invariant c.args.seat c.args.ticket w.0 c.index-it.result.now.queries f d c.args.lost.now all m))
 
-pub pay-requires-clause-tasked : goal.pay-requires-clause-tasked
-pay-requires-clause-tasked c =
+pub deliver-requires-clause-tasked : goal.deliver-requires-clause-tasked
+deliver-requires-clause-tasked c =
     let low : c.args.ticket < length c.self.inside.taken.items = search rules in
     let w = its_flight c.self.invariant c.args.ticket c.index-it.result.now low c.index-it.ensures (search rules) in
     let seat_is : c.index-it.result.now.seat ≡ c.args.seat = search rules in
@@ -43,8 +43,8 @@ pay-requires-clause-tasked c =
     let named : c.as_slice-2.result.now ≡ c.index-it.result.now.queries = search rules in
     rw named f.tasked
 
-pub pay-requires-clause-owed : goal.pay-requires-clause-owed
-pay-requires-clause-owed c =
+pub deliver-requires-clause-owed : goal.deliver-requires-clause-owed
+deliver-requires-clause-owed c =
     let low : c.args.ticket < length c.self.inside.taken.items = search rules in
     let w = its_flight c.self.invariant c.args.ticket c.index-it.result.now low c.index-it.ensures (search rules) in
     let seat_is : c.index-it.result.now.seat ≡ c.args.seat = search rules in
@@ -64,7 +64,7 @@ invariant_of-self c =
     let may = may_deliver_now c.self.invariant c.args.seat c.args.ticket w.0 c.index-it.result.now.queries f c.index-it.result.now low c.index-it.ensures (search rules) d c.args.lost.now all in
     let next = subst (λ s. IsNext (Deliver c.args.seat c.args.ticket c.args.lost.now) s) (sym c.self.view_is) c.requires in
     let named : c.as_slice-2.result.now ≡ c.index-it.result.now.queries = search rules in
-    let paid : PaidAll c.index-it.result.now.queries c.args.lost.now c.self.inside.slots c.pay.new.self (length c.index-it.result.now.queries) = rw named at c.pay.ensures in
+    let paid : PaidAll c.index-it.result.now.queries c.args.lost.now c.self.inside.slots c.deliver.new.self (length c.index-it.result.now.queries) = rw named at c.deliver.ensures in
     deliver_step c.self.invariant c.args.seat c.args.ticket w.0 c.index-it.result.now.queries c.args.lost.now next f may d all low _ paid _ c.deliver_at.ensures
 
 pub returns : goal.returns

@@ -46,7 +46,7 @@ invariant_of-self-2 c =
     let may = take_right c.self.invariant c.least_step-step.result c.chunk_at-next.result c.least_step-step.ensures n c.takers-takers.result.items c.takers-takers.ensures c.args.ticket c.args.queries.now counted named in
     let next = subst (λ s. IsNext (Take c.args.seat c.args.ticket c.args.chunk c.args.queries.now) s) (sym c.self.view_is) c.requires in
     let here = subst (λ k. IsNext (Take c.args.seat c.args.ticket k c.args.queries.now) (shown c.self.inside.ring c.self.inside.lines.now c.self.inside.done)) (sym same) next in
-    rw c.chunk_at-self-inside.ensures (take_step c.self.invariant c.args.seat c.args.ticket c.chunk_at-next.result c.args.queries.now here may c.least_step-step.result n counted _ c.pop.ensures _ _ refl refl refl c.in_ok-push.ensures.items)
+    rw c.chunk_at-self-inside.ensures (take_step c.self.invariant c.args.seat c.args.ticket c.chunk_at-next.result c.args.queries.now here may c.least_step-step.result n counted _ c.take.ensures _ _ refl refl refl c.in_ok-push.ensures.items)
 
 pub returns-clause-decided : goal.returns-clause-decided
 returns-clause-decided c =
