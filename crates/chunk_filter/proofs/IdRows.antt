@@ -1,7 +1,6 @@
 -- The rows that have one of some ids, found one id after the other.
-use Rattle.std.proofs.Common.{◌≡◌, ◌∙◌, refl, sym, ap, subst, ℕ, zero, suc, ◌+◌, ◌-◌, ◌<◌, ◌≤◌, ◌⊎◌, inl, inr, arith, ℤ, pos, ◌<ℤ◌, Bool, true, false, ◌||◌, List, [], ◌∷◌, ◌++◌, length, get_or, map, Ok, Err, Result, int_cmp, nat_cmp, nat_eq, Less, Equal, Greater}
+use Rattle.std.proofs.Common.{◌≡◌, ◌≢◌, ◌∙◌, refl, sym, ap, subst, ℕ, zero, suc, ◌+◌, ◌-◌, ◌<◌, ◌≤◌, ◌⊎◌, inl, inr, arith, ℤ, pos, ◌<ℤ◌, Bool, true, false, ◌||◌, List, [], ◌∷◌, ◌++◌, length, get_or, map, Ok, Err, Result, int_cmp, nat_cmp, nat_eq, Less, Equal, Greater}
 use Rattle.std.specs.Prelude.{All, AllPairs, IfOk, OnOk}
-use Rattle.std.specs.Bool.{OnTrue}
 use Rattle.std.specs.List.{Contains, filter, insert, range_with_len}
 use Rattle.std.specs.List.Sorted.{IsBinarySearchResult, IsNonDecreasingBy}
 use Rattle.std.specs.Ordering.{int_eq, ordering_index}
@@ -12,11 +11,12 @@ use Rattle.std.proofs.lemmas.List.Edits.{get_or-insert_above, get_or-insert_at, 
 use Rattle.std.proofs.lemmas.List.Elements.{All-contains, Contains-append_cases, Contains-append_right, Contains-get_or}
 use Rattle.std.proofs.lemmas.List.Folds.{list_any-append}
 use Rattle.std.proofs.lemmas.List.Sorted.{Contains-permutation, IsPermutation-insert, IsPermutation-sym, searched}
-use Rattle.sky_row.specs.Columns.{AreAscending}
+use Rattle.table_rules.specs.Objects.{Obj}
+use Rattle.sky_row.specs.Columns.{AreAscending, no_row}
 use Rattle.chunk_store.proofs.ChunkBlocks.{no_fall}
 use Rattle.lane_filter.specs.Tests.{places_of}
 use Rattle.value_rules.specs.Truth.{is_one_of}
-use Rattle.chunk_filter.specs.Ids.{AreWanted, HasNoRow, IsBelowNext, IsInserted, IsWantedAt}
+use Rattle.chunk_filter.specs.Ids.{AreWanted, HasNoRow, IsInserted, IsWantedAt}
 
 -- ---- strictly ascending numbers
 
@@ -302,48 +302,11 @@ missing ids id i up h k within is = by (cases_lt k i)
 pub found_there : (ids : List ℤ) (id : ℤ) (row : ℕ) → ((d : ℤ) → int_cmp (get_or ids row d) id ≡ Equal) → get_or ids row (pos 0) ≡ id
 found_there ids id row h = equal (get_or ids row (pos 0)) id (h (pos 0))
 
--- an id between those of two rows that follow each other is that of no row
-pub between : (ids : List ℤ) (id : ℤ) (row : ℕ) → AreAscending ids → row < length ids → get_or ids row (pos 0) <ℤ id → IsBelowNext ids id row → HasNoRow ids id
-between ids id row up there above below k within is = by (order k row)
-  where
-    next : (k ≡ row + 1) ⊎ (row + 1 < k) → ⊥
-    next (inl same) = apart _ _ (sym is) (subst (λ n. id <ℤ get_or ids n (pos 0)) (sym same) (below (omega (arith, within, same))))
-    next (inr more) = far (below (omega (arith, within, more))) (up (row + 1) k (pos 0) more within)
-      where
-        far : id <ℤ get_or ids (row + 1) (pos 0) → get_or ids (row + 1) (pos 0) <ℤ get_or ids k (pos 0) → ⊥
-        far low high = grind (arith, ints)
-
-    short : get_or ids k (pos 0) <ℤ get_or ids row (pos 0) → ⊥
-    short low = grind (arith, ints)
-
-    by : (k < row) ⊎ ((k ≡ row) ⊎ (row < k)) → ⊥
-    by (inl less) = short (up k row (pos 0) less there)
-    by (inr (inl same)) = apart _ _ is (subst (λ n. get_or ids n (pos 0) <ℤ id) (sym same) above)
-    by (inr (inr more)) = next (grind arith)
-
--- an id below the first one is that of no row
-pub before_all : (ids : List ℤ) (id : ℤ) → AreAscending ids → id <ℤ get_or ids 0 (pos 0) → HasNoRow ids id
-before_all ids id up below k within is = by (order 0 k)
-  where
-    by : (0 < k) ⊎ ((0 ≡ k) ⊎ (k < 0)) → ⊥
-    by (inl more) = lower_still (up 0 k (pos 0) more within)
-      where
-        lower_still : get_or ids 0 (pos 0) <ℤ get_or ids k (pos 0) → ⊥
-        lower_still high = grind (arith, ints)
-    by (inr (inl same)) = apart _ _ (sym is) (subst (λ n. id <ℤ get_or ids n (pos 0)) same below)
-    by (inr (inr less)) = absurd (omega (arith, less))
-
--- an id below that of a row is that of no row, if the row is the first
-pub below_first : (ids : List ℤ) (id : ℤ) (row : ℕ) → AreAscending ids → id <ℤ get_or ids row (pos 0) → (b : Bool) → nat_eq row 0 ≡ b → OnTrue b (HasNoRow ids id)
-below_first ids id row up below false is = tt
-below_first ids id row up below true is =
-    let zero_is : row ≡ 0 = grind arith in
-    before_all ids id up (subst (λ n. id <ℤ get_or ids n (pos 0)) zero_is below)
-
--- what follows from what is tested follows from the test
-pub on_true_then : {P Q : Type 0} (b : Bool) → OnTrue b P → (P → Q) → OnTrue b Q
-on_true_then true h f = f h
-on_true_then false h f = tt
+-- no row has an id that no object has
+pub none_of : (objects : List Obj) (ids : List ℤ) (id : ℤ) → ids ≡ map (λ o. o.id) objects → All (λ o. o.id ≢ id) objects → HasNoRow ids id
+none_of objects ids id is none k within same =
+    let low : k < length objects = omega (arith, within, ap length is, length-map objects (λ o. o.id)) in
+    none k no_row low (sym (get_or-map (λ o. o.id) objects k no_row (pos 0) low) ∙ (sym (ap (λ l. get_or l k (pos 0)) is) ∙ same))
 
 -- what follows from what holds after a success holds after it
 pub on_ok_then : {A E P Q : Type 0} (r : Result A E) → OnOk r P → (P → Q) → OnOk r Q

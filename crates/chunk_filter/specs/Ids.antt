@@ -1,5 +1,5 @@
 -- The rows that have one of some ids.
-use Rattle.std.specs.Prelude.{◌≡◌, ℕ, ◌<◌, ◌+◌, ℤ, ◌<ℤ◌, pos, true, List, length, get_or, All, AllPairs, ◌⊎◌}
+use Rattle.std.specs.Prelude.{◌≡◌, ℕ, ◌<◌, ℤ, pos, true, List, length, get_or, All, AllPairs, ◌⊎◌}
 use Rattle.std.specs.List.{Contains}
 use Rattle.value_rules.specs.Truth.{is_one_of}
 
@@ -27,7 +27,3 @@ HasIdAt ids id k = (k < length ids) × (get_or ids k (pos 0) ≡ id)
 -- no row has the id
 abbrev pub HasNoRow : (ids : List ℤ) → ℤ → Type 0
 HasNoRow ids id = (k : ℕ) → k < length ids → get_or ids k (pos 0) ≡ id → ⊥
-
--- the id is below that of the next row, if there is one
-abbrev pub IsBelowNext : (ids : List ℤ) → ℤ → ℕ → Type 0
-IsBelowNext ids id k = k + 1 < length ids → id <ℤ get_or ids (k + 1) (pos 0)

@@ -54,7 +54,7 @@ fn held_rows(
     ensures { IfOk result (λ places. places.items
         ≡ places_of (map (holds_on (formula_of c.now)) block.now.objects)) }
 {
-    rows_with(block.ids(), ids, scratch)
+    rows_with(block, block.ids(), ids, scratch)
 }
 
 /// Returns the id that the condition compares with, if it is such a comparison.

@@ -1,9 +1,10 @@
 //! The filter of a chunk: which of its rows meet the conditions of a chunk query.
 //!
 //! Callers see `selection` as the numbers of these rows, and `mask` as a flag for each row. If a condition asks for ids,
-//! its rows are found by bisection (`id_test`, `id_rows`, `id_candidates`). Otherwise conditions that are vectorizable predicates are
-//! evaluated first by the kernels of `lane_filter`, each of which clears a mask, and the numbers of the remaining rows
-//! are listed. In both cases `column_eval` evaluates the other conditions on these rows alone.
+//! its rows are found by bisection (`id_test`, `id_rows`); ids that the block's filter excludes are not searched for.
+//! Otherwise conditions that are vectorizable predicates are evaluated first by the kernels of `lane_filter`, each of
+//! which clears a mask, and the numbers of the remaining rows are listed. In both cases `column_eval` evaluates the other
+//! conditions on these rows alone.
 //!
 //! What a scan reuses from one chunk to the next is in a `Scratch`. The scan for rows and the one for groups reuse the
 //! same one, so it also has vectors for keys, which no filter needs. Below: `column_block` for the columns,
@@ -11,7 +12,6 @@
 //! selected rows.
 #![tactic(auto)]
 
-mod id_candidates;
 mod id_rows;
 mod id_test;
 mod kernel;

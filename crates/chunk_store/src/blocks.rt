@@ -157,7 +157,7 @@ fn blocks_from(
     let begun = begun_blocks(alloc, rows, table, own, chunks, part)?;
     let mut blocks = Vec::with_capacity(alloc, chunks.len())?;
     for lists in begun {
-        let block = finished(table, own, chunks, blocks.len(), lists)?;
+        let block = finished(alloc, table, own, chunks, blocks.len(), lists)?;
         blocks.push_reserved(block);
     }
     Ok(blocks)
@@ -165,6 +165,7 @@ fn blocks_from(
 
 /// Returns the block of the chunk with index `k`, from 0, among the chunks, from the columns of its first rows.
 fn finished(
+    alloc: Global,
     table: &RowLists,
     own: &Lists,
     chunks: &[u32],
@@ -181,7 +182,7 @@ fn finished(
       objects = objects_at (objects_of table.now) (get_or own.now (get_or chunks.now k 0) []);
     }) }
 {
-    Block::finish(table, own.of(chunks[k]), begun)
+    Block::finish(alloc, table, own.of(chunks[k]), begun)
 }
 
 /// Returns, for each of the chunks, the columns of its first rows: those in the whole parts of the table. The rest of

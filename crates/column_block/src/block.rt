@@ -1,5 +1,5 @@
 //! The columns of some rows of a table.
-ghost use Rattle.std.specs.Prelude.{◌≡◌, ◌+◌, ◌<◌, ◌≤◌, length, map, get_or, All, IfOk};
+ghost use Rattle.std.specs.Prelude.{◌≡◌, ◌≢◌, ◌+◌, ◌<◌, ◌≤◌, length, map, get_or, All, IfOk, false};
 ghost use Rattle.sky_vector.specs.Points.{IsWithin};
 ghost use Rattle.table_rules.specs.Objects.{IsRow};
 ghost use Rattle.table_rules.specs.declared.limits.TheConstants.{FIRST_COLUMNS};
@@ -7,33 +7,36 @@ ghost use Rattle.column_lists.specs.Columns.{AreRows, objects_of};
 ghost use Rattle.sky_row.specs.Columns.{column_in, no_row, objects_at};
 ghost use Rattle.column_lists.specs.Filling.{AreBegun};
 
+use crate::id_filter::IdFilter;
 use sky_io::Memory;
 use sky_row::{Column, Lists, Row, Rows};
 use std::alloc::Global;
 use std::marker::Model;
 use table_rules::limits::FIRST_COLUMNS;
 
-/// The ids, the components of the positions and the extra columns of some rows.
+/// The ids, the components of the positions and the extra columns of some rows, and a filter of the ids.
 #[derive(Drop)]
 pub struct Block {
     lists: Lists,
+    filter: IdFilter,
 }
 
 impl Model for Block {
     ghost use Rattle.std.specs.Prelude.{length};
     ghost use Rattle.column_lists.specs.Columns.{AreRows, objects_of};
     ghost use Rattle.column_block.specs.Blocks.{Stored};
+    ghost use Rattle.column_block.specs.Filters.{CoversAll};
 
     ghost Value = { Stored };
 
     ghost view = { λ b. record { width = length b.lists.further; objects = objects_of b.lists } };
 
-    ghost invariant = { λ b. AreRows b.lists };
+    ghost invariant = { λ b. AreRows b.lists × CoversAll b.filter b.lists.ids };
 }
 
 impl Block {
     /// Creates the block of the table's rows with these numbers, counted from 0, in the order of the list. Allocates
-    /// memory for each column once.
+    /// memory for each column, and for the filter, once.
     pub fn build(alloc: Global, rows: &Rows, places: &[u32]) -> Result<Block, Memory>
         requires { All (λ place. place < length rows.now.objects) places.now }
         ensures { IfOk result (λ block. block ≡ record {
@@ -43,13 +46,18 @@ impl Block {
     {
         let width = rows.schema().width() - FIRST_COLUMNS as u32;
         let begun = Lists::new(alloc, width, places.len())?;
-        Block::finish(rows.lists(), places, begun)
+        Block::finish(alloc, rows.lists(), places, begun)
     }
 
     /// Creates the block of a table's rows with these numbers, counted from 0, in the order of the list. `begun` has
-    /// the first of them; the others are appended. Allocates memory if the room for them is missing, or for a column's
-    /// first NULL. If an allocation fails, `begun` is dropped.
-    pub fn finish(table: &Lists, places: &[u32], begun: Lists) -> Result<Block, Memory>
+    /// the first of them; the others are appended. Allocates memory for the filter, and if the room for rows is missing,
+    /// or for a column's first NULL. If an allocation fails, `begun` is dropped.
+    pub fn finish(
+        alloc: Global,
+        table: &Lists,
+        places: &[u32],
+        begun: Lists,
+    ) -> Result<Block, Memory>
         requires rows { AreRows table.now }
         requires there { All (λ place. place < length table.now.ids) places.now }
         requires begun { AreBegun table.now places.now begun }
@@ -60,7 +68,8 @@ impl Block {
     {
         let mut lists = begun;
         lists.fill(table, places, places.len())?;
-        Ok(Block { lists })
+        let filter = IdFilter::of(alloc, lists.ids())?;
+        Ok(Block { lists, filter })
     }
 
     /// Returns the number of rows. Does not allocate.
@@ -86,6 +95,13 @@ impl Block {
         ensures { result.now ≡ map (λ o. o.id) self.now.objects }
     {
         self.lists.ids()
+    }
+
+    /// Returns false only if no row has the id. Most ids of other blocks give false. Does not allocate.
+    pub fn may_have_id(&self, id: i64) -> bool
+        ensures { result ≡ false → All (λ o. o.id ≢ id) self.now.objects }
+    {
+        self.filter.may_have(id)
     }
 
     /// Returns the x of the rows. Does not allocate.

@@ -9,7 +9,7 @@ pub returns-clause-count : goal.returns-clause-count
 returns-clause-count c = ap length c.ids.ensures ∙ (sym (objects_count c.self.inside.lists) ∙ ap (λ v. length v.objects) c.self.view_is)
 
 pub returns-clause-rows : goal.returns-clause-rows
-returns-clause-rows c = subst (λ (v : Stored). All IsRow v.objects) c.self.view_is (rows_are c.self.inside.lists c.self.invariant)
+returns-clause-rows c = subst (λ (v : Stored). All IsRow v.objects) c.self.view_is (rows_are c.self.inside.lists c.self.invariant.0)
 
 pub returns-clause-wide : goal.returns-clause-wide
 returns-clause-wide c =

@@ -10,7 +10,7 @@ row-requires-clause-there c = omega (arith, c.requires, objects_count c.self.ins
 pub row-requires-clause-few : goal.row-requires-clause-few
 row-requires-clause-few c =
     let low : c.args.i < length c.self.inside.lists.ids = omega (arith, c.requires, objects_count c.self.inside.lists, ap (λ v. length v.objects) c.self.view_is) in
-    subst (λ n. n ≤ 12) (length-map c.self.inside.lists.further (λ column. get_or column c.args.i None)) (c.self.invariant.rows c.args.i low).few
+    subst (λ n. n ≤ 12) (length-map c.self.inside.lists.further (λ column. get_or column c.args.i None)) (c.self.invariant.0.rows c.args.i low).few
 
 pub returns-clause-value : goal.returns-clause-value
 returns-clause-value c =
