@@ -1,5 +1,4 @@
-use Rattle.std.proofs.Common.{◌≢◌, rules, FitsSigned, w64}
-use Rattle.std.specs.Prelude.{All}
+use Rattle.std.proofs.Common.{rules, FitsSigned, w64}
 use Rattle.std.proofs.lemmas.Int.{to_z-of_z}
 use Rattle.chunk_filter.proofs.IdRows.{none_of}
 use Rattle.chunk_filter.proofs.id_rows.row_of.Goals as goal
