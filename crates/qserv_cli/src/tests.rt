@@ -28,7 +28,7 @@ pub(crate) const ANSWER: &[u8] = b"query 1\nobjectId\n1\n2\n3\n4\n5\n6\n6 rows, 
 pub(crate) type Texts<'t> = (&'t [u8], &'t [u8], &'t [u8]);
 
 // These words.
-pub(crate) fn words_in(alloc: Global, list: &[&str]) -> Result<Vec<String>, Fail> {
+fn words_in(alloc: Global, list: &[&str]) -> Result<Vec<String>, Fail> {
     let mut words = Vec::new(alloc);
     for word in list {
         words.push(String::from_str(alloc, word)?)?;
@@ -37,7 +37,7 @@ pub(crate) fn words_in(alloc: Global, list: &[&str]) -> Result<Vec<String>, Fail
 }
 
 // Appends a text with its name.
-pub(crate) fn add_text(
+fn add_text(
     alloc: Global,
     texts: &mut Vec<(String, Vec<u8>)>,
     name: &str,
@@ -47,61 +47,95 @@ pub(crate) fn add_text(
     Ok(())
 }
 
-// A sky plan, a catalogue and a script by their names.
-pub(crate) fn texts_of<'t>(
+// These texts with their names.
+pub(crate) fn texts_of(
     alloc: Global,
-    given: Texts<'t>,
+    given: &[(&str, &[u8])],
 ) -> Result<Vec<(String, Vec<u8>)>, Fail> {
     let mut texts = Vec::new(alloc);
-    for (name, text) in [("sky", given.0), ("csv", given.1), ("script", given.2)] {
-        add_text(alloc, &mut texts, name, text)?;
+    for one in given {
+        add_text(alloc, &mut texts, one.0, one.1)?;
     }
     Ok(texts)
 }
 
-// A shelf of these texts, of which each can be fetched. All shelves of these tests have one type, so that the engine is
-// compiled once for all of them.
-pub(crate) fn shelf_of(alloc: Global, texts: Vec<(String, Vec<u8>)>) -> MemShelf {
-    MemShelf::new(alloc, texts, Vec::new(alloc))
+/// The words of a command, the shelf that it reads and the sink that it writes. All shelves and sinks of these tests have one
+/// type each, so that the engine is compiled once for all of them.
+pub(crate) struct Run {
+    words: Vec<String>,
+    shelf: MemShelf,
+    pub(crate) sink: MemSink,
 }
 
-// The status of the top call over a shelf, past a gate.
-pub(crate) fn status_past<R: Threads + Wait + Sync>(
-    rt: &R,
+// A derived drop would be proved again in each test.
+impl Drop for Run {
+    fn drop(self) {
+        let Run { words, shelf, sink } = self;
+    }
+}
+
+// The run of a command with these words over these texts, of which the fetches with the given numbers fail.
+fn run_failing(
     alloc: Global,
-    words: &[String],
-    shelf: &mut MemShelf,
-    sink: &mut MemSink,
-    gate: &TestGate<'_>,
-) -> u8 {
-    let outcome = qserv(rt, alloc, words, shelf, sink, gate);
-    status(&outcome)
+    words: &[&str],
+    texts: &[(&str, &[u8])],
+    failing: Vec<u64>,
+    sink: MemSink,
+) -> Result<Run, Fail> {
+    let shelf = MemShelf::new(alloc, texts_of(alloc, texts)?, failing);
+    let words = words_in(alloc, words)?;
+    Ok(Run { words, shelf, sink })
 }
 
-// The status of a command over a shelf, with a number of workers, past a gate.
-fn run_over<R: Threads + Wait + Sync>(
-    rt: &R,
+// The run of a command with these words over these texts.
+pub(crate) fn run_of(
     alloc: Global,
-    asked: (&str, &str),
-    shelf: &mut MemShelf,
-    sink: &mut MemSink,
-    gate: &TestGate<'_>,
-) -> Result<u8, Fail> {
-    let words = words_in(alloc, &[asked.0, "sky", "csv", "script", asked.1])?;
-    Ok(status_past(rt, alloc, words.as_slice(), shelf, sink, gate))
+    words: &[&str],
+    texts: &[(&str, &[u8])],
+    sink: MemSink,
+) -> Result<Run, Fail> {
+    run_failing(alloc, words, texts, Vec::new(alloc), sink)
 }
 
-// The status of a command over texts, with a number of workers, past a gate.
-pub(crate) fn run_past<R: Threads + Wait + Sync>(
-    rt: &R,
+// The run of a command over a sky plan, a catalogue and a script, with a number of workers.
+pub(crate) fn script_run(
     alloc: Global,
     asked: (&str, &str),
     texts: Texts<'_>,
-    sink: &mut MemSink,
+    sink: MemSink,
+) -> Result<Run, Fail> {
+    let words = [asked.0, "sky", "csv", "script", asked.1];
+    let named = [("sky", texts.0), ("csv", texts.1), ("script", texts.2)];
+    run_of(alloc, words.as_slice(), named.as_slice(), sink)
+}
+
+// The status of a run past a gate.
+pub(crate) fn status_past<R: Threads + Wait + Sync>(
+    rt: &R,
+    alloc: Global,
+    run: &mut Run,
     gate: &TestGate<'_>,
-) -> Result<u8, Fail> {
-    let mut shelf = shelf_of(alloc, texts_of(alloc, texts)?);
-    run_over(rt, alloc, asked, &mut shelf, sink, gate)
+) -> u8 {
+    let words = run.words.as_slice();
+    let outcome = qserv(rt, alloc, words, &mut run.shelf, &mut run.sink, gate);
+    status(&outcome)
+}
+
+// A sink with room for a number of bytes, of which no call fails.
+pub(crate) fn sink_of(alloc: Global, room: usize) -> Result<MemSink, Fail> {
+    Ok(MemSink::new(alloc, room, Vec::new(alloc))?)
+}
+
+// Whether a run past a gate has the status 0 and writes this.
+pub(crate) fn writes<R: Threads + Wait + Sync>(
+    rt: &R,
+    alloc: Global,
+    mut run: Run,
+    gate: &TestGate<'_>,
+    want: &[u8],
+) -> bool {
+    let found = status_past(rt, alloc, &mut run, gate);
+    found == 0 && run.sink.bytes() == want
 }
 
 // Whether a command over texts, with a number of workers, past a gate, has the status 0 and writes this.
@@ -113,9 +147,8 @@ pub(crate) fn is_written<R: Threads + Wait + Sync>(
     gate: &TestGate<'_>,
     want: &[u8],
 ) -> Result<bool, Fail> {
-    let mut sink = MemSink::new(alloc, 1000, Vec::new(alloc))?;
-    let found = run_past(rt, alloc, asked, texts, &mut sink, gate)?;
-    Ok(found == 0 && sink.bytes() == want)
+    let run = script_run(alloc, asked, texts, sink_of(alloc, 1000)?)?;
+    Ok(writes(rt, alloc, run, gate, want))
 }
 
 // The first pass, from 0, that was not made by worker 0 over the chunk in its place, or that has none; `None` if the passes
@@ -151,15 +184,14 @@ fn run_failing_at<R: Threads + Wait + Sync>(
     call: u64,
     keep: u32,
 ) -> Result<(u8, bool), Fail> {
-    let mut sink = failing_sink(alloc, call, keep)?;
     let texts = (SKY, CATALOGUE, SCRIPT);
-    let status = run_past(rt, alloc, ("query", "0"), texts, &mut sink, &TestGate::Open)?;
-    let is_kept = call > 1 || sink.bytes().len() == keep as usize;
-    let is_whole = status > 0 || sink.bytes() == ANSWER;
-    Ok((
-        status,
-        ANSWER.starts_with(sink.bytes()) && is_kept && is_whole,
-    ))
+    let sink = failing_sink(alloc, call, keep)?;
+    let mut run = script_run(alloc, ("query", "0"), texts, sink)?;
+    let status = status_past(rt, alloc, &mut run, &TestGate::Open);
+    let bytes = run.sink.bytes();
+    let is_kept = call > 1 || bytes.len() == keep as usize;
+    let is_whole = status > 0 || bytes == ANSWER;
+    Ok((status, ANSWER.starts_with(bytes) && is_kept && is_whole))
 }
 
 // The number of the first call that the script's run does not make: a sink that fails there changes nothing.
@@ -188,12 +220,13 @@ fn a_sink_that_fails_at_any_call_has_a_prefix_of_the_answer(rt: HostRuntime) -> 
     Ok(())
 }
 
-// Whether the script's run over a sink with room for so many bytes is a fault, and they are the first ones of the answer.
+// Whether the script's run over a sink with room for a number of bytes is a fault, and they are the first ones of the answer.
 fn is_filled<R: Threads + Wait + Sync>(rt: &R, alloc: Global, room: usize) -> Result<bool, Fail> {
-    let mut sink = MemSink::cutting(alloc, room, Vec::new(alloc), 1000)?;
     let texts = (SKY, CATALOGUE, SCRIPT);
-    let found = run_past(rt, alloc, ("query", "0"), texts, &mut sink, &TestGate::Open)?;
-    let bytes = sink.bytes();
+    let sink = MemSink::cutting(alloc, room, Vec::new(alloc), 1000)?;
+    let mut run = script_run(alloc, ("query", "0"), texts, sink)?;
+    let found = status_past(rt, alloc, &mut run, &TestGate::Open);
+    let bytes = run.sink.bytes();
     Ok(found == 8 && bytes.len() == room && ANSWER.starts_with(bytes))
 }
 
@@ -205,28 +238,18 @@ fn a_full_sink_has_what_it_has_room_for(rt: HostRuntime) -> Result<(), Fail> {
     Ok(())
 }
 
-// A shelf of the script's texts that fails at its second fetch.
-fn failing_shelf(alloc: Global) -> Result<MemShelf, Fail> {
-    let failing = vec![in alloc; 2]?;
-    Ok(MemShelf::new(alloc, texts_of(alloc, (SKY, CATALOGUE, SCRIPT))?, failing))
-}
-
-// The status of the script's run over that shelf, and how many bytes it writes.
+// The status of the script's run over a shelf that fails at its second fetch, and how many bytes it writes.
 fn run_with_failing_fetch<R: Threads + Wait + Sync>(
     rt: &R,
     alloc: Global,
 ) -> Result<(u8, usize), Fail> {
-    let mut shelf = failing_shelf(alloc)?;
-    let mut sink = MemSink::new(alloc, 1000, Vec::new(alloc))?;
-    let found = run_over(
-        rt,
-        alloc,
-        ("query", "0"),
-        &mut shelf,
-        &mut sink,
-        &TestGate::Open,
-    )?;
-    Ok((found, sink.bytes().len()))
+    let words = ["query", "sky", "csv", "script", "0"];
+    let texts = [("sky", SKY), ("csv", CATALOGUE), ("script", SCRIPT)];
+    let failing = vec![in alloc; 2]?;
+    let sink = sink_of(alloc, 1000)?;
+    let mut run = run_failing(alloc, words.as_slice(), texts.as_slice(), failing, sink)?;
+    let found = status_past(rt, alloc, &mut run, &TestGate::Open);
+    Ok((found, run.sink.bytes().len()))
 }
 
 #[test]
@@ -271,9 +294,9 @@ fn count_past<R: Threads + Wait + Sync>(
     gate: &TestGate<'_>,
 ) -> Result<u8, Fail> {
     let script = counting(alloc)?;
-    let mut sink = MemSink::new(alloc, 10000, Vec::new(alloc))?;
     let texts = (SKY, CATALOGUE, script.as_slice());
-    run_past(rt, alloc, (command, "0"), texts, &mut sink, gate)
+    let mut run = script_run(alloc, (command, "0"), texts, sink_of(alloc, 10000)?)?;
+    Ok(status_past(rt, alloc, &mut run, gate))
 }
 
 // Runs 65 queries by a command. 64 of them run together, so that each chunk is passed once for them all.
@@ -323,10 +346,10 @@ fn is_answered_in<R: Threads + Wait + Sync>(
 ) -> Result<bool, Fail> {
     let gate = ListGate::new(order.to_vec(alloc)?, 10000);
     let list = TestGate::List(&gate);
-    let mut sink = MemSink::new(alloc, 1000, Vec::new(alloc))?;
     let texts = (SKY, CATALOGUE, CANCELLING);
-    let found = run_past(rt, alloc, ("query", "2"), texts, &mut sink, &list)?;
-    Ok(found == 0 && is_transcript(sink.bytes()))
+    let mut run = script_run(alloc, ("query", "2"), texts, sink_of(alloc, 1000)?)?;
+    let found = status_past(rt, alloc, &mut run, &list);
+    Ok(found == 0 && is_transcript(run.sink.bytes()))
 }
 
 #[test]

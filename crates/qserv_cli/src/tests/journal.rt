@@ -1,9 +1,9 @@
 //! The journal of a session shows that two threads work on chunks at one time.
 use crate::tests::gates::TestGate;
-use crate::tests::{CATALOGUE, SCRIPT, SKY, run_past};
+use crate::tests::{CATALOGUE, SCRIPT, SKY, script_run, sink_of, status_past};
 use scan_history::read_journal;
 use scan_rules::{Journal, JournalLine};
-use sky_io::{MemSink, StepGate};
+use sky_io::StepGate;
 use std::alloc::Global;
 use std::sync::Wait;
 use std::test::Fail;
@@ -69,10 +69,10 @@ fn is_traced<R: Threads + Wait + Sync>(
     alloc: Global,
     gate: &TestGate<'_>,
 ) -> Result<bool, Fail> {
-    let mut sink = MemSink::new(alloc, 4000, Vec::new(alloc))?;
     let texts = (SKY, CATALOGUE, SCRIPT);
-    let found = run_past(rt, alloc, ("trace", "2"), texts, &mut sink, gate)?;
-    Ok(found == 0 && is_shared(alloc, sink.bytes())?)
+    let mut run = script_run(alloc, ("trace", "2"), texts, sink_of(alloc, 4000)?)?;
+    let found = status_past(rt, alloc, &mut run, gate);
+    Ok(found == 0 && is_shared(alloc, run.sink.bytes())?)
 }
 
 #[test]

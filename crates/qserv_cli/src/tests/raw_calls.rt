@@ -1,5 +1,5 @@
 //! What no clause of `sky_io` says: how many raw calls are made, and that a rest is written by a later call.
-use crate::tests::add_text;
+use crate::tests::texts_of;
 use sky_io::{
     Buffered, Fetch, FileShelf, FolderShelf, MemFiles, MemOutput, PlainShelf, Put, Shelf, Sink,
 };
@@ -51,11 +51,7 @@ fn a_rest_that_could_not_be_written_is_written_later(rt: HostRuntime) -> Result<
 }
 
 // The files of one name, whose text is "abcde".
-fn texts_of(alloc: Global) -> Result<Vec<(String, Vec<u8>)>, Fail> {
-    let mut texts = Vec::new(alloc);
-    add_text(alloc, &mut texts, "five", b"abcde")?;
-    Ok(texts)
-}
+const FIVE: [(&str, &[u8]); 1] = [("five", b"abcde")];
 
 // Whether the text of these files is fetched up to a limit, or is not, and what comes of it.
 fn is_fetched(alloc: Global, files: MemFiles, limit: usize, want: (Fetch, &str)) -> bool {
@@ -67,7 +63,12 @@ fn is_fetched(alloc: Global, files: MemFiles, limit: usize, want: (Fetch, &str))
 
 // Whether a fetch is so if the raw call of this number fails and a read gives at most two bytes.
 fn is_fetched_failing(alloc: Global, call: u64, want: (Fetch, &str)) -> Result<bool, Fail> {
-    let files = MemFiles::new(alloc, texts_of(alloc)?, 2, vec![in alloc; call]?);
+    let files = MemFiles::new(
+        alloc,
+        texts_of(alloc, FIVE.as_slice())?,
+        2,
+        vec![in alloc; call]?,
+    );
     Ok(is_fetched(alloc, files, 9, want))
 }
 
@@ -85,7 +86,7 @@ fn a_raw_call_that_fails_is_a_fetch_that_fails(rt: HostRuntime) -> Result<(), Fa
 #[test]
 fn a_text_in_memory_comes_up_to_the_limit(rt: HostRuntime) -> Result<(), Fail> {
     let alloc = rt.alloc();
-    let mut shelf = PlainShelf::new(texts_of(alloc)?);
+    let mut shelf = PlainShelf::new(texts_of(alloc, FIVE.as_slice())?);
     let mut into = Vec::new(alloc);
     assert_eq!(rt; shelf.fetch("five", 3, &mut into), Fetch::Done);
     assert_eq!(rt; into.as_slice(), b"abcd".as_slice());

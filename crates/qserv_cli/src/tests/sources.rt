@@ -1,9 +1,7 @@
 //! The command `sources`: threads meet, and queries share a chunk's scan.
 use crate::tests::gates::TestGate;
-use crate::tests::{
-    CATALOGUE, SKY, add_text, first_other, shelf_of, status_past, texts_of, words_in,
-};
-use sky_io::{MemSink, NoteGate, StepGate};
+use crate::tests::{CATALOGUE, SKY, first_other, run_of, sink_of, writes};
+use sky_io::{NoteGate, StepGate};
 use std::alloc::Global;
 use std::sync::Wait;
 use std::test::Fail;
@@ -27,25 +25,6 @@ const ANSWERS: &[u8] =
 const TWICE: &[u8] =
     b"SELECT o.objectId,s.sourceId,s.flux-o.flux FROM Object o,Source s WHERE o.objectId=s.objectId\nSELECT o.objectId,s.sourceId,s.flux-o.flux FROM Object o,Source s WHERE o.objectId=s.objectId\n";
 
-// The status of the command over the catalogue, the sources and a script, with a number of workers, past a gate.
-fn sources_past<R: Threads + Wait + Sync>(
-    rt: &R,
-    alloc: Global,
-    workers: &str,
-    script: &[u8],
-    sink: &mut MemSink,
-    gate: &TestGate<'_>,
-) -> Result<u8, Fail> {
-    let words = words_in(
-        alloc,
-        &["sources", "sky", "csv", "measured", "script", workers],
-    )?;
-    let mut all = texts_of(alloc, (SKY, CATALOGUE, script))?;
-    add_text(alloc, &mut all, "measured", SOURCES)?;
-    let mut shelf = shelf_of(alloc, all);
-    Ok(status_past(rt, alloc, words.as_slice(), &mut shelf, sink, gate))
-}
-
 // Whether the command over a script has the status 0 and writes this.
 fn is_joined<R: Threads + Wait + Sync>(
     rt: &R,
@@ -55,9 +34,20 @@ fn is_joined<R: Threads + Wait + Sync>(
     gate: &TestGate<'_>,
     want: &[u8],
 ) -> Result<bool, Fail> {
-    let mut sink = MemSink::new(alloc, 1000, Vec::new(alloc))?;
-    let found = sources_past(rt, alloc, workers, script, &mut sink, gate)?;
-    Ok(found == 0 && sink.bytes() == want)
+    let words = ["sources", "sky", "csv", "measured", "script", workers];
+    let texts = [
+        ("sky", SKY),
+        ("csv", CATALOGUE),
+        ("measured", SOURCES),
+        ("script", script),
+    ];
+    let run = run_of(
+        alloc,
+        words.as_slice(),
+        texts.as_slice(),
+        sink_of(alloc, 1000)?,
+    )?;
+    Ok(writes(rt, alloc, run, gate, want))
 }
 
 #[test]

@@ -26,7 +26,7 @@ in_areas-requires-2-clause-there c =
 pub returns-clause-plan : goal.returns-clause-plan
 returns-clause-plan c =
     let of_ids = c.as_slice.ensures.items ∙ c.in_ok-chunks.ensures
-        ∙ ap (λ (g : Partition). filter (λ n. list_all (holds_id g c.args.index.now.rows n) c.as_slice-tests.result.now) c.args.filled.now) c.requires.over in
+    ∙ ap (λ (g : Partition). filter (λ n. list_all (holds_id g c.args.index.now.rows n) c.as_slice-tests.result.now) c.args.filled.now) c.requires.over in
     if_ok_then c.in_areas-2.result c.in_areas-2.ensures (λ chunks e full.
     plan_from c.args.sky.now c.args.index.now.rows c.args.bound.now c.args.filled.now c.as_slice.result.now chunks c.as_slice-areas.result.now c.as_slice-tests.result.now
     c.as_slice-areas.ensures c.as_slice-tests.ensures of_ids e full)
