@@ -1,18 +1,19 @@
 //! What no clause says: that a failing output or input is a fault, that threads meet, and that queries which run
 //! together share a chunk's scan.
 use crate::tests::gates::TestGate;
-use sky_io::{ListGate, MemShelf, MemSink, NoteGate, StepGate};
+use crate::tests::runs::{is_written, run_failing, script_run, sink_of, status_past};
+use sky_io::{ListGate, MemSink, NoteGate, StepGate};
 use std::alloc::Global;
 use std::process::Abort;
 use std::sync::Wait;
 use std::test::Fail;
 use std::thread::Threads;
-use top_call::{qserv, status};
 
 mod classes;
 mod gates;
 mod journal;
 mod raw_calls;
+mod runs;
 mod sources;
 
 pub(crate) const SKY: &[u8] = b"overlap 5\nstripe -268435472 4 2 2\nstripe 0 4 2 2\n";
@@ -23,133 +24,6 @@ pub(crate) const CATALOGUE: &[u8] =
 pub(crate) const SCRIPT: &[u8] = b"SELECT objectId FROM Object\n";
 
 pub(crate) const ANSWER: &[u8] = b"query 1\nobjectId\n1\n2\n3\n4\n5\n6\n6 rows, 3 chunks\n";
-
-/// The sky plan of a run, its catalogue and its script.
-pub(crate) type Texts<'t> = (&'t [u8], &'t [u8], &'t [u8]);
-
-// These words.
-fn words_in(alloc: Global, list: &[&str]) -> Result<Vec<String>, Fail> {
-    let mut words = Vec::new(alloc);
-    for word in list {
-        words.push(String::from_str(alloc, word)?)?;
-    }
-    Ok(words)
-}
-
-// Appends a text with its name.
-fn add_text(
-    alloc: Global,
-    texts: &mut Vec<(String, Vec<u8>)>,
-    name: &str,
-    text: &[u8],
-) -> Result<(), Fail> {
-    texts.push((String::from_str(alloc, name)?, text.to_vec(alloc)?))?;
-    Ok(())
-}
-
-// These texts with their names.
-pub(crate) fn texts_of(
-    alloc: Global,
-    given: &[(&str, &[u8])],
-) -> Result<Vec<(String, Vec<u8>)>, Fail> {
-    let mut texts = Vec::new(alloc);
-    for one in given {
-        add_text(alloc, &mut texts, one.0, one.1)?;
-    }
-    Ok(texts)
-}
-
-/// The words of a command, the shelf that it reads and the sink that it writes. All shelves and sinks of these tests have one
-/// type each, so that the engine is compiled once for all of them.
-pub(crate) struct Run {
-    words: Vec<String>,
-    shelf: MemShelf,
-    pub(crate) sink: MemSink,
-}
-
-// A derived drop would be proved again in each test.
-impl Drop for Run {
-    fn drop(self) {
-        let Run { words, shelf, sink } = self;
-    }
-}
-
-// The run of a command with these words over these texts, of which the fetches with the given numbers fail.
-fn run_failing(
-    alloc: Global,
-    words: &[&str],
-    texts: &[(&str, &[u8])],
-    failing: Vec<u64>,
-    sink: MemSink,
-) -> Result<Run, Fail> {
-    let shelf = MemShelf::new(alloc, texts_of(alloc, texts)?, failing);
-    let words = words_in(alloc, words)?;
-    Ok(Run { words, shelf, sink })
-}
-
-// The run of a command with these words over these texts.
-pub(crate) fn run_of(
-    alloc: Global,
-    words: &[&str],
-    texts: &[(&str, &[u8])],
-    sink: MemSink,
-) -> Result<Run, Fail> {
-    run_failing(alloc, words, texts, Vec::new(alloc), sink)
-}
-
-// The run of a command over a sky plan, a catalogue and a script, with a number of workers.
-pub(crate) fn script_run(
-    alloc: Global,
-    asked: (&str, &str),
-    texts: Texts<'_>,
-    sink: MemSink,
-) -> Result<Run, Fail> {
-    let words = [asked.0, "sky", "csv", "script", asked.1];
-    let named = [("sky", texts.0), ("csv", texts.1), ("script", texts.2)];
-    run_of(alloc, words.as_slice(), named.as_slice(), sink)
-}
-
-// The status of a run past a gate.
-pub(crate) fn status_past<R: Threads + Wait + Sync>(
-    rt: &R,
-    alloc: Global,
-    run: &mut Run,
-    gate: &TestGate<'_>,
-) -> u8 {
-    let words = run.words.as_slice();
-    let outcome = qserv(rt, alloc, words, &mut run.shelf, &mut run.sink, gate);
-    status(&outcome)
-}
-
-// A sink with room for a number of bytes, of which no call fails.
-pub(crate) fn sink_of(alloc: Global, room: usize) -> Result<MemSink, Fail> {
-    Ok(MemSink::new(alloc, room, Vec::new(alloc))?)
-}
-
-// Whether a run past a gate has the status 0 and writes this.
-pub(crate) fn writes<R: Threads + Wait + Sync>(
-    rt: &R,
-    alloc: Global,
-    mut run: Run,
-    gate: &TestGate<'_>,
-    want: &[u8],
-) -> bool {
-    let found = status_past(rt, alloc, &mut run, gate);
-    found == 0 && run.sink.bytes() == want
-}
-
-// Whether a command over texts, with a number of workers, past a gate, has the status 0 and writes this.
-pub(crate) fn is_written<R: Threads + Wait + Sync>(
-    rt: &R,
-    alloc: Global,
-    asked: (&str, &str),
-    texts: Texts<'_>,
-    gate: &TestGate<'_>,
-    want: &[u8],
-) -> Result<bool, Fail> {
-    let run = script_run(alloc, asked, texts, sink_of(alloc, 1000)?)?;
-    Ok(writes(rt, alloc, run, gate, want))
-}
 
 // The first pass, from 0, that was not made by worker 0 over the chunk in its place, or that has none; `None` if the passes
 // are those of the chunks, in their order.
@@ -243,11 +117,13 @@ fn run_with_failing_fetch<R: Threads + Wait + Sync>(
     rt: &R,
     alloc: Global,
 ) -> Result<(u8, usize), Fail> {
-    let words = ["query", "sky", "csv", "script", "0"];
-    let texts = [("sky", SKY), ("csv", CATALOGUE), ("script", SCRIPT)];
-    let failing = vec![in alloc; 2]?;
-    let sink = sink_of(alloc, 1000)?;
-    let mut run = run_failing(alloc, words.as_slice(), texts.as_slice(), failing, sink)?;
+    let mut run = run_failing(
+        alloc,
+        &["query", "sky", "csv", "script", "0"],
+        &[("sky", SKY), ("csv", CATALOGUE), ("script", SCRIPT)],
+        vec![in alloc; 2]?,
+        sink_of(alloc, 1000)?,
+    )?;
     let found = status_past(rt, alloc, &mut run, &TestGate::Open);
     Ok((found, run.sink.bytes().len()))
 }

@@ -1,9 +1,10 @@
-//! What no clause says: that rows are pushed with ample memory, and that a column keeps a validity mask only for a
-//! NULL.
+//! What no clause says: that rows are pushed with ample memory, that a column keeps a validity mask only for a NULL, and that a
+//! block excludes ids.
 ghost use Rattle.std.specs.Prelude.{◌≡◌, pos, IsTrue, length};
 ghost use Rattle.sky_vector.specs.Points.{is_admissible};
 ghost use Rattle.sky_vector.specs.Pos.{point};
 
+use column_block::Block;
 use sky_row::{Column, Row, Rows, Schema};
 use sky_vector::Pos;
 use std::alloc::Global;
@@ -32,6 +33,29 @@ fn a_row_is_pushed_after_the_others(rt: HostRuntime) -> Result<(), Fail> {
     rows.push(&bare(7))?;
     assert_eq!(rt; rows.ids(), [0, 7].as_slice());
     assert_eq!(rt; rows.schema().width(), 4);
+    Ok(())
+}
+
+// Of three ids, whether a block that has the row with the id 7 alone may have it.
+fn may_have(alloc: Global, rows: &Rows, ids: [i64; 3]) -> Result<[bool; 3], Fail>
+    requires { 1 < length rows.now.objects }
+{
+    let block = Block::build(alloc, rows, &[1])?;
+    Ok([
+        block.may_have_id(ids[0]),
+        block.may_have_id(ids[1]),
+        block.may_have_id(ids[2]),
+    ])
+}
+
+#[test]
+fn a_block_excludes_ids_with_other_low_bits(rt: HostRuntime) -> Result<(), Fail> {
+    let alloc = rt.alloc();
+    let mut rows = Rows::new(alloc, Schema::new(alloc))?;
+    rows.push(&bare(0))?;
+    rows.push(&bare(7))?;
+    // the filter of one id has 64 bits, so 71 has the bit of 7
+    assert_eq!(rt; may_have(alloc, &rows, [7, 0, 71])?, [true, false, true]);
     Ok(())
 }
 

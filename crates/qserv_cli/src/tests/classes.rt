@@ -1,6 +1,7 @@
 //! The command `classes`: threads meet, queries share a chunk's scan, and short queries are scanned before long ones.
 use crate::tests::gates::TestGate;
-use crate::tests::{count_by, first_other, is_written, meet_by};
+use crate::tests::runs::is_written;
+use crate::tests::{count_by, first_other, meet_by};
 use sky_io::NoteGate;
 use std::alloc::Global;
 use std::process::Abort;

@@ -1,6 +1,7 @@
 //! The journal of a session shows that two threads work on chunks at one time.
 use crate::tests::gates::TestGate;
-use crate::tests::{CATALOGUE, SCRIPT, SKY, script_run, sink_of, status_past};
+use crate::tests::runs::{script_run, sink_of, status_past};
+use crate::tests::{CATALOGUE, SCRIPT, SKY};
 use scan_history::read_journal;
 use scan_rules::{Journal, JournalLine};
 use sky_io::StepGate;

@@ -1,5 +1,5 @@
 //! What no clause of `sky_io` says: how many raw calls are made, and that a rest is written by a later call.
-use crate::tests::texts_of;
+use crate::tests::runs::texts_of;
 use sky_io::{
     Buffered, Fetch, FileShelf, FolderShelf, MemFiles, MemOutput, PlainShelf, Put, Shelf, Sink,
 };
@@ -50,7 +50,7 @@ fn a_rest_that_could_not_be_written_is_written_later(rt: HostRuntime) -> Result<
     Ok(())
 }
 
-// The files of one name, whose text is "abcde".
+// A text with its name.
 const FIVE: [(&str, &[u8]); 1] = [("five", b"abcde")];
 
 // Whether the text of these files is fetched up to a limit, or is not, and what comes of it.

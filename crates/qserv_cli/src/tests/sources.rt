@@ -1,6 +1,7 @@
 //! The command `sources`: threads meet, and queries share a chunk's scan.
 use crate::tests::gates::TestGate;
-use crate::tests::{CATALOGUE, SKY, first_other, run_of, sink_of, writes};
+use crate::tests::runs::{run_of, sink_of, writes};
+use crate::tests::{CATALOGUE, SKY, first_other};
 use sky_io::{NoteGate, StepGate};
 use std::alloc::Global;
 use std::sync::Wait;
@@ -26,25 +27,23 @@ const TWICE: &[u8] =
     b"SELECT o.objectId,s.sourceId,s.flux-o.flux FROM Object o,Source s WHERE o.objectId=s.objectId\nSELECT o.objectId,s.sourceId,s.flux-o.flux FROM Object o,Source s WHERE o.objectId=s.objectId\n";
 
 // Whether the command over a script has the status 0 and writes this.
-fn is_joined<R: Threads + Wait + Sync>(
+fn is_joined<'t, R: Threads + Wait + Sync>(
     rt: &R,
     alloc: Global,
-    workers: &str,
-    script: &[u8],
+    workers: &'t str,
+    script: &'t [u8],
     gate: &TestGate<'_>,
     want: &[u8],
 ) -> Result<bool, Fail> {
-    let words = ["sources", "sky", "csv", "measured", "script", workers];
-    let texts = [
-        ("sky", SKY),
-        ("csv", CATALOGUE),
-        ("measured", SOURCES),
-        ("script", script),
-    ];
     let run = run_of(
         alloc,
-        words.as_slice(),
-        texts.as_slice(),
+        &["sources", "sky", "csv", "measured", "script", workers],
+        &[
+            ("sky", SKY),
+            ("csv", CATALOGUE),
+            ("measured", SOURCES),
+            ("script", script),
+        ],
         sink_of(alloc, 1000)?,
     )?;
     Ok(writes(rt, alloc, run, gate, want))
