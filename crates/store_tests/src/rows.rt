@@ -1,6 +1,6 @@
 //! What no clause says: that rows are pushed with ample memory, that a column keeps a validity mask only for a NULL, and that a
 //! block excludes ids.
-ghost use Rattle.std.specs.Prelude.{◌≡◌, pos, IsTrue, length};
+ghost use Rattle.std.specs.Prelude.{◌≡◌, ◌<◌, pos, IsTrue, length};
 ghost use Rattle.sky_vector.specs.Points.{is_admissible};
 ghost use Rattle.sky_vector.specs.Pos.{point};
 
